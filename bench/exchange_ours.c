@@ -121,6 +121,7 @@ static void make(side *made, const exchange_kind *kind, int is_server) {
   h3_config config;
   h3_config_default(&config);
   config.max_field_section_size = (UINT64_C(1) << 62) - 1; /* nghttp3 has no limit either */
+  config.unfinished_limit = UINT64_MAX;
   config.server = (uint32_t)is_server;
   config.table = kind->table;
   config.blocked = kind->blocked;

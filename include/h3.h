@@ -93,6 +93,7 @@
  * HOW A CALLER GRANTS CREDIT (RFC 9000, section 4.1)
  *
  * What was delivered is kept until it is pulled or read, an unfinished frame or instruction whole, whatever length it says: QUIC's windows bound it.
+ * Of a frame of an unknown type (RFC 9114, section 9) nothing is kept while it comes.
  * For each stream of the peer's add up `owed`, the bytes that were delivered and for which no credit was granted. Behind each delivery and its pulls:
  *   h3_stream_state s; h3_stream(&e, id, &s); if (owed > s.unread) { grant(id, owed - s.unread); owed = s.unread; }
  * in QUIC, for the stream and for the connection; and for all streams on which some is owed behind a delivery on a unidirectional stream or behind
@@ -142,7 +143,7 @@
  *   H3_FAULT_CANCELED: the caller gave the stream up by h3_cancel.
  *   H3_FAULT_MEMORY: nothing is lost: pull again later.
  *   H3_TOO_LARGE_HEAD: a head or trailer above the own max_field_section_size, whose size is `number`, was passed over. A server may answer
- *     431, a client may cancel.
+ *     431, a client may cancel. One whose frame is above unfinished_limit closes the connection instead.
  *
  * WHAT IS PROVED, TESTED, TRUSTED: see crates/h3_c/README.md. Trusted of the caller: pointers and lengths are right, a handle is used as said
  * above, malloc and realloc align to 16 bytes and belong to one free. */
@@ -271,11 +272,15 @@ typedef struct {
                                        * (RFC 9204, section 2.1.1.1). Where the peer lets no stream wait (`blocked` 0 at the peer) it inserts what
                                        * it writes as a literal, and names the entry once the peer told that it came (section 2.1.2); without this
                                        * the table stays empty there */
+  uint64_t unfinished_limit;          /* the greatest length, in bytes, that a frame may say which is kept until it is whole: any known one but DATA.
+                                       * One that says more closes the connection with code 0x107 (H3_EXCESSIVE_LOAD), as soon as its type and
+                                       * length came. A field section as it is written is such a frame: let it be no less than
+                                       * max_field_section_size. 2^62 - 1 and more: there is no limit */
 } h3_config;
 
 /* A client whose limits are fit for a peer that is not trusted: it takes field sections of at most 65,536 bytes, and has a dynamic table of 4,096
  * bytes, for which 16 streams may wait. It counts acknowledgments, and the table of its own encoder has at most 4,096 bytes and is used
- * economically. It is strict. All else is 0.
+ * economically. A frame that it keeps until it is whole has at most 65,536 bytes. It is strict. All else is 0.
  * SECURITY.md says what each limit bounds. */
 static inline void h3_config_default(h3_config *config);
 
@@ -522,7 +527,8 @@ static inline uint32_t h3_item_bytes(h3_endpoint *endpoint, size_t from, void *b
 typedef struct {
   uint64_t waiting;      /* bytes that wait to be sent */
   uint64_t unread;       /* bytes that were delivered and are still held: not handed out, and not read. Of a stream that was given up only what
-                            H3_KEPT took counts, until it is read */
+                            H3_KEPT took counts, until it is read. It is 0 while a frame of an unknown type comes that is next on the stream; with
+                            its last byte the frame counts whole, until the next pull passes it */
   uint32_t has_outgoing; /* 1 where something can be sent: an own unidirectional stream, or a request stream that was opened */
   uint32_t is_finished;  /* 1 where its message was finished */
   uint32_t is_reset;     /* 1 where sending was cut off */

@@ -19,6 +19,7 @@ type Config struct {
 	Datagram                bool   // RFC 9297
 	WebTransport            bool
 	MaxWebTransportSessions uint64
+	UnfinishedLimit         uint64 // the greatest length that a frame may say which is kept until it is whole; no less than MaxFieldSectionSize
 }
 
 // DefaultConfig has the limits of h3_config_default, which are fit for a peer that is not trusted: heads and trailers of at most 65,536 bytes, a
@@ -41,6 +42,7 @@ func DefaultConfig(server bool) Config {
 		Datagram:                raw.datagram != 0,
 		WebTransport:            raw.webtransport != 0,
 		MaxWebTransportSessions: uint64(raw.max_webtransport_sessions),
+		UnfinishedLimit:         uint64(raw.unfinished_limit),
 	}
 }
 
@@ -69,5 +71,6 @@ func (c Config) raw() C.h3_config {
 	raw.datagram = number(c.Datagram)
 	raw.webtransport = number(c.WebTransport)
 	raw.max_webtransport_sessions = C.uint64_t(c.MaxWebTransportSessions)
+	raw.unfinished_limit = C.uint64_t(c.UnfinishedLimit)
 	return raw
 }

@@ -256,7 +256,7 @@ static void run(quic_socket *socket) {
 }
 
 int main(int count, char **arguments) {
-  static const http3_events events = {on_ready, on_head, on_body, on_end, on_failed, on_room, on_freed, on_over};
+  static const http3_events events = {on_ready, on_head, on_body, on_end, on_failed, on_room, on_freed, on_over, NULL};
   http3_setup setup = {.events = &events};
   quic_identity identity = {0};
   if (!read_options(count, arguments, &identity)) {

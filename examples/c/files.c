@@ -1,5 +1,6 @@
 #include "files.h"
 #include <fcntl.h>
+#include <stdio.h>
 #include <stdlib.h>
 #include <string.h>
 #include <strings.h>
@@ -17,6 +18,7 @@ enum {
 struct shared_file {
   int file;       /* -1: `bytes` has all of it */
   uint64_t length;
+  char digits[24]; /* the length as text */
   uint8_t *bytes;
   size_t users;   /* requests, and its place below */
   time_t at;      /* when it was opened */
@@ -105,6 +107,7 @@ static shared_file *open_new(const char *path, time_t now) {
     return NULL;
   }
   *file = (shared_file){.file = opened, .length = (uint64_t)status.st_size, .users = 1, .at = now};
+  snprintf(file->digits, sizeof file->digits, "%llu", (unsigned long long)status.st_size);
   memcpy(file->path, path, count);
   read_small(file);
   return file;
@@ -142,6 +145,8 @@ void files_close(shared_file *file) {
 }
 
 uint64_t files_length(const shared_file *file) { return file->length; }
+
+const char *files_length_text(const shared_file *file) { return file->digits; }
 
 size_t files_read(const shared_file *file, uint64_t from, uint8_t *bytes, size_t room) {
   uint64_t left = from < file->length ? file->length - from : 0; /* the file may have grown since */

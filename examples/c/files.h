@@ -15,6 +15,8 @@ shared_file *files_open(const char *path);
 void files_close(shared_file *file);
 /* Its length when it was opened. */
 uint64_t files_length(const shared_file *file);
+/* The same as a content-length has it. */
+const char *files_length_text(const shared_file *file);
 /* Reads from an offset on, as many bytes as fit; 0: there are no more, as where the file has shrunk. */
 size_t files_read(const shared_file *file, uint64_t from, uint8_t *bytes, size_t room);
 /* A content-type by a path's ending. */

@@ -8,6 +8,7 @@ enum {
   WAITING_LIMIT = 64 * 1024, /* bytes of a body that may wait in the endpoint */
   HELD_LIMIT = 128 * 1024,   /* bytes of a request that the endpoint may hold: more is no frame that is taken */
   FIELDS = 16,
+  GRACE = 100,               /* milliseconds that a client has for an answer before it is told to send no more */
   LINGER = 5,                /* seconds of silence behind which a connection that takes no more requests is closed */
   NOTICE = 1                 /* seconds between the first GOAWAY and the last: requests that were on their way come */
 };
@@ -25,7 +26,8 @@ struct http3 {
   quic_connection *quic;
   const http3_setup *setup;
   h3_endpoint endpoint;
-  http3_request *requests;
+  table found;                                 /* the requests by their ids */
+  TAILQ_HEAD(requests, http3_request) requests; /* the same in the order in which they were opened */
   other others[QUIC_OTHERS];
   uint64_t next_id;  /* behind the last request that came */
   uint64_t end_id;   /* requests from here on are not taken */
@@ -33,27 +35,38 @@ struct http3 {
   time_t leaving_at; /* when http3_leave was called first; 0: never */
 };
 
-static http3_request *find(http3 *h, uint64_t id) {
-  http3_request *request = h->requests;
-  while (request && request->id != id) request = request->next;
+static http3_request *find(const http3 *h, uint64_t id) { return table_find(&h->found, id); }
+
+static http3_request *add(http3 *h, uint64_t id) {
+  http3_request *request = calloc(1, sizeof *request);
+  if (!request) return NULL;
+  request->connection = h;
+  table_add(&h->found, &request->entry, id);
+  TAILQ_INSERT_TAIL(&h->requests, request, order);
   return request;
 }
 
-static http3_request *add(http3 *h, uint64_t id) {
-  http3_request *request = calloc(1, sizeof *request), **end = &h->requests;
-  if (!request) return NULL;
-  request->connection = h;
-  request->id = id;
-  while (*end) end = &(*end)->next;
-  return *end = request;
+/* Grants the peer credit for what came on a stream and is no longer held. */
+static void grant(http3 *h, uint64_t id, size_t *owed, size_t held) {
+  if (held >= *owed) return;
+  quic_consumed(h->quic, (int64_t)id, *owed - held);
+  *owed = held;
 }
 
-/* Grants the peer credit for what came on a stream and is no longer held. */
-static void grant(http3 *h, uint64_t id, size_t *owed) {
+static void grant_other(http3 *h, other *other) {
   h3_stream_state state;
-  if (*owed == 0 || h3_stream(&h->endpoint, id, &state) != H3_OK || state.unread >= *owed) return;
-  quic_consumed(h->quic, (int64_t)id, *owed - (size_t)state.unread);
-  *owed = (size_t)state.unread;
+  if (other->owed > 0 && h3_stream(&h->endpoint, other->id, &state) == H3_OK) grant(h, other->id, &other->owed, (size_t)state.unread);
+}
+
+/* Of a request that is over nothing is held; of one that is ignored nothing more is wanted either. */
+static void grant_request(http3_request *request) {
+  h3_stream_state state = {0};
+  if (request->stop_at > 0) {
+    quic_dropped(request->connection->quic, request->owed);
+    request->owed = 0;
+  }
+  if (request->owed == 0 || (!request->settled && h3_stream(&request->connection->endpoint, request->entry.id, &state) != H3_OK)) return;
+  grant(request->connection, request->entry.id, &request->owed, (size_t)state.unread);
 }
 
 /* What is owed for a unidirectional stream. NULL: QUIC has opened more of them than it may. */
@@ -67,11 +80,11 @@ static size_t *owed_for(http3 *h, uint64_t id) {
   return &free_one->owed;
 }
 
-/* Frees a request, the first of the list from `at` on. */
-static void drop(http3 *h, http3_request **at) {
-  http3_request *request = *at;
-  *at = request->next;
-  grant(h, request->id, &request->owed);
+static void drop(http3_request *request) {
+  http3 *h = request->connection;
+  grant_request(request);
+  table_remove(&h->found, &request->entry);
+  TAILQ_REMOVE(&h->requests, request, order);
   h->setup->events->freed(request);
   free(request);
 }
@@ -84,11 +97,11 @@ static void refuse(http3 *h, uint32_t answer, uint64_t code) {
 /* Both halves of a stream end; what QUIC was given with the end goes out. */
 static void cut_off(http3_request *request, uint64_t code) {
   http3 *h = request->connection;
-  if (h3_reset(&h->endpoint, request->id, NULL) == H3_OK) {
+  if (h3_reset(&h->endpoint, request->entry.id, NULL) == H3_OK) {
     request->sending = false;
-    quic_reset(h->quic, (int64_t)request->id, code);
+    quic_reset(h->quic, (int64_t)request->entry.id, code);
   }
-  quic_stop(h->quic, (int64_t)request->id, code);
+  quic_stop(h->quic, (int64_t)request->entry.id, code);
 }
 
 /* ---- what came ---- */
@@ -123,8 +136,12 @@ static bool tell(http3_request *request, const h3_item *item) {
   case H3_INTERIM:
   case H3_TRAILER:
   case H3_TOO_LARGE_HEAD: h->setup->events->head(request, item); return true;
-  case H3_BODY: tell_body(request, item); return true;
-  case H3_SESSION: http3_give_up(request, H3_CODE_REQUEST_REJECTED); return true; /* no WebTransport here */
+  case H3_BODY:
+  case H3_RAW: tell_body(request, item); return true;
+  case H3_SESSION:
+    if (h->setup->events->session) h->setup->events->session(request, item->number);
+    else http3_give_up(request, H3_CODE_REQUEST_REJECTED);
+    return true;
   case H3_PENDING: return false;
   case H3_WAITING: request->waiting = true; return false;
   case H3_FAULT_CONNECTION: quic_close(h->quic, item->number); return false;
@@ -133,36 +150,50 @@ static bool tell(http3_request *request, const h3_item *item) {
   }
 }
 
-/* Pulls a request until it pauses or ends. The peer gets credit for what was read; of a frame that is larger than any that is taken nothing more
- * is wanted. */
-static void pull(http3_request *request) {
-  http3 *h = request->connection;
-  h3_item item;
-  request->waiting = false;
-  do
-    if (request->settled || h3_pull_fields(&h->endpoint, request->id, &item) != H3_OK) break;
-  while (tell(request, &item));
-  grant(h, request->id, &request->owed);
+/* The peer gets credit for what was read of a request; of a frame that is larger than any that is taken nothing more is wanted. */
+static void go_on(http3_request *request) {
+  grant_request(request);
   if (request->settled || request->waiting || request->owed <= HELD_LIMIT) return;
   http3_give_up(request, EXCESSIVE_LOAD);
-  h->setup->events->failed(request, &(h3_item){.kind = H3_FAULT_CANCELED, .number = EXCESSIVE_LOAD});
-  grant(h, request->id, &request->owed);
+  request->connection->setup->events->failed(request, &(h3_item){.kind = H3_FAULT_CANCELED, .number = EXCESSIVE_LOAD});
+  grant_request(request);
 }
 
-/* A stream of the peer's was read: no messages are expected on it, and those heads may be there that waited for it. */
-static void pull_others(http3 *h, uint64_t id) {
+/* Pulls a request until it pauses or ends. Answers whether its end was handed out: then the endpoint holds none of its bytes. */
+static bool pull(http3_request *request) {
+  h3_item item = {0};
+  request->waiting = false;
+  do
+    if (request->settled || h3_pull_fields(&request->connection->endpoint, request->entry.id, &item) != H3_OK) break;
+  while (tell(request, &item));
+  go_on(request);
+  return item.kind == H3_END;
+}
+
+/* Pulls a unidirectional stream. No messages are expected on it, but the bytes of a WebTransport session, where the program wants such. */
+static void pull_stream(http3 *h, uint64_t id) {
+  http3_request *request = find(h, id);
   h3_item item;
-  while (h3_pull(&h->endpoint, id, &item) == H3_OK && item.kind < H3_END) continue;
-  if (item.kind == H3_FAULT_CONNECTION) return quic_close(h->quic, item.number);
-  for (other *at = h->others; at < h->others + QUIC_OTHERS; at++) grant(h, at->id, &at->owed);
-  for (http3_request *request = h->requests; request; request = request->next)
-    if (request->waiting) pull(request);
+  do {
+    if ((request && request->settled) || h3_pull(&h->endpoint, id, &item) != H3_OK) return;
+    if (item.kind == H3_FAULT_CONNECTION) return quic_close(h->quic, item.number);
+    if (item.kind == H3_SESSION && h->setup->events->session && !(request = add(h, id))) return quic_close(h->quic, H3_CODE_INTERNAL_ERROR);
+  } while (request ? tell(request, &item) : item.kind < H3_END);
+}
+
+/* A stream of the peer's was read: those heads may be there that waited for it. */
+static void pull_others(http3 *h, uint64_t id) {
+  http3_request *request;
+  pull_stream(h, id);
+  for (other *at = h->others; at < h->others + QUIC_OTHERS; at++) grant_other(h, at);
+  TAILQ_FOREACH(request, &h->requests, order) if (request->waiting) pull(request);
 }
 
 /* Tells the peer to open no more requests. Those below `end` that come all the same are taken. */
 static void say_goaway(http3 *h, uint64_t end) {
   h->leaving = true;
   h->end_id = end;
+  quic_wake(h->quic, 0);
   if (h3_goaway(&h->endpoint, end, NULL) != H3_OK) quic_close(h->quic, H3_CODE_INTERNAL_ERROR);
 }
 
@@ -197,9 +228,9 @@ static void received(void *owner, int64_t stream, const uint8_t *bytes, size_t c
   uint32_t answer = h3_deliver_lent(&h->endpoint, id, bytes, count, &code);
   if (end && (answer == H3_OK || answer == H3_KEPT)) answer = h3_deliver_end(&h->endpoint, id, &code);
   if (answer != H3_OK && answer != H3_KEPT) return refuse(h, answer, code);
-  if (request) pull(request);
-  else pull_others(h, id);
-  /* QUIC's library takes its bytes back now */
+  if (request && pull(request)) return;
+  if (!request) pull_others(h, id);
+  /* QUIC's library takes its bytes back now, and some may be held */
   answer = h3_keep(&h->endpoint, id);
   if (answer != H3_OK) refuse(h, answer, 0);
 }
@@ -218,7 +249,10 @@ static void was_reset(void *owner, int64_t stream, uint64_t reason) {
 static void was_stopped(void *owner, int64_t stream) {
   http3 *h = owner;
   http3_request *request = find(h, (uint64_t)stream);
-  if (!is_request((uint64_t)stream)) return quic_close(h->quic, 0x104); /* H3_CLOSED_CRITICAL_STREAM */
+  if (!is_request((uint64_t)stream)) {
+    if ((uint64_t)stream <= h3_decoder_id(h->setup->server)) quic_close(h->quic, 0x104); /* H3_CLOSED_CRITICAL_STREAM */
+    return;
+  }
   h3_reset(&h->endpoint, (uint64_t)stream, NULL);
   if (request) request->sending = false;
 }
@@ -227,7 +261,7 @@ static void stream_closed(void *owner, int64_t stream) {
   http3 *h = owner;
   http3_request *request = find(h, (uint64_t)stream);
   if (request) request->closed = true;
-  for (other *at = h->others; !request && at < h->others + QUIC_OTHERS; at++)
+  for (other *at = h->others; at < h->others + QUIC_OTHERS; at++)
     if (at->id == (uint64_t)stream) at->owed = 0; /* what is still held of it gets no credit */
 }
 
@@ -262,23 +296,37 @@ static void move_own(http3 *h) {
 /* All streams on which bytes or an end wait. Answers whether anything was moved. */
 static bool move_all(http3 *h) {
   bool moved = false;
-  for (uint64_t id = 0; h3_next_to_send(&h->endpoint, id, &id) == H3_OK; id++) moved |= move_out(h, id);
+  for (uint64_t id = 0; h3_next_to_send(&h->endpoint, id, &id) == H3_OK; id++) {
+    moved |= move_out(h, id);
+    http3_request *request = find(h, id);
+    if (request && request->sending) request->unsent = http3_waiting(request);
+  }
   return moved;
 }
 
 /* Asks for more of the bodies that are being sent. Answers whether there are such. */
 static bool ask_for_bodies(http3 *h) {
   bool asked = false;
-  for (http3_request *request = h->requests; request; request = request->next)
-    if (request->sending && http3_room(request) > 0) {
-      h->setup->events->room(request);
-      asked = true;
-    }
+  http3_request *request;
+  TAILQ_FOREACH(request, &h->requests, order) {
+    if (http3_room(request) == 0) continue;
+    h->setup->events->room(request);
+    asked = true;
+  }
   return asked;
 }
 
 /* All is acknowledged, but its reader may not have it yet, and would lose it: the peer is the one to close, or falls silent. */
 static bool is_silent(const http3 *h) { return quic_silence(h->quic) >= 1000 * LINGER && time(NULL) - h->leaving_at > LINGER; }
+
+/* Tells the peer to send no more of a request, when its time has come. */
+static void stop_in_time(http3_request *request) {
+  if (request->stop_at == 0) return;
+  uint64_t time = quic_time();
+  if (time < request->stop_at) return quic_wake(request->connection->quic, request->stop_at - time);
+  request->stop_at = 0;
+  quic_stop(request->connection->quic, (int64_t)request->entry.id, H3_CODE_NO_ERROR);
+}
 
 /* Hands all that waits to QUIC, and more of the bodies, as long as QUIC has room. */
 static void fill(void *owner) {
@@ -287,10 +335,14 @@ static void fill(void *owner) {
   move_own(h);
   do asked = ask_for_bodies(h);
   while (move_all(h) && asked);
-  for (http3_request **at = &h->requests; *at;)
-    if ((*at)->closed && (*at)->settled) drop(h, at);
-    else at = &(*at)->next;
-  if (h->leaving && !h->requests && is_silent(h)) quic_close(h->quic, H3_CODE_NO_ERROR);
+  for (http3_request *request = TAILQ_FIRST(&h->requests), *next; request; request = next) {
+    next = TAILQ_NEXT(request, order);
+    if (request->closed && request->settled) drop(request);
+    else stop_in_time(request);
+  }
+  if (!h->leaving || !TAILQ_EMPTY(&h->requests)) return;
+  if (is_silent(h)) quic_close(h->quic, H3_CODE_NO_ERROR);
+  else quic_wake(h->quic, 1000);
 }
 
 /* ---- the connection ---- */
@@ -302,9 +354,12 @@ static void *opened(quic_connection *quic, void *user) {
   if (!h) return NULL;
   h->quic = quic;
   h->setup = setup;
+  TAILQ_INIT(&h->requests);
   h->end_id = setup->requests > 0 && setup->requests < ANY_ID / 4 ? 4 * setup->requests : UINT64_MAX;
   h3_config_default(&config);
   config.server = setup->server;
+  config.webtransport = config.extended_connect = config.datagram = setup->sessions > 0;
+  config.max_webtransport_sessions = setup->sessions;
   bool made = h3_new(&h->endpoint, &config, NULL) == H3_OK;
   for (int i = 0; made && i < 3; i++) made = quic_open(quic, true) == (int64_t)h3_control_id(setup->server) + 4 * i;
   if (!made) {
@@ -318,7 +373,7 @@ static void *opened(quic_connection *quic, void *user) {
 
 static void closed(void *owner, const quic_ending *ending) {
   http3 *h = owner;
-  while (h->requests) drop(h, &h->requests);
+  for (http3_request *request; (request = TAILQ_FIRST(&h->requests));) drop(request);
   h->setup->events->over(h->setup->user, ending);
   h3_free(&h->endpoint);
   free(h);
@@ -364,27 +419,53 @@ bool http3_head(http3_request *request, const http3_field *fields, size_t count)
     total += name + value;
     sizes[i] = (h3_field_size){(uint32_t)name, (uint32_t)value};
   }
-  if (h3_send_fields(&request->connection->endpoint, request->id, sizes, count, bytes, total, NULL) != H3_OK) return false;
+  if (h3_send_fields(&request->connection->endpoint, request->entry.id, sizes, count, bytes, total, NULL) != H3_OK) return false;
+  quic_wake(request->connection->quic, 0);
   return request->sending = true;
 }
 
 uint64_t http3_waiting(http3_request *request) {
   h3_stream_state state;
-  return h3_stream(&request->connection->endpoint, request->id, &state) == H3_OK ? state.waiting : 0;
+  return h3_stream(&request->connection->endpoint, request->entry.id, &state) == H3_OK ? state.waiting : 0;
 }
 
 size_t http3_room(http3_request *request) {
-  h3_stream_state state;
-  if (!request->sending || h3_stream(&request->connection->endpoint, request->id, &state) != H3_OK) return 0;
-  return state.waiting < WAITING_LIMIT ? WAITING_LIMIT - (size_t)state.waiting : 0;
+  return request->sending && request->unsent < WAITING_LIMIT ? WAITING_LIMIT - request->unsent : 0;
 }
 
 bool http3_body(http3_request *request, const uint8_t *bytes, size_t count) {
-  return h3_send_body(&request->connection->endpoint, request->id, bytes, count, NULL) == H3_OK;
+  if (h3_send_body(&request->connection->endpoint, request->entry.id, bytes, count, NULL) != H3_OK) return false;
+  request->unsent += count;
+  quic_wake(request->connection->quic, 0);
+  return true;
+}
+
+bool http3_raw(http3_request *request, const uint8_t *bytes, size_t count, bool end) {
+  http3 *h = request->connection;
+  if (end) h3_reset(&h->endpoint, request->entry.id, NULL); /* it sends nothing on such a stream, and can forget it */
+  return quic_send(h->quic, (int64_t)request->entry.id, bytes, count, end);
+}
+
+/* A variable-length integer (RFC 9000, section 16) of eight bytes. */
+static void write_number(uint8_t *bytes, uint64_t number) {
+  for (int i = 7; i >= 0; i--, number >>= 8) bytes[i] = (uint8_t)number;
+  bytes[0] |= 0xc0;
+}
+
+bool http3_raw_stream(http3 *h, uint64_t session, const uint8_t *bytes, size_t count) {
+  uint8_t head[16];
+  int64_t id = quic_open(h->quic, true);
+  if (id < 0) return false;
+  write_number(head, 0x54); /* the type of such a stream */
+  write_number(head + 8, session);
+  if (quic_send(h->quic, id, head, sizeof head, false) && quic_send(h->quic, id, bytes, count, true)) return true;
+  quic_reset(h->quic, id, H3_CODE_INTERNAL_ERROR);
+  return false;
 }
 
 void http3_finish(http3_request *request) {
-  h3_finish(&request->connection->endpoint, request->id, NULL);
+  h3_finish(&request->connection->endpoint, request->entry.id, NULL);
+  quic_wake(request->connection->quic, 0);
   request->sending = false;
 }
 
@@ -392,7 +473,7 @@ void http3_finish(http3_request *request) {
 static void cancel(http3_request *request) {
   http3 *h = request->connection;
   uint64_t reason = 0;
-  uint32_t answer = h3_cancel(&h->endpoint, request->id, &reason); /* refused where the message is over */
+  uint32_t answer = h3_cancel(&h->endpoint, request->entry.id, &reason); /* refused where the message is over */
   if (answer == H3_MEMORY || answer == H3_CLOSED) refuse(h, answer, reason);
   request->settled = true;
 }
@@ -405,7 +486,7 @@ void http3_give_up(http3_request *request, uint64_t code) {
 void http3_ignore(http3_request *request) {
   if (request->settled) return;
   cancel(request);
-  quic_stop(request->connection->quic, (int64_t)request->id, H3_CODE_NO_ERROR);
+  request->stop_at = quic_time() + GRACE;
 }
 
 bool http3_value(http3 *h, const h3_item *head, const char *name, char *value, size_t room) {

@@ -3,17 +3,21 @@
 #ifndef EXAMPLES_HTTP3_H
 #define EXAMPLES_HTTP3_H
 #include "quic.h"
+#include "table.h"
 #include <h3.h>
+#include <sys/queue.h>
 
 typedef struct http3 http3;
 
-/* A request and its response: one bidirectional stream. `data` is the program's own. */
+/* A request and its response, or what comes on a stream of a WebTransport session: one stream. `data` is the program's own. */
 typedef struct http3_request {
-  struct http3_request *next;
+  entry entry; /* with its id */
+  TAILQ_ENTRY(http3_request) order;
   http3 *connection;
-  uint64_t id;
   void *data;
   size_t owed;    /* bytes that came, for which the peer has got no further credit: the endpoint holds them */
+  size_t unsent;  /* bytes of the body that the endpoint holds since QUIC had no room for them */
+  uint64_t stop_at; /* when the peer is told to send no more of it, by quic_time; 0: never */
   bool waiting;   /* its head needs what the peer's encoder stream has not brought yet */
   bool sending;   /* the head was sent, the end was not */
   bool settled;   /* the end or a fault was told: nothing more comes */
@@ -30,10 +34,13 @@ typedef struct {
   void (*room)(http3_request *);                                   /* http3_room bytes of the body may be sent */
   void (*freed)(http3_request *);                                  /* the last call: free `data` */
   void (*over)(void *user, const quic_ending *);                   /* the connection has ended */
+  void (*session)(http3_request *, uint64_t id);                   /* no request: a stream of the WebTransport session whose CONNECT has
+                                                                    * this id; its bytes come by `body`. NULL: no sessions are taken */
 } http3_events;
 
 typedef struct {
   bool server;
+  uint64_t sessions; /* a server's: so many WebTransport sessions are taken on a connection, as the settings say; 0: none */
   uint64_t requests; /* a server's: at most so many are taken on a connection, and GOAWAY sends the client to another before; 0: no limit */
   const http3_events *events;
   void *user;
@@ -57,10 +64,14 @@ size_t http3_room(http3_request *);
 bool http3_body(http3_request *, const uint8_t *bytes, size_t count);
 /* The message is whole. */
 void http3_finish(http3_request *);
+/* Sends bytes on a bidirectional stream of a WebTransport session, as they are, and with `end` its end. false: no memory. */
+bool http3_raw(http3_request *, const uint8_t *bytes, size_t count, bool end);
+/* Sends a whole unidirectional stream of a WebTransport session. false: the peer allows no more of them, or no memory. */
+bool http3_raw_stream(http3 *, uint64_t session, const uint8_t *bytes, size_t count);
 /* Sends nothing more, and wants nothing more, with a code of RFC 9114, section 8.1. The other side's message is not told any further. */
 void http3_give_up(http3_request *, uint64_t code);
-/* A server that has answered wants nothing more of the request (RFC 9114, section 4.1): the rest of its body is not told, and the client need not
- * send it. */
+/* A server that has answered wants nothing more of the request (RFC 9114, section 4.1): the rest of its body is not told. The client is told
+ * to send no more behind a tenth of a second, so that it reads the answer first: some clients fail where they are stopped in sending. */
 void http3_ignore(http3_request *);
 /* The value of a field of the head that was told last, ended by NUL. false: it has none, or one that is too long or has a NUL. */
 bool http3_value(http3 *, const h3_item *head, const char *name, char *value, size_t room);

@@ -1,5 +1,6 @@
 #include "quic.h"
 #include "buffer.h"
+#include "table.h"
 #include "tls.h"
 #include <arpa/inet.h>
 #include <errno.h>
@@ -11,6 +12,7 @@
 #include <stdio.h>
 #include <stdlib.h>
 #include <string.h>
+#include <sys/queue.h>
 #include <sys/socket.h>
 #include <time.h>
 #include <unistd.h>
@@ -20,33 +22,49 @@ enum {
   PACKET = 1452,            /* the longest UDP payload that is sent */
   BATCH = 44,               /* packets that go out by one system call: less than 64 KiB */
   KEPT_LIMIT = 256 * 1024,  /* bytes of a stream that may wait for their acknowledgment */
-  PACKETS_A_TURN = 64       /* read before something is sent */
+  PACKETS_A_TURN = 64,      /* read before something is sent */
+  ID_PLACES = 4096          /* of a socket's connection ids */
 };
+
+typedef TAILQ_HEAD(queue, stream) queue;
 
 /* One stream that is open: what is sent on it. */
 typedef struct stream {
-  struct stream *next;
-  int64_t id;
+  entry entry;
+  queue *queue; /* of the connection's, in which it stands: NULL where nothing of it is to be sent */
+  TAILQ_ENTRY(stream) turn;
   buffer out;
-  bool blocked; /* nothing more of it goes into a packet in this round */
 } stream;
+
+/* An id by which packets name a connection. */
+typedef struct known_id {
+  struct known_id *next;  /* of those that have the same place */
+  struct known_id *other; /* of the same connection */
+  quic_connection *connection;
+  ngtcp2_cid cid;
+} known_id;
 
 struct quic_connection {
   quic_connection *next;
+  known_id *ids;
   quic_socket *socket;
   ngtcp2_conn *conn;
   gnutls_session_t session;
   ngtcp2_crypto_conn_ref ref;
   void *owner;
-  stream *streams;
+  table streams;
+  queue ready;   /* streams that have something for a packet, in turn */
+  queue blocked; /* those of which nothing more goes into a packet in this round */
   bool close_asked, gone, told;
-  bool more; /* could go out, but for what a burst may have */
+  bool more; /* could go out, but for what a burst may have, or the socket */
+  bool due;  /* a packet came, or the owner has called: it has its turn */
   ngtcp2_connection_close_error close;
   quic_ending ending;
   uint8_t goodbye[PACKET]; /* the packet that closed the connection, which answers what still comes */
   size_t goodbye_count;
   ngtcp2_tstamp gone_at;
   ngtcp2_tstamp heard_at; /* when a packet came last */
+  ngtcp2_tstamp wake_at;  /* when the owner wants its turn */
 };
 
 /* Packets to one address, all of one length but the last, which may be shorter: the kernel cuts them apart (UDP_SEGMENT). */
@@ -60,6 +78,7 @@ typedef struct {
 struct quic_socket {
   int file;
   bool server, refusing;
+  uint8_t secret[32]; /* a server's, of its tokens */
   bool one_by_one; /* the kernel, or the way out, cuts no packets apart */
   batch batch;
   struct sockaddr_storage local;
@@ -68,6 +87,7 @@ struct quic_socket {
   const quic_events *events;
   void *user;
   quic_connection *connections;
+  known_id *ids[ID_PLACES];
   quic_ending last;
 };
 
@@ -77,49 +97,69 @@ static ngtcp2_tstamp now(void) {
   return (ngtcp2_tstamp)time.tv_sec * NGTCP2_SECONDS + (ngtcp2_tstamp)time.tv_nsec;
 }
 
+/* Connection ids. Those that are made here are random. One that a client chose lasts no longer than the connection that it began. */
+
+/* Where an id stands, or would. */
+static known_id **place_of(quic_socket *socket, const uint8_t *bytes, size_t count) {
+  known_id **at = &socket->ids[count < 2 ? 0 : (bytes[0] << 8 | bytes[1]) % ID_PLACES];
+  while (*at && ((*at)->cid.datalen != count || memcmp((*at)->cid.data, bytes, count) != 0)) at = &(*at)->next;
+  return at;
+}
+
+/* Packets with this id are the connection's. false: no memory, or the id is another's. */
+static bool know(quic_connection *connection, const ngtcp2_cid *cid) {
+  known_id **place = place_of(connection->socket, cid->data, cid->datalen);
+  if (*place) return (*place)->connection == connection;
+  known_id *id = malloc(sizeof *id);
+  if (!id) return false;
+  *id = (known_id){.other = connection->ids, .connection = connection, .cid = *cid};
+  connection->ids = *place = id;
+  return true;
+}
+
+static void forget_id(quic_connection *connection, const ngtcp2_cid *cid) {
+  known_id **place = place_of(connection->socket, cid->data, cid->datalen), **at = &connection->ids, *id = *place;
+  if (!id || id->connection != connection) return;
+  while (*at != id) at = &(*at)->other;
+  *at = id->other;
+  *place = id->next;
+  free(id);
+}
+
 /* Streams. */
 
-static stream *find(const quic_connection *connection, int64_t id) {
-  stream *stream = connection->streams;
-  while (stream && stream->id != id) stream = stream->next;
-  return stream;
-}
+static stream *find(const quic_connection *connection, int64_t id) { return table_find(&connection->streams, (uint64_t)id); }
 
 static stream *find_or_add(quic_connection *connection, int64_t id) {
   stream *found = find(connection, id);
-  if (found) return found;
-  found = calloc(1, sizeof *found);
-  if (!found) return NULL;
-  found->id = id;
-  struct stream **end = &connection->streams;
-  while (*end) end = &(*end)->next;
-  return *end = found;
+  if (found || !(found = calloc(1, sizeof *found))) return found;
+  table_add(&connection->streams, &found->entry, (uint64_t)id);
+  return found;
 }
 
-static void forget(quic_connection *connection, int64_t id) {
-  stream **at = &connection->streams;
-  while (*at && (*at)->id != id) at = &(*at)->next;
-  stream *found = *at;
-  if (!found) return;
-  *at = found->next;
-  buffer_free(&found->out);
-  free(found);
+/* The stream stands at the end of a queue, or (NULL) in none. */
+static void line_up(stream *stream, queue *queue) {
+  if (stream->queue) TAILQ_REMOVE(stream->queue, stream, turn);
+  stream->queue = queue;
+  if (queue) TAILQ_INSERT_TAIL(queue, stream, turn);
+}
+
+static bool has_more(const stream *stream) {
+  return stream->out.taken < stream->out.given || (stream->out.ended && !stream->out.end_taken);
+}
+
+static void forget(quic_connection *connection, stream *stream) {
+  line_up(stream, NULL);
+  table_remove(&connection->streams, &stream->entry);
+  buffer_free(&stream->out);
+  free(stream);
 }
 
 /* Nothing more of the stream goes out. What was sent is kept until the stream is closed. */
 static void abandon(stream *stream) {
+  line_up(stream, NULL);
   stream->out.taken = stream->out.given;
   stream->out.ended = stream->out.end_taken = true;
-}
-
-/* The stream is the last one whose turn it is. */
-static void move_behind(quic_connection *connection, stream *moved) {
-  stream **at = &connection->streams;
-  while (*at != moved) at = &(*at)->next;
-  *at = moved->next;
-  while (*at) at = &(*at)->next;
-  *at = moved;
-  moved->next = NULL;
 }
 
 uint64_t quic_may_open(quic_connection *connection) {
@@ -129,6 +169,7 @@ uint64_t quic_may_open(quic_connection *connection) {
 int64_t quic_open(quic_connection *connection, bool unidirectional) {
   int64_t id = -1;
   if (connection->gone) return -1;
+  connection->due = true;
   int done = unidirectional ? ngtcp2_conn_open_uni_stream(connection->conn, &id, NULL)
                             : ngtcp2_conn_open_bidi_stream(connection->conn, &id, NULL);
   return done == 0 ? id : -1;
@@ -146,16 +187,20 @@ bool quic_send(quic_connection *connection, int64_t id, const uint8_t *bytes, si
   stream *stream = find_or_add(connection, id);
   if (!stream || !buffer_give(&stream->out, bytes, count)) return false;
   if (end) stream->out.ended = true;
+  connection->due = true;
+  if (!stream->queue && has_more(stream)) line_up(stream, &connection->ready);
   return true;
 }
 
 void quic_reset(quic_connection *connection, int64_t id, uint64_t code) {
   stream *stream = find(connection, id);
   if (stream) abandon(stream);
+  connection->due = true;
   if (!connection->gone) ngtcp2_conn_shutdown_stream_write(connection->conn, id, code);
 }
 
 void quic_stop(quic_connection *connection, int64_t id, uint64_t code) {
+  connection->due = true;
   if (!connection->gone) ngtcp2_conn_shutdown_stream_read(connection->conn, id, code);
 }
 
@@ -165,11 +210,27 @@ void quic_consumed(quic_connection *connection, int64_t id, size_t count) {
   ngtcp2_conn_extend_max_offset(connection->conn, count);
 }
 
+void quic_dropped(quic_connection *connection, size_t count) {
+  if (!connection->gone) ngtcp2_conn_extend_max_offset(connection->conn, count);
+}
+
+void quic_wake(quic_connection *connection, uint64_t milliseconds) {
+  if (milliseconds == 0) {
+    connection->due = true;
+    return;
+  }
+  ngtcp2_tstamp then = now() + milliseconds * NGTCP2_MILLISECONDS;
+  if (then < connection->wake_at) connection->wake_at = then;
+}
+
+uint64_t quic_time(void) { return now() / NGTCP2_MILLISECONDS; }
+
 uint64_t quic_silence(const quic_connection *connection) { return (now() - connection->heard_at) / NGTCP2_MILLISECONDS; }
 
 void quic_close(quic_connection *connection, uint64_t code) {
   if (connection->close_asked) return;
   connection->close_asked = true;
+  connection->due = true;
   ngtcp2_connection_close_error_set_application_error(&connection->close, code, NULL, 0);
 }
 
@@ -201,7 +262,8 @@ static int on_acknowledged(ngtcp2_conn *conn, int64_t id, uint64_t offset, uint6
 static int on_stream_close(ngtcp2_conn *conn, uint32_t flags, int64_t id, uint64_t code, void *user, void *stream_user) {
   (void)flags, (void)code, (void)stream_user;
   quic_connection *connection = user;
-  forget(connection, id);
+  stream *stream = find(connection, id);
+  if (stream) forget(connection, stream);
   connection->socket->events->stream_closed(connection->owner, id);
   if (ngtcp2_conn_is_local_stream(conn, id)) return 0;
   if (ngtcp2_is_bidi_stream(id)) ngtcp2_conn_extend_max_streams_bidi(conn, 1);
@@ -217,10 +279,16 @@ static int on_reset(ngtcp2_conn *conn, int64_t id, uint64_t size, uint64_t code,
 }
 
 static int on_new_id(ngtcp2_conn *conn, ngtcp2_cid *cid, uint8_t *token, size_t count, void *user) {
-  (void)conn, (void)user;
+  (void)conn;
   cid->datalen = count;
-  if (gnutls_rnd(GNUTLS_RND_RANDOM, cid->data, count) != 0) return NGTCP2_ERR_CALLBACK_FAILURE;
+  if (gnutls_rnd(GNUTLS_RND_RANDOM, cid->data, count) != 0 || !know(user, cid)) return NGTCP2_ERR_CALLBACK_FAILURE;
   return gnutls_rnd(GNUTLS_RND_RANDOM, token, NGTCP2_STATELESS_RESET_TOKENLEN) == 0 ? 0 : NGTCP2_ERR_CALLBACK_FAILURE;
+}
+
+static int on_old_id(ngtcp2_conn *conn, const ngtcp2_cid *cid, void *user) {
+  (void)conn;
+  forget_id(user, cid);
+  return 0;
 }
 
 static void on_random(uint8_t *bytes, size_t count, const ngtcp2_rand_ctx *context) {
@@ -242,6 +310,7 @@ static const ngtcp2_callbacks CALLBACKS = {
     .recv_retry = ngtcp2_crypto_recv_retry_cb,
     .rand = on_random,
     .get_new_connection_id = on_new_id,
+    .remove_connection_id = on_old_id,
     .update_key = ngtcp2_crypto_update_key_cb,
     .stream_reset = on_reset,
     .delete_crypto_aead_ctx = ngtcp2_crypto_delete_crypto_aead_ctx_cb,
@@ -345,15 +414,8 @@ static void fail(quic_connection *connection, int error) {
   write_close(connection);
 }
 
-/* The next stream that has something for a packet. */
-static stream *next_to_send(quic_connection *connection) {
-  for (stream *stream = connection->streams; stream; stream = stream->next)
-    if (!stream->blocked && (stream->out.taken < stream->out.given || (stream->out.ended && !stream->out.end_taken))) return stream;
-  return NULL;
-}
-
 /* Puts what fits of a stream (none: NULL) into a packet. Answers what ngtcp2 answers: bytes of a packet that is whole, 0, an error. */
-static ngtcp2_ssize write_packet(quic_connection *connection, stream *stream, ngtcp2_path *path, uint8_t *packet) {
+static ngtcp2_ssize write_stream(quic_connection *connection, stream *stream, ngtcp2_path *path, uint8_t *packet) {
   ngtcp2_vec pieces[16];
   ngtcp2_pkt_info info;
   ngtcp2_ssize taken = -1;
@@ -361,18 +423,29 @@ static ngtcp2_ssize write_packet(quic_connection *connection, stream *stream, ng
   bool last = stream && stream->out.ended && stream->out.taken + total == stream->out.given;
   uint32_t flags = stream ? NGTCP2_WRITE_STREAM_FLAG_MORE : 0;
   ngtcp2_ssize done = ngtcp2_conn_writev_stream(connection->conn, path, &info, packet, PACKET, &taken,
-                                                last ? flags | NGTCP2_WRITE_STREAM_FLAG_FIN : flags, stream ? stream->id : -1, pieces,
-                                                count, now());
-  if (!stream) return done;
-  if (done == NGTCP2_ERR_STREAM_DATA_BLOCKED || done == NGTCP2_ERR_STREAM_SHUT_WR || done == NGTCP2_ERR_STREAM_NOT_FOUND)
-    stream->blocked = true;
-  if (done == NGTCP2_ERR_STREAM_SHUT_WR) { /* STOP_SENDING came: ngtcp2 has reset the stream, and says so here alone */
-    abandon(stream);
-    if (!connection->close_asked) connection->socket->events->was_stopped(connection->owner, stream->id);
-  }
-  if (taken >= 0) stream->out.taken += (uint64_t)taken;
-  if (taken >= 0 && last && (size_t)taken == total) stream->out.end_taken = true;
+                                                last ? flags | NGTCP2_WRITE_STREAM_FLAG_FIN : flags,
+                                                stream ? (int64_t)stream->entry.id : -1, pieces, count, now());
+  if (taken < 0) return done;
+  stream->out.taken += (uint64_t)taken;
+  if (last && (size_t)taken == total) stream->out.end_taken = true;
   return done;
+}
+
+/* The place of a stream behind what ngtcp2 answered: it has its next turn behind the others, or none. Answers whether this was an error of this stream
+ * alone. */
+static bool next_turn(quic_connection *connection, stream *stream, ngtcp2_ssize done) {
+  switch (done) {
+  case NGTCP2_ERR_STREAM_DATA_BLOCKED: line_up(stream, &connection->blocked); return true;
+  case NGTCP2_ERR_STREAM_NOT_FOUND: abandon(stream); return true;
+  case NGTCP2_ERR_STREAM_SHUT_WR: /* STOP_SENDING came: ngtcp2 has reset the stream, and says so here alone */
+    abandon(stream);
+    if (!connection->close_asked) connection->socket->events->was_stopped(connection->owner, (int64_t)stream->entry.id);
+    return true;
+  default:
+    if (!has_more(stream)) line_up(stream, NULL);
+    else if (done > 0) line_up(stream, &connection->ready);
+    return false;
+  }
 }
 
 /* Writes packets until there is nothing to send, or QUIC or the socket lets nothing more go out now. */
@@ -380,20 +453,17 @@ static void write_packets(quic_connection *connection) {
   batch *batch = &connection->socket->batch;
   ngtcp2_path_storage path;
   size_t total = 0, burst = ngtcp2_conn_get_send_quantum(connection->conn);
-  connection->more = false;
-  if (!flush(connection->socket)) return;
-  for (stream *stream = connection->streams; stream; stream = stream->next) stream->blocked = false;
+  connection->more = !flush(connection->socket);
+  for (stream *stream; (stream = TAILQ_FIRST(&connection->blocked));) line_up(stream, &connection->ready);
   while (!connection->more) {
-    stream *stream = next_to_send(connection);
+    stream *stream = TAILQ_FIRST(&connection->ready);
     ngtcp2_path_storage_zero(&path);
-    ngtcp2_ssize done = write_packet(connection, stream, &path.path, batch->bytes + batch->count);
-    if (done == NGTCP2_ERR_WRITE_MORE || (stream && stream->blocked && done < 0)) continue;
+    ngtcp2_ssize done = write_stream(connection, stream, &path.path, batch->bytes + batch->count);
+    if ((stream && next_turn(connection, stream, done)) || done == NGTCP2_ERR_WRITE_MORE) continue;
     if (done < 0) return fail(connection, (int)done);
     if (done == 0) break;
-    if (stream) move_behind(connection, stream);
-    if (!join(connection->socket, (size_t)done, &path.path.remote)) break;
     total += (size_t)done;
-    connection->more = total >= burst;
+    connection->more = !join(connection->socket, (size_t)done, &path.path.remote) || total >= burst;
   }
   flush(connection->socket);
   ngtcp2_conn_update_pkt_tx_time(connection->conn, now());
@@ -413,6 +483,7 @@ static void settle(ngtcp2_settings *settings, ngtcp2_transport_params *params, b
   params->initial_max_streams_bidi = server ? QUIC_STREAMS : 0;
   params->initial_max_streams_uni = QUIC_OTHERS;
   params->max_idle_timeout = 30 * NGTCP2_SECONDS;
+  params->max_datagram_frame_size = 65535; /* WebTransport asks for it; datagrams that come are dropped */
   params->active_connection_id_limit = 7;
 }
 
@@ -420,7 +491,8 @@ static ngtcp2_conn *conn_of(ngtcp2_crypto_conn_ref *ref) { return ((quic_connect
 
 static void delete_connection(quic_connection *connection) {
   if (connection->owner && !connection->told) connection->socket->events->closed(connection->owner, &connection->ending);
-  while (connection->streams) forget(connection, connection->streams->id);
+  for (stream *stream; (stream = table_any(&connection->streams));) forget(connection, stream);
+  while (connection->ids) forget_id(connection, &connection->ids->cid);
   if (connection->conn) ngtcp2_conn_del(connection->conn);
   if (connection->session) gnutls_deinit(connection->session);
   free(connection);
@@ -431,6 +503,10 @@ static quic_connection *make_connection(quic_socket *socket, const char *host) {
   quic_connection *connection = calloc(1, sizeof *connection);
   if (!connection) return NULL;
   connection->socket = socket;
+  connection->due = true;
+  connection->wake_at = UINT64_MAX;
+  TAILQ_INIT(&connection->ready);
+  TAILQ_INIT(&connection->blocked);
   connection->ref = (ngtcp2_crypto_conn_ref){conn_of, connection};
   ngtcp2_connection_close_error_default(&connection->close);
   int done = tls_session(&connection->session, socket->credentials, host);
@@ -456,6 +532,32 @@ static quic_connection *keep(quic_connection *connection) {
   return connection->socket->connections = connection;
 }
 
+/* A client whose handshake came in another order shows by a token that it is where it says, and begins anew (RFC 9000, section 8.1.2). */
+static void send_retry(quic_socket *socket, const ngtcp2_version_cid *ids, const ngtcp2_addr *to) {
+  uint8_t token[NGTCP2_CRYPTO_MAX_RETRY_TOKENLEN], packet[PACKET];
+  ngtcp2_cid client, first, own;
+  ngtcp2_cid_init(&client, ids->scid, ids->scidlen);
+  ngtcp2_cid_init(&first, ids->dcid, ids->dcidlen);
+  if (!random_id(&own)) return;
+  ngtcp2_ssize count = ngtcp2_crypto_generate_retry_token(token, socket->secret, sizeof socket->secret, ids->version, to->addr, to->addrlen,
+                                                          &own, &first, now());
+  if (count < 0) return;
+  count = ngtcp2_crypto_write_retry(packet, sizeof packet, ids->version, &client, &own, &first, token, (size_t)count);
+  if (count > 0) put(socket, packet, (size_t)count, to);
+}
+
+/* What the token of a client's first packet says, where it has one. false: it is none that was sent in the last ten seconds. */
+static bool read_token(const quic_socket *socket, const ngtcp2_pkt_hd *head, const ngtcp2_addr *from, ngtcp2_settings *settings,
+                       ngtcp2_transport_params *params) {
+  params->original_dcid = head->dcid;
+  if (head->token.len == 0) return true;
+  settings->token = head->token;
+  params->retry_scid = head->dcid;
+  params->retry_scid_present = 1;
+  return ngtcp2_crypto_verify_retry_token(&params->original_dcid, head->token.base, head->token.len, socket->secret, sizeof socket->secret,
+                                          head->version, from->addr, from->addrlen, &head->dcid, 10 * NGTCP2_SECONDS, now()) == 0;
+}
+
 static quic_connection *accept_connection(quic_socket *socket, const ngtcp2_path *path, const uint8_t *packet, size_t count) {
   ngtcp2_pkt_hd head;
   ngtcp2_cid id;
@@ -465,8 +567,8 @@ static quic_connection *accept_connection(quic_socket *socket, const ngtcp2_path
   quic_connection *connection = make_connection(socket, NULL);
   if (!connection) return NULL;
   settle(&settings, &params, true);
-  params.original_dcid = head.dcid;
-  if (ngtcp2_conn_server_new(&connection->conn, &head.scid, &id, path, head.version, &CALLBACKS, &settings, &params, NULL,
+  if (read_token(socket, &head, &path->remote, &settings, &params) && know(connection, &id) && know(connection, &head.dcid) &&
+      ngtcp2_conn_server_new(&connection->conn, &head.scid, &id, path, head.version, &CALLBACKS, &settings, &params, NULL,
                              connection) == 0)
     return keep(connection);
   connection->conn = NULL;
@@ -481,27 +583,13 @@ static quic_connection *start_connection(quic_socket *socket, const ngtcp2_path 
   quic_connection *connection = make_connection(socket, host);
   if (!connection) return NULL;
   settle(&settings, &params, false);
-  if (random_id(&to) && random_id(&from) &&
+  if (random_id(&to) && random_id(&from) && know(connection, &from) &&
       ngtcp2_conn_client_new(&connection->conn, &to, &from, path, NGTCP2_PROTO_VER_V1, &CALLBACKS, &settings, &params, NULL,
                              connection) == 0)
     return keep(connection);
   connection->conn = NULL;
   delete_connection(connection);
   return NULL;
-}
-
-static bool is_id(const ngtcp2_cid *cid, const ngtcp2_version_cid *wanted) {
-  return cid->datalen == wanted->dcidlen && memcmp(cid->data, wanted->dcid, cid->datalen) == 0;
-}
-
-static bool has_id(quic_connection *connection, const ngtcp2_version_cid *wanted) {
-  ngtcp2_cid ids[64];
-  size_t count = ngtcp2_conn_get_num_scid(connection->conn);
-  if (count > 64) return false;
-  ngtcp2_conn_get_scid(connection->conn, ids);
-  for (size_t i = 0; i < count; i++)
-    if (is_id(&ids[i], wanted)) return true;
-  return connection->socket->server && is_id(ngtcp2_conn_get_client_initial_dcid(connection->conn), wanted);
 }
 
 /* A packet of a version that is not known is answered with those that are (RFC 9000, section 6). */
@@ -514,22 +602,33 @@ static void negotiate(quic_socket *socket, const ngtcp2_version_cid *ids, const 
   if (count > 0) put(socket, packet, (size_t)count, to);
 }
 
+/* The connection was none: nothing was sent on it. */
+static void drop_connection(quic_connection *connection) {
+  quic_connection **at = &connection->socket->connections;
+  while (*at != connection) at = &(*at)->next;
+  *at = connection->next;
+  delete_connection(connection);
+}
+
 /* A packet goes to its connection, or begins one at a server. */
 static void read_packet(quic_socket *socket, const ngtcp2_path *path, const uint8_t *packet, size_t count) {
   ngtcp2_version_cid ids;
   ngtcp2_pkt_info info = {0};
-  int known = ngtcp2_pkt_decode_version_cid(&ids, packet, count, CID_LENGTH);
-  if (known == NGTCP2_ERR_VERSION_NEGOTIATION && socket->server) return negotiate(socket, &ids, &path->remote);
-  if (known != 0) return;
-  quic_connection *connection = socket->connections;
-  while (connection && !has_id(connection, &ids)) connection = connection->next;
+  int read = ngtcp2_pkt_decode_version_cid(&ids, packet, count, CID_LENGTH);
+  if (read == NGTCP2_ERR_VERSION_NEGOTIATION && socket->server) return negotiate(socket, &ids, &path->remote);
+  if (read != 0) return;
+  known_id *known_id = *place_of(socket, ids.dcid, ids.dcidlen);
+  quic_connection *connection = known_id ? known_id->connection : NULL;
   if (!connection && socket->server) connection = accept_connection(socket, path, packet, count);
   if (!connection) return;
   if (connection->gone) {
     if (connection->goodbye_count) put(socket, connection->goodbye, connection->goodbye_count, &path->remote);
     return;
   }
+  connection->due = true;
   int done = ngtcp2_conn_read_pkt(connection->conn, path, &info, packet, count, now());
+  if (done == NGTCP2_ERR_RETRY) send_retry(socket, &ids, &path->remote);
+  if (done == NGTCP2_ERR_RETRY || done == NGTCP2_ERR_DROP_CONN) return drop_connection(connection);
   if (done != 0) fail(connection, done);
   else connection->heard_at = now();
 }
@@ -548,10 +647,18 @@ static void read_packets(quic_socket *socket) {
   }
 }
 
+/* Does a packet, a timer or the owner ask for its turn? */
+static bool is_due(quic_connection *connection, ngtcp2_tstamp time) {
+  return connection->due || connection->more || connection->wake_at <= time || (!connection->gone && ngtcp2_conn_get_expiry(connection->conn) <= time);
+}
+
 /* Timers, what the owner has to send, packets, and the close that was asked for. */
 static void drive(quic_connection *connection) {
-  if (!connection->gone && ngtcp2_conn_get_expiry(connection->conn) <= now()) {
-    int done = ngtcp2_conn_handle_expiry(connection->conn, now());
+  ngtcp2_tstamp time = now();
+  if (!is_due(connection, time)) return;
+  if (connection->wake_at <= time) connection->wake_at = UINT64_MAX;
+  if (!connection->gone && ngtcp2_conn_get_expiry(connection->conn) <= time) {
+    int done = ngtcp2_conn_handle_expiry(connection->conn, time);
     if (done != 0) fail(connection, done);
   }
   if (!connection->gone && connection->owner && !connection->close_asked) connection->socket->events->fill(connection->owner);
@@ -561,6 +668,8 @@ static void drive(quic_connection *connection) {
     connection->told = true;
     connection->socket->events->closed(connection->owner, &connection->ending);
   }
+  if (connection->gone) connection->more = false;
+  connection->due = false;
 }
 
 /* How long until the first timer, at most so many milliseconds. */
@@ -570,7 +679,8 @@ static struct timespec wait_time(const quic_socket *socket, int most) {
   for (quic_connection *connection = socket->connections; connection && !full; connection = connection->next) {
     ngtcp2_tstamp then = connection->gone ? connection->gone_at : ngtcp2_conn_get_expiry(connection->conn);
     if (then < first) first = then;
-    if (!connection->gone && connection->more) first = time;
+    if (!connection->gone && connection->wake_at < first) first = connection->wake_at;
+    if (!connection->gone && (connection->more || connection->due)) first = time;
   }
   ngtcp2_tstamp wait = first <= time ? 0 : first - time;
   return (struct timespec){(time_t)(wait / NGTCP2_SECONDS), (long)(wait % NGTCP2_SECONDS)};
@@ -611,8 +721,11 @@ quic_ending quic_last_ending(const quic_socket *socket) { return socket->last; }
 void quic_refuse_more(quic_socket *socket) { socket->refusing = true; }
 
 void quic_each(quic_socket *socket, void (*call)(void *owner)) {
-  for (quic_connection *connection = socket->connections; connection; connection = connection->next)
-    if (!connection->gone && connection->owner) call(connection->owner);
+  for (quic_connection *connection = socket->connections; connection; connection = connection->next) {
+    if (connection->gone || !connection->owner) continue;
+    connection->due = true;
+    call(connection->owner);
+  }
 }
 
 /* A socket that is bound, or connected, to an address and port of text. */
@@ -646,7 +759,8 @@ static quic_socket *make_socket(const char *address, const char *port, const cha
   }
   *socket = (quic_socket){.file = -1, .server = !host, .events = events, .user = user};
   int done = tls_credentials(&socket->credentials, identity, socket->server);
-  bool made = done == 0 && open_file(socket, address, port, &found);
+  bool made = done == 0 && gnutls_rnd(GNUTLS_RND_RANDOM, socket->secret, sizeof socket->secret) == 0 &&
+              open_file(socket, address, port, &found);
   if (done != 0) {
     socket->credentials = NULL;
     fprintf(stderr, "certificate: %s\n", gnutls_strerror(done));

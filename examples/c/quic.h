@@ -73,6 +73,12 @@ void quic_reset(quic_connection *, int64_t stream, uint64_t code);
 void quic_stop(quic_connection *, int64_t stream, uint64_t code);
 /* The peer may send so many bytes more on this stream: they were consumed. */
 void quic_consumed(quic_connection *, int64_t stream, size_t count);
+/* The peer may send so many bytes more on the connection, but not on the stream where they came: they were thrown away. */
+void quic_dropped(quic_connection *, size_t count);
+/* `fill` is called again after so many milliseconds at most. It is called by itself behind a packet, a timer, and the calls here. */
+void quic_wake(quic_connection *, uint64_t milliseconds);
+/* A clock that goes on by itself, in milliseconds. */
+uint64_t quic_time(void);
 /* How many milliseconds ago the peer's last packet came. */
 uint64_t quic_silence(const quic_connection *);
 /* Closes the connection with a code of HTTP/3. The first code stays. */

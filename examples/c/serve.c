@@ -27,10 +27,8 @@ typedef struct {
 /* ---- answers ---- */
 
 /* A head with a type and a length, and where it is refused the end of the stream. */
-static bool answer(http3_request *request, const char *status, const char *type, unsigned long long length) {
-  char digits[24];
-  snprintf(digits, sizeof digits, "%llu", length);
-  http3_field fields[] = {{":status", status}, {"content-type", type}, {"content-length", digits}, {"server", "h3-serve"}};
+static bool answer(http3_request *request, const char *status, const char *type, const char *length) {
+  http3_field fields[] = {{":status", status}, {"content-type", type}, {"content-length", length}, {"server", "h3-serve"}};
   if (http3_head(request, fields, 4)) return true;
   http3_give_up(request, H3_CODE_INTERNAL_ERROR);
   return false;
@@ -39,7 +37,9 @@ static bool answer(http3_request *request, const char *status, const char *type,
 /* A short text is the whole answer. */
 static void answer_text(http3_request *request, const char *status, const char *text) {
   const work *work = request->data;
-  if (!answer(request, status, "text/plain; charset=utf-8", strlen(text))) return;
+  char length[24];
+  snprintf(length, sizeof length, "%zu", strlen(text));
+  if (!answer(request, status, "text/plain; charset=utf-8", length)) return;
   if (work->head_only || http3_body(request, (const uint8_t *)text, strlen(text))) http3_finish(request);
   else http3_give_up(request, H3_CODE_INTERNAL_ERROR);
 }
@@ -54,7 +54,7 @@ static void answer_file(http3_request *request, const char *path) {
   work *work = request->data;
   work->file = files_open(path);
   if (!work->file) return answer_text(request, "404", "no such file\n");
-  if (!answer(request, "200", files_type(path), files_length(work->file))) return;
+  if (!answer(request, "200", files_type(path), files_length_text(work->file))) return;
   if (work->head_only || files_length(work->file) == 0) http3_finish(request);
 }
 
@@ -97,7 +97,7 @@ static void on_end(http3_request *request) {
 }
 
 static void on_failed(http3_request *request, const h3_item *item) {
-  fprintf(stderr, "stream %llu failed: kind %u, %llu\n", (unsigned long long)request->id, item->kind, (unsigned long long)item->number);
+  fprintf(stderr, "stream %llu failed: kind %u, %llu\n", (unsigned long long)request->entry.id, item->kind, (unsigned long long)item->number);
 }
 
 /* The next pieces of a file. */
@@ -155,7 +155,7 @@ static bool read_options(int count, char **arguments, http3_setup *setup) {
 }
 
 int main(int count, char **arguments) {
-  static const http3_events events = {on_ready, on_head, on_body, on_end, on_failed, on_room, on_freed, on_over};
+  static const http3_events events = {on_ready, on_head, on_body, on_end, on_failed, on_room, on_freed, on_over, NULL};
   http3_setup setup = {.server = true, .requests = 100000, .events = &events};
   struct sigaction action = {.sa_handler = on_signal};
   if (!read_options(count, arguments, &setup)) {

@@ -20,7 +20,8 @@ const (
 	streams   = 100        // requests that a client may have at once
 	anyID     = 1<<62 - 4  // the greatest id of a request
 
-	notice = time.Second // between the first GOAWAY and the last: requests that were on their way come
+	grace  = 100 * time.Millisecond // that a client has for an answer before it is told to send no more
+	notice = time.Second            // between the first GOAWAY and the last: requests that were on their way come
 )
 
 // errTooLarge is the fault of a frame that is larger than any that is taken.
@@ -460,10 +461,11 @@ func (r *Request) GiveUp(code quic.StreamErrorCode) {
 	r.stream.CancelRead(code)
 }
 
-// Ignore wants nothing more of the request: a server has answered (RFC 9114, section 4.1), and the client need not send the rest.
+// Ignore wants nothing more of the request: a server has answered (RFC 9114, section 4.1), and the client need not send the rest. It is told so a
+// little later, so that it reads the answer first: some clients fail where they are stopped in sending.
 func (r *Request) Ignore() {
 	r.call(func() error { return r.connection.endpoint.Cancel(r.id) }) // refused where the message is over
-	r.stream.CancelRead(h3.NoError)
+	time.AfterFunc(grace, func() { r.stream.CancelRead(h3.NoError) })
 }
 
 // Next waits for the next item of the peer's message. quic-go grants credit for what is read, so no more is read of a stream of which the endpoint

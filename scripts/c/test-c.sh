@@ -1,6 +1,6 @@
 #!/usr/bin/env bash
 # C programs over build/c (scripts/c/lib.sh), by the machine's C compiler alone: the calls of crates/h3_cases and hostile lists of calls through the header,
-# each allocation refused in turn, large input with none refused, two endpoints under random schedules, what is held of a stream, wrong arguments, bytes that are lent, pulled lists, and the program of docs/TUTORIAL.md. Once as
+# each allocation refused in turn, large input with none refused, two endpoints under random schedules, what is held of a stream and of small pieces, unknown frames, wrong arguments, bytes that are lent, pulled lists, and the program of docs/TUTORIAL.md. Once as
 # they are, and once with the sanitizers of addresses, leaks and undefined behaviour where the compiler has them (large input, memory: once). Then how programs find the
 # library (scripts/c/test-install.sh), and the packages for Go and Rust (scripts/c/test-bindings.sh). One line 'ok NAME' or 'failed NAME' for each; the last is the sum. With LIB=FOLDER the library in that folder is
 # taken, as that of `make lib-unproved`, and none is built.
@@ -71,6 +71,8 @@ checks() {
   compile sizes sizes -Wl,--wrap=malloc,--wrap=realloc
   compile schedules schedules
   compile unread unread
+  compile small_pieces small_pieces -Wl,--wrap=malloc,--wrap=realloc,--wrap=free
+  compile unknown unknown -Wl,--wrap=malloc,--wrap=realloc,--wrap=free
   compile arguments arguments
   compile lent lent
   compile lists lists
@@ -82,6 +84,8 @@ checks() {
     run sizes "$out/sizes"
     run schedules "$out/schedules" 0 1000
     run unread "$out/unread"
+    run "small pieces" "$out/small_pieces"
+    run unknown "$out/unknown"
     run arguments "$out/arguments" $mark
     run lent "$out/lent"
     run lists "$out/lists"

@@ -45,6 +45,10 @@ PAGES = {
 }
 # how many lines the first parts may have: a sitting each
 MOST = {PARTS[0][0]: 450, PARTS[1][0]: 1500}
+# the pages on which no name stands for two definitions
+SITTINGS = ("docs/MESSAGES.md", "docs/HEADLINE.md")
+# but for these: the Rust crate h3 has a type of that name in two modules, and so have the ports of them
+OF_TWO_MODULES = ("Settings",)
 WIDTH = 140
 WORD = re.compile(r"[^\s(){}\[\],;.]+")
 USE = re.compile(r"^\s*(?:pub |ghost )?use Rattle\.([\w.]+?)(?:\.\{(.*)\}| as (\w+))?;?$")
@@ -299,6 +303,18 @@ def compare(found, page, heading, section):
     return not wrong
 
 
+def has_one_meaning_each(found):
+    """whether no name on the two sittings stands for two definitions"""
+    places = {}
+    for heading in (it for page in SITTINGS for it in PAGES[page]):
+        for row, (_, names) in found[heading].items():
+            for name in names:
+                places.setdefault(name, []).append(row)
+    twice = [f"{name} ({' and '.join(rows)})" for name, rows in sorted(places.items()) if len(rows) > 1 and name not in OF_TWO_MODULES]
+    print(f"{'failed' if twice else 'ok'} {len(places)} names on {' and '.join(SITTINGS)} stand for one definition each{': ' if twice else ''}{', '.join(twice)}")
+    return not twice
+
+
 def written(rows, section):
     """a part with its rows anew, and what it says of their sum"""
     left, lines, known = dict(rows), [], {it[0]: it for it in rows_in(section)}
@@ -325,6 +341,8 @@ def main():
                 file.write(front + "".join(written(found[heading], section) for heading, section in zip(headings, there)))
         else:
             fine &= all([compare(found, page, heading, section) for heading, section in zip(headings, there)])
+    if sys.argv[1:] != ["--write"]:
+        fine &= has_one_meaning_each(found)
     return 0 if fine else 1
 
 

@@ -5,9 +5,11 @@
                                                the server has as /big.bin, and POSTED what it answers to a POST of it as /answer
     aio.py lost ..                             some of these cases, where packets are lost
     aio.py limited ..                          a case for a server that takes 150 requests on a connection
+    aio.py sessions ..                         cases for a server of WebTransport sessions: each stream is answered as a POST is
 
 aioquic 1.2.0 sends what it is told to, tables included, and checks what it gets. It tells of no GOAWAY, holds the length of an answer to HEAD against
-its (empty) body, and takes an interim head of its own for a message's last one: the subclass and `send_interim` get around that."""
+its (empty) body, takes an interim head of its own for a message's last one, and what comes on a session's stream that it opened for frames: the subclass gets
+around that."""
 import asyncio
 import hashlib
 import os
@@ -19,7 +21,7 @@ from aioquic.asyncio import connect, serve
 from aioquic.asyncio.protocol import QuicConnectionProtocol
 from aioquic.buffer import encode_uint_var
 from aioquic.h3.connection import FrameType, H3Connection, HeadersState, encode_frame
-from aioquic.h3.events import DataReceived, HeadersReceived
+from aioquic.h3.events import DataReceived, HeadersReceived, WebTransportStreamDataReceived
 from aioquic.quic.configuration import QuicConfiguration
 from aioquic.quic.events import ConnectionTerminated, ProtocolNegotiated, StopSendingReceived, StreamReset
 
@@ -31,9 +33,9 @@ PIECE = 64 * 1024
 class Connection(H3Connection):
     """an H3Connection that notes GOAWAY, and does not count the body of an answer to HEAD"""
 
-    def __init__(self, quic):
+    def __init__(self, quic, has_sessions):
         self.goaways, self.heads, self.is_leaving = [], set(), False
-        super().__init__(quic)
+        super().__init__(quic, has_sessions)
 
     def _handle_control_frame(self, frame_type, frame_data):
         if frame_type == FrameType.GOAWAY:
@@ -48,6 +50,13 @@ class Connection(H3Connection):
         self.send_headers(stream_id, headers)
         self._get_or_create_stream(stream_id).headers_send_state = HeadersState.INITIAL
 
+    def open_stream(self, session, is_unidirectional=False):
+        """a stream of a WebTransport session"""
+        stream_id = self.create_webtransport_stream(session, is_unidirectional)
+        stream = self._get_or_create_stream(stream_id)
+        stream.frame_type, stream.session_id = FrameType.WEBTRANSPORT_STREAM, session
+        return stream_id
+
     def send_goaway(self, end):
         """once: a later one may not name a greater id (RFC 9114, section 5.2)"""
         if self.is_leaving:
@@ -58,6 +67,8 @@ class Connection(H3Connection):
 
 class Protocol(QuicConnectionProtocol):
     """one connection: what came on each stream"""
+
+    has_sessions = False
 
     def __init__(self, *arguments, **words):
         super().__init__(*arguments, **words)
@@ -73,7 +84,7 @@ class Protocol(QuicConnectionProtocol):
 
     def quic_event_received(self, event):
         if isinstance(event, ProtocolNegotiated):
-            self.http = Connection(self._quic)
+            self.http = Connection(self._quic, self.has_sessions)
         if isinstance(event, ConnectionTerminated):
             self.over = (event.error_code, event.reason_phrase)
         if isinstance(event, StreamReset):
@@ -89,7 +100,7 @@ class Protocol(QuicConnectionProtocol):
         stream = self.stream(it.stream_id)
         if isinstance(it, HeadersReceived):
             stream["heads"].append(dict(it.headers))
-        elif isinstance(it, DataReceived):
+        elif isinstance(it, (DataReceived, WebTransportStreamDataReceived)):
             stream["body"] += it.data
         stream["ended"] |= getattr(it, "stream_ended", False)
 
@@ -307,6 +318,87 @@ async def case_goaway(client, words):
     want(stream["reset"] == 0x10B, "another code than H3_REQUEST_REJECTED")
 
 
+# ---- sessions of WebTransport ----
+
+FIRST_OF_SERVER = 15  # its first unidirectional stream behind the control, encoder and decoder stream
+
+
+def answer_to(data):
+    return f"{len(data)} {hashlib.sha256(data).hexdigest()}\n".encode()
+
+
+async def begin_session(client):
+    session = client._quic.get_next_available_stream_id()
+    head = [(b":method", b"CONNECT"), (b":protocol", b"webtransport"), (b":scheme", b"https"), (b":authority", client.authority), (b":path", b"/")]
+    client.http.send_headers(session, head + [(b"sec-webtransport-http3-draft02", b"1")])
+    client.transmit()
+    stream = await client.until(session, lambda it: it["heads"] or it["ended"] or it["reset"] is not None)
+    want(stream["heads"] and stream["heads"][0][b":status"] == b"200", f"no session: {stream}")
+    return session
+
+
+def send_on(client, session, data, is_unidirectional=False, end=True):
+    stream_id = client.http.open_stream(session, is_unidirectional)
+    client._quic.send_stream_data(stream_id, data, end)
+    client.transmit()
+    return stream_id
+
+
+async def case_both_ways(client, words):
+    session = await begin_session(client)
+    for data in (os.urandom(3_000_000), b"", b"x"):
+        stream = await client.until(send_on(client, session, data), lambda it: it["ended"])
+        want(stream["body"] == answer_to(data), f"another answer: {stream['body'][:100]}")
+
+
+async def case_one_way(client, words):
+    session = await begin_session(client)
+    for i, data in enumerate((os.urandom(3_000_000), b"", b"x")):
+        send_on(client, session, data, is_unidirectional=True)
+        stream = await client.until(FIRST_OF_SERVER + 4 * i, lambda it: it["ended"])
+        want(stream["body"] == answer_to(data), f"another answer: {stream['body'][:100]}")
+
+
+async def case_many_streams(client, words):
+    session = await begin_session(client)
+    data = [os.urandom(1000 * i) for i in range(50)]
+    ids = [send_on(client, session, it) for it in data]
+    for i in range(10):
+        send_on(client, session, data[i], is_unidirectional=True)
+    for it, stream_id in zip(data, ids):
+        want((await client.until(stream_id, lambda it: it["ended"]))["body"] == answer_to(it), "another answer")
+    bodies = [bytes((await client.until(FIRST_OF_SERVER + 4 * i, lambda it: it["ended"]))["body"]) for i in range(10)]
+    want(sorted(bodies) == sorted(answer_to(it) for it in data[:10]), "other answers to unidirectional streams")
+
+
+async def case_streams_reset(client, words):
+    session = await begin_session(client)
+    for is_unidirectional in (False, True):
+        stream_id = send_on(client, session, bytes(10_000), is_unidirectional, end=False)
+        await asyncio.sleep(0.1)
+        client._quic.reset_stream(stream_id, 0x52E4A40FA8DB)
+        client.transmit()
+    stream = await client.until(send_on(client, session, b"x"), lambda it: it["ended"])
+    want(stream["body"] == answer_to(b"x"), "another answer")
+
+
+async def case_session_ends(client, words):
+    session = await begin_session(client)
+    open_one = send_on(client, session, b"x", end=False)
+    await asyncio.sleep(0.2)
+    client.send(session, b"", True)
+    await client.until(session, lambda it: it["ended"])
+    stream = await client.until(open_one, lambda it: it["reset"] is not None)
+    want(stream["reset"] == 0x170D7B68, f"another code than SESSION_GONE: {stream['reset']:#x}")
+
+
+async def case_no_session(client, words):
+    session = await begin_session(client)
+    stream = await client.until(send_on(client, session + 400, b"x"), lambda it: it["reset"] is not None)
+    want(stream["reset"] == 0x3994BD84, f"another code than BUFFERED_STREAM_REJECTED: {stream['reset']:#x}")
+    await client.whole(client.ask("GET", "/hello.txt"), 404)
+
+
 CASES = {
     "a small file": case_get,
     "10 MB": case_big,
@@ -324,8 +416,19 @@ LOST = {name: CASES[name] for name in ("10 MB", "POST of 10 MB", "100 requests a
 LIMITED = {"GOAWAY behind 150 requests, and the next one is refused": case_goaway}
 
 
+SESSIONS = {
+    "a session, streams both ways": case_both_ways,
+    "a session, unidirectional streams": case_one_way,
+    "a session, 60 streams at once": case_many_streams,
+    "a session, streams that are reset": case_streams_reset,
+    "a session that ends": case_session_ends,
+    "a stream of no session": case_no_session,
+}
+
+
 async def try_case(case, port, trusted, words):
-    configuration = QuicConfiguration(alpn_protocols=["h3"], is_client=True, server_name="localhost", max_data=1 << 22, max_stream_data=1 << 20)
+    configuration = QuicConfiguration(alpn_protocols=["h3"], is_client=True, server_name="localhost", max_data=1 << 22, max_stream_data=1 << 20,
+                                      max_datagram_frame_size=65536 if Client.has_sessions else None)
     configuration.load_verify_locations(trusted)
     configuration.verify_mode = ssl.CERT_REQUIRED
     Client.authority = f"localhost:{port}".encode()
@@ -350,7 +453,8 @@ def main():
     if words[0] == "serve":
         asyncio.run(serve_folder(*words[1:]))
     else:
-        cases = {"client": CASES, "lost": LOST, "limited": LIMITED}[words[0]]
+        cases = {"client": CASES, "lost": LOST, "limited": LIMITED, "sessions": SESSIONS}[words[0]]
+        Client.has_sessions = words[0] == "sessions"
         sys.exit(0 if asyncio.run(try_all(cases, words[1], words[2], {"big": words[3], "posted": words[4]})) else 1)
 
 

@@ -19,7 +19,8 @@ def png(width, height):
 def main():
     folder = pathlib.Path(sys.argv[1])
     (folder / "small").mkdir(parents=True)
-    shutil.copy(pathlib.Path(__file__).parent / "page.html", folder / "index.html")
+    for name, kept in (("page.html", "index.html"), ("session.html", "session.html")):
+        shutil.copy(pathlib.Path(__file__).parent / name, folder / kept)
     (folder / "image.png").write_bytes(png(64, 48))
     (folder / "hello.txt").write_text("hello\n")
     (folder / "letters.txt").write_text(1_000_000 * "a")

@@ -1,8 +1,8 @@
 #!/usr/bin/env bash
-# The examples in C and Go against HTTP/3 peers of Debian 13, which run in the root that `make upstream-root` leaves (build/trixie): curl, aioquic, nginx,
-# haproxy, gtlsclient and gtlsserver; and against Firefox, where Debian's firefox-esr and libnss3-tools are there. Only loopback addresses, each command
-# within a time, each server ended at the end. Prints 'ok NAME', 'failed NAME' or 'skipped NAME' for each check or group of checks. The library
-# is that of the folder LIB (build/c, as `make lib` leaves it).
+# The examples in C and Go against HTTP/3 peers of Debian 13, which run in the root that `make upstream-root` leaves (build/trixie): curl,
+# aioquic, nginx, haproxy, the Rust crate h3 over quinn, gtlsclient and gtlsserver; and against Firefox, where Debian's firefox-esr and
+# libnss3-tools are there. Only loopback addresses, each command within a time, each server ended at the end. Prints 'ok NAME', 'failed
+# NAME' or 'skipped NAME' for each check or group of checks. The library is that of the folder LIB (build/c, as `make lib` leaves it).
 set -uo pipefail
 cd "$(dirname "$0")/../.."
 top=$PWD
@@ -22,7 +22,7 @@ build make -s -C examples/go LIB="$lib" OUT="$work"
 make_served
 ours=("$work/checked/fetch" --address 127.0.0.1 --trust "$cert")
 go_ours=("$work/h3go" fetch)
-mapfile -t ports < <(python3 scripts/interop/ports.py 19)
+mapfile -t ports < <(python3 scripts/interop/ports.py 23)
 start "${ports[0]}" serve.log "$work/checked/serve" 127.0.0.1 "${ports[0]}" "$cert" "$key" "$folder"
 start "${ports[1]}" serve150.log "$work/checked/serve" --requests 150 127.0.0.1 "${ports[1]}" "$cert" "$key" "$folder"
 start "${ports[2]}" h3go.log "$work/h3go" serve "127.0.0.1:${ports[2]}" "$cert" "$key" "$folder"
@@ -38,32 +38,41 @@ is_silent() { ! grep -qE "Sanitizer|runtime error|panic|DATA RACE" "$work/$1"; }
 root=$top/build/trixie
 there=/tmp/interop # of the root: what its programs read and write
 
-aioquic_cases() { # what the server is called, CASES, PORT, what is said behind the peer's name
+quinn_peer=/root/quinn/target/release/quinn_peer
+cases_of() { # what the server is called, the peer, what is said behind its name, CASES, PORT, COMMAND
+  local server=$1 name=$2 more=$3 which=$4 port=$5
+  shift 5
   : > "$work/log"
-  timeout -k 5 300 chroot "$root" python3 $there/aio.py "$2" "$3" $there/cert.pem $there/folder/big.bin $there/posted > "$work/cases" 2>> "$work/log"
+  timeout -k 5 300 chroot "$root" "$@" "$which" "$port" $there/cert.pem $there/folder/big.bin $there/posted > "$work/cases" 2>> "$work/log"
   while read -r word case; do
-    if [ "$word" = ok ]; then good "$1, aioquic$4: $case"; else bad "$1, aioquic$4: $case"; fi
+    if [ "$word" = ok ]; then good "$server, $name$more: $case"; else bad "$server, $name$more: $case"; fi
   done < "$work/cases"
-  [ -s "$work/cases" ] || bad "$1, aioquic$4"
+  [ -s "$work/cases" ] || bad "$server, $name$more"
 }
+aioquic_cases() { cases_of "$1" aioquic "$2" "$3" "$4" python3 $there/aio.py; }
+quinn_cases() { cases_of "$1" "h3 and quinn" "$2" "$3" "$4" $quinn_peer; }
 curl3=(chroot "$root" curl --silent --http3-only --cacert $there/cert.pem)
 curl_says() { # TEXT, arguments of curl: status, a blank, and the bytes of the body
   local text=$1
   shift
   [ "$(within 60 "${curl3[@]}" -o /dev/null -w '%{http_version} %{response_code} %{size_download}' "$@")" = "3 $text" ]
 }
-# One connection of curl 8.14.1 in twenty, of those that begin with many requests at once, never sends its control and encoder stream (so in the log of
-# quic-go's own HTTP/3: of 80 connections 4 without a frame of these streams, and no packet missing). Where it names entries of its table, the requests that do
-# wait for ever. So there are three tries.
+# Some connections of curl 8.14.1 over OpenSSL 3.5 that begin with many requests at once never send their control and encoder stream, so
+# that requests which name entries of the table wait for ever (examples/PEERS.md has how many). So there are six tries.
 curl_many() { # PORT
-  curl_once "$1" || curl_once "$1" || curl_once "$1"
+  for _ in 1 2 3 4 5 6; do
+    if curl_once "$1"; then return; fi
+  done
+  return 1
 }
 curl_once() { # PORT
   local urls=()
   for i in $(seq 0 99); do urls+=(-o "$there/small-$i" "$(url "$1" "/small/$i.txt")"); done
-  within 20 "${curl3[@]}" -Z --parallel-max 50 "${urls[@]}" || return 1
+  within 10 "${curl3[@]}" -Z --parallel-max 50 "${urls[@]}" || return 1
   for i in $(seq 0 99); do cmp -s "$root$there/small-$i" "$folder/small/$i.txt" || return 1; done
 }
+# One handshake of curl in fifty stands still where packets of it are lost, with ngtcp2 0.12.1 as the server (gtlsserver too).
+once_or_twice() { "$@" || "$@"; }
 curl_aborts() { # PORT: the upload is given up behind a second, and the server goes on
   within 60 "${curl3[@]}" --limit-rate 200k --max-time 1 --data-binary @$there/folder/big.bin "$(url "$1" /answer)"
   [ $? -eq 28 ] && curl_says "200 6" "$(url "$1" /hello.txt)"
@@ -93,9 +102,12 @@ gtls13_many() {
 }
 
 clients13() { # what our server is called, PORT, PORT of one with --requests 150, PORT of a relay
-  aioquic_cases "$1" client "$2" ""
-  aioquic_cases "$1 --requests 150" limited "$3" ""
-  aioquic_cases "$1" lost "$4" ", packets lost"
+  local peer
+  for peer in aioquic_cases quinn_cases; do
+    "$peer" "$1" "" client "$2"
+    "$peer" "$1 --requests 150" "" limited "$3"
+    "$peer" "$1" ", packets lost" lost "$4"
+  done
   check "$1, curl: 10 MB" gives "$big" "${curl3[@]}" "$(url "$2" /big.bin)"
   check "$1, curl: POST of 10 MB" gives "$work/posted" "${curl3[@]}" --data-binary @$there/folder/big.bin "$(url "$2" /answer)"
   check "$1, curl: HEAD" curl_head "$2"
@@ -104,8 +116,8 @@ clients13() { # what our server is called, PORT, PORT of one with --requests 150
   check "$1, curl: no such file" curl_says "404 13" "$(url "$2" /none)"
   check "$1, curl: a PUT of 10 MB gives 405" curl_says "405 29" -X PUT --data-binary @$there/folder/big.bin "$(url "$2" /answer)"
   check "$1, curl: a head of 70,000 bytes gives 431" curl_large "$2"
-  check "$1, curl, packets lost: 10 MB" gives "$big" "${curl3[@]}" "$(url "$4" /big.bin)"
-  check "$1, curl, packets lost: POST of 10 MB" gives "$work/posted" "${curl3[@]}" --data-binary @$there/folder/big.bin "$(url "$4" /answer)"
+  check "$1, curl, packets lost: 10 MB" once_or_twice gives "$big" "${curl3[@]}" "$(url "$4" /big.bin)"
+  check "$1, curl, packets lost: POST of 10 MB" once_or_twice gives "$work/posted" "${curl3[@]}" --data-binary @$there/folder/big.bin "$(url "$4" /answer)"
   check "$1, gtlsclient 1.11: 10 MB" gtls13_file "$2"
   check "$1, gtlsclient 1.11: POST of 10 MB" gtls13_post "$2"
   check "$1, gtlsclient 1.11: 100 requests" gtls13_many "$2"
@@ -142,7 +154,6 @@ servers13() { # the server's name, PORT, PORT of a relay
   both "$1: 10 MB" "gives $big" /big.bin "$2"
   both "$1: 1,000 requests on one connection" "gives $work/thousand" /hello.txt "$2" --count 1000 --parallel 50
   both "$1: POST of 10 MB" "gives $work/posted" /answer "$2" --post "$big"
-  both "$1: an upload that is aborted" "gives $work/posted" /answer "$2" --count 2 --cancel 100000 --post "$big"
   both "$1: a response that is given up" "gives $big" /big.bin "$2" --count 2 --cancel 100000
   verbose "$1: HEAD" "status 200" $nothing /big.bin "$2" --head
   verbose "$1: 204" "status 204" $nothing /204 "$2"
@@ -151,6 +162,10 @@ servers13() { # the server's name, PORT, PORT of a relay
   verbose "$1: trailers" "status 200 trailer of 2 fields" "$work/trailers" /trailers "$2"
   both "$1, packets lost: 10 MB" "gives $big" /big.bin "$3"
   both "$1, packets lost: POST of 10 MB" "gives $work/posted" /answer "$3" --post "$big"
+}
+
+aborted_upload() { # the server's name, PORT
+  both "$1: an upload that is aborted" "gives $work/posted" /answer "$2" --count 2 --cancel 100000 --post "$big"
 }
 
 start13() { # PORT, LOG, COMMAND inside of the root
@@ -220,6 +235,7 @@ HAPROXY
 }
 
 debian13() {
+  build bash scripts/interop/upstream.sh quinn
   mkdir -p "$root$there"
   cp -r "$folder" "$cert" "$key" "$work/posted" scripts/interop/aio.py "$root$there"
   echo "trailers" > "$work/trailers"
@@ -232,22 +248,39 @@ debian13() {
     clients13 "${name//_/ }" "$port" "$limited" "$lost"
   done
 
+  start "${ports[21]}" webtransport.log "$work/checked/webtransport" 127.0.0.1 "${ports[21]}" "$cert" "$key"
+  relay "${ports[22]}" "${ports[21]}"
+  aioquic_cases webtransport "" sessions "${ports[21]}"
+  aioquic_cases webtransport ", packets lost" sessions "${ports[22]}"
+  logs+=(webtransport.log)
+
   start13 "${ports[6]}" aioquic.log python3 $there/aio.py serve "${ports[6]}" $there/cert.pem $there/key.pem $there/folder
   relay "${ports[7]}" "${ports[6]}"
   servers13 aioquic "${ports[6]}" "${ports[7]}"
+  aborted_upload aioquic "${ports[6]}"
   verbose "aioquic: 103" "interim 103 status 200" "$work/hints" /103 "${ports[6]}"
   both "aioquic: a response that the peer resets" "refuses reset\|H3_FAULT_RESET" /reset "${ports[6]}"
   both "aioquic: an answer that stops a POST of 10 MB" "gives $work/early" /early "${ports[6]}" --post "$big"
   check "fetch, aioquic: GOAWAY" refuses "takes no more requests" "${ours[@]}" --count 2 "$(url "${ports[6]}" /goaway)"
   check "Go client, aioquic: GOAWAY" refuses "H3_GOING_AWAY" "${go_ours[@]}" --count 2 "$cert" "$(url "${ports[6]}" /goaway)"
 
+  start13 "${ports[19]}" quinn.log $quinn_peer serve "${ports[19]}" $there/cert.pem $there/key.pem $there/folder
+  relay "${ports[20]}" "${ports[19]}"
+  servers13 "h3 and quinn" "${ports[19]}" "${ports[20]}" # no upload that is aborted: where its head was not read h3 0.0.6 closes the connection
+  both "h3 and quinn: a response that the peer resets" "refuses reset\|H3_FAULT_RESET" /reset "${ports[19]}"
+  both "h3 and quinn: an answer that stops a POST of 10 MB" "gives $work/early" /early "${ports[19]}" --post "$big"
+  check "fetch, h3 and quinn: GOAWAY" refuses "takes no more requests" "${ours[@]}" --count 2 "$(url "${ports[19]}" /goaway)"
+  check "Go client, h3 and quinn: GOAWAY" refuses "H3_GOING_AWAY" "${go_ours[@]}" --count 2 "$cert" "$(url "${ports[19]}" /goaway)"
+
   proxies
   servers13 nginx "${ports[8]}" "${ports[9]}"
+  aborted_upload nginx "${ports[8]}"
   both "nginx: a response that is cut" "refuses reset\|H3_FAULT_RESET\|closed" /cut "${ports[8]}"
   both "nginx: an answer that stops a POST of 10 MB" "gives $work/early" /early "${ports[8]}" --post "$big"
   check "fetch, nginx with keepalive_requests 50: GOAWAY" refuses "takes no more requests" "${ours[@]}" --count 80 "$(url "${ports[10]}" /hello.txt)"
   check "Go client, nginx with keepalive_requests 50: GOAWAY" refuses "H3_GOING_AWAY\|error 0x100" "${go_ours[@]}" --count 80 "$cert" "$(url "${ports[10]}" /hello.txt)"
   servers13 haproxy "${ports[11]}" "${ports[12]}"
+  aborted_upload haproxy "${ports[11]}"
   # no 103 of haproxy: 3.0.11 sends a broken message, and then fails a check of its own, with curl as with ours
   both "haproxy: a response that is cut" "refuses reset\|H3_FAULT_RESET" /cut "${ports[11]}"
 

@@ -50,7 +50,7 @@ ln -s ../secret.txt "$folder/link.txt"
 
 # ---- servers ----
 
-mapfile -t ports < <(python3 scripts/interop/ports.py 17)
+mapfile -t ports < <(python3 scripts/interop/ports.py 19)
 
 # ---- our server ----
 
@@ -75,16 +75,24 @@ gtls_many() {
   options=()
   gtls "$1" "${urls[@]}" && diff -rq "$work/down" "$folder/small" >> "$work/log"
 }
-browse() {
+chromium_sees() { # PORT, PATH of a page: what it says in the end stands in $work/seen
   local spki
   spki=$(openssl x509 -in "$cert" -pubkey -noout | openssl pkey -pubin -outform der | openssl dgst -sha256 -binary | base64)
   within 60 env HOME="$work" chromium --headless=new --no-sandbox --user-data-dir="$work/profile$1" --origin-to-force-quic-on="localhost:$1" \
     --ignore-certificate-errors-spki-list="$spki" --host-resolver-rules="MAP * 127.0.0.1" --disable-background-networking \
-    --disable-gpu --virtual-time-budget=20000 --dump-dom "$(url "$1" /)" > "$work/page" || return 1
+    --disable-gpu --virtual-time-budget=20000 --dump-dom "$(url "$1" "$2")" > "$work/page" || return 1
   sed -n '/id="seen"/,/<\/pre>/p' "$work/page" > "$work/seen"
   cat "$work/seen" > "$work/log"
-  grep -q "image 64 x 48" "$work/seen" && grep -q "^post 1000000 $(hash_of "$folder/letters.txt")$" "$work/seen" &&
+}
+browse() { # PORT
+  chromium_sees "$1" / && grep -q "image 64 x 48" "$work/seen" && grep -q "^post 1000000 $(hash_of "$folder/letters.txt")$" "$work/seen" &&
     grep -q "^small 100$" "$work/seen" && grep -q "^protocols h3 of " "$work/seen"
+}
+session() { # PORT of a server that has the page, PORT of one of sessions
+  local hash
+  hash=$(openssl x509 -in "$cert" -outform der | openssl dgst -sha256 -binary | base64 | sed 's/+/%2B/g; s,/,%2F,g; s/=/%3D/g')
+  chromium_sees "$1" "/session.html?port=$2&hash=$hash" && grep -q '"seen">ready$' "$work/seen" && grep -q "^both ways true$" "$work/seen" &&
+    grep -q "^one way true$" "$work/seen" && grep -q "^closed$" "$work/seen"
 }
 # The server is told to end while a client has read a part of a body: the rest comes, and no further request is taken.
 going_away() { # PORT, PROCESS of the server
@@ -237,6 +245,13 @@ relay "${ports[6]}" "${ports[0]}"
 our_server serve "${ports[0]}" "${ports[6]}"
 violations serve "${ports[0]}"
 check "serve, fetch: a link climbs out" refuses "status 404" "${ours[@]}" "$(url "${ports[0]}" /link.txt)"
+start "${ports[17]}" webtransport.log "$work/checked/webtransport" 127.0.0.1 "${ports[17]}" "$cert" "$key"
+sessions=$last
+relay "${ports[18]}" "${ports[17]}"
+check "webtransport, Chromium: a session, a stream both ways and one each way" session "${ports[0]}" "${ports[17]}"
+check "webtransport, Chromium, packets lost: a session, a stream both ways and one each way" session "${ports[0]}" "${ports[18]}"
+check "webtransport: it ends" stop "$sessions"
+check "webtransport: no leak and no error of memory" is_silent webtransport.log
 check "serve: GOAWAY at its end" going_away "${ports[0]}" "$c_server"
 check "serve: no leak and no error of memory" is_silent serve.log
 start "${ports[0]}" serve2.log "$serve" --requests 150 127.0.0.1 "${ports[0]}" "$cert" "$key" "$folder"

@@ -1,21 +1,23 @@
 #!/usr/bin/env bash
-# upstream.sh root: makes in build/trixie, once, a root of Debian 13 (as root; some 5 minutes, 1.5 GB) with its cargo, rustc and Rust crate h3 0.0.6, and with
-#   the peers of scripts/interop/interop_peers.sh: curl, aioquic, nginx, haproxy, and the programs of ngtcp2. What a root that is there lacks is added.
+# upstream.sh root: makes in build/trixie, once, a root of Debian 13 (as root; some 5 minutes, 2 GB) with its cargo, rustc and Rust crates h3 0.0.6 and quinn,
+#   and with the peers of scripts/interop/interop_peers.sh: curl, aioquic, nginx, haproxy, and the programs of ngtcp2. What a root that is there lacks is added.
 # upstream.sh there: is the root there, with the Rust crate?
 # upstream.sh peers: is it there, with the peers?
+# upstream.sh quinn: compiles scripts/interop/quinn there, h3 over quinn (a minute or four, once): /root/quinn/target/release/quinn_peer of the root
 # upstream.sh: compares what h3 answers with what we do, over the same bytes (scripts/interop/upstream.py): lines 'ok NAME' and 'failed NAME'.
 set -euo pipefail
 cd "$(dirname "$0")/../.."
 root=build/trixie
 
-packages=(cargo rustc librust-h3-dev curl python3-aioquic nginx haproxy ngtcp2-client ngtcp2-server)
+packages=(cargo rustc librust-h3-dev librust-h3-quinn-dev librust-rustls-pemfile-dev curl python3-aioquic nginx haproxy ngtcp2-client ngtcp2-server)
 
 has() { # FILE..: of the root
   local file
   for file; do [ -e "$root/$file" ] || return 1; done
 }
 has_crate() { has usr/bin/cargo usr/share/cargo/registry; }
-has_peers() { has usr/bin/curl usr/lib/python3/dist-packages/aioquic usr/sbin/nginx usr/sbin/haproxy usr/bin/gtlsclient usr/sbin/gtlsserver; }
+has_quinn() { has usr/share/cargo/registry/h3-quinn-0.0.7 usr/share/cargo/registry/rustls-pemfile-2.2.0; }
+has_peers() { has_quinn && has usr/bin/curl usr/lib/python3/dist-packages/aioquic usr/sbin/nginx usr/sbin/haproxy usr/bin/gtlsclient usr/sbin/gtlsserver; }
 
 make_root() {
   if has_crate && has_peers; then return; fi
@@ -32,17 +34,17 @@ make_root() {
   chroot "$root" env DEBIAN_FRONTEND=noninteractive apt-get install -y --no-install-recommends "${packages[@]}"
 }
 
-# the program over h3, compiled inside of that root from Debian's packages alone
+# compile NAME: the program of scripts/interop/NAME, compiled inside of that root from Debian's packages alone
 compile() {
-  mkdir -p "$root/root/upstream/.cargo"
-  cp -r scripts/interop/upstream/. "$root/root/upstream"
-  cat > "$root/root/upstream/.cargo/config.toml" <<'CONFIG'
+  mkdir -p "$root/root/$1/.cargo"
+  cp -r "scripts/interop/$1/." "$root/root/$1"
+  cat > "$root/root/$1/.cargo/config.toml" <<'CONFIG'
 [source.crates-io]
 replace-with = "debian"
 [source.debian]
 directory = "/usr/share/cargo/registry"
 CONFIG
-  chroot "$root" sh -c 'cd /root/upstream && cargo build --quiet --release --offline --jobs 2' >&2
+  chroot "$root" sh -c "cd /root/$1 && cargo build --quiet --release --offline --jobs 2" >&2
 }
 
 # our program: the proved one, or, where a source is newer, the same built without proof (rt try), some minutes
@@ -59,8 +61,9 @@ case ${1:-} in
   root) make_root ;;
   there) has_crate ;;
   peers) has_peers ;;
+  quinn) compile quinn ;;
   *)
-    compile
+    compile upstream
     python3 scripts/interop/upstream.py "chroot $root /root/upstream/target/release/upstream" "${OURS:-$(ours)}"
     ;;
 esac

@@ -705,6 +705,48 @@ static void of_encoder_tables(void) {
   }
 }
 
+/* A frame that says more than `unfinished_limit` closes the connection as soon as its head came, on a request stream when it is pulled, and one
+ * that says as much does not; DATA is never too long. Without a limit such a frame is waited for. */
+static void of_unfinished_limits(void) {
+  static const struct {
+    uint64_t most;
+    const char *bytes;
+    size_t len;
+    uint32_t kind;
+  } of[] = {
+      {65536, "\1\xc0\0\0\0\x40\0\0\0", 9, H3_FAULT_CONNECTION}, /* HEADERS of 2^30 bytes */
+      {65536, "\1\x80\1\0\1", 5, H3_FAULT_CONNECTION},             /* of 65,537, */
+      {65536, "\1\x80\1\0\0", 5, H3_PENDING},                      /* and of 65,536 */
+      {65536, "\1\x80\1\0", 4, H3_PENDING},                        /* no head yet */
+      {65536, "\5\xc0\0\0\0\x40\0\0\0", 9, H3_FAULT_CONNECTION}, /* PUSH_PROMISE, */
+      {65536, "\x21\xc0\0\0\0\x40\0\0\0", 9, H3_PENDING},        /* and a type that is unknown */
+      {0, "\x21\1\0\1\1\0", 6, H3_FAULT_CONNECTION},               /* HEADERS behind an unknown frame that is whole, and whole itself */
+      {UINT64_MAX, "\1\xc0\0\0\0\x40\0\0\0", 9, H3_PENDING},
+      {(UINT64_C(1) << 62) - 1, "\1\xff\xff\xff\xff\xff\xff\xff\xff", 9, H3_PENDING},
+      {(UINT64_C(1) << 62) - 2, "\1\xff\xff\xff\xff\xff\xff\xff\xff", 9, H3_FAULT_CONNECTION},
+  };
+  for (size_t i = 0; i < sizeof of / sizeof *of; i++) {
+    h3_endpoint e = H3_NONE_YET;
+    h3_config c;
+    h3_item item;
+    uint64_t detail = 9;
+    plain_config(&c);
+    HOLDS(c.unfinished_limit == 65536);
+    c.server = 1;
+    c.unfinished_limit = of[i].most;
+    IS(h3_new(&e, &c, NULL), H3_OK);
+    IS(h3_deliver(&e, 0, of[i].bytes, of[i].len, NULL), H3_OK);
+    IS(h3_pull(&e, 0, &item), H3_OK);
+    HOLDS(item.kind == of[i].kind);
+    if (item.kind == H3_FAULT_CONNECTION) {
+      HOLDS(item.number == 0x107);
+      IS(h3_deliver(&e, 0, "\0", 1, &detail), H3_CONNECTION);
+      HOLDS(detail == 0x107);
+    }
+    h3_free(&e);
+  }
+}
+
 /* with a word: the library is to say that it was built without proofs */
 int main(int argc, char **argv) {
   h3_endpoint e = H3_NONE_YET;
@@ -716,6 +758,7 @@ int main(int argc, char **argv) {
   of_new();
   of_sizes();
   of_shorter_tables();
+  of_unfinished_limits();
   of_next_ids();
   plain_config(&c);
   IS(h3_new(&e, &c, NULL), H3_OK);

@@ -173,6 +173,7 @@ static void begin(char **words, size_t count) {
   c.strict = 0;
   c.encoder_table = UINT32_MAX;
   c.economical_table = 0;
+  c.unfinished_limit = UINT64_MAX;
   c.server = words[1][0] == 's';
   c.max_field_section_size = strtoull(words[2], NULL, 10);
   c.table = strtoull(words[3], NULL, 10);
@@ -183,6 +184,7 @@ static void begin(char **words, size_t count) {
     c.count_acknowledgments |= !strcmp(words[i], "counted");
     if (!strcmp(words[i], "small")) c.encoder_table = 40;
     c.economical_table |= !strcmp(words[i], "economical");
+    if (!strcmp(words[i], "limited")) c.unfinished_limit = 100;
   }
   h3_endpoint made = H3_NONE_YET;
   uint32_t n = h3_new(&made, &c, &detail);

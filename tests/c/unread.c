@@ -33,6 +33,7 @@ static h3_item pull(uint64_t id) {
 static void make(void) {
   h3_config config;
   h3_config_default(&config);
+  config.unfinished_limit = UINT64_MAX; /* so that frames of any length may begin */
   config.server = 1;
   config.table = 220;
   config.blocked = 2;
@@ -68,13 +69,22 @@ static void of_a_request(void) {
   UNREAD(0, 0);
 }
 
-/* a frame of an unknown type with 100 bytes; a HEADERS frame of 2^30 - 1 bytes */
+/* a frame of an unknown type with 100 bytes, which are let go as they come, and the front of one behind it; a HEADERS frame of 2^30 - 1 bytes */
 static void of_unfinished_frames(void) {
   char bytes[100] = {0};
-  HOLDS(deliver(4, "\x21\x40\x64", 3) == H3_OK && deliver(4, bytes, 50) == H3_OK);
+  HOLDS(deliver(4, "\x21", 1) == H3_OK);
+  UNREAD(4, 1);
+  HOLDS(deliver(4, "\x40\x64", 2) == H3_OK);
+  UNREAD(4, 0);
+  HOLDS(deliver(4, bytes, 50) == H3_OK);
+  UNREAD(4, 0);
   HOLDS(pull(4).kind == H3_PENDING);
-  UNREAD(4, 53);
-  HOLDS(deliver(4, bytes, 50) == H3_OK && pull(4).kind == H3_PENDING);
+  UNREAD(4, 0);
+  HOLDS(deliver(4, bytes, 50) == H3_OK && deliver(4, "\x40\x21\x05" "abc", 6) == H3_OK);
+  UNREAD(4, 109); /* the first is whole, and was not read over */
+  HOLDS(pull(4).kind == H3_PENDING);
+  UNREAD(4, 0);
+  HOLDS(deliver(4, "de", 2) == H3_OK && pull(4).kind == H3_PENDING);
   UNREAD(4, 0);
   HOLDS(deliver(4, "\x01\xbf\xff\xff\xff", 5) == H3_OK && deliver(4, bytes, 100) == H3_OK);
   HOLDS(pull(4).kind == H3_PENDING);

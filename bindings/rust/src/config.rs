@@ -1,7 +1,7 @@
 use crate::raw;
 
 /// How many numbers `h3_config` has: its size, and those of [`Config`].
-pub(crate) const NUMBERS: usize = 15;
+pub(crate) const NUMBERS: usize = 16;
 
 /// What an endpoint is and announces, as `h3_config`.
 #[derive(Debug, Clone, Copy, PartialEq, Eq)]
@@ -31,6 +31,9 @@ pub struct Config {
     pub datagram: bool,
     pub webtransport: bool,
     pub max_webtransport_sessions: u64,
+    /// The greatest length that a frame may say which is kept until it is whole: any known one but DATA. One that says more is a fault of the
+    /// connection, H3_EXCESSIVE_LOAD. Let it be no less than `max_field_section_size`; 2^62 - 1 and more: there is no limit.
+    pub unfinished_limit: u64,
 }
 
 impl Config {
@@ -61,6 +64,7 @@ impl Config {
             count_acknowledgments: numbers[12] != 0,
             encoder_table: numbers[13],
             economical_table: numbers[14] != 0,
+            unfinished_limit: numbers[15],
         }
     }
 
@@ -82,6 +86,7 @@ impl Config {
             self.count_acknowledgments.into(),
             self.encoder_table,
             self.economical_table.into(),
+            self.unfinished_limit,
         ]
     }
 }

@@ -75,3 +75,7 @@ HasCount b count = 0 < count → above count b < above (count - 1) b
 abbrev pub IsNextCount : Blocked → ℕ → Option (ℕ × ℕ) → Type 0
 IsNextCount b n None = (k : ℕ) → n < k → k < 2 ^ 64 → number_at b k ≡ 0
 IsNextCount b n (Some (count, number)) = (n < count) × (number_at b count ≡ number) × ((k : ℕ) → n < k → k < count → number_at b k ≡ 0)
+
+-- 1 where this stream waits for more
+abbrev pub counted : ℕ → RequestState → ℕ
+counted n r = one_if (nat_lt n r.incoming.waits_for)

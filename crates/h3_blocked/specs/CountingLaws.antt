@@ -3,17 +3,14 @@ use Rattle.std.proofs.Common.{arith, ◌≡◌, ℕ, ◌+◌, ◌-◌, ◌≤◌
 use Rattle.std.specs.Prelude.{Option, Some, None, count_by, nat_lt, option_map}
 use Rattle.std.proofs.lemmas.Bool.{cases_lt, lt-ltb, le-ltb}
 use Rattle.std.proofs.lemmas.List.Sums.{sum_by-le-sum_by}
-use Rattle.h3_blocked.specs.Counting.{waiting_above, Agrees, one_if, waits_at, Replaces, HasCount}
+use Rattle.h3_blocked.specs.Counting.{waiting_above, Agrees, one_if, waits_at, Replaces, HasCount, counted}
 use Rattle.h3_blocked.specs.declared.counts.Blocked.{Blocked}
-use Rattle.h3_blocked.specs.Sums.{part_of, total-without, total_sets, total_takes_out, total_parts, without_stream, kept_is_at, TakesOut}
+use Rattle.h3_blocked.specs.Sums.{part_of, without_stream, TakesOut}
+use Rattle.h3_blocked.specs.SumLaws.{total-without, total_sets, total_takes_out, total_parts, kept_is_at}
 use Rattle.h3_connection.specs.Calls.{Sets}
 use Rattle.h3_connection.specs.Incoming.{Incoming}
 use Rattle.h3_connection.specs.State.{RequestState, kept_at}
 use Rattle.h3_connection.specs.StreamSets.{Streams, HaveDistinctIds, stream_at}
-
--- 1 where this stream waits for more
-abbrev counted : ℕ → RequestState → ℕ
-counted n r = one_if (nat_lt n r.incoming.waits_for)
 
 none_above : (n : ℕ) → one_if (nat_lt n 0) ≡ 0
 none_above n = ap one_if (le-ltb n 0 (omega arith))

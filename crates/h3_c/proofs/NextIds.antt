@@ -1,6 +1,6 @@
 -- The id of the next request, as the endpoint tells it.
 use Rattle.std.proofs.Common.{◌≡◌, ℕ, subst}
-use Rattle.std.specs.Prelude.{Result, Ok, Err}
+use Rattle.std.specs.Prelude.{Ok, Err}
 use Rattle.h3_connection.specs.declared.event.Refusal.{Refusal}
 use Rattle.h3_session.specs.NextRequest.{ShowsNextRequest}
 use Rattle.h3_c.specs.declared.numbers.Told.{Told}

@@ -18,7 +18,7 @@ use Rattle.h3_c.specs.Numbers.{argument, ok, new_told}
 use Rattle.h3_c.specs.Seen.{Seen}
 
 -- `h3_config_default`: a client, whose numbers bound what a stranger can make it hold: a field section of 64 KiB, and a table of 4,096 bytes for
--- which 16 streams may wait. The own encoder's table has as much at most. Messages are judged
+-- which 16 streams may wait. The own encoder's table has as much at most. A frame that is kept until it is whole has 64 KiB. Messages are judged
 abbrev pub default_config : GivenConfig
 default_config =
     record {
@@ -36,12 +36,13 @@ default_config =
       count_acknowledgments = 1;
       encoder_table = 4096;
       economical_table = 1;
+      unfinished_limit = 65536;
     }
 
 -- the numbers of `h3_config`: its size, and the others in its order
 abbrev pub numbers_of : ℕ → GivenConfig → List ℕ
 numbers_of size c =
-    size ∷ c.max_field_section_size ∷ c.max_webtransport_sessions ∷ c.table ∷ c.blocked ∷ c.grease ∷ c.server ∷ c.send_grease ∷ c.webtransport ∷ c.extended_connect ∷ c.datagram ∷ c.strict ∷ c.count_acknowledgments ∷ c.encoder_table ∷ c.economical_table ∷ []
+    size ∷ c.max_field_section_size ∷ c.max_webtransport_sessions ∷ c.table ∷ c.blocked ∷ c.grease ∷ c.server ∷ c.send_grease ∷ c.webtransport ∷ c.extended_connect ∷ c.datagram ∷ c.strict ∷ c.count_acknowledgments ∷ c.encoder_table ∷ c.economical_table ∷ c.unfinished_limit ∷ []
 
 -- one of the numbers that a caller gave, or what it is where the caller has fewer
 abbrev pub number_at : List ℕ → ℕ → ℕ → ℕ
@@ -65,13 +66,14 @@ config_in numbers =
       count_acknowledgments = number_at numbers 12 default_config.count_acknowledgments;
       encoder_table = number_at numbers 13 default_config.encoder_table;
       economical_table = number_at numbers 14 default_config.economical_table;
+      unfinished_limit = number_at numbers 15 default_config.unfinished_limit;
     }
 
 -- what a caller asks for, whose first number is the size of all in bytes: of none but as many as are known here
 abbrev pub config_given : List ℕ → Option GivenConfig
 config_given [] = None
 config_given (size ∷ others) =
-    if (size == 8 * length (size ∷ others)) && nat_le (length (size ∷ others)) 15 then Some (config_in (size ∷ others)) else None
+    if (size == 8 * length (size ∷ others)) && nat_le (length (size ∷ others)) 16 then Some (config_in (size ∷ others)) else None
 
 -- a number other than 0 means yes
 abbrev pub is_on : ℕ → Bool
@@ -91,7 +93,7 @@ config_of given =
         enable_datagram = is_on given.datagram;
         max_webtransport_sessions = given.max_webtransport_sessions;
       };
-      choices = record { strict_messages = is_on given.strict; acknowledgments_counted = is_on given.count_acknowledgments; encoder_table = given.encoder_table; economical_table = is_on given.economical_table };
+      choices = record { strict_messages = is_on given.strict; acknowledgments_counted = is_on given.count_acknowledgments; encoder_table = given.encoder_table; economical_table = is_on given.economical_table; unfinished_limit = given.unfinished_limit };
     }
 
 abbrev pub limits_of : GivenConfig → Limits

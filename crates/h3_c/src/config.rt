@@ -10,7 +10,7 @@ use h3_session::endpoint::Endpoint;
 use std::alloc::Global;
 
 /// How many numbers `h3_config` has: its size in bytes, and those of `GivenConfig`.
-const NUMBERS: usize = 15;
+const NUMBERS: usize = 16;
 
 /// The numbers of `h3_config` behind its size, in its order. One other than 0 means yes.
 #[derive(Copy, Clone)]
@@ -29,6 +29,7 @@ pub struct GivenConfig {
     pub count_acknowledgments: u64,
     pub encoder_table: u64,
     pub economical_table: u64,
+    pub unfinished_limit: u64,
 }
 
 impl Default for GivenConfig {
@@ -50,6 +51,7 @@ impl Default for GivenConfig {
             count_acknowledgments: 1,
             encoder_table: 4096,
             economical_table: 1,
+            unfinished_limit: 1 << 16,
         }
     }
 }
@@ -80,6 +82,7 @@ impl GivenConfig {
             count_acknowledgments: number_or(numbers, 12, default.count_acknowledgments),
             encoder_table: number_or(numbers, 13, default.encoder_table),
             economical_table: number_or(numbers, 14, default.economical_table),
+            unfinished_limit: number_or(numbers, 15, default.unfinished_limit),
         })
     }
 
@@ -103,6 +106,7 @@ impl GivenConfig {
             self.count_acknowledgments,
             self.encoder_table,
             self.economical_table,
+            self.unfinished_limit,
         ]
     }
 }
@@ -140,6 +144,7 @@ fn config_of(given: &GivenConfig) -> Config
         .with_acknowledgments_counted(given.count_acknowledgments != 0)
         .with_encoder_table(given.encoder_table)
         .with_economical_table(given.economical_table != 0)
+        .with_unfinished_limit(given.unfinished_limit)
 }
 
 /// The endpoint that is asked for.

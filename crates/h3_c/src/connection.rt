@@ -10,6 +10,7 @@ use crate::numbers::{ARGUMENT, MEMORY, Told, unmade};
 use crate::owned::boxed;
 use h3_connection::event::Pull;
 use h3_field::HeaderField;
+use h3_proto::frame::RESERVED_NUMBERS;
 use h3_session::endpoint::Endpoint;
 use std::alloc::Global;
 use std::marker::Model;
@@ -66,7 +67,7 @@ pub(crate) fn made(alloc: Global, given: &GivenConfig) -> Result<Box<Connection>
     ensures far { IfErr result (λ told. 0x210842108421083 ≤ given.now.grease → told ≡ argument) }
     ensures refused { IfErr result (λ told. given.now.grease < 0x210842108421083 → Unmakes given.now told) }
 {
-    if given.grease >= 0x210842108421083 {
+    if given.grease >= RESERVED_NUMBERS {
         return Err(ARGUMENT);
     }
     made_in_range(alloc, given)

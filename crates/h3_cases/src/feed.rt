@@ -1,5 +1,5 @@
 //! A source for cases: bytes, cut as the case says.
-ghost use Rattle.std.specs.Prelude.{◌≡◌, refl};
+ghost use Rattle.std.specs.Prelude.{refl};
 ghost use Rattle.h3_wire.specs.Source.{Polls};
 
 use bytes::Bytes;

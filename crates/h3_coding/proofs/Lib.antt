@@ -2,3 +2,4 @@ pub mod Forms
 pub mod Fronts
 pub mod Numbers
 pub mod WholeEncodings
+pub mod Varints

@@ -7,21 +7,14 @@ use Rattle.std.proofs.lemmas.Nat.{mul-add-lt, pow_pos, same_from_place, mod_belo
 use Rattle.std.proofs.lemmas.Grind.{pow_more}
 use Rattle.std.proofs.lemmas.Bool.{cases_lt}
 use Rattle.h3_coding.specs.Encodings.{big_endian, IsByte, IsForm, IsEncoding, one, two, four, eight, IsUnfinished, empty, short, encoding, IsShortest}
-use Rattle.h3_coding.specs.ShortestEncodings.{encoding_one, encoding_two, encoding_four, encoding_eight}
+use Rattle.h3_coding.specs.ShortestLaws.{encoding_one, encoding_two, encoding_four, encoding_eight}
+use Rattle.h3_coding.specs.Opened.{Opened}
 
 pub big_endian_below : (xs : List ℕ) → AllByRecursion IsByte xs → big_endian xs < 256 ^ length xs
 big_endian_below [] h = omega arith
 big_endian_below (x ∷ xs) h =
     let at : 256 ^ suc (length xs) ≡ 256 ^ length xs * 256 = rw (← add-one (length xs)) (pow_more 256 (length xs)) in
     rw at (mul-add-lt x (256 ^ length xs) (big_endian xs) 256 h.0 (big_endian_below xs h.1))
-
--- An encoding, by its first byte.
-pub record Opened (v : ℕ) (bytes : List ℕ) : Type 0 where
-  pub first : ℕ
-  pub rest : List ℕ
-  pub is : bytes ≡ first ∷ rest
-  pub count : length rest ≡ 2 ^ (first / 64) - 1
-  pub value : v ≡ first % 64 * 256 ^ length rest + big_endian rest
 
 opened_at : (k v first : ℕ) (rest : List ℕ) → k < 4 → IsForm k (2 ^ k) v (first ∷ rest) → (first / 64 ≡ k) × (length rest ≡ 2 ^ k - 1) × (v ≡ first % 64 * 256 ^ length rest + big_endian rest)
 opened_at zero v first rest h f =

@@ -66,7 +66,7 @@ pub trait Codec: Encode + Decode {
     // Holds of each value of the type.
     ghost is_value: { Self → Type 0 };
 
-    /// Tells a proof that the value is one. It does nothing.
+    /// The value is one of its type. It does nothing: a proof that needs the fact calls it.
     fn known(&self)
         ensures { is_value self.now };
 

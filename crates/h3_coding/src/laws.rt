@@ -46,5 +46,6 @@ pub fn most_bytes() -> usize
 pub fn encoding_of_value<T: Codec>(value: &T)
     ensures { T.is_encoding value.now (T.encoding value.now) }
 {
+    // (for the proof: it is a value)
     value.known();
 }

@@ -1,5 +1,5 @@
 //! Variable-length integers: numbers below 2^62 in one, two, four or eight bytes (RFC 9000, section 16).
-ghost use Rattle.std.specs.Prelude.{◌≡◌, ℕ, ◌+◌, ◌-◌, ◌*◌, ◌/◌, ◌^◌, ◌<◌, ◌≤◌, List, ◌∷◌, ◌++◌, length, take, drop, IfOk, IfErr, IfSome, IsNone, OnOk, OnErr, Some, None};
+ghost use Rattle.std.specs.Prelude.{◌≡◌, ℕ, ◌+◌, ◌-◌, ◌*◌, ◌/◌, ◌^◌, ◌<◌, ◌≤◌, ◌∷◌, ◌++◌, length, take, drop, IfOk, IfErr, IfSome, IsNone, OnOk, OnErr, Some, None};
 ghost use Rattle.std.specs.Result.{OkIff};
 ghost use Rattle.std.specs.Fmt.{decimal};
 ghost use Rattle.std.specs.List.{AllByRecursion};
@@ -7,7 +7,7 @@ ghost use Rattle.h3_coding.specs.Bounds.{ConvertsBelowLimit};
 ghost use Rattle.h3_coding.specs.Encodings.{big_endian, IsByte, IsEncoding, encoding, IsUnfinished};
 ghost use Rattle.h3_coding.specs.Reading.{Takes};
 ghost use Rattle.h3_coding.specs.Varint.{varint_at};
-ghost use Rattle.h3_coding.specs.Writing.{AppendsFront, UsesRoom};
+ghost use Rattle.h3_coding.specs.Writing.{UsesRoom};
 ghost use Rattle.h3_coding.specs.EncodingLaws.{one_encoding, finished, encoding_is_valid};
 
 use crate::coding::{Codec, Decode, Encode, UnexpectedEnd, WriteRefused};

@@ -21,8 +21,9 @@ use Rattle.h3_connection.specs.OwnIds.{control_id, encoder_id, decoder_id}
 use Rattle.h3_connection.specs.Outgoing.{Outgoing as Out, is_end_next, part_bytes_waiting, with_finish, with_reset}
 use Rattle.h3_connection.specs.Outgoing.OwnPart.{OwnTrailer}
 use Rattle.h3_connection.specs.PullCuts.{DifferInCuts}
-use Rattle.h3_connection.specs.Sections.{encoded_section}
-use Rattle.h3_connection.specs.Sending.{does, first_of, closed_or, open_refusal, head_refusal, body_refusal, trailer_refusal, finish_refusal, reset_refusal, goaway_refusal, own_advanced, advance_at, cancel_refusal, cancel, sent_bytes, counted, encoded, appended, head_part, fields_cost, with_outgoing, outgoing_at, asked, awaiting_at, content_of_own, known_of, remembers, saying_at}
+use Rattle.h3_connection.specs.Sections.{written_section}
+use Rattle.h3_connection.specs.Refusals.{first_of}
+use Rattle.h3_connection.specs.Sending.{does, closed_or, open_refusal, head_refusal, body_refusal, trailer_refusal, finish_refusal, reset_refusal, goaway_refusal, own_advanced, advance_at, cancel_refusal, cancel, sent_bytes, counted, encoded, appended, head_part, fields_cost, with_outgoing, outgoing_at, asked, awaiting_at, content_of_own, known_of, remembers, saying_at}
 use Rattle.h3_connection.specs.Shown.{peer_limits, table_sizes}
 use Rattle.h3_connection.specs.StreamSets.{Streams, stream_at}
 use Rattle.h3_connection.specs.StreamSetLaws.{other_id}
@@ -133,7 +134,7 @@ module _ (e : EndpointHistory) (s : Streams Incoming) (t : Streams Unidirectiona
   sends_head id head =
       let content = awaited_by (head_fields head) in
       let remembered = remembers e.side e.announced in
-      let plain = counted (appended (encoded e id (head_fields head)) id (head_part head (encoded_section e.encoder id (head_fields head)))) (fields_cost (head_fields head)) in
+      let plain = counted (appended (encoded e id (head_fields head)) id (head_part head (written_section e.encoder id (head_fields head)))) (fields_cost (head_fields head)) in
       let new : EndpointHistory = asked plain id (head_fields head) in
       let others : Streams Incoming = if remembered then awaiting_at s id content (stream_at s id) else s in
       let other : Option Content → EndpointHistory = λ known.
@@ -232,7 +233,7 @@ module _ (e : EndpointHistory) (s : Streams Incoming) (t : Streams Unidirectiona
   called_alike OpenRequest none pulled = opens_next
   called_alike (SendHead id head) none pulled = sends_head id head
   called_alike (SendBody id bytes) none pulled = sends_body id bytes
-  called_alike (SendTrailer id head) none pulled = sends Done (trailer_refusal e id head) _ (as_is (counted (appended (encoded e id (head_fields head)) id (OwnTrailer (encoded_section e.encoder id (head_fields head)))) (fields_cost (head_fields head))) refl refl refl)
+  called_alike (SendTrailer id head) none pulled = sends Done (trailer_refusal e id head) _ (as_is (counted (appended (encoded e id (head_fields head)) id (OwnTrailer (written_section e.encoder id (head_fields head)))) (fields_cost (head_fields head))) refl refl refl)
   called_alike (Finish id) none pulled = sends Done (finish_refusal e id) _ (as_is (with_outgoing e id (with_finish (outgoing_at e id))) refl refl refl)
   called_alike (Reset id) none pulled = sends Done (reset_refusal e id) _ (as_is (with_outgoing e id (with_reset (outgoing_at e id))) refl refl refl)
   called_alike (Goaway id) none pulled = sends Done (goaway_refusal e id) _ (as_is (record e { own = record e.own { goaways = e.own.goaways ++ id ∷ [] } }) refl refl refl)

@@ -29,7 +29,7 @@ use Rattle.h3_connection.specs.Keeping.{read_arrival, read_all, unless_faulty, u
 use Rattle.h3_connection.specs.Shown.{block_tries}
 use Rattle.h3_connection.specs.CallLists.{Call, Result, called, done, was_pulled, endpoint_after}
 use Rattle.h3_connection.specs.CallLists.Result.{Done, Opened}
-use Rattle.h3_connection.specs.Sections.{encoded_section}
+use Rattle.h3_connection.specs.Sections.{written_section}
 use Rattle.h3_connection.specs.Outgoing.OwnPart.{OwnTrailer}
 use Rattle.h3_header.specs.Head.{Head, head_fields}
 use Rattle.h3_connection.specs.EndsWaiting.{end_taken_at, end_taken_if}
@@ -403,12 +403,12 @@ asked_on e q fields h = by_choice (remembers e.side e.announced)
 
 sends_head : (e : EndpointHistory) (q : ℕ) (head : Head) → IsBounded e → IsBounded (done Done (send_head e q head)).1
 sends_head e q head h =
-    let f = counted (appended (encoded e q (head_fields head)) q (head_part head (encoded_section e.encoder q (head_fields head)))) (fields_cost (head_fields head)) in
+    let f = counted (appended (encoded e q (head_fields head)) q (head_part head (written_section e.encoder q (head_fields head)))) (fields_cost (head_fields head)) in
     does_on Done (head_refusal e q head) e (asked f q (head_fields head)) h (asked_on f q (head_fields head) (rests e f refl refl refl refl h))
 
 sends_trailer : (e : EndpointHistory) (q : ℕ) (head : Head) → IsBounded e → IsBounded (done Done (send_trailer e q head)).1
 sends_trailer e q head h =
-    let f = counted (appended (encoded e q (head_fields head)) q (OwnTrailer (encoded_section e.encoder q (head_fields head)))) (fields_cost (head_fields head)) in
+    let f = counted (appended (encoded e q (head_fields head)) q (OwnTrailer (written_section e.encoder q (head_fields head)))) (fields_cost (head_fields head)) in
     does_on Done (trailer_refusal e q head) e f h (rests e f refl refl refl refl h)
 
 opens_next : (e : EndpointHistory) → IsBounded e → IsBounded (done (Opened e.next_id) (open_request e)).1

@@ -1,5 +1,5 @@
 -- After a connection fault nothing changes it.
-use Rattle.std.proofs.Common.{◌≡◌, ℕ, List, [], ◌∷◌, refl, ◌∙◌, ap, Bool, true, false, sym}
+use Rattle.std.proofs.Common.{◌≡◌, ℕ, List, [], ◌∷◌, refl, ◌∙◌, ap, Bool, true, false}
 use Rattle.std.specs.Prelude.{Option, Some, None}
 use Rattle.h3_connection.specs.Arrivals.{Arrival}
 use Rattle.h3_connection.specs.Endpoint.{EndpointHistory, kind_of}

@@ -16,6 +16,7 @@ use Rattle.h3_messages.specs.declared.content.Content.{Content}
 use Rattle.h3_messages.specs.declared.content.Content.TheVariants.{Unsaid, Exactly, NoContent, Tunnel, Exceeded}
 use Rattle.h3_proto.specs.declared.stream.Side.{Side}
 use Rattle.h3_proto.specs.declared.stream.Side.TheVariants.{Client, Server}
+use Rattle.h3_wire.specs.ExcessiveFrames.{is_excessive}
 use Rattle.h3_wire.specs.Frames.{Front, Whole, Unknown, Refused, Unfinished, frame_at}
 use Rattle.h3_wire.specs.Pieces.{chunk_of}
 use Rattle.h3_wire.specs.declared.proto.frame.PayloadLen.{PayloadLen}
@@ -26,7 +27,7 @@ use Rattle.h3_connection.specs.CountedContent.{counted_with, HandsOut, Begins, C
 use Rattle.h3_connection.specs.Incoming.{Incoming, is_body}
 use Rattle.h3_connection.specs.Skipping.{skipped}
 use Rattle.h3_connection.specs.StrictMessages.{broken_rule, content_behind, content_behind_large, content_at, if_whole, large_content_at}
-use Rattle.h3_connection.specs.Pulling.{Pulled, just, connection_fault, malformed, unless_broken, whole_trailer, head_or_trailer, next_place, judged, with_content, past_large, read_section, decoded, at_section, new_section, at_end, at_frame, framed, next_frame, in_message, next_item, pull_stream, in_payload, at_payload, body_of, past_section, begun_section, begun_payload, left_with, told_size}
+use Rattle.h3_connection.specs.Pulling.{Pulled, just, connection_fault, malformed, unless_broken, whole_trailer, head_or_trailer, next_place, judged, with_content, past_large, read_section, decoded, at_section, new_section, at_end, at_frame, framed, next_frame, in_message, next_item, pull_stream, in_payload, at_payload, body_of, past_section, begun_section, begun_payload, left_with, told_size, between_frames, excess}
 use Rattle.h3_connection.specs.declared.setup.Announced.{Announced}
 use Rattle.h3_connection.specs.declared.event.Malformation.{Malformation}
 use Rattle.h3_connection.specs.declared.event.Malformation.TheVariants as malformation
@@ -317,10 +318,15 @@ module _ (all n : ℕ) where
         bytes : List ℕ
         bytes = skipped (is_body i.place) (concat i.unread)
 
-        by_left : (b : Bool) → nat_lt 0 i.body_left ≡ b → Fine (if b then at_payload id i else next_frame side own id r (left_with i bytes) bytes)
+        by_left : (b : Bool) → nat_lt 0 i.body_left ≡ b → Fine (if b then at_payload id i else between_frames side own id r i)
         by_left true left = content_fine id i is g
         by_left false left =
-            next_fine (left_with i bytes) bytes is (not_some i.body_left left) (record { no_fault = g.no_fault; not_over = g.not_over; place = g.place; more = g.more; content = g.content; sum = g.sum })
+            either (is_excessive own.choices.unfinished_limit bytes) (excess i) (next_frame side own id r (left_with i bytes) bytes)
+            (record {
+              whole = tt;
+              after = leaf (record i { unread = [] }) (not_some i.body_left left) (record { no_fault = g.no_fault; not_over = g.not_over; place = g.place; more = g.more; content = g.content; sum = g.sum });
+            })
+            (next_fine (left_with i bytes) bytes is (not_some i.body_left left) (record { no_fault = g.no_fault; not_over = g.not_over; place = g.place; more = g.more; content = g.content; sum = g.sum }))
 
     item_fine : (i : Incoming) (place : Place) → is_behind_head place ≡ true → (is_some i.section ≡ true → i.body_left ≡ 0) → Going all n i → Fine (next_item side own id r i place)
     item_fine i InSession at apart g = never at

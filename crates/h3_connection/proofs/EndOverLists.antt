@@ -8,7 +8,7 @@ use Rattle.h3_connection.specs.declared.event.Pull.TheVariants as answer
 use Rattle.h3_connection.specs.declared.event.Item.TheVariants as item
 use Rattle.h3_connection.specs.declared.setup.Announced.{Announced}
 use Rattle.h3_connection.specs.Bounds.{IsBounded}
-use Rattle.h3_connection.specs.CallLists.{Call, called, done, was_pulled, endpoint_after, Result}
+use Rattle.h3_connection.specs.CallLists.{Call, called, done, was_pulled, endpoint_after}
 use Rattle.h3_connection.specs.CallLists.Call.{OpenRequest, SendHead, SendBody, SendTrailer, Finish, Reset, Goaway, Advance, Outgoing, Deliver, DeliverEnd, DeliverReset, PullStream, Cancel, Show, TakeEnd}
 use Rattle.h3_connection.specs.CallLists.Result.{Done}
 use Rattle.h3_connection.specs.Control.{Found}

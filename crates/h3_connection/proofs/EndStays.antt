@@ -25,7 +25,7 @@ use Rattle.h3_connection.specs.StreamSetLaws.{set-same}
 use Rattle.h3_connection.specs.Pulling.{Pulled, pull_stream, just, is_client}
 use Rattle.h3_connection.specs.Delivering.{delivery_refusal, refusal_at, request_refusal, opened_at, opened, incoming_at, unidirectional_at, with_incoming, taken, bytes_at, end_at, reset_at, give_up, given_up_once, kept, with_end}
 use Rattle.h3_connection.specs.Sending.{does, open_refusal, closed_or, pull, pull_at, pull_unless, pull_request, pull_peer, pulled, within_limit, if_too_many, after_answer, advance_at, pulled_unidirectional, sent_bytes, counted, cancel_refusal, open_request, send_head, head_refusal, encoded, appended, head_part, fields_cost, body_refusal, send_trailer, trailer_refusal, finish, finish_refusal, reset, reset_refusal, with_outgoing, outgoing_at, goaway, goaway_refusal, asked, awaiting_at, remembers}
-use Rattle.h3_connection.specs.Sections.{encoded_section}
+use Rattle.h3_connection.specs.Sections.{written_section}
 use Rattle.h3_connection.specs.Outgoing.OwnPart.{OwnTrailer}
 use Rattle.h3_header.specs.Head.{Head, head_fields}
 use Rattle.h3_connection.specs.CallLists.{Call, Result, called, done, was_pulled, endpoint_after}
@@ -267,13 +267,13 @@ asked_left e q id expected true h = by_eq q id (λ x. stream_at (awaiting_at e.i
 
 head_left : (e : EndpointHistory) (q id : ℕ) (head : Head) → RequestIsOver e id → Leaves e (done Done (send_head e q head)).1 id
 head_left e q id head h =
-    let f = counted (appended (encoded e q (head_fields head)) q (head_part head (encoded_section e.encoder q (head_fields head)))) (fields_cost (head_fields head)) in
+    let f = counted (appended (encoded e q (head_fields head)) q (head_part head (written_section e.encoder q (head_fields head)))) (fields_cost (head_fields head)) in
     does_leave (head_refusal e q head) e (asked f q (head_fields head)) Done id
     (record { incoming = asked_left e q id (awaited_by (head_fields head)) (remembers e.side e.announced) h; next_id = omega arith })
 
 trailer_left : (e : EndpointHistory) (q id : ℕ) (head : Head) → Leaves e (done Done (send_trailer e q head)).1 id
 trailer_left e q id head =
-    let f = counted (appended (encoded e q (head_fields head)) q (OwnTrailer (encoded_section e.encoder q (head_fields head)))) (fields_cost (head_fields head)) in
+    let f = counted (appended (encoded e q (head_fields head)) q (OwnTrailer (written_section e.encoder q (head_fields head)))) (fields_cost (head_fields head)) in
     does_leave (trailer_refusal e q head) e f Done id (leaves_same e f id refl refl)
 
 finish_left : (e : EndpointHistory) (q id : ℕ) → Leaves e (done Done (finish e q)).1 id

@@ -22,7 +22,7 @@ use Rattle.h3_connection.specs.Delivering.{opened_at, closed_refusal, request_re
 use Rattle.h3_connection.specs.Endpoint.{EndpointHistory, Kind, kind_of, new_endpoint}
 use Rattle.h3_connection.specs.Endpoint.Kind.{Request, ServerOpened, OwnUnidirectional, PeerUnidirectional}
 use Rattle.h3_connection.specs.Incoming.{Incoming, nothing_came}
-use Rattle.h3_connection.specs.Isolation.{Before, GoesOn, FindsNoFault, Sight, IsSight, StepIsSeen, sees, seen, with_seen, with_awaited, seen_incoming, unless_refused, seen_pull, seen_encoder_bytes, seen_encoder_closing, first_sight, encoders_in, seen_cancel_refusal}
+use Rattle.h3_connection.specs.Isolation.{Before, GoesOn, FindsNoFault, Sight, IsSight, StepIsSeen, sees, seen, with_seen, with_awaited, seen_incoming, unless_refused, seen_pull, seen_encoder_bytes, seen_encoder_closing, first_sight, encoders_in}
 use Rattle.h3_connection.specs.Outgoing.{Outgoing as Out, is_end_next}
 use Rattle.h3_connection.specs.Pulling.{Pulled, pull_stream, is_client}
 use Rattle.h3_connection.specs.Sending.{does, open_refusal, pull_at, pull_unless, pull_request, pull_peer, within_limit, after_answer, advance_at, sent_bytes, counted}

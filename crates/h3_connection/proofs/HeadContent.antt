@@ -10,6 +10,7 @@ use Rattle.h3_header.specs.Head.{Head, has_pseudo}
 use Rattle.h3_header.specs.HeadRead.{HeadRead, IsHead, IsNone, head_of}
 use Rattle.h3_proto.specs.declared.stream.Side.{Side}
 use Rattle.h3_proto.specs.declared.stream.Side.TheVariants.{Client, Server}
+use Rattle.h3_wire.specs.ExcessiveFrames.{is_excessive}
 use Rattle.h3_wire.specs.Frames.{Front, Whole, Unknown, Refused, Unfinished, frame_at}
 use Rattle.h3_wire.specs.Pieces.{chunk_of, first_of, ending}
 use Rattle.h3_wire.specs.declared.proto.frame.PayloadLen.{PayloadLen}
@@ -22,7 +23,7 @@ use Rattle.h3_connection.specs.StrictMessages.{broken_rule, content_of_head, con
 use Rattle.h3_messages.specs.Content.{is_exceeded, may_end, takes_trailer}
 use Rattle.h3_messages.specs.declared.content.Content.{Content}
 use Rattle.h3_connection.specs.CountedContent.{HasItsContent, HeadsHaveTheirContent}
-use Rattle.h3_connection.specs.Pulling.{Pulled, just, connection_fault, malformed, unless_broken, whole_head, whole_trailer, head_or_trailer, judged, read_section, decoded, at_section, at_trailer, at_end, at_frame, framed, next_frame, in_message, next_item, pull_stream, in_payload, at_payload, body_of, raw_of, begun_section, begun_payload, with_content, left_with, past_section, is_for, is_client, is_interim, told_size}
+use Rattle.h3_connection.specs.Pulling.{Pulled, just, connection_fault, malformed, unless_broken, whole_head, whole_trailer, head_or_trailer, judged, read_section, decoded, at_section, at_trailer, at_end, at_frame, framed, next_frame, in_message, next_item, pull_stream, in_payload, at_payload, body_of, raw_of, begun_section, begun_payload, with_content, left_with, past_section, is_for, is_client, is_interim, told_size, between_frames, excess}
 use Rattle.h3_connection.specs.declared.setup.Announced.{Announced}
 use Rattle.h3_connection.specs.declared.event.Malformation.{Malformation}
 use Rattle.h3_connection.specs.declared.event.Malformation.TheVariants as malformation
@@ -143,7 +144,8 @@ module _ (side : Side) (own : Announced) (strict : own.choices.strict_messages �
   message_sets i None same =
       let bytes = skipped (is_body i.place) (concat i.unread) in
       let j = record i { unread = ending (length bytes) i.unread } in
-      either (nat_lt 0 i.body_left) (at_payload id i) (next_frame side own id r j bytes) (content_sets i) (next_sets j bytes same)
+      either (nat_lt 0 i.body_left) (at_payload id i) (between_frames side own id r i) (content_sets i)
+      (either (is_excessive own.choices.unfinished_limit bytes) (excess i) (next_frame side own id r j bytes) tt (next_sets j bytes same))
 
   item_sets : (i : Incoming) (place : Place) → Before i → Sets (next_item side own id r i place)
   item_sets i InSession same = raw_sets i (first_of i.unread)

@@ -1,10 +1,10 @@
 -- Each call is answered by what a request stream sees, or changes nothing of that.
 use Rattle.std.proofs.Common.{◌≡◌, ℕ, ◌+◌, Bool, true, false, ◌||◌, List, [], ◌∷◌, length, refl, sym, ◌∙◌, ap, subst}
-use Rattle.std.specs.Prelude.{Option, Some, None, if◌then◌else◌, ◌==◌, ◌&&◌, nat_lt, is_some, is_none, unwrap_or, not}
+use Rattle.std.specs.Prelude.{Option, Some, None, if◌then◌else◌, ◌==◌, nat_lt, is_some, unwrap_or, not}
 use Rattle.h3_header.specs.Head.{Head, head_fields}
 use Rattle.h3_messages.specs.Content.{awaited_by}
 use Rattle.h3_messages.specs.declared.content.Content.{Content}
-use Rattle.h3_connection.specs.Sections.{encoded_section}
+use Rattle.h3_connection.specs.Sections.{written_section}
 use Rattle.h3_proto.specs.declared.stream.Side.{Side}
 use Rattle.h3_proto.specs.declared.stream.Side.TheVariants.{Client, Server}
 use Rattle.h3_connection.specs.declared.event.Refusal.{Refusal}
@@ -23,7 +23,8 @@ use Rattle.h3_connection.specs.Endpoint.{EndpointHistory, Kind, kind_of, new_end
 use Rattle.h3_connection.specs.Endpoint.Kind.{Request, ServerOpened, OwnUnidirectional, PeerUnidirectional}
 use Rattle.h3_connection.specs.Control.{Found}
 use Rattle.h3_connection.specs.Delivering.{opened_at, unidirectional_at, incoming_at, opened, with_incoming, taken, refusal_at, server_opened_refusal, bytes_at, end_at, reset_at, kept, with_end, give_up, given_up_once, request_refusal}
-use Rattle.h3_connection.specs.Sending.{does, first_of, open_refusal, advance_at, pull_at, pull_unless, pull_request, pull_peer, pulled, within_limit, if_too_many, after_answer, cancel_refusal, closed_or, sent_bytes, counted, remembers, awaiting_at, asked, head_refusal, appended, encoded, head_part, fields_cost}
+use Rattle.h3_connection.specs.Refusals.{first_of}
+use Rattle.h3_connection.specs.Sending.{does, open_refusal, advance_at, pull_at, pull_unless, pull_request, pull_peer, pulled, within_limit, if_too_many, after_answer, cancel_refusal, closed_or, sent_bytes, counted, remembers, awaiting_at, asked, head_refusal, appended, encoded, head_part, fields_cost}
 use Rattle.h3_connection.specs.CallLists.{Call, Result, called, endpoint_after, done, was_pulled}
 use Rattle.h3_connection.specs.EndsWaiting.{end_taken_at, end_taken_if}
 use Rattle.h3_connection.specs.CallLists.Call.{OpenRequest, SendHead, SendBody, SendTrailer, Finish, Reset, Goaway, Advance, TakeEnd, Outgoing, Deliver, DeliverEnd, DeliverReset, PullStream, Cancel, Show}
@@ -356,7 +357,7 @@ head_step T id e s q head b = by_choice (remembers e.side e.announced) refl
     expected = awaited_by (head_fields head)
 
     plain : EndpointHistory
-    plain = counted (appended (encoded e q (head_fields head)) q (head_part head (encoded_section e.encoder q (head_fields head)))) (fields_cost (head_fields head))
+    plain = counted (appended (encoded e q (head_fields head)) q (head_part head (written_section e.encoder q (head_fields head)))) (fields_cost (head_fields head))
 
     said : Streams Out
     said = (asked plain q (head_fields head)).outgoing

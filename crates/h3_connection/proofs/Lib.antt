@@ -42,3 +42,4 @@ pub mod HeadContent
 pub mod NoContent
 pub mod WellSent
 pub mod SentAsSaid
+pub mod PeerReadings

@@ -17,6 +17,7 @@ use Rattle.h3_messages.specs.declared.content.Content.{Content}
 use Rattle.h3_messages.specs.declared.content.Content.TheVariants.{NoContent, Exceeded}
 use Rattle.h3_proto.specs.declared.stream.Side.{Side}
 use Rattle.h3_proto.specs.declared.stream.Side.TheVariants.{Client}
+use Rattle.h3_wire.specs.ExcessiveFrames.{is_excessive}
 use Rattle.h3_wire.specs.Frames.{Front, Whole, Unknown, Refused, Unfinished, frame_at}
 use Rattle.h3_wire.specs.Pieces.{chunk_of, ending}
 use Rattle.h3_wire.specs.declared.proto.frame.PayloadLen.{PayloadLen}
@@ -28,8 +29,8 @@ use Rattle.h3_connection.specs.Incoming.{Incoming, awaiting, awaits_head, is_bef
 use Rattle.h3_connection.specs.NoContent.{AwaitsNoContent, Awaited, Begins, Comes, Ends, Pulls, HasNoBytes, HandsOutNoContent, RemembersHead}
 use Rattle.h3_connection.specs.Skipping.{skipped}
 use Rattle.h3_connection.specs.StrictMessages.{broken_rule, content_at, content_behind, content_behind_large, if_whole, large_content_at}
-use Rattle.h3_connection.specs.Pulling.{Pulled, just, connection_fault, malformed, unless_broken, whole_head, whole_trailer, head_or_trailer, next_place, judged, with_content, past_large, read_section, decoded, at_section, new_section, at_end, at_trailer, at_frame, framed, next_frame, in_message, next_item, pull_stream, in_payload, at_payload, body_of, begun_section, begun_payload, past_section, left_with, is_for, is_client, is_interim, told_size}
-use Rattle.h3_connection.specs.Sections.{encoded_section}
+use Rattle.h3_connection.specs.Pulling.{Pulled, just, connection_fault, malformed, unless_broken, whole_head, whole_trailer, head_or_trailer, next_place, judged, with_content, past_large, read_section, decoded, at_section, new_section, at_end, at_trailer, at_frame, framed, next_frame, in_message, next_item, pull_stream, in_payload, at_payload, body_of, begun_section, begun_payload, past_section, left_with, is_for, is_client, is_interim, told_size, between_frames, excess}
+use Rattle.h3_connection.specs.Sections.{written_section}
 use Rattle.h3_connection.specs.Sending.{appended, asked, awaiting_at, counted, does, encoded, fields_cost, head_part, head_refusal, remembers, send_head}
 use Rattle.h3_connection.specs.StreamSets.{stream_at}
 use Rattle.h3_connection.specs.declared.setup.Announced.{Announced}
@@ -235,8 +236,10 @@ module _ (own : Announced) (id : ℕ) (r : DecoderState) where
   message_fine i (Some bytes) e = at_fine i bytes e
   message_fine i None e =
       let bytes = skipped (is_body i.place) (concat i.unread) in
-      either (nat_lt 0 i.body_left) (at_payload id i) (next_frame Client own id r (left_with i bytes) bytes) (content_fine id i e)
-      (next_fine (left_with i bytes) bytes (record { content = e.content; none = e.none; place = e.place }))
+      either (nat_lt 0 i.body_left) (at_payload id i) (between_frames Client own id r i) (content_fine id i e)
+      (either (is_excessive own.choices.unfinished_limit bytes) (excess i) (next_frame Client own id r (left_with i bytes) bytes)
+      (leaf _ (record i { unread = [] }) [] tt (record { content = e.content; none = e.none; place = e.place }))
+      (next_fine (left_with i bytes) bytes (record { content = e.content; none = e.none; place = e.place })))
 
   item_fine : (i : Incoming) (place : Place) → is_message place ≡ true → IsEmpty i → Fine (next_item Client own id r i place)
   item_fine i InSession at e = absurd (cc)
@@ -274,7 +277,7 @@ pub remembers_head : RemembersHead
 remembers_head e id head i client strict method accepted there awaits = by_refusal (head_refusal e id head) accepted
   where
     plain : EndpointHistory
-    plain = counted (appended (encoded e id (head_fields head)) id (head_part head (encoded_section e.encoder id (head_fields head)))) (fields_cost (head_fields head))
+    plain = counted (appended (encoded e id (head_fields head)) id (head_part head (written_section e.encoder id (head_fields head)))) (fields_cost (head_fields head))
 
     remembered : remembers e.side e.announced ≡ true
     remembered = ap (λ b. b && is_client e.side) strict ∙ ap is_client client

@@ -11,6 +11,7 @@ use Rattle.h3_header.specs.Head.{Head, has_pseudo}
 use Rattle.h3_header.specs.HeadRead.{HeadRead, IsHead, IsNone, head_of}
 use Rattle.h3_proto.specs.declared.stream.Side.{Side}
 use Rattle.h3_proto.specs.declared.stream.Side.TheVariants.{Client, Server}
+use Rattle.h3_wire.specs.ExcessiveFrames.{is_excessive}
 use Rattle.h3_wire.specs.Frames.{Front, Whole, Unknown, Refused, Unfinished, frame_at}
 use Rattle.h3_wire.specs.Pieces.{chunk_of, first_of, ending}
 use Rattle.h3_wire.specs.declared.proto.frame.PayloadLen.{PayloadLen}
@@ -23,7 +24,7 @@ use Rattle.h3_connection.specs.Incoming.{Incoming, is_body}
 use Rattle.h3_connection.specs.Skipping.{skipped}
 use Rattle.h3_connection.specs.StrictMessages.{broken_rule, if_whole}
 use Rattle.h3_messages.specs.Content.{is_exceeded, may_end, takes_trailer}
-use Rattle.h3_connection.specs.Pulling.{Pulled, just, connection_fault, malformed, unless_broken, whole_head, whole_trailer, head_or_trailer, judged, read_section, decoded, at_section, new_section, at_trailer, at_end, at_frame, framed, next_frame, between_frames, in_message, next_item, pull_stream, in_payload, at_payload, body_of, raw_of, raw, tried, past_section, begun_section, begun_payload, with_content, left_with, is_for, is_client, is_interim, told_size}
+use Rattle.h3_connection.specs.Pulling.{Pulled, just, connection_fault, malformed, unless_broken, whole_head, whole_trailer, head_or_trailer, judged, read_section, decoded, at_section, new_section, at_trailer, at_end, at_frame, framed, next_frame, between_frames, in_message, next_item, pull_stream, in_payload, at_payload, body_of, raw_of, raw, tried, past_section, begun_section, begun_payload, with_content, left_with, is_for, is_client, is_interim, told_size, excess}
 use Rattle.h3_connection.specs.declared.setup.Announced.{Announced}
 use Rattle.h3_connection.specs.declared.event.Malformation.{Malformation}
 use Rattle.h3_connection.specs.declared.event.Malformation.TheVariants as malformation
@@ -180,7 +181,8 @@ module _ (side : Side) (own : Announced) (id : ℕ) (r : DecoderState) where
   message_good i None h =
       let bytes = skipped (is_body i.place) (concat i.unread) in
       let j = record i { unread = ending (length bytes) i.unread } in
-      either (nat_lt 0 i.body_left) _ _ (content_good id i h) (next_good j bytes (ready_as i j (refl, refl) h))
+      either (nat_lt 0 i.body_left) _ _ (content_good id i h)
+      (either (is_excessive own.choices.unfinished_limit bytes) (excess i) (next_frame side own id r j bytes) (faulty _ (record i { unread = [] }) h.tries) (next_good j bytes (ready_as i j (refl, refl) h)))
 
   item_good : (i : Incoming) (place : Place) → Ready i → Good (next_item side own id r i place)
   item_good i InSession h = raw_good i (first_of i.unread) h

@@ -12,6 +12,7 @@ use Rattle.h3_header.specs.Head.{Head, has_pseudo}
 use Rattle.h3_header.specs.HeadRead.{HeadRead, IsHead, IsNone, head_of}
 use Rattle.h3_proto.specs.declared.stream.Side.{Side}
 use Rattle.h3_proto.specs.declared.stream.Side.TheVariants.{Client, Server}
+use Rattle.h3_wire.specs.ExcessiveFrames.{is_excessive}
 use Rattle.h3_wire.specs.Frames.{Front, Whole, Unknown, Refused, Unfinished, frame_at}
 use Rattle.h3_wire.specs.Pieces.{chunk_of, first_of, with_piece, without, ending}
 use Rattle.std.proofs.lemmas.List.Folds.{concat-append}
@@ -27,7 +28,7 @@ use Rattle.h3_connection.specs.Skipping.{is_empty_data, skipped}
 use Rattle.h3_connection.specs.SkippingLaws.{found_not_empty}
 use Rattle.h3_connection.specs.StrictMessages.{broken_rule, if_whole}
 use Rattle.h3_messages.specs.Content.{is_exceeded, may_end, takes_trailer}
-use Rattle.h3_connection.specs.Pulling.{Pulled, just, connection_fault, malformed, unless_broken, whole_head, whole_trailer, head_or_trailer, judged, read_section, decoded, at_section, new_section, at_trailer, at_end, at_frame, framed, next_frame, between_frames, in_message, next_item, pull_stream, in_payload, at_payload, body_of, raw_of, raw, past_section, begun_section, begun_payload, with_content, left_with, is_for, is_client, is_interim, told_size}
+use Rattle.h3_connection.specs.Pulling.{Pulled, just, connection_fault, malformed, unless_broken, whole_head, whole_trailer, head_or_trailer, judged, read_section, decoded, at_section, new_section, at_trailer, at_end, at_frame, framed, next_frame, between_frames, in_message, next_item, pull_stream, in_payload, at_payload, body_of, raw_of, raw, past_section, begun_section, begun_payload, with_content, left_with, is_for, is_client, is_interim, told_size, excess}
 use Rattle.h3_connection.specs.declared.setup.Announced.{Announced}
 use Rattle.h3_connection.specs.declared.event.Malformation.{Malformation}
 use Rattle.h3_connection.specs.declared.event.Malformation.TheVariants as malformation
@@ -330,8 +331,11 @@ module _ (size : ℕ) (side : Side) (own : Announced) (id : ℕ) (r : DecoderSta
   between_alike : (i : Incoming) (u : List (List ℕ)) → i.place ≢ InSession → i.section ≡ None → Goes size i u → Pulls size (between_frames side own id r i) (between_frames side own id r (with_pieces i u))
   between_alike i u message none g =
       let bytes = skipped (is_body i.place) (concat i.unread) in
-      subst (λ l. Pulls size (between_frames side own id r i) (next_frame side own id r (left_with (with_pieces i u) (skipped (is_body i.place) l)) (skipped (is_body i.place) l))) (sym g.cuts.bytes)
-      (next_alike (left_with i bytes) (ending (length bytes) u) bytes (λ f rest e. found_not_empty (is_body i.place) (concat i.unread) rest f e) message none (goes_ending i u (length bytes) g))
+      subst (λ l. Pulls size (between_frames side own id r i)
+      (if is_excessive own.choices.unfinished_limit (skipped (is_body i.place) l) then excess (with_pieces i u)
+      else next_frame side own id r (left_with (with_pieces i u) (skipped (is_body i.place) l)) (skipped (is_body i.place) l))) (sym g.cuts.bytes)
+      (either size (is_excessive own.choices.unfinished_limit bytes) (excess i) _ (excess (with_pieces i u)) _ (leaf size _ (record i { unread = [] }) [] [] refl (record { bytes = refl; first = tt; second = tt }))
+      (next_alike (left_with i bytes) (ending (length bytes) u) bytes (λ f rest e. found_not_empty (is_body i.place) (concat i.unread) rest f e) message none (goes_ending i u (length bytes) g)))
 
   message_alike : (i : Incoming) (u : List (List ℕ)) (section : Option (List ℕ)) → i.section ≡ section → i.place ≢ InSession → Goes size i u → Pulls size (in_message side own id r i section) (in_message side own id r (with_pieces i u) section)
   message_alike i u (Some bytes) is message g = section_alike i u bytes g.cuts

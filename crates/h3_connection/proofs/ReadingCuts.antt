@@ -7,7 +7,7 @@ use Rattle.h3_qpack.specs.Hearing.{Heard, hear, heard_with, heard_then, Listened
 use Rattle.h3_connection.specs.Codes.{encoder_stream_error, decoder_stream_error}
 use Rattle.h3_connection.specs.Endpoint.{EndpointHistory, replied}
 use Rattle.h3_connection.specs.PeerReading.{Peer, PeerFound, with_unread, read_peer}
-use Rattle.h3_connection.specs.PeerReadingLaws.{then_peer, peer_more, settings_stay}
+use Rattle.h3_connection.proofs.PeerReadings.{then_peer, peer_more, settings_stay}
 use Rattle.h3_connection.specs.Listeners.{fault_if, heard_more, after_hearing, insertions_heard}
 use Rattle.h3_connection.specs.Control.{Found, increment, read_encoder, listened_to, read_decoder, with_table, learned, if_learned, then_decoder, after_peer, read_control}
 use Rattle.h3_connection.specs.DeliveryCuts.{IsSame, with_replies, DiffersInIncrements}

@@ -1,5 +1,5 @@
 -- A strict endpoint sends as much content as its head said.
-use Rattle.std.proofs.Common.{arith, ◌≡◌, ℕ, ◌+◌, ◌-◌, ◌≤◌, Bool, true, false, if◌then◌else◌, List, [], ◌∷◌, ◌++◌, length, Option, Some, None, refl, ap, sym, ◌∙◌, subst}
+use Rattle.std.proofs.Common.{arith, ◌≡◌, ℕ, ◌+◌, ◌-◌, ◌≤◌, Bool, true, false, if◌then◌else◌, List, [], ◌∷◌, ◌++◌, length, Option, Some, None, refl, ap, sym, ◌∙◌}
 use Rattle.std.specs.Prelude.{not, ◌&&◌, ◌==◌, nat_le, unwrap_or}
 use Rattle.std.proofs.lemmas.Grind.{common_steps}
 use Rattle.h3_field.specs.Field.{section_size}
@@ -9,15 +9,16 @@ use Rattle.h3_messages.specs.declared.content.Content.{Content}
 use Rattle.h3_messages.specs.declared.content.Content.TheVariants.{Exactly, Exceeded}
 use Rattle.h3_proto.specs.declared.stream.Side.TheVariants.{Client, Server}
 use Rattle.h3_connection.specs.Endpoint.{EndpointHistory}
-use Rattle.h3_connection.specs.Outgoing.{Outgoing, OwnTrailer, is_unsent, nothing_sent, takes_body, takes_end, takes_head, with_body, with_finish, with_said}
+use Rattle.h3_connection.specs.Outgoing.{Outgoing, is_unsent, nothing_sent, takes_body, takes_end, takes_head, with_body, with_finish, with_said}
 use Rattle.h3_connection.specs.Outgoing as sent
 use Rattle.h3_connection.specs.OwnIds.{other}
 use Rattle.h3_connection.specs.Pulling.{is_for}
-use Rattle.h3_connection.specs.Sections.{encoded_section}
-use Rattle.h3_connection.specs.Sending.{appended, asked, body_refusal, content_of_own, counted, does, encoded, fields_cost, finish_refusal, first_of, head_part, head_refusal, is_open, is_too_large, known_of, outgoing_at, saying_at, send_body, send_head, sent_bytes, trailer_refusal, with_outgoing}
-use Rattle.h3_connection.specs.SentContent.{Begins, HeadsSayTheirContent, IsSentAsSaid, PeersExpectAsMuch, Sends, SendsAsMuchAsSaid, SendsContent, Stays, left_to_send}
+use Rattle.h3_connection.specs.Sections.{written_section}
+use Rattle.h3_connection.specs.Refusals.{first_of, is_too_large}
+use Rattle.h3_connection.specs.Sending.{appended, asked, body_refusal, content_of_own, counted, does, encoded, fields_cost, finish_refusal, head_part, head_refusal, is_open, known_of, outgoing_at, saying_at, send_body, sent_bytes, trailer_refusal, with_outgoing}
+use Rattle.h3_connection.specs.SentContent.{Begins, HeadsSayTheirContent, PeersExpectAsMuch, Sends, SendsAsMuchAsSaid, SendsContent, Stays, left_to_send}
 use Rattle.h3_connection.specs.StreamSetLaws.{set-here}
-use Rattle.h3_connection.specs.StreamSets.{Streams, set_stream, stream_at}
+use Rattle.h3_connection.specs.StreamSets.{set_stream, stream_at}
 use Rattle.h3_connection.specs.StrictSending.{broken_head, broken_trailer, early_trailer, passes_content, unless_malformed}
 use Rattle.h3_connection.specs.StrictSendingLaws.{not_closed, not_malformed, passed, was_allowed}
 use Rattle.h3_connection.specs.declared.event.Malformation.TheVariants as malformation
@@ -130,13 +131,13 @@ first_true : (a b : Bool) → (a && b) ≡ true → a ≡ true
 first_true true b h = refl
 first_true false b h = absurd (cc)
 
-takes : (e : EndpointHistory) (id : ℕ) (head : Head) (after : EndpointHistory) → (does (head_refusal e id head) e after).0 ≡ None → sent.is_open (outgoing_at e id) ≡ true
+takes : (e : EndpointHistory) (id : ℕ) (head : Head) (after : EndpointHistory) → (does (head_refusal e id head) e after).0 ≡ None → sent.is_unended (outgoing_at e id) ≡ true
 takes e id head after done =
     let fields = head_fields head in
     let wrong = (not (is_for (other e.side) head), refusal.WrongSide) ∷ unless_malformed (broken_head e.side e.announced e.peer.settings fields) ((is_too_large e.peer.settings fields, refusal.TooLarge (section_size fields)) ∷ []) in
     let allowed = not_closed e.closed _ (was_allowed (head_refusal e id head) e after done) in
     let there = passed (not (is_open e id)) refusal.NotOpen ((not (takes_head (outgoing_at e id)), refusal.OutOfOrder) ∷ wrong) allowed in
-    first_true (sent.is_open (outgoing_at e id)) (is_unsent (outgoing_at e id).parts) (is_true (takes_head (outgoing_at e id)) (head_test (not (takes_head (outgoing_at e id))) refusal.OutOfOrder wrong there))
+    first_true (sent.is_unended (outgoing_at e id)) (is_unsent (outgoing_at e id).parts) (is_true (takes_head (outgoing_at e id)) (head_test (not (takes_head (outgoing_at e id))) refusal.OutOfOrder wrong there))
   where
     head_test : (b : Bool) (r : Refusal) (rules : List (Bool × Refusal)) → first_of ((b, r) ∷ rules) ≡ None → b ≡ false
     head_test true r rules h = absurd (cc)
@@ -145,7 +146,7 @@ takes e id head after done =
 pub heads_say : HeadsSayTheirContent
 heads_say e id head strict done =
     let fields = head_fields head in
-    let part = head_part head (encoded_section e.encoder id fields) in
+    let part = head_part head (written_section e.encoder id fields) in
     let o : Outgoing = record (outgoing_at e id) { parts = (outgoing_at e id).parts ++ part ∷ [] } in
     let streams = set_stream e.outgoing id o in
     let content = content_of_own e.side (known_of (stream_at e.incoming id)) fields in

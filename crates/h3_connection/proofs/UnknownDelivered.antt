@@ -10,7 +10,8 @@ use Rattle.h3_connection.specs.StreamSetLaws.{set-set, set-same}
 use Rattle.h3_connection.specs.Endpoint.{EndpointHistory, kind_of, replied, heads_waiting}
 use Rattle.h3_connection.specs.Endpoint.Kind.{Request}
 use Rattle.h3_connection.specs.PeerReading.{Peer, with_unread, read_peer}
-use Rattle.h3_connection.specs.PeerReadingLaws.{peer_known, nothing_read_on}
+use Rattle.h3_connection.specs.PeerReadingLaws.{nothing_read_on}
+use Rattle.h3_connection.proofs.PeerReadings.{peer_known}
 use Rattle.h3_connection.specs.Control.{if_learned, then_decoder, after_peer, read_control}
 use Rattle.h3_connection.specs.Unidirectional.{role_after}
 use Rattle.h3_connection.specs.Unidirectional.Role.{Control}

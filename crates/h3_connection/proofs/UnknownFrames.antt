@@ -5,6 +5,7 @@ use Rattle.std.specs.List.{concat, AllByRecursion}
 use Rattle.std.proofs.lemmas.Bool.{le-ltb}
 use Rattle.std.proofs.lemmas.List.{drop_at, length-drop}
 use Rattle.h3_coding.specs.VarintLaws.{reads_encoding}
+use Rattle.h3_wire.specs.ExcessiveFrames.{is_excessive}
 use Rattle.h3_wire.specs.Frames.{Unknown, is_http2, frame_of, with_head, frame_at}
 use Rattle.h3_wire.specs.FrameLaws.{at_head}
 use Rattle.h3_wire.specs.Known.{known}
@@ -18,8 +19,9 @@ use Rattle.h3_connection.specs.declared.place.Place.TheVariants.{BeforeHead, InB
 use Rattle.h3_connection.specs.declared.setup.Announced.{Announced}
 use Rattle.h3_connection.specs.Incoming.{Incoming, is_body}
 use Rattle.h3_connection.specs.Skipping.{skipped}
-use Rattle.h3_connection.specs.SkippingLaws.{skipped_known, skipped-length}
-use Rattle.h3_connection.specs.Pulling.{left_with, at_payload, next_frame, between_frames, in_message, next_item, pull_stream}
+use Rattle.h3_connection.specs.SkippingLaws.{skipped-length}
+use Rattle.h3_connection.proofs.PeerReadings.{skipped_known}
+use Rattle.h3_connection.specs.Pulling.{left_with, at_payload, next_frame, between_frames, in_message, next_item, pull_stream, excess}
 use Rattle.h3_connection.specs.UnknownFrames.{has_meaning, IsUnknownFrame, BeginsUnknown, MayBeginFrame}
 
 neither : (a b : Bool) → (a || b) ≡ false → (a ≡ false) × (b ≡ false)
@@ -107,9 +109,9 @@ module _ (side : Side) (own : Announced) (id : ℕ) (r : DecoderState) where
       let bytes = skipped (is_body i.place) rest in
       let same : skipped (is_body i.place) (concat i.unread) ≡ bytes = skipped_known (is_body i.place) (concat i.unread) rest (unknown_left_out (concat i.unread) rest b) in
       let few : length rest ≤ length (concat i.unread) = omega (arith, unknown_before (concat i.unread) rest b) in
-      ap (λ l. next_frame side own id r (left_with i l) l) same
-      ∙ ap (λ j. next_frame side own id r j bytes) (sym (left_left i rest bytes (skipped-length (is_body i.place) rest) few))
-      ∙ ap (λ l. next_frame side own id r (left_with (left_with i rest) l) l) (sym (ap (skipped (is_body i.place)) there))
+      ap (λ l. if is_excessive own.choices.unfinished_limit l then excess i else next_frame side own id r (left_with i l) l) same
+      ∙ ap (λ j. if is_excessive own.choices.unfinished_limit bytes then excess i else next_frame side own id r j bytes) (sym (left_left i rest bytes (skipped-length (is_body i.place) rest) few))
+      ∙ ap (λ l. if is_excessive own.choices.unfinished_limit l then excess i else next_frame side own id r (left_with (left_with i rest) l) l) (sym (ap (skipped (is_body i.place)) there))
 
   pub by_place : (i : Incoming) (place : Place) → place ≢ InSession → next_item side own id r i place ≡ in_message side own id r i i.section
   by_place i BeforeHead h = refl

@@ -21,8 +21,8 @@ use Rattle.h3_connection.specs.Endpoint.Kind.{Request, ServerOpened, OwnUnidirec
 use Rattle.h3_connection.specs.Incoming.{Incoming}
 use Rattle.h3_connection.specs.Isolation.{brought_by, brought_on}
 use Rattle.h3_connection.specs.Outgoing.{Outgoing as Out, is_end_next}
-use Rattle.h3_connection.specs.Pulling.{pull_stream, Pulled}
-use Rattle.h3_connection.specs.Sending.{does, open_refusal, head_refusal, body_refusal, trailer_refusal, finish_refusal, reset_refusal, goaway_refusal, cancel_refusal, advance_at, after_answer, within_limit, pull_request, pulled_unidirectional, pull_peer, pull_at, pull_unless, sent_bytes, counted, pulled, pull}
+use Rattle.h3_connection.specs.Pulling.{pull_stream}
+use Rattle.h3_connection.specs.Sending.{does, open_refusal, head_refusal, body_refusal, trailer_refusal, finish_refusal, reset_refusal, goaway_refusal, cancel_refusal, advance_at, after_answer, within_limit, pull_request, pulled_unidirectional, pull_peer, pull_at, pull_unless}
 use Rattle.h3_connection.specs.StreamSets.{Streams, stream_at, set_stream}
 use Rattle.h3_connection.specs.Unidirectional.{Unidirectional, Role, untold, is_closed, is_critical, role_after, with_bytes, pull_unidirectional}
 use Rattle.h3_connection.specs.Unidirectional.Role.{Untold, Control, Encoder, Decoder, Session, Push, Ignored}

@@ -12,6 +12,7 @@ use Rattle.h3_messages.specs.Messages.{violation_of_trailer}
 use Rattle.h3_messages.specs.declared.violation.Violation.{Violation}
 use Rattle.h3_proto.specs.declared.stream.Side.{Side}
 use Rattle.h3_proto.specs.declared.stream.Side.TheVariants.{Client, Server}
+use Rattle.h3_wire.specs.ExcessiveFrames.{is_excessive}
 use Rattle.h3_wire.specs.Frames.{Front, Whole, Unknown, Refused, Unfinished, frame_at}
 use Rattle.h3_wire.specs.Pieces.{chunk_of, first_of, ending}
 use Rattle.h3_wire.specs.declared.proto.frame.PayloadLen.{PayloadLen}
@@ -24,7 +25,7 @@ use Rattle.h3_connection.specs.StrictMessages.{broken_rule, if_whole, malformati
 use Rattle.h3_messages.specs.Content.{is_exceeded, may_end, takes_trailer}
 use Rattle.h3_messages.specs.declared.content.Content.{Content}
 use Rattle.h3_connection.specs.StrictPulls.{IsWellFormed, IsWellFormedHead, IsWellFormedTrailer, PullsWellFormed}
-use Rattle.h3_connection.specs.Pulling.{Pulled, just, connection_fault, malformed, unless_broken, whole_head, whole_trailer, head_or_trailer, judged, read_section, decoded, at_section, new_section, at_trailer, at_end, at_frame, framed, next_frame, in_message, next_item, pull_stream, in_payload, at_payload, body_of, raw_of, tried, begun_section, begun_payload, with_content, left_with, is_for, is_client, is_interim, told_size}
+use Rattle.h3_connection.specs.Pulling.{Pulled, just, connection_fault, malformed, unless_broken, whole_head, whole_trailer, head_or_trailer, judged, read_section, decoded, at_section, new_section, at_trailer, at_end, at_frame, framed, next_frame, in_message, next_item, pull_stream, in_payload, at_payload, body_of, raw_of, tried, begun_section, begun_payload, with_content, left_with, is_for, is_client, is_interim, told_size, between_frames, excess}
 use Rattle.h3_connection.specs.declared.setup.Announced.{Announced}
 use Rattle.h3_connection.specs.declared.event.Malformation.{Malformation}
 use Rattle.h3_connection.specs.declared.event.Malformation.TheVariants as malformation
@@ -158,7 +159,8 @@ module _ (side : Side) (own : Announced) (strict : own.choices.strict_messages â
   message_well i None =
       let bytes = skipped (is_body i.place) (concat i.unread) in
       let j = record i { unread = ending (length bytes) i.unread } in
-      either (nat_lt 0 i.body_left) (at_payload id i) (next_frame side own id r j bytes) (content_well i) (next_well j bytes)
+      either (nat_lt 0 i.body_left) (at_payload id i) (between_frames side own id r i) (content_well i)
+      (either (is_excessive own.choices.unfinished_limit bytes) (excess i) (next_frame side own id r j bytes) tt (next_well j bytes))
 
   item_well : (i : Incoming) (place : Place) â†’ Well (next_item side own id r i place)
   item_well i InSession = raw_well i (first_of i.unread)

@@ -6,8 +6,9 @@ use Rattle.h3_header.specs.Head.{head_fields, has_pseudo}
 use Rattle.h3_connection.specs.Outgoing.{takes_head, takes_body, OwnTrailer}
 use Rattle.h3_connection.specs.OwnIds.{other}
 use Rattle.h3_connection.specs.Pulling.{is_for}
-use Rattle.h3_connection.specs.Sections.{encoded_section}
-use Rattle.h3_connection.specs.Sending.{appended, asked, counted, encoded, fields_cost, head_part, head_refusal, is_open, is_too_large, outgoing_at, trailer_refusal}
+use Rattle.h3_connection.specs.Sections.{written_section}
+use Rattle.h3_connection.specs.Refusals.{is_too_large}
+use Rattle.h3_connection.specs.Sending.{appended, asked, counted, encoded, fields_cost, head_part, head_refusal, is_open, outgoing_at, trailer_refusal}
 use Rattle.h3_connection.specs.StrictSending.{broken_head, broken_trailer, early_trailer, unless_malformed}
 use Rattle.h3_connection.specs.StrictSends.{SendsWellFormedHeads, SendsWellFormedTrailers}
 use Rattle.h3_connection.specs.StrictSendingLaws.{head_taken, trailer_taken, not_closed, passed, not_early, not_malformed, was_allowed}
@@ -19,7 +20,7 @@ sends_well_formed_heads e peer id head strict sent =
     let broken = broken_head e.side e.announced e.peer.settings fields in
     let size = (is_too_large e.peer.settings fields, refusal.TooLarge (section_size fields)) ∷ [] in
     let wrong = (not (is_for (other e.side) head), refusal.WrongSide) ∷ unless_malformed broken size in
-    let after = asked (counted (appended (encoded e id fields) id (head_part head (encoded_section e.encoder id fields))) (fields_cost fields)) id fields in
+    let after = asked (counted (appended (encoded e id fields) id (head_part head (written_section e.encoder id fields))) (fields_cost fields)) id fields in
     let allowed = not_closed e.closed _ (was_allowed (head_refusal e id head) e after sent) in
     let there = passed (not (is_open e id)) refusal.NotOpen ((not (takes_head (outgoing_at e id)), refusal.OutOfOrder) ∷ wrong) allowed in
     let placed = passed (not (takes_head (outgoing_at e id))) refusal.OutOfOrder wrong there in
@@ -34,7 +35,7 @@ sends_well_formed_trailers e peer id trailer strict sent =
     let early = early_trailer (outgoing_at e id).content in
     let behind = unless_malformed broken size in
     let pseudo = (has_pseudo trailer, refusal.PseudoInTrailer) ∷ unless_malformed early behind in
-    let after = counted (appended (encoded e id fields) id (OwnTrailer (encoded_section e.encoder id fields))) (fields_cost fields) in
+    let after = counted (appended (encoded e id fields) id (OwnTrailer (written_section e.encoder id fields))) (fields_cost fields) in
     let allowed = not_closed e.closed _ (was_allowed (trailer_refusal e id trailer) e after sent) in
     let there = passed (not (is_open e id)) refusal.NotOpen ((not (takes_body (outgoing_at e id)), refusal.OutOfOrder) ∷ pseudo) allowed in
     let placed = passed (not (takes_body (outgoing_at e id))) refusal.OutOfOrder pseudo there in

@@ -1,5 +1,5 @@
 -- What the calls of an endpoint do to what it stores.
-use Rattle.std.specs.Prelude.{◌≡◌, ◌≢◌, ℕ, ◌+◌, ◌^◌, nat_le, Option, Some, None, Result, Ok, Err, if◌then◌else◌}
+use Rattle.std.specs.Prelude.{◌≡◌, ◌≢◌, ℕ, ◌^◌, nat_le, Option, Some, None, Result, Ok, Err, if◌then◌else◌}
 use Rattle.h3_proto.specs.declared.stream.Side.{Side}
 use Rattle.h3_proto.specs.declared.stream.Side.TheVariants.{Client, Server}
 use Rattle.h3_connection.specs.Endpoint.{new_endpoint}
@@ -26,11 +26,6 @@ MakesEnd side (Err e) s = ⊥
 abbrev pub IsNewError : NewError → Result Announced NewError → Type 0
 IsNewError e (Ok announced) = e ≡ NoMemory
 IsNewError e (Err refused) = e ≡ refused
-
--- the refusal, or want of memory in its place
-abbrev pub IsRefusal : Option Refusal → Refusal → Type 0
-IsRefusal rule refusal.OutOfMemory = Unit {0}
-IsRefusal rule e = rule ≡ Some e
 
 abbrev pub after_goaway : Option ℕ → Option Refusal → Option Refusal
 after_goaway (Some id) later = Some (refusal.GoingAway id)
@@ -80,9 +75,3 @@ pub record IsSame (old new : EndpointState) : Type 0 where
   pub rest : SameRest old new
   pub next_id : new.next_id ≡ old.next_id
   pub requests : AllSame old.requests new.requests
-
--- the next request stream is there
-pub record OpensNext (old new : EndpointState) : Type 0 where
-  pub rest : SameRest old new
-  pub next_id : new.next_id ≡ old.next_id + 4
-  pub requests : Sets old.requests new.requests old.next_id fresh_request

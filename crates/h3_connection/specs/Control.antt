@@ -35,8 +35,8 @@ read_decoder e bytes =
     else (record e { decoder_unread = e.decoder_unread ++ bytes }, None)
 
 -- the table may be used with these limits, where it has at most so much (RFC 9204, section 3.2.3)
-abbrev pub is_usable : ℕ → ℕ → ℕ → Bool
-is_usable most capacity blocked = nat_lt 0 (min most capacity) && nat_lt capacity (2 ^ 30) && nat_lt blocked (2 ^ 16)
+abbrev pub is_table_usable : ℕ → ℕ → ℕ → Bool
+is_table_usable most capacity blocked = nat_lt 0 (min most capacity) && nat_lt capacity (2 ^ 30) && nat_lt blocked (2 ^ 16)
 
 -- it is used, and its capacity written
 abbrev pub with_table : EndpointHistory → ℕ → ℕ → EndpointHistory
@@ -51,7 +51,7 @@ abbrev pub learned : EndpointHistory → List (ℕ × ℕ) → EndpointHistory
 learned e pairs =
     let capacity = unwrap_or (value_of 1 pairs) 0 in
     let blocked = unwrap_or (value_of 7 pairs) 0 in
-    if is_usable e.encoder.most_capacity capacity blocked then with_table e capacity blocked else e
+    if is_table_usable e.encoder.most_capacity capacity blocked then with_table e capacity blocked else e
 
 -- what settings that came now do. What the peer's decoder said before is read once they came
 abbrev pub if_learned : Option (List (ℕ × ℕ)) → Option (List (ℕ × ℕ)) → EndpointHistory → EndpointHistory

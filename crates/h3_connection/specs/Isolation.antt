@@ -173,9 +173,6 @@ sight_after side own id s (c ∷ cs) = sight_after side own id (seen side own id
 abbrev pub first_sight : Side → Announced → Sight
 first_sight side own = record { incoming = None; decoding = (new_endpoint side own).decoding; fronts = λ q. front_of untold }
 
-abbrev pub ArePeers : Side → (ℕ → Bool) → Type 0
-ArePeers side encoders = (q : ℕ) → encoders q ≡ true → kind_of side q ≡ PeerUnidirectional
-
 -- the bytes that the calls bring on a stream
 abbrev pub brought_by : ℕ → Call → List ℕ
 brought_by q (Deliver p bytes) = if q == p then bytes else []

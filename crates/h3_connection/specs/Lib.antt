@@ -33,6 +33,7 @@ pub mod DeliveryCuts
 pub mod PullCuts
 pub mod JoinedPulls
 pub mod Sections
+pub mod Refusals
 pub mod Sending
 pub mod State
 pub mod Keeping

@@ -51,11 +51,6 @@ read_max_push Client p id = (p, Some frame_unexpected)
 read_max_push Server p id =
     if is_below id p.most_pushes then (p, Some id_error) else (record p { most_pushes = Some id }, None)
 
--- the settings that a frame carries
-abbrev pub settings_in : Frame PayloadLen → Option (List (ℕ × ℕ))
-settings_in (frame.Settings pairs) = Some pairs
-settings_in _ = None
-
 -- a frame: the first has to be the settings, and no later one may
 abbrev pub read_frame : Side → Peer → Option (List (ℕ × ℕ)) → Frame PayloadLen → PeerFound
 read_frame side p None (frame.Settings pairs) = (record p { settings = Some pairs }, None)

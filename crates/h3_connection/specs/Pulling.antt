@@ -10,13 +10,14 @@ use Rattle.h3_qpack.specs.Sizes.{last_value}
 use Rattle.h3_header.specs.Head.{Head, is_request, is_response, has_pseudo}
 use Rattle.h3_proto.specs.declared.stream.Side.{Side}
 use Rattle.h3_proto.specs.declared.stream.Side.TheVariants.{Client, Server}
+use Rattle.h3_wire.specs.ExcessiveFrames.{is_excessive}
 use Rattle.h3_wire.specs.Frames.{Front, Whole, Unknown, Refused, Unfinished, frame_at}
 use Rattle.h3_wire.specs.Pieces.{first_of, chunk_of, ending}
 use Rattle.h3_wire.specs.declared.proto.frame.PayloadLen.{PayloadLen}
 use Rattle.h3_wire.specs.declared.proto.frame.Frame.{Frame}
 use Rattle.h3_wire.specs.declared.proto.frame.Frame.TheVariants as frame
 use Rattle.h3_connection.specs.Announcing.{section_of}
-use Rattle.h3_connection.specs.Codes.{frame_unexpected, frame_error, id_error, decompression_failed, refusal_code}
+use Rattle.h3_connection.specs.Codes.{frame_unexpected, frame_error, excessive_load, id_error, decompression_failed, refusal_code}
 use Rattle.h3_qpack.specs.DecodedSection.{DecodedSection, Fields, Missing, BadSection, decode_section}
 use Rattle.h3_header.specs.HeadRead.{HeadRead, HeadRefusal, IsHead, IsNone, Name, Value, TooMany, head_of}
 use Rattle.h3_connection.specs.Incoming.{Incoming, given_up, is_body}
@@ -148,6 +149,10 @@ past_large side own i fields =
 abbrev pub left_with : Incoming → List ℕ → Incoming
 left_with i bytes = record i { unread = ending (length bytes) i.unread }
 
+-- A frame is longer than what the endpoint takes, which is a fault of the connection (RFC 9114, sections 8.1 and 10.5). What came is let go
+abbrev pub excess : Incoming → Pulled
+excess i = connection_fault excessive_load (record i { unread = [] })
+
 -- what of a payload is handed out: the first piece, as far as the payload goes
 abbrev pub body_of : Incoming → Option (List ℕ) × List (List ℕ) → Pulled
 body_of i (None, pieces) = just pull.Pending i
@@ -227,7 +232,7 @@ module _ (side : Side) (own : Announced) (id : ℕ) (r : DecoderState) where
   abbrev pub between_frames : Incoming → Pulled
   between_frames i =
       let bytes = skipped (is_body i.place) (concat i.unread) in
-      next_frame (left_with i bytes) bytes
+      if is_excessive own.choices.unfinished_limit bytes then excess i else next_frame (left_with i bytes) bytes
 
   abbrev pub in_message : Incoming → Option (List ℕ) → Pulled
   in_message i (Some bytes) = at_section i bytes

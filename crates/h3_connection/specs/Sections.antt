@@ -7,11 +7,11 @@ use Rattle.h3_qpack.specs.EncoderHistory.{EncoderHistory, writing_on}
 use Rattle.h3_qpack.specs.SectionEncoding as section
 use Rattle.h3_connection.specs.Endpoint.{EndpointHistory}
 
-abbrev pub encoded_section : EncoderHistory → ℕ → List Field → List ℕ
-encoded_section s stream fields = section.encoded_section (writing_on s stream) fields
+abbrev pub written_section : EncoderHistory → ℕ → List Field → List ℕ
+written_section s stream fields = section.encoded_section (writing_on s stream) fields
 
-abbrev pub instructions_for : EncoderHistory → ℕ → List Field → List EncoderInstruction
-instructions_for s stream fields = section.instructions_for (writing_on s stream) fields
+abbrev pub own_instructions : EncoderHistory → ℕ → List Field → List EncoderInstruction
+own_instructions s stream fields = section.instructions_for (writing_on s stream) fields
 
 -- the encoder after the insertions for some fields, whose section was not written
 abbrev pub having_inserted : EncoderHistory → ℕ → List Field → EncoderHistory
@@ -22,5 +22,5 @@ abbrev pub with_insertions : EndpointHistory → ℕ → List Field → Endpoint
 with_insertions e id fields =
     record e {
       encoder = having_inserted e.encoder id fields;
-      own = record e.own { instructions = e.own.instructions ++ instructions_for e.encoder id fields };
+      own = record e.own { instructions = e.own.instructions ++ own_instructions e.encoder id fields };
     }

@@ -1,16 +1,15 @@
 -- Calls of a sender, and the pulls and cancellations of a receiver, with their refusals in order.
-use Rattle.std.specs.Prelude.{ℕ, ◌+◌, ◌%◌, ◌^◌, ◌-◌, Bool, true, false, not, ◌&&◌, ◌||◌, List, [], ◌∷◌, ◌++◌, length, if◌then◌else◌, ◌==◌, nat_lt, nat_le, Option, Some, None, is_some, unwrap_or}
-use Rattle.h3_field.specs.Field.{Field, section_size}
+use Rattle.std.specs.Prelude.{ℕ, ◌+◌, ◌-◌, Bool, true, false, not, ◌&&◌, ◌||◌, List, [], ◌∷◌, ◌++◌, length, if◌then◌else◌, ◌==◌, nat_lt, Option, Some, None, is_some, unwrap_or}
+use Rattle.h3_field.specs.Field.{Field}
 use Rattle.h3_qpack.specs.SectionEncoding.{sent_section}
-use Rattle.h3_connection.specs.Sections.{encoded_section, instructions_for}
-use Rattle.h3_proto.specs.Settings.{value_of}
-use Rattle.h3_connection.specs.Pulling.{is_client, is_for, is_interim}
+use Rattle.h3_connection.specs.Refusals.{Sender, refusal_of_head, refusal_of_body, refusal_of_trailer, refusal_of_end, refusal_to_stop, refusal_to_open, refusal_of_goaway}
+use Rattle.h3_connection.specs.Sections.{written_section, own_instructions}
+use Rattle.h3_connection.specs.Pulling.{is_client, is_interim}
 use Rattle.h3_connection.specs.Lasts.{last_id}
-use Rattle.h3_header.specs.Head.{Head, head_fields, has_pseudo}
+use Rattle.h3_header.specs.Head.{Head, head_fields}
 use Rattle.h3_connection.specs.OwnIds.{control_id, encoder_id, decoder_id, other}
 use Rattle.h3_proto.specs.declared.stream.Side.{Side}
 use Rattle.h3_proto.specs.declared.stream.Side.TheVariants.{Client, Server}
-use Rattle.h3_connection.specs.declared.event.Malformation.TheVariants as malformation
 use Rattle.h3_connection.specs.declared.event.Refusal.{Refusal}
 use Rattle.h3_connection.specs.declared.event.Refusal.TheVariants as refusal
 use Rattle.h3_connection.specs.declared.event.Pull.{Pull}
@@ -20,7 +19,7 @@ use Rattle.h3_connection.specs.declared.event.Fault.TheVariants as fault
 use Rattle.h3_connection.specs.declared.event.StreamFault.TheVariants as stream_fault
 use Rattle.h3_connection.specs.Codes.{decompression_failed}
 use Rattle.h3_connection.specs.StreamSets.{Streams, stream_at, set_stream}
-use Rattle.h3_connection.specs.StrictSending.{broken_head, broken_trailer, early_trailer, passes_content, unless_malformed}
+use Rattle.h3_connection.specs.StrictSending.{broken_head, broken_trailer, early_trailer, passes_content}
 use Rattle.h3_connection.specs.Incoming.{Incoming, awaiting}
 use Rattle.h3_messages.specs.Content.{awaited_by, content_behind_response, content_of_request, may_end}
 use Rattle.h3_messages.specs.declared.content.Content.{Content}
@@ -28,16 +27,11 @@ use Rattle.h3_messages.specs.declared.content.Content.TheVariants.{Unsaid}
 use Rattle.h3_connection.specs.declared.setup.Announced.{Announced}
 use Rattle.h3_connection.specs.Pulling.{Pulled, pull_stream}
 use Rattle.h3_connection.specs.Unidirectional.{Unidirectional, pull_unidirectional}
-use Rattle.h3_connection.specs.Outgoing.{Outgoing, OwnPart, nothing_sent, takes_head, takes_body, takes_end, is_sent_off, with_body, with_finish, with_reset, with_said}
+use Rattle.h3_connection.specs.Outgoing.{Outgoing, OwnPart, nothing_sent, is_sent_off, with_body, with_finish, with_reset, with_said}
 use Rattle.h3_connection.specs.Outgoing.OwnPart.{OwnInterim, OwnHead, OwnTrailer}
 use Rattle.h3_connection.specs.Endpoint.{EndpointHistory, Kind, Own, replied, kind_of, is_critical_id, heads_waiting}
 use Rattle.h3_connection.specs.Endpoint.Kind.{Request, PeerUnidirectional}
 use Rattle.h3_connection.specs.Delivering.{with_incoming, with_unidirectional, give_up, incoming_at, opened_at}
-
--- the first refusal whose test holds
-abbrev pub first_of : List (Bool × Refusal) → Option Refusal
-first_of [] = None
-first_of (rule ∷ rules) = if rule.0 then Some rule.1 else first_of rules
 
 -- a refusal with nothing changed, or the endpoint after success
 abbrev pub does : Option Refusal → EndpointHistory → EndpointHistory → Option Refusal × EndpointHistory
@@ -52,14 +46,8 @@ closed_or None refused = refused
 abbrev pub unless_closed : EndpointHistory → Option Refusal → Option Refusal
 unless_closed e refused = closed_or e.closed refused
 
-abbrev pub going_away : Option ℕ → Option Refusal → Option Refusal
-going_away None later = later
-going_away (Some id) later = Some (refusal.GoingAway id)
-
 abbrev pub open_refusal : EndpointHistory → Option Refusal
-open_refusal e = unless_closed e (
-    if not (is_client e.side) then Some refusal.NotClient else
-    going_away (last_id e.peer.goaways) (if nat_le (2 ^ 62) e.next_id then Some refusal.IdsUsedUp else None))
+open_refusal e = unless_closed e (refusal_to_open e.side (last_id e.peer.goaways) e.next_id)
 
 abbrev pub open_request : EndpointHistory → Option Refusal × EndpointHistory
 open_request e = does (open_refusal e) e (record (opened_at e e.next_id None) { next_id = e.next_id + 4 })
@@ -70,39 +58,24 @@ outgoing_at e id = unwrap_or (stream_at e.outgoing id) nothing_sent
 abbrev pub is_open : EndpointHistory → ℕ → Bool
 is_open e id = is_some (stream_at e.outgoing id)
 
--- the peer's section size, unknown until its settings come
-abbrev pub is_too_large : Option (List (ℕ × ℕ)) → List Field → Bool
-is_too_large None fields = false
-is_too_large (Some pairs) fields = nat_lt (unwrap_or (value_of 6 pairs) (2 ^ 62 - 1)) (section_size fields)
+-- the sender on a stream
+abbrev pub sender_at : EndpointHistory → ℕ → Sender
+sender_at e id = record { side = e.side; is_open = is_open e id; outgoing = outgoing_at e id; settings = e.peer.settings }
 
 abbrev pub head_refusal : EndpointHistory → ℕ → Head → Option Refusal
-head_refusal e id head = unless_closed e (first_of (
-    (not (is_open e id), refusal.NotOpen) ∷
-    (not (takes_head (outgoing_at e id)), refusal.OutOfOrder) ∷
-    (not (is_for (other e.side) head), refusal.WrongSide) ∷
-    unless_malformed (broken_head e.side e.announced e.peer.settings (head_fields head)) (
-    (is_too_large e.peer.settings (head_fields head), refusal.TooLarge (section_size (head_fields head))) ∷ [])))
+head_refusal e id head =
+    unless_closed e (refusal_of_head (sender_at e id) (broken_head e.side e.announced e.peer.settings (head_fields head)) head)
 
 -- a body of so many bytes
 abbrev pub body_refusal : EndpointHistory → ℕ → ℕ → Option Refusal
-body_refusal e id size = unless_closed e (first_of (
-    (not (is_open e id), refusal.NotOpen) ∷
-    (not (takes_body (outgoing_at e id)), refusal.OutOfOrder) ∷
-    (passes_content (outgoing_at e id).content size, refusal.Malformed malformation.ContentLength) ∷ []))
+body_refusal e id size = unless_closed e (refusal_of_body (sender_at e id) (passes_content (outgoing_at e id).content size))
 
 abbrev pub trailer_refusal : EndpointHistory → ℕ → Head → Option Refusal
-trailer_refusal e id head = unless_closed e (first_of (
-    (not (is_open e id), refusal.NotOpen) ∷
-    (not (takes_body (outgoing_at e id)), refusal.OutOfOrder) ∷
-    (has_pseudo head, refusal.PseudoInTrailer) ∷
-    unless_malformed (early_trailer (outgoing_at e id).content) (unless_malformed (broken_trailer e.announced (head_fields head)) (
-    (is_too_large e.peer.settings (head_fields head), refusal.TooLarge (section_size (head_fields head))) ∷ []))))
+trailer_refusal e id head =
+    unless_closed e (refusal_of_trailer (sender_at e id) (early_trailer (outgoing_at e id).content) (broken_trailer e.announced (head_fields head)) head)
 
 abbrev pub finish_refusal : EndpointHistory → ℕ → Option Refusal
-finish_refusal e id = unless_closed e (first_of (
-    (not (is_open e id), refusal.NotOpen) ∷
-    (not (takes_end (outgoing_at e id)), refusal.OutOfOrder) ∷
-    (not (may_end (outgoing_at e id).content), refusal.Malformed malformation.ContentLength) ∷ []))
+finish_refusal e id = unless_closed e (refusal_of_end (sender_at e id) (not (may_end (outgoing_at e id).content)))
 
 abbrev pub with_outgoing : EndpointHistory → ℕ → Outgoing → EndpointHistory
 with_outgoing e id o = record e { outgoing = set_stream e.outgoing id o }
@@ -124,7 +97,7 @@ abbrev pub encoded : EndpointHistory → ℕ → List Field → EndpointHistory
 encoded e id fields =
     record e {
       encoder = sent_section e.encoder id fields;
-      own = record e.own { instructions = e.own.instructions ++ instructions_for e.encoder id fields };
+      own = record e.own { instructions = e.own.instructions ++ own_instructions e.encoder id fields };
     }
 
 -- a head with a status from 100 to 199 is not the last one
@@ -167,7 +140,7 @@ asked e id fields =
 
 abbrev pub send_head : EndpointHistory → ℕ → Head → Option Refusal × EndpointHistory
 send_head e id head = does (head_refusal e id head) e (asked (
-    counted (appended (encoded e id (head_fields head)) id (head_part head (encoded_section e.encoder id (head_fields head)))) (fields_cost (head_fields head)))
+    counted (appended (encoded e id (head_fields head)) id (head_part head (written_section e.encoder id (head_fields head)))) (fields_cost (head_fields head)))
     id (head_fields head))
 
 abbrev pub sent_bytes : EndpointHistory → ℕ → List ℕ → EndpointHistory
@@ -179,27 +152,19 @@ send_body e id bytes = does (body_refusal e id (length bytes)) e (counted (sent_
 
 abbrev pub send_trailer : EndpointHistory → ℕ → Head → Option Refusal × EndpointHistory
 send_trailer e id head = does (trailer_refusal e id head) e (
-    counted (appended (encoded e id (head_fields head)) id (OwnTrailer (encoded_section e.encoder id (head_fields head)))) (fields_cost (head_fields head)))
+    counted (appended (encoded e id (head_fields head)) id (OwnTrailer (written_section e.encoder id (head_fields head)))) (fields_cost (head_fields head)))
 
 abbrev pub finish : EndpointHistory → ℕ → Option Refusal × EndpointHistory
 finish e id = does (finish_refusal e id) e (with_outgoing e id (with_finish (outgoing_at e id)))
 
 abbrev pub reset_refusal : EndpointHistory → ℕ → Option Refusal
-reset_refusal e id = unless_closed e (first_of (
-    (is_critical_id e id, refusal.Critical) ∷
-    (not (is_open e id), refusal.NotOpen) ∷
-    (is_sent_off (outgoing_at e id), refusal.Ended) ∷ []))
+reset_refusal e id = unless_closed e (refusal_to_stop (is_critical_id e id) (is_open e id) (is_sent_off (outgoing_at e id)))
 
 abbrev pub reset : EndpointHistory → ℕ → Option Refusal × EndpointHistory
 reset e id = does (reset_refusal e id) e (with_outgoing e id (with_reset (outgoing_at e id)))
 
-abbrev pub raised : ℕ → Option ℕ → Option Refusal
-raised id None = None
-raised id (Some earlier) = if nat_lt earlier id then Some (refusal.Raised earlier) else None
-
 abbrev pub goaway_refusal : EndpointHistory → ℕ → Option Refusal
-goaway_refusal e id = unless_closed e (
-    if not (is_client e.side) && not (id % 4 == 0) then Some refusal.NotRequestId else raised id (last_id e.own.goaways))
+goaway_refusal e id = unless_closed e (refusal_of_goaway e.side id (last_id e.own.goaways))
 
 abbrev pub goaway : EndpointHistory → ℕ → Option Refusal × EndpointHistory
 goaway e id = does (goaway_refusal e id) e (record e { own = record e.own { goaways = e.own.goaways ++ id ∷ [] } })
@@ -219,10 +184,8 @@ abbrev pub advance : EndpointHistory → ℕ → ℕ → EndpointHistory
 advance e id count = advance_at e id count (stream_at e.outgoing id)
 
 abbrev pub cancel_refusal : EndpointHistory → ℕ → Option Refusal
-cancel_refusal e id = unless_closed e (first_of (
-    (is_critical_id e id, refusal.Critical) ∷
-    (not (is_some (stream_at e.incoming id)), refusal.NotOpen) ∷
-    ((incoming_at e id).is_over || is_some (incoming_at e id).fault, refusal.Ended) ∷ []))
+cancel_refusal e id = unless_closed e (
+    refusal_to_stop (is_critical_id e id) (is_some (stream_at e.incoming id)) ((incoming_at e id).is_over || is_some (incoming_at e id).fault))
 
 abbrev pub cancel : EndpointHistory → ℕ → Option Refusal × EndpointHistory
 cancel e id = does (cancel_refusal e id) e (give_up e id (incoming_at e id) stream_fault.Canceled)

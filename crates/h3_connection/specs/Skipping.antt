@@ -1,5 +1,5 @@
 -- Frames that give nothing are skipped: those of unknown types, and in a body those of DATA without a payload.
-use Rattle.std.specs.Prelude.{ℕ, zero, suc, Bool, false, ◌&&◌, List, length, if◌then◌else◌, ◌==◌}
+use Rattle.std.specs.Prelude.{ℕ, zero, suc, Bool, false, ◌&&◌, List, length, if◌then◌else◌, ◌==◌, ◌≡◌}
 use Rattle.h3_wire.specs.Frames.{Front, Whole, Unknown, Refused, Unfinished, frame_at}
 use Rattle.h3_wire.specs.Known.{known}
 use Rattle.h3_wire.specs.declared.proto.frame.PayloadLen.{PayloadLen}
@@ -23,3 +23,7 @@ skipped_within in_body (suc most) bytes = skip_front (skipped_within in_body mos
 -- the bytes without the whole frames at their front that give nothing
 unfoldable pub skipped : Bool → List ℕ → List ℕ
 skipped in_body bytes = skipped_within in_body (length bytes) bytes
+
+-- What stands behind the frames that give nothing gives something.
+abbrev pub IsNotEmpty : Bool → Frame PayloadLen → Type 0
+IsNotEmpty in_body f = (in_body && is_empty_data f) ≡ false

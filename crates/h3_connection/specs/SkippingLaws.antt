@@ -2,12 +2,13 @@
 use Rattle.std.proofs.Common.{◌≡◌, ℕ, zero, suc, ◌<◌, ◌≤◌, Bool, true, false, ◌&&◌, if◌then◌else◌, List, [], length, refl, ap, sym, ◌∙◌, subst, arith}
 use Rattle.std.proofs.lemmas.List.{nil_from_length}
 use Rattle.h3_wire.specs.Frames.{Front, Whole, Unknown, Refused, Unfinished, frame_at}
-use Rattle.h3_wire.specs.FrameLaws.{IsShorter, frame_at-nil, frame_at-shorter}
+use Rattle.h3_wire.specs.FrameLaws.{frame_at-nil, frame_at-shorter}
+use Rattle.h3_wire.specs.Fronts.{IsShorter, IsKnown}
 use Rattle.h3_wire.specs.Known.{known}
-use Rattle.h3_wire.specs.KnownLaws.{IsKnown, known-other, known-length}
+use Rattle.h3_wire.specs.KnownLaws.{known-other, known-length}
 use Rattle.h3_wire.specs.declared.proto.frame.PayloadLen.{PayloadLen}
 use Rattle.h3_wire.specs.declared.proto.frame.Frame.{Frame}
-use Rattle.h3_connection.specs.Skipping.{is_empty_data, skip_front, skipped_within, skipped}
+use Rattle.h3_connection.specs.Skipping.{is_empty_data, skip_front, skipped_within, skipped, IsNotEmpty}
 
 -- what follows a known frame is shorter
 pub rest_shorter : (bytes rest : List ℕ) (f : Frame PayloadLen) → frame_at (known bytes) ≡ Whole f rest → length rest < length bytes
@@ -49,10 +50,6 @@ skipped_step in_body bytes =
     ∙ front_same (skipped_within in_body (length bytes)) (λ rest. skipped_within in_body (length rest) rest) in_body (known bytes) (frame_at (known bytes))
     (λ f rest e. let less = rest_shorter bytes rest f e in within_same (length bytes) (length rest) in_body rest (omega (arith, less)) (omega arith))
 
--- only what `known` leaves counts
-pub skipped_known : (in_body : Bool) (bytes other : List ℕ) → known bytes ≡ known other → skipped in_body bytes ≡ skipped in_body other
-skipped_known in_body bytes other e = skipped_step in_body bytes ∙ ap (λ l. skip_front (skipped in_body) in_body l (frame_at l)) e ∙ sym (skipped_step in_body other)
-
 if_short : (size : ℕ) (b : Bool) (x z : List ℕ) → length x ≤ size → length z ≤ size → length (if b then x else z) ≤ size
 if_short size true x z h k = h
 if_short size false x z h k = k
@@ -71,10 +68,6 @@ skipped_short (suc most) in_body bytes = front_short (skipped_within in_body mos
 pub skipped-length : (in_body : Bool) (bytes : List ℕ) → length (skipped in_body bytes) ≤ length bytes
 unfolding skipped
 skipped-length in_body bytes = skipped_short (length bytes) in_body bytes
-
--- What stands behind the frames that give nothing gives something.
-abbrev IsNotEmpty : Bool → Frame PayloadLen → Type 0
-IsNotEmpty in_body f = (in_body && is_empty_data f) ≡ false
 
 step_by : (in_body : Bool) (bytes : List ℕ) (x : Front) → frame_at (known bytes) ≡ x → skipped in_body bytes ≡ skip_front (skipped in_body) in_body (known bytes) x
 step_by in_body bytes x e = skipped_step in_body bytes ∙ ap (λ y. skip_front (skipped in_body) in_body (known bytes) y) e

@@ -14,7 +14,7 @@ use Rattle.h3_connection.specs.Incoming.{Incoming}
 use Rattle.h3_connection.specs.Lasts.{last_id}
 use Rattle.h3_connection.specs.Listeners.{Decoding, Encoding}
 use Rattle.h3_connection.specs.Unidirectional.{Unidirectional, untold, is_critical}
-use Rattle.h3_connection.specs.Outgoing.{Outgoing, OwnPart, is_unsent, last_is_trailer, part_bytes}
+use Rattle.h3_connection.specs.Outgoing.{Outgoing, OwnPart, is_unsent, last_is_trailer, written_part}
 use Rattle.h3_connection.specs.WaitingPieces.{pieces_waiting}
 use Rattle.h3_wire.specs.Outgoing.{Outgoing as Piece}
 use Rattle.h3_connection.specs.OwnIds.{control_id, encoder_id, decoder_id}
@@ -81,7 +81,7 @@ pub record IsOfOutgoing (o : Outgoing) (w : OutgoingState) : Type 0 where
   pub is_finished : w.is_finished ≡ o.is_finished
   pub is_reset : w.is_reset ≡ o.is_reset
   pub end_taken : w.end_taken ≡ o.end_taken
-  pub taken : o.is_reset ≡ false → o.taken ≤ length (flat_map part_bytes o.parts)
+  pub taken : o.is_reset ≡ false → o.taken ≤ length (flat_map written_part o.parts)
 
 -- a stream of a map, as `BTreeMap` finds it
 abbrev pub kept_at : {X : Type 0} → Streams X → ℕ → Option X

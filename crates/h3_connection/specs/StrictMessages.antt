@@ -1,10 +1,9 @@
 -- Which rule of well-formed messages a field list breaks at an endpoint that asks for them (RFC 9114, sections 4.1.2 and 4.2 to 4.5), and how much
 -- content follows it. One that does not asks for none, and for any content.
-use Rattle.std.specs.Prelude.{ℕ, Bool, List, [], if◌then◌else◌, option_map, unwrap_or, Option, Some, None}
+use Rattle.std.specs.Prelude.{ℕ, List, [], if◌then◌else◌, option_map, unwrap_or, Option, Some, None}
 use Rattle.h3_field.specs.Field.{Field}
 use Rattle.h3_messages.specs.Content.{awaited_by, content_of_request, content_behind_response, content_behind_status, may_end}
 use Rattle.h3_messages.specs.declared.content.Content.{Content}
-use Rattle.h3_messages.specs.declared.content.Content.TheVariants.{Unsaid}
 use Rattle.h3_messages.specs.Messages.{violation_of_request, violation_of_response, violation_of_trailer}
 use Rattle.h3_messages.specs.declared.violation.Violation.{Violation}
 use Rattle.h3_messages.specs.declared.violation.Violation.TheVariants as violation

@@ -10,7 +10,8 @@ use Rattle.h3_proto.specs.declared.stream.Side.{Side}
 use Rattle.h3_proto.specs.declared.stream.Side.TheVariants.{Client, Server}
 use Rattle.h3_connection.specs.Announcing.{connects}
 use Rattle.h3_connection.specs.OwnIds.{other}
-use Rattle.h3_connection.specs.Sending.{closed_or, does, first_of}
+use Rattle.h3_connection.specs.Refusals.{first_of}
+use Rattle.h3_connection.specs.Sending.{closed_or, does}
 use Rattle.h3_connection.specs.Endpoint.{EndpointHistory}
 use Rattle.h3_connection.specs.StrictMessages.{broken_rule, malformation_by}
 use Rattle.h3_connection.specs.StrictSending.{broken_head, broken_trailer, peer_connects, unless_malformed}

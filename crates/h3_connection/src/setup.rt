@@ -1,10 +1,10 @@
 //! What an endpoint announces.
-ghost use Rattle.std.specs.Prelude.{◌≡◌, ◌<◌, ◌≤◌, ◌^◌, IfOk, IfErr};
+ghost use Rattle.std.specs.Prelude.{◌≡◌, ◌<◌};
 ghost use Rattle.h3_proto.specs.Config.{announced};
 ghost use Rattle.h3_connection.specs.Announcing.{announced_by, connects, section_of};
 
 use h3_coding::varint::VarInt;
-use h3_proto::config::{Choices, Config};
+use h3_proto::config::{Choices, Config, MAX_BLOCKED_STREAMS, MAX_TABLE_CAPACITY};
 use h3_proto::frame::{SettingId, Settings, SettingsError};
 
 /// The limits of an endpoint's decoder: the capacity of its table in bytes, and how many streams may wait.
@@ -47,10 +47,10 @@ impl Announced {
         requires { grease < 0x210842108421083 }
         ensures { result ≡ announced_by (announced config grease) limits config.choices }
     {
-        if limits.table >= 1 << 30 {
+        if limits.table > MAX_TABLE_CAPACITY {
             return Err(NewError::TableLimit);
         }
-        if limits.blocked > 65535 {
+        if limits.blocked > MAX_BLOCKED_STREAMS {
             return Err(NewError::BlockedLimit);
         }
         let choices = config.choices();

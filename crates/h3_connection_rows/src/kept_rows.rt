@@ -1,12 +1,12 @@
 //! Worked rows of what is kept when memory was refused, and of what was handed over to send.
 
-ghost use Rattle.std.specs.Prelude.{◌≡◌, [], Some, None, length, codes, true};
+ghost use Rattle.std.specs.Prelude.{◌≡◌, [], Some, length, codes, true};
 ghost use Rattle.h3_connection.specs.declared.event.Pull.TheVariants as pulled;
 ghost use Rattle.h3_connection.specs.declared.event.Fault.TheVariants as fault;
 ghost use Rattle.h3_connection.specs.declared.event.StreamFault.TheVariants as stream_fault;
 ghost use Rattle.h3_connection.specs.declared.event.Malformation.TheVariants as malformation;
 ghost use Rattle.h3_connection.specs.declared.event.Refusal.TheVariants as refusal;
-ghost use Rattle.h3_connection.specs.declared.arrival.Arrival.TheVariants.{BytesCame, EndCame, ResetCame};
+ghost use Rattle.h3_connection.specs.declared.arrival.Arrival.TheVariants.{BytesCame, EndCame};
 ghost use Rattle.h3_connection.specs.Endpoint.{own_waiting};
 ghost use Rattle.h3_connection.specs.Keeping.{arrives, pulls, read_arrival};
 ghost use Rattle.h3_connection.specs.PartReading.{held};

@@ -17,7 +17,7 @@ pub fn unread_rows_compute()
     ensures waiting_head { held_after (Deliver 0 a_waiting_head ∷ PullStream 0 ∷ []) 0 ≡ 6 }
     ensures behind_a_waiting_head { held_after (Deliver 0 a_waiting_head ∷ PullStream 0 ∷ Deliver 0 front_of_a_body ∷ PullStream 0 ∷ []) 0 ≡ 10 }
     ensures other_stream { held_after (Deliver 0 a_waiting_head ∷ PullStream 0 ∷ []) 4 ≡ 0 }
-    ensures unknown_frame { held_after (Deliver 0 front_of_an_unknown_frame ∷ PullStream 0 ∷ []) 0 ≡ 6 }
+    ensures unknown_frame { held_after (Deliver 0 front_of_an_unknown_frame ∷ PullStream 0 ∷ []) 0 ≡ 0 }
     ensures canceled { held_after (Deliver 0 a_waiting_head ∷ PullStream 0 ∷ Cancel 0 ∷ []) 0 ≡ 0 }
     ensures was_reset { held_after (Deliver 0 a_head ∷ DeliverReset 0 268 ∷ []) 0 ≡ 0 }
     ensures behind_a_cancellation { held_after (Deliver 0 a_head ∷ Cancel 0 ∷ Deliver 0 a_head ∷ []) 0 ≡ 0 }

@@ -8,3 +8,8 @@ pub mod Standing
 pub mod SectionWriting
 pub mod SectionReadBack
 pub mod Decodings
+pub mod IntegersFound
+pub mod WaitsOn
+pub mod Ends
+pub mod NoLines
+pub mod NoValues

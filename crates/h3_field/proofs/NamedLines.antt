@@ -10,7 +10,8 @@ use Rattle.h3_field.specs.LineAnswer.{AnswersLine, LineTakesMemory, named_line}
 use Rattle.h3_field.specs.ShapeAnswer.{Place, AtInteger, AtString, error_at}
 use Rattle.h3_field.specs.Section.{line_field}
 use Rattle.h3_field.specs.SectionAnswer.{HasNoField, BeginsWithLiteral, IsReason, NamesStatic, NamesNoStatic, IsNameRefusal, IsNamedRefusal}
-use Rattle.h3_field.specs.SectionLaws.{whole_same, named_entry, refused_line}
+use Rattle.h3_field.specs.SectionLaws.{whole_same, named_entry}
+use Rattle.h3_field.proofs.NoLines.{refused_line}
 use Rattle.h3_field.specs.ShorterLaws.{named_less, literal_less}
 use Rattle.h3_field.specs.StaticTable.{NamesEntry}
 use Rattle.h3_field.specs.StaticTableLaws.{static_none}

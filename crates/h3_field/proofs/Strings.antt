@@ -13,7 +13,8 @@ use Rattle.h3_field.specs.ShapeAnswer.{TakeMemory, IsRefused}
 use Rattle.h3_field.specs.declared.prefix_string.Error.TheVariants.{HuffmanDecoding}
 use Rattle.h3_field.specs.declared.parse_error.ParseError.{ParseError}
 use Rattle.h3_field.specs.declared.parse_error.ParseError.TheVariants.{String, OutOfMemory}
-use Rattle.h3_field.specs.ValueLaws.{string_some, no_string}
+use Rattle.h3_field.specs.ValueLaws.{string_some}
+use Rattle.h3_field.proofs.NoValues.{no_string}
 
 -- a string that is not Huffman coded
 pub plain_stands : (p : Payload) (items : List ℕ) → p.is_huffman ≡ false → items ≡ p.bytes → AllByRecursion IsByte items → StandsFor p items

@@ -1,6 +1,6 @@
 -- Every reading leaves an end of the bytes.
 use Rattle.std.proofs.Common.{◌≡◌, ℕ, ◌+◌, ◌-◌, ◌*◌, ◌/◌, ◌%◌, ◌^◌, ◌<◌, ◌≤◌, nat_le, nat_lt, Bool, true, false, if◌then◌else◌, List, [], ◌∷◌, ◌++◌, length, take, drop, refl, ap, sym, ◌∙◌, append_assoc, length-append, arith}
-use Rattle.std.proofs.lemmas.List.{take-append-drop, length-drop}
+use Rattle.std.proofs.lemmas.List.{take-append-drop}
 use Rattle.h3_field.specs.Integer.{ones}
 use Rattle.h3_field.specs.Reading.{Reading, Whole, Unfinished, Bad, then_read}
 use Rattle.h3_field.specs.IntegerReading.{integer, integer_limit, groups_reading}
@@ -8,7 +8,6 @@ use Rattle.h3_field.specs.StringReading.{bytes_reading, string}
 use Rattle.h3_field.specs.Shapes.{index_and_string, two_strings}
 use Rattle.h3_field.specs.LineReading.{indexed, post_base, named, post_base_named, literal, line}
 use Rattle.h3_field.specs.InstructionReading.{name_reference, literal_name, capacity, repeat, instruction, acknowledgment, cancellation, increment, decoder_instruction}
-use Rattle.h3_field.specs.PrefixReading.{prefix}
 use Rattle.h3_field.specs.Ends.{EndsWith, LeavesEnd, LeavesEnds, IsEndOf}
 
 -- an end of an end
@@ -52,7 +51,7 @@ then_leaves least read next first each bytes = leaves_then least bytes (read byt
 pub ends_itself : (bytes : List ℕ) → EndsWith 0 bytes bytes
 ends_itself bytes = record { front = []; parts = refl; some = omega arith }
 
-whole_leaves : {A : Type 0} (value : A) → LeavesEnds 0 (λ rest. Whole value rest)
+pub whole_leaves : {A : Type 0} (value : A) → LeavesEnds 0 (λ rest. Whole value rest)
 unfolding LeavesEnds LeavesEnd
 whole_leaves value rest = ends_itself rest
 
@@ -98,9 +97,6 @@ index_and_string_leaves size = then_leaves 1 (integer size) _ (integer_leaves si
 
 pub two_strings_leave : (size : ℕ) → LeavesEnds 1 (two_strings size)
 two_strings_leave size = then_leaves 1 (string size) _ (string_leaves size) (λ name. then_leaves 0 (string 8) _ value_leaves (λ value. whole_leaves _))
-
-pub prefix_leaves : LeavesEnds 1 prefix
-prefix_leaves = then_leaves 1 (integer 8) _ (integer_leaves 8) (λ count. then_leaves 0 (integer 7) _ (leave_some 1 (integer 7) (integer_leaves 7)) (λ base. whole_leaves _))
 
 pub indexed_leaves : LeavesEnds 1 indexed
 indexed_leaves = then_leaves 1 (integer 6) _ (integer_leaves 6) (λ head. whole_leaves _)
@@ -188,27 +184,5 @@ end_dropped least bytes rest h =
 pub none_dropped : (bytes : List ℕ) → IsEndOf bytes bytes
 none_dropped bytes = end_dropped 0 bytes bytes (ends_itself bytes)
 
--- and so is nothing
-pub all_dropped : (bytes : List ℕ) → IsEndOf bytes []
-all_dropped bytes = end_dropped 0 bytes [] (record { front = bytes; parts = sym (append_nil bytes); some = omega arith })
-  where
-    append_nil : (xs : List ℕ) → xs ++ [] ≡ xs
-    append_nil [] = refl
-    append_nil (x ∷ xs) = ap (λ l. x ∷ l) (append_nil xs)
-
--- bytes without some of the first ones end so
-pub dropped_end : (bytes rest : List ℕ) → IsEndOf bytes rest → EndsWith 0 bytes rest
-dropped_end bytes rest e = record { front = take (length bytes - length rest) bytes; parts = sym (take-append-drop _ bytes) ∙ ap (λ l. take (length bytes - length rest) bytes ++ l) (sym e); some = omega arith }
-
--- an end of an end
-pub dropped_further : (bytes middle rest : List ℕ) → IsEndOf bytes middle → IsEndOf middle rest → IsEndOf bytes rest
-dropped_further bytes middle rest h k = end_dropped 0 bytes rest (further 0 bytes middle rest (dropped_end bytes middle h) (dropped_end middle rest k))
-
 pub shortens : {A : Type 0} (read : List ℕ → Reading A) (bytes rest : List ℕ) (value : A) → LeavesEnds 1 read → read bytes ≡ Whole value rest → length rest < length bytes
 shortens read bytes rest value h e = let less = end_shorter 1 bytes rest (end_of 1 read bytes rest value h e) in omega (arith, less)
-
--- bytes without that many of the first ones
-pub some_dropped : (bytes : List ℕ) (count : ℕ) → count ≤ length bytes → IsEndOf bytes (drop count bytes)
-some_dropped bytes count h =
-    let sizes : length bytes - length (drop count bytes) ≡ count = omega (arith, length-drop count bytes, h) in
-    sym (ap (λ n. drop n bytes) sizes)

@@ -1,23 +1,12 @@
 -- The steps of writing the groups of an integer.
-use Rattle.std.proofs.Common.{◌≡◌, ℕ, zero, suc, ◌+◌, ◌*◌, ◌/◌, ◌%◌, ◌^◌, ◌<◌, ◌≤◌, List, [], ◌∷◌, ◌++◌, length, take, refl, arith, append_assoc, ◌∙◌}
-use Rattle.std.proofs.lemmas.Bool.{lt-ltb, le-ltb}
-use Rattle.std.proofs.lemmas.List.{take_at}
+use Rattle.std.proofs.Common.{◌≡◌, ℕ, zero, suc, ◌+◌, ◌*◌, ◌/◌, ◌%◌, ◌^◌, ◌<◌, ◌≤◌, List, [], ◌∷◌, ◌++◌, refl, arith, append_assoc, ◌∙◌}
+use Rattle.std.proofs.lemmas.Bool.{le-ltb}
 use Rattle.std.proofs.lemmas.Grind.{pow_more}
 use Rattle.h3_field.specs.Integer.{groups}
-
-pub groups_last : (k n : ℕ) → n < 128 → groups (suc k) n ≡ n ∷ []
-groups_last k n h = rw (lt-ltb n 128 h) refl
+use Rattle.h3_field.specs.IntegerSteps.{Left}
 
 pub groups_next : (k n : ℕ) → 128 ≤ n → groups (suc k) n ≡ (128 + n % 128) ∷ groups k (n / 128)
 groups_next k n h = rw (le-ltb n 128 h) refl
-
--- What is still to be written of a number.
-pub record Left (start items : List ℕ) (first all rest : ℕ) : Type 0 where
-  pub front : List ℕ
-  pub kept : items ≡ start ++ front
-  pub most : ℕ
-  pub below : rest < 128 ^ suc most
-  pub same : items ++ groups (suc most) rest ≡ start ++ first ∷ groups 9 all
 
 left_step : (k : ℕ) (start front items new : List ℕ) (first all rest : ℕ) → items ≡ start ++ front → rest < 128 ^ suc k → items ++ groups (suc k) rest ≡ start ++ first ∷ groups 9 all → 128 ≤ rest → new ≡ items ++ (128 + rest % 128) ∷ [] → Left start new first all (rest / 128)
 left_step zero start front items new first all rest f b s large e = absurd (omega arith)
@@ -36,10 +25,3 @@ left_step (suc k) start front items new first all rest f b s large e =
 
 pub left_more : (start items new : List ℕ) (first all rest : ℕ) → Left start items first all rest → 128 ≤ rest → new ≡ items ++ (128 + rest % 128) ∷ [] → Left start new first all (rest / 128)
 left_more start items new first all rest l large e = left_step l.most start l.front items new first all rest l.kept l.below l.same large e
-
-pub left_last : (start items new : List ℕ) (first all rest : ℕ) → Left start items first all rest → rest < 128 → new ≡ items ++ rest ∷ [] → new ≡ start ++ first ∷ groups 9 all
-left_last start items new first all rest l small e = e ∙ rw (groups_last l.most rest small) at l.same
-
--- where nothing more could be appended
-pub left_refused : (start items new : List ℕ) (first all rest : ℕ) → Left start items first all rest → new ≡ items → take (length start) new ≡ start
-left_refused start items new first all rest l e = rw (e, l.kept) (take_at start l.front (length start) refl)

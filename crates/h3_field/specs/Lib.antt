@@ -3,6 +3,7 @@ pub mod Integer
 pub mod Reading
 pub mod ReadingLaws
 pub mod IntegerReading
+pub mod IntegerSteps
 pub mod IntegerLaws
 pub mod StringLiteral
 pub mod StringReading

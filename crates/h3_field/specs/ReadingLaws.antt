@@ -1,5 +1,5 @@
 -- What holds of every reading.
-use Rattle.std.proofs.Common.{Bool, true, false, if◌then◌else◌, ◌≡◌, ◌≢◌, ℕ, List, [], ◌∷◌, ◌++◌, refl, sym}
+use Rattle.std.proofs.Common.{Bool, true, false, if◌then◌else◌, ℕ, List, ◌++◌, refl}
 use Rattle.h3_field.specs.Reading.{Reading, Whole, Unfinished, Bad, then_read, Stays, IsStable}
 
 -- two stable readings, one behind the other
@@ -10,20 +10,6 @@ stays_then more Bad later next stable h = rw h refl
 
 pub then_stable : {A B : Type 0} (read : List ℕ → Reading A) (next : A → List ℕ → Reading B) → IsStable read → ((value : A) → IsStable (next value)) → IsStable (λ bytes. then_read (read bytes) next)
 then_stable read next first second bytes more = stays_then more (read bytes) (read (bytes ++ more)) next second (first bytes more)
-
-no_more : (more rest : List ℕ) → [] ≡ rest ++ more → more ≡ []
-no_more more [] e = sym e
-no_more more (x ∷ xs) e = absurd (cc)
-
-front_of : {A : Type 0} (r : Reading A) (value : A) (more : List ℕ) → Stays more r (Whole value []) → more ≢ [] → r ≡ Unfinished
-front_of (Whole other rest) value more h ne = absurd (ne (no_more more rest (cc)))
-front_of Unfinished value more h ne = refl
-front_of Bad value more h ne = absurd (cc)
-
--- a front of a whole encoding is unfinished
-pub front_unfinished : {A : Type 0} (read : List ℕ → Reading A) (value : A) (front more : List ℕ) → IsStable read → read (front ++ more) ≡ Whole value [] → more ≢ [] → read front ≡ Unfinished
-front_unfinished read value front more stable whole ne =
-    front_of (read front) value more (let s = stable front more in rw whole at s) ne
 
 pub stays_if : {A : Type 0} (more : List ℕ) (b : Bool) (x y x' y' : Reading A) → Stays more x x' → Stays more y y' → Stays more (if b then x else y) (if b then x' else y')
 stays_if more true x y x' y' p q = p

@@ -1,26 +1,16 @@
 -- The steps of reading a field section.
-use Rattle.std.proofs.Common.{◌≡◌, ℕ, ◌<◌, ◌≤◌, nat_le, true, List, [], ◌∷◌, length, Some, None, Ok, Err, refl, sym, ◌∙◌, arith}
+use Rattle.std.proofs.Common.{◌≡◌, ℕ, ◌<◌, nat_le, true, List, [], ◌∷◌, length, Some, Ok, refl, sym, ◌∙◌, arith}
 use Rattle.std.specs.List.{slice_get}
 use Rattle.std.proofs.lemmas.Bool.{and_parts, leb-true, lt-leb}
-use Rattle.h3_field.specs.Field.{Field}
 use Rattle.h3_field.specs.Reading.{Reading, Whole, Unfinished, Bad}
 use Rattle.h3_field.specs.Shapes.{begins}
 use Rattle.h3_field.specs.Line.{FieldLine}
-use Rattle.h3_field.specs.Line.FieldLine.{StaticField, StaticName}
 use Rattle.h3_field.specs.StaticTable.{static_table, NamesEntry}
-use Rattle.h3_field.specs.StaticTableLaws.{static_none}
-use Rattle.h3_field.specs.LineReading.{LineForm, SaysLine, HasString, line, indexed, named, literal, post_base, post_base_named}
-use Rattle.h3_field.specs.LineAnswer.{AnswersLine, LineTakesMemory}
-use Rattle.h3_field.specs.ShapeAnswer.{Place, AtInteger, AtString, error_at}
-use Rattle.h3_field.specs.declared.prefix_int.Error as integer
-use Rattle.h3_field.specs.Section.{HasLine, line_field, with_value}
-use Rattle.h3_field.specs.SectionAnswer.{HasField, HasNoField, IsReason}
+use Rattle.h3_field.specs.LineReading.{LineForm, SaysLine, line, indexed, named, literal, post_base, post_base_named}
+use Rattle.h3_field.specs.LineAnswer.{AnswersLine}
+use Rattle.h3_field.specs.ShapeAnswer.{Place}
+use Rattle.h3_field.specs.Section.{HasLine, with_value}
 use Rattle.h3_field.specs.ValueLaws.{one_line_said}
-use Rattle.h3_field.specs.Errors.{decoder_parse}
-use Rattle.h3_field.specs.declared.prefix_int.Error.TheVariants.{Overflow, UnexpectedEnd}
-use Rattle.h3_field.specs.declared.prefix_string.Error as string
-use Rattle.h3_field.specs.declared.parse_error.ParseError.{ParseError}
-use Rattle.h3_field.specs.declared.parse_error.ParseError.TheVariants.{Integer, String, InvalidPrefix, InvalidBase, OutOfMemory}
 
 pub whole_same : {A : Type 0} (v w : A) (r s : List ℕ) → Whole v r ≡ Whole w s → (v ≡ w) × (r ≡ s)
 whole_same v w r s e = (cc, cc)
@@ -71,62 +61,6 @@ pub has_line : {L : Type 0} (place : Place) (line_of : L → FieldLine) (r : Rea
 has_line place line_of (Whole form rest) old new l e h = record { form = form; whole = rw h.1 e; says = h.0 }
 has_line place line_of Unfinished old new l e h = absurd (cc)
 has_line place line_of Bad old new l e h = absurd (cc)
-
--- the field of a line that was read
-pub has_field : {L : Type 0} (place : Place) (line_of : L → FieldLine) (read : List ℕ → Reading LineForm) (old new : List ℕ) (l : L) (f : Field) → ((bytes rest : List ℕ) (form : LineForm) → read bytes ≡ Whole form rest → length rest < length bytes) → line old ≡ read old → AnswersLine line_of place (read old) old new (Ok l) → line_field (line_of l) ≡ Some f → HasField old f new
-has_field place line_of read old new l f shorter e h names =
-    let here = has_line place line_of (read old) old new l e h in
-    record { line = line_of l; here = here; names = names; less = shorter old new here.form (sym e ∙ here.whole) }
-
--- a line that was read and names no field
-pub no_field : {L : Type 0} (place : Place) (line_of : L → FieldLine) (r : Reading LineForm) (old new : List ℕ) (l : L) → line old ≡ r → AnswersLine line_of place r old new (Ok l) → line_field (line_of l) ≡ None → HasNoField old
-no_field place line_of r old new l e h none rest k f here names =
-    let one = line_one old new rest (line_of l) k (has_line place line_of r old new l e h) here in
-    let same : line_field (line_of l) ≡ Some f = rw (← one.0) at names in
-    absurd (cc)
-
--- a line that was refused
-not_read : (old : List ℕ) (r : Reading LineForm) → line old ≡ r → ((form : LineForm) (rest : List ℕ) → r ≡ Whole form rest → ⊥) → HasNoField old
-not_read old r e none rest k f here names = none here.form rest (sym e ∙ here.whole)
-
-not_said : (old rest : List ℕ) (form : LineForm) → line old ≡ Whole form rest → ((l : FieldLine) → SaysLine form l → ⊥) → HasNoField old
-not_said old rest form e none more k f here names =
-    let same = whole_same form here.form rest more (sym e ∙ here.whole) in
-    none k (rw (← same.0) at here.says)
-
--- what is not whole, or out of range, is no want of memory
-bad_at : (memory bad : Type 0) (place : Place) (e : integer.Error) → bad → IsReason memory bad (λ size. ⊥) (decoder_parse (error_at place e))
-bad_at memory bad AtInteger e h = h
-bad_at memory bad AtString UnexpectedEnd h = h
-bad_at memory bad AtString Overflow h = h
-
--- a line that was refused; what it says of want of memory is given
-pub refused_line : {L : Type 0} (memory : Type 0) (place : Place) (line_of : L → FieldLine) (r : Reading LineForm) (old new : List ℕ) (e : ParseError)
-    → (e ≡ OutOfMemory → (form : LineForm) (rest : List ℕ) → r ≡ Whole form rest → HasString form → LineTakesMemory form → memory)
-    → line old ≡ r → AnswersLine line_of place r old new (Err e) → IsReason memory (HasNoField old) (λ size. ⊥) (decoder_parse e)
-refused_line memory place line_of (Whole form rest) old new (String string.TheVariants.HuffmanDecoding) asks is h = not_said old rest form is h.1
-refused_line memory place line_of (Whole form rest) old new OutOfMemory asks is h = asks refl form rest refl h.0 h.1
-refused_line memory place line_of (Whole form rest) old new (String string.TheVariants.OutOfMemory) asks is h = absurd h.1
-refused_line memory place line_of (Whole form rest) old new (String string.TheVariants.UnexpectedEnd) asks is h = absurd h.1
-refused_line memory place line_of (Whole form rest) old new (String (string.TheVariants.Integer e)) asks is h = absurd h.1
-refused_line memory place line_of (Whole form rest) old new (String string.TheVariants.HuffmanEncoding) asks is h = absurd h.1
-refused_line memory place line_of (Whole form rest) old new (String string.TheVariants.BufSize) asks is h = absurd h.1
-refused_line memory place line_of (Whole form rest) old new (Integer e) asks is h = absurd h.1
-refused_line memory place line_of (Whole form rest) old new (InvalidPrefix first) asks is h = absurd h.1
-refused_line memory place line_of (Whole form rest) old new InvalidBase asks is h = absurd h.1
-refused_line memory place line_of Unfinished old new e asks is h =
-    let same : e ≡ error_at place UnexpectedEnd = cc in
-    rw same (bad_at memory (HasNoField old) place UnexpectedEnd (not_read old Unfinished is (λ form rest x. absurd (cc))))
-refused_line memory place line_of Bad old new e asks is h =
-    let same : e ≡ error_at place Overflow = cc in
-    rw same (bad_at memory (HasNoField old) place Overflow (not_read old Bad is (λ form rest x. absurd (cc))))
-
--- a line that names a static entry that there is not
-pub no_static : {L : Type 0} (place : Place) (line_of : L → FieldLine) (r : Reading LineForm) (old new : List ℕ) (l : L) → line old ≡ r → AnswersLine line_of place r old new (Ok l) → (index : ℕ) → 99 ≤ index → line_of l ≡ StaticField index → HasNoField old
-no_static place line_of r old new l e h index le is = no_field place line_of r old new l e h (rw is (static_none index le))
-
-pub no_static_name : {L : Type 0} (place : Place) (line_of : L → FieldLine) (r : Reading LineForm) (old new : List ℕ) (l : L) → line old ≡ r → AnswersLine line_of place r old new (Ok l) → (index : ℕ) (value : List ℕ) → 99 ≤ index → line_of l ≡ StaticName index value → HasNoField old
-no_static_name place line_of r old new l e h index value le is = no_field place line_of r old new l e h (rw (is, static_none index le) refl)
 
 pub named_entry : (index : ℕ) (name value : List ℕ) → NamesEntry index name → with_value value (slice_get static_table index) ≡ Some (record { name = name; value = value })
 named_entry index name value n = rw (n.here, n.name_is) refl

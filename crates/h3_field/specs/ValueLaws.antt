@@ -1,22 +1,20 @@
 -- A payload stands for its value, a form says its value, and each nothing else.
-use Rattle.std.proofs.Common.{◌≡◌, ℕ, Bool, true, false, List, if◌then◌else◌, Option, Some, None, is_some, option_map, refl, ap, sym, ◌∙◌, subst}
+use Rattle.std.proofs.Common.{◌≡◌, ℕ, Bool, true, false, List, if◌then◌else◌, Option, Some, None, option_map, refl, ap, sym, ◌∙◌, subst}
 use Rattle.std.specs.List.{AllByRecursion}
 use Rattle.h3_huffman.specs.Huffman.{huffman}
 use Rattle.h3_huffman.specs.Payload.{IsByte}
 use Rattle.h3_huffman.specs.Unhuffman.{unhuffman}
 use Rattle.h3_huffman.specs.UnhuffmanLaws.{unhuffman_some, unhuffman_is, all_bytes, each_byte, encoded_is}
-use Rattle.h3_field.specs.StringReading.{Payload, StandsFor, StandsForNone}
+use Rattle.h3_field.specs.StringReading.{Payload, StandsFor}
 use Rattle.h3_field.specs.Line.{FieldLine}
 use Rattle.h3_field.specs.Line.FieldLine.{StaticField, RelativeField, PostBaseField, StaticName, RelativeName, PostBaseName, Literal}
 use Rattle.h3_field.specs.LineReading.{LineForm, Indexed, PostBase, Named, PostBaseNamed, LiteralField, SaysLine}
 use Rattle.h3_field.specs.Instruction.{EncoderInstruction}
 use Rattle.h3_field.specs.Instruction.EncoderInstruction.{SetCapacity, InsertWithStaticName, InsertWithEntryName, InsertLiteral, Duplicate}
 use Rattle.h3_field.specs.InstructionReading.{InstructionForm, Capacity, NameReference, LiteralName, Repeat, Says}
-use Rattle.h3_field.specs.LineAnswer.{LineTakesMemory}
-use Rattle.h3_field.specs.InstructionAnswer.{InstructionTakesMemory}
 use Rattle.h3_field.specs.Values.{plain_string, string_of, of_both, line_of, instruction_of}
 
-some_same : {X : Type 0} (x y : X) → Some x ≡ Some y → x ≡ y
+pub some_same : {X : Type 0} (x y : X) → Some x ≡ Some y → x ≡ y
 some_same x y e = cc
 
 value_some : (coded : Bool) (payload bytes : List ℕ) → AllByRecursion IsByte bytes → payload ≡ (if coded then huffman bytes else bytes) → (if coded then unhuffman payload else plain_string payload) ≡ Some bytes
@@ -34,23 +32,6 @@ value_is false payload bytes e =
 
 pub string_is : (p : Payload) (bytes : List ℕ) → string_of p ≡ Some bytes → StandsFor p bytes
 string_is p bytes e = let v = value_is p.is_huffman p.bytes bytes e in record { each = v.0; form = v.1 }
-
-none_left : {X : Type 0} (o : Option X) → ((x : X) → o ≡ Some x → ⊥) → o ≡ None
-none_left None h = refl
-none_left (Some x) h = absurd (h x refl)
-
-some_of_none : {X : Type 0} (o : Option X) (x : X) → o ≡ None → o ≡ Some x → ⊥
-some_of_none o x none e = absurd (cc)
-
-pub string_none : (p : Payload) → StandsForNone p → string_of p ≡ None
-string_none p h = none_left (string_of p) (λ bytes e. h bytes (string_is p bytes e))
-
-pub no_string : (p : Payload) → string_of p ≡ None → StandsForNone p
-no_string p none bytes h = some_of_none (string_of p) bytes none (string_some p bytes h)
-
--- a payload stands for one string
-pub one_string_stood_for : (p : Payload) (s t : List ℕ) → StandsFor p s → StandsFor p t → s ≡ t
-one_string_stood_for p s t a b = some_same s t (sym (string_some p s a) ∙ string_some p t b)
 
 mapped : {X : Type 0} (build : List ℕ → X) (p : Payload) (value : List ℕ) (x : X) → StandsFor p value → x ≡ build value → option_map build (string_of p) ≡ Some x
 mapped build p value x h is = rw (string_some p value h, is) refl
@@ -85,33 +66,9 @@ line_is (Named false index p) l e = let u = unmapped (λ value. RelativeName ind
 line_is (PostBaseNamed index p) l e = let u = unmapped (λ value. PostBaseName index value) (string_of p) l e in (u.0, string_is p u.0 u.1, u.2)
 line_is (LiteralField p q) l e = let u = both_unmapped Literal (string_of p) (string_of q) l e in (u.0, u.1, string_is p u.0 u.2, string_is q u.1 u.3, u.4)
 
-pub line_none : (form : LineForm) → ((l : FieldLine) → SaysLine form l → ⊥) → line_of form ≡ None
-line_none form h = none_left (line_of form) (λ l e. h l (line_is form l e))
-
-pub no_line : (form : LineForm) → line_of form ≡ None → (l : FieldLine) → SaysLine form l → ⊥
-no_line form none l h = some_of_none (line_of form) l none (line_some form l h)
-
 -- a form says one line
 pub one_line_said : (form : LineForm) (l k : FieldLine) → SaysLine form l → SaysLine form k → l ≡ k
 one_line_said form l k a b = some_same l k (sym (line_some form l a) ∙ line_some form k b)
-
-some_mapped : {X : Type 0} (build : List ℕ → X) (o : Option (List ℕ)) → is_some o ≡ true → is_some (option_map build o) ≡ true
-some_mapped build None e = absurd (cc)
-some_mapped build (Some value) e = refl
-
-some_of_both : {X : Type 0} (build : List ℕ → List ℕ → X) (o u : Option (List ℕ)) → is_some o ≡ true → is_some u ≡ true → is_some (of_both build o u) ≡ true
-some_of_both build None u e h = absurd (cc)
-some_of_both build (Some name) None e h = absurd (cc)
-some_of_both build (Some name) (Some value) e h = refl
-
--- a form whose strings take memory says a line
-pub line_of_memory : (form : LineForm) → LineTakesMemory form → is_some (line_of form) ≡ true
-line_of_memory (Indexed is_static index) h = absurd h
-line_of_memory (PostBase index) h = absurd h
-line_of_memory (Named true index p) h = some_mapped (λ value. StaticName index value) (string_of p) h.0
-line_of_memory (Named false index p) h = some_mapped (λ value. RelativeName index value) (string_of p) h.0
-line_of_memory (PostBaseNamed index p) h = some_mapped (λ value. PostBaseName index value) (string_of p) h.0
-line_of_memory (LiteralField p q) h = some_of_both Literal (string_of p) (string_of q) h.0 h.1
 
 pub instruction_some : (form : InstructionForm) (i : EncoderInstruction) → Says form i → instruction_of form ≡ Some i
 instruction_some (Capacity n) i h = rw h refl
@@ -127,20 +84,6 @@ instruction_is (NameReference false index p) i e = let u = unmapped (λ value. I
 instruction_is (LiteralName p q) i e = let u = both_unmapped InsertLiteral (string_of p) (string_of q) i e in (u.0, u.1, string_is p u.0 u.2, string_is q u.1 u.3, u.4)
 instruction_is (Repeat index) i e = sym (some_same (Duplicate index) i e)
 
-pub instruction_none : (form : InstructionForm) → ((i : EncoderInstruction) → Says form i → ⊥) → instruction_of form ≡ None
-instruction_none form h = none_left (instruction_of form) (λ i e. h i (instruction_is form i e))
-
-pub no_instruction : (form : InstructionForm) → instruction_of form ≡ None → (i : EncoderInstruction) → Says form i → ⊥
-no_instruction form none i h = some_of_none (instruction_of form) i none (instruction_some form i h)
-
 -- a form says one instruction
 pub one_instruction_said : (form : InstructionForm) (i j : EncoderInstruction) → Says form i → Says form j → i ≡ j
 one_instruction_said form i j a b = some_same i j (sym (instruction_some form i a) ∙ instruction_some form j b)
-
--- a form whose strings take memory says an instruction
-pub instruction_of_memory : (form : InstructionForm) → InstructionTakesMemory form → is_some (instruction_of form) ≡ true
-instruction_of_memory (Capacity n) h = absurd h
-instruction_of_memory (NameReference true index p) h = some_mapped (λ value. InsertWithStaticName index value) (string_of p) h.0
-instruction_of_memory (NameReference false index p) h = some_mapped (λ value. InsertWithEntryName index value) (string_of p) h.0
-instruction_of_memory (LiteralName p q) h = some_of_both InsertLiteral (string_of p) (string_of q) h.0 h.1
-instruction_of_memory (Repeat index) h = absurd h

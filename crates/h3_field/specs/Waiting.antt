@@ -1,5 +1,5 @@
 -- What an instruction that is not whole waits for, before it is of use to read it again.
-use Rattle.std.specs.Prelude.{◌==◌, ℕ, ◌-◌, Bool, true, false, if◌then◌else◌, nat_lt, nat_le, Option, Some, None, List, [], ◌∷◌, length, drop}
+use Rattle.std.specs.Prelude.{◌==◌, ℕ, ◌-◌, Bool, true, false, if◌then◌else◌, nat_lt, nat_le, Option, Some, None, List, [], ◌∷◌, length, drop, ◌≡◌}
 use Rattle.std.specs.List.{list_all}
 use Rattle.h3_field.specs.Reading.{Reading, Whole, Unfinished, Bad}
 use Rattle.h3_field.specs.IntegerReading.{integer}
@@ -74,3 +74,7 @@ encoder_wait (first ∷ rest) =
 abbrev pub decoder_wait : List ℕ → Wait
 decoder_wait [] = wait.Bytes 1
 decoder_wait (first ∷ rest) = if nat_le 128 first then number_wait 7 (first ∷ rest) else number_wait 6 (first ∷ rest)
+
+-- The wait goes on exactly where the reading is unfinished.
+abbrev pub Agrees : {A : Type 0} → Wait → Reading A → Type 0
+Agrees w r = goes_on w ≡ is_unfinished r

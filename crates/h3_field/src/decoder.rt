@@ -153,6 +153,7 @@ fn list_section(
         return Err(DecoderError::from(e));
     }
     let mut mem_size: u64 = 0;
+    // (the label names the loop in its proof)
     'lines: while ahead.remaining() > 0 {
         let field = match take_field(alloc, &mut ahead) {
             Ok(field) => field,

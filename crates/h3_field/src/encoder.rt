@@ -1,11 +1,11 @@
 //! Field sections that name no dynamic entry, encoded (RFC 9204, section 4.5).
-ghost use Rattle.std.specs.Prelude.{◌≡◌, ◌<◌, ◌≤◌, ◌^◌, ◌++◌, length, take, OnOk, OnErr, IfOk};
+ghost use Rattle.std.specs.Prelude.{◌≡◌, ◌<◌, ◌^◌, ◌++◌, length, take, OnOk, OnErr, IfOk};
 ghost use Rattle.std.specs.Result.{IsOkUnless};
 ghost use Rattle.std.specs.List.{AllByRecursion};
 ghost use Rattle.h3_field.specs.ReadBack.{IsFieldOfBytes};
 ghost use Rattle.h3_field.specs.Field.{field_size, section_size};
 ghost use Rattle.h3_field.specs.Line.{line_bytes};
-ghost use Rattle.h3_field.specs.Section.{static_line, static_lines, section_bytes};
+ghost use Rattle.h3_field.specs.Section.{static_line, section_bytes};
 ghost use Rattle.h3_field.specs.declared.encoder_error.EncoderError.TheVariants.{OutOfMemory};
 
 use crate::block::{HeaderPrefix, Indexed, Literal, LiteralWithNameRef};
@@ -44,8 +44,10 @@ fn put_section(block: &mut Vec<u8>, fields: &[HeaderField]) -> Result<u64, Encod
 {
     HeaderPrefix::new(0, 0, 0, 0).encode(block)?;
     let mut size: u64 = 0;
+    // (the label names the loop in its proof)
     'fields: for field in fields {
         put_field(field, block)?;
+        // (for the proof: name and value are bytes)
         field.are_bytes();
         size += field.mem_size() as u64;
     }

@@ -1,7 +1,6 @@
 //! What the definitions give at values of the standards. These functions do nothing: the check computes their contracts.
 ghost use Rattle.std.specs.Prelude.{◌≡◌, ◌∷◌, [], length, codes, Some, None, true};
 ghost use Rattle.h3_huffman.specs.Huffman.{huffman};
-ghost use Rattle.h3_field.specs.Field.{Field};
 ghost use Rattle.h3_field.specs.Integer.{prefixed};
 ghost use Rattle.h3_field.specs.IntegerReading.{integer};
 ghost use Rattle.h3_field.specs.Reading.{Whole, Unfinished, Bad};

@@ -1,5 +1,5 @@
 //! A field of two byte strings, static or owned.
-ghost use Rattle.std.specs.Prelude.{◌≡◌, ◌++◌, ◌∷◌, [], codes, string_bytes, IfOk, OnErr, Some, encode_utf8_all, nat_eq, min, ◌^◌, ◌-◌, ◌+◌, ◌<◌, ◌≤◌, length, take, drop};
+ghost use Rattle.std.specs.Prelude.{◌≡◌, ◌++◌, ◌∷◌, codes, string_bytes, IfOk, OnErr, Some, encode_utf8_all, nat_eq, min, ◌^◌, ◌-◌, ◌+◌, ◌<◌, ◌≤◌, length, take, drop};
 ghost use Rattle.std.specs.Cow.{cow_slice_items};
 ghost use Rattle.std.specs.Vec.{vec_len, vec_capacity};
 ghost use Rattle.h3_field.specs.Field.{field_size, section_size};
@@ -54,6 +54,7 @@ impl Model for HeaderField {
 }
 
 impl HeaderField {
+    /// The field with that name and value, as bytes. Static ones are not copied. It does not ask whether HTTP allows them.
     pub fn new(name: CowSlice<'static, u8>, value: CowSlice<'static, u8>) -> HeaderField
         ensures { result ≡ record { name = cow_slice_items name.entry; value = cow_slice_items value.entry } }
     {
@@ -160,6 +161,7 @@ impl HeaderField {
         }
     }
 
+    /// The bytes of the name.
     pub fn name(&self) -> &[u8]
         ensures { result.now ≡ self.now.name }
     {
@@ -172,6 +174,7 @@ impl HeaderField {
         }
     }
 
+    /// The bytes of the value.
     pub fn value(&self) -> &[u8]
         ensures { result.now ≡ self.now.value }
     {
@@ -274,6 +277,7 @@ pub fn section_size(fields: &[HeaderField]) -> u64
     ensures { result ≡ min (2 ^ 64 - 1) (section_size fields.now) }
 {
     let mut size: u64 = 0;
+    // (the label names the loop in its proof)
     'fields: for field in fields {
         size = size.saturating_add(field.mem_size() as u64);
     }

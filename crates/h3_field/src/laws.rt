@@ -6,7 +6,7 @@ ghost use Rattle.std.specs.List.{AllByRecursion};
 ghost use Rattle.h3_huffman.specs.Huffman.{huffman};
 ghost use Rattle.h3_field.specs.Integer.{prefixed};
 ghost use Rattle.h3_field.specs.IntegerReading.{integer, integer_limit, IsInteger};
-ghost use Rattle.h3_field.specs.IntegerLaws.{Encoded};
+ghost use Rattle.h3_field.specs.IntegerSteps.{Encoded};
 ghost use Rattle.h3_field.specs.Prefix.{most_entries, prefix_bytes};
 ghost use Rattle.h3_field.specs.PrefixReading.{EncodedPrefix, prefix, IsPrefix};
 ghost use Rattle.h3_field.specs.PrefixWriting.{written_prefix, encoded_bytes};

@@ -12,6 +12,7 @@ pub enum Part<'a> {
 }
 
 impl<'a> Part<'a> {
+    /// The bytes, wherever they lie.
     pub fn bytes(&self) -> &[u8]
         ensures { result.now ≡ part_bytes self.now }
     {

@@ -1,5 +1,5 @@
 //! Prefixed integers (RFC 9204, section 4.1.1; RFC 7541, section 5.1).
-ghost use Rattle.std.specs.Prelude.{◌≡◌, ◌+◌, ◌-◌, ◌^◌, ◌<◌, ◌≤◌, ℕ, List, ◌++◌, OnOk, OnErr, IfOk, Result, length, MatchOption, ◌*◌, ◌∷◌, take, Some};
+ghost use Rattle.std.specs.Prelude.{◌≡◌, ◌+◌, ◌-◌, ◌^◌, ◌<◌, ◌≤◌, ◌++◌, OnOk, OnErr, IfOk, Result, length, MatchOption, ◌*◌, ◌∷◌, take, Some};
 ghost use Rattle.h3_field.specs.Ends.{IsEndOf};
 ghost use Rattle.h3_field.specs.ErrorTexts.{integer_text};
 ghost use Rattle.h3_field.specs.Integer.{prefixed, ones, groups};

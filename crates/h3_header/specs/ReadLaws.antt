@@ -1,5 +1,5 @@
 -- What follows from the way in which a field list is read.
-use Rattle.std.specs.Prelude.{◌≡◌, ⊤, List, [], ◌∷◌, refl, Option, Some, None, option_map, is_some, ◌||◌}
+use Rattle.std.specs.Prelude.{◌≡◌, List, [], ◌∷◌, refl, Option, Some, None, option_map, is_some, ◌||◌}
 use Rattle.std.proofs.Common.{subst, inl, inr, sym, ap, ◌∙◌}
 use Rattle.http_uri.specs.Grammar.{or_slash}
 use Rattle.h3_field.specs.Field.{Field}
@@ -9,6 +9,7 @@ use Rattle.h3_header.specs.ReadsBack.{ReadsBack, as_read}
 use Rattle.h3_header.specs.declared.headers.error.HeaderError.{HeaderError}
 use Rattle.h3_header.specs.declared.headers.error.HeaderError.TheVariants.{InvalidHeaderName, InvalidHeaderValue, InvalidRequest, MissingMethod, MissingStatus, MissingAuthority, ContradictedAuthority, TooManyFields, OutOfMemory}
 use Rattle.h3_header.specs.declared.headers.kind.FieldKind.{FieldKind}
+use Rattle.h3_header.specs.SameRefusal.{SameRefusal}
 
 only_memory_at : (at : FieldKind) (h : Head) (f : Field) (e : HeaderError) → AcceptsAt at h f → RefusesAt at h f e → e ≡ OutOfMemory
 only_memory_at at h f (InvalidHeaderName _) ok why = absurd (why ok.name)
@@ -35,15 +36,6 @@ list_of_read fields h back is = ap head_fields is.1 ∙ back.1
 is_some-mapped : {A B : Type 0} (f : A → B) (x : Option A) → is_some (option_map f x) ≡ is_some x
 is_some-mapped f None = refl
 is_some-mapped f (Some x) = refl
-
--- both refuse for the same reason, or one of them for want of memory
-abbrev pub SameRefusal : HeaderError → HeaderError → Type 0
-SameRefusal OutOfMemory e = ⊤
-SameRefusal (InvalidHeaderName _) (InvalidHeaderName _) = ⊤
-SameRefusal (InvalidHeaderValue _) (InvalidHeaderValue _) = ⊤
-SameRefusal TooManyFields TooManyFields = ⊤
-SameRefusal e OutOfMemory = ⊤
-SameRefusal _ _ = ⊥
 
 memory_second : (e : HeaderError) → SameRefusal e OutOfMemory
 memory_second (InvalidHeaderName _) = tt

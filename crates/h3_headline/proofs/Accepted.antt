@@ -1,6 +1,6 @@
 -- What is in order is accepted.
 use Rattle.std.proofs.Common.{◌≡◌, Bool, true, false, not, [], ◌∷◌, refl, ap, Option, Some, None}
-use Rattle.h3_connection.specs.Sending.{first_of, is_too_large}
+use Rattle.h3_connection.specs.Refusals.{first_of, is_too_large}
 use Rattle.h3_field.specs.Field.{section_size}
 use Rattle.h3_header.specs.Head.{head_fields, has_pseudo}
 use Rattle.h3_connection.specs.Outgoing.{takes_head, takes_body, takes_end}

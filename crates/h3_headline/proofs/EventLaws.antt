@@ -41,7 +41,7 @@ every_event laws setup made plain w ends (event.DeliverEnd writer id) sendable h
 every_event laws setup made plain w ends (event.DeliverReset writer id) sendable h =
     by_test (is_own writer id) (λ own. own_reset_on laws setup w ends writer id h own) (λ request. gone_on laws setup w ends writer id h request)
 every_event laws setup made plain w ends (event.Pull side id) sendable h = pull_on laws setup w ends side id made plain h
-every_event laws setup made plain w ends (event.Show side) sendable h = show_on laws setup w ends side sendable h
+every_event laws setup made plain w ends (event.Show side) sendable h = show_on laws setup w ends side made sendable h
 
 -- **Two new endpoints that judge plainly run in a world over every schedule.**
 pub two_ends_run : (laws : Laws) (setup : Setup) (events : List Event) → IsMadeSetup setup → JudgesPlainly setup → AllByRecursion IsSendable events → RunsOn setup (empty_world setup) (new_ends setup) events

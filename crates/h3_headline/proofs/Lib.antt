@@ -9,4 +9,3 @@ mod OwnStandsLaws
 mod OwnWritesLaws
 mod PulledAndSentLaws
 mod RunLaws
-mod Tables

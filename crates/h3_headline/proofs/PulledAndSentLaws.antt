@@ -13,7 +13,7 @@ use Rattle.h3_world.specs.Headline.{Happens}
 use Rattle.h3_world.specs.Run.{Run}
 use Rattle.h3_world.specs.Sendable.{IsSendable}
 use Rattle.h3_world.specs.Streams.{flow}
-use Rattle.h3_proto.specs.StreamIds.{is_request}
+use Rattle.h3_proto.specs.StreamIds.{is_request_stream}
 use Rattle.h3_proto.specs.declared.stream.Side.TheVariants.{Client, Server}
 use Rattle.std.specs.Prelude.{map}
 use Rattle.h3_connection.specs.Announcing.{section_of}
@@ -23,7 +23,7 @@ use Rattle.h3_headline.specs.Cited.{WorldLaws}
 use Rattle.h3_headline.specs.ContentLaws.{moves_then, stays}
 use Rattle.h3_headline.specs.Contents.{Carried, Carries, IsAll, Moves, RunMoves, limit_of_reader}
 use Rattle.h3_headline.specs.FlowLaws.{other-other, same_both}
-use Rattle.h3_headline.specs.Messages.{Content, IsFrontOf, IsTakenWhole, at_reader, ended_in, finished_in, has_finished, has_pulled_end, pulled, pulled_in, sent, sent_in}
+use Rattle.h3_headline.specs.Messages.{MessageContent, IsFrontOf, IsTakenWhole, at_reader, ended_in, finished_in, has_finished, has_pulled_end, pulled, pulled_in, sent, sent_in}
 use Rattle.h3_headline.specs.MovedLaws.{moved}
 use Rattle.h3_headline.specs.PulledAndSentLaws.{differ, is_all, is_complete, is_front}
 
@@ -54,10 +54,10 @@ run_moves laws setup w new (e ∷ es) [] writer id sendable h run = absurd run
 
 -- before anything, each flow is unused
 nothing_yet : (setup : Setup) (writer : Side) (id : ℕ) → flow (empty_world setup) writer id ≡ unused
-nothing_yet setup Client id = ap (λ e. e.request) (same_both (is_request id) no_exchange no_exchange (λ e. refl))
-nothing_yet setup Server id = ap (λ e. e.response) (same_both (is_request id) no_exchange no_exchange (λ e. refl))
+nothing_yet setup Client id = ap (λ e. e.request) (same_both (is_request_stream id) no_exchange no_exchange (λ e. refl))
+nothing_yet setup Server id = ap (λ e. e.response) (same_both (is_request_stream id) no_exchange no_exchange (λ e. refl))
 
-carries : (most : ℕ) (f g : Flow) (sending : List Content) (finishing : Bool) (handing : List Content) (ending : Bool) → f ≡ unused → Moves most f g sending finishing handing ending
+carries : (most : ℕ) (f g : Flow) (sending : List MessageContent) (finishing : Bool) (handing : List MessageContent) (ending : Bool) → f ≡ unused → Moves most f g sending finishing handing ending
     → Carries most g sending finishing handing ending
 carries most f g sending finishing handing ending none m =
     let n = subst (λ x. Moves most x g sending finishing handing ending) none m in
@@ -103,7 +103,7 @@ left_none_at laws setup events answers w side id sendable run none =
     (pulled (other (other side)) id events answers) (has_pulled_end (other (other side)) id events answers) c.carried none)
 
 -- with no section above the limit, what was sent
-taken_whole : (most : ℕ) (sending : List Content) → AllByRecursion (IsTakenWhole most) sending → map (at_reader most) sending ≡ sending
+taken_whole : (most : ℕ) (sending : List MessageContent) → AllByRecursion (IsTakenWhole most) sending → map (at_reader most) sending ≡ sending
 taken_whole most [] h = refl
 taken_whole most (c ∷ cs) h = ap (λ x. x ∷ map (at_reader most) cs) h.0 ∙ ap (λ l. c ∷ l) (taken_whole most cs h.1)
 

@@ -18,7 +18,7 @@ use Rattle.h3_proto.specs.declared.config.Settings.{Settings}
 use Rattle.std.specs.Int.{bytes_high_first}
 use Rattle.h3_coding.specs.Encodings.{encoding}
 use Rattle.h3_proto.specs.Pairs.{payload_of}
-use Rattle.h3_connection.specs.Control.{is_usable}
+use Rattle.h3_connection.specs.Control.{is_table_usable}
 use Rattle.h3_field.specs.Instruction.EncoderInstruction.{SetCapacity}
 use Rattle.h3_qpack.specs.Exchange as exchange
 use Rattle.h3_connection.specs.declared.setup.Limits.{Limits}
@@ -124,7 +124,7 @@ few_pairs true grease s capacity blocked = omega arith
 few_pairs false grease s capacity blocked = omega arith
 
 -- the capacity opens the encoder's stream where there is a table
-usable : (most table blocked : ℕ) → table < 2 ^ 30 → blocked < 2 ^ 16 → is_usable most table blocked ≡ not (min most table == 0)
+usable : (most table blocked : ℕ) → table < 2 ^ 30 → blocked < 2 ^ 16 → is_table_usable most table blocked ≡ not (min most table == 0)
 usable most table blocked h k = grind (arith, common_steps, h, k)
 
 opening_same : (most : ℕ) (limits : Limits) → limits.table < 2 ^ 30 → limits.blocked < 2 ^ 16 → opening most limits ≡ exchange.opening (min most limits.table)

@@ -2,7 +2,7 @@
 use Rattle.std.proofs.Common.{◌≡◌, Bool, true, false, refl, ℕ, arith, ap, ◌∙◌, ◌+◌, [], None}
 use Rattle.std.specs.Prelude.{◌&&◌, nat_lt, nat_le, length, if◌then◌else◌}
 use Rattle.std.proofs.lemmas.Grind.{common_steps}
-use Rattle.h3_proto.specs.StreamIds.{is_request, index_of}
+use Rattle.h3_proto.specs.StreamIds.{is_request_stream, index_of}
 use Rattle.h3_proto.specs.declared.stream.Side.TheVariants.{Client, Server}
 use Rattle.h3_world.specs.declared.setup.Setup.{Setup}
 use Rattle.h3_world.specs.Streams.{is_open, exchange, flow}
@@ -28,7 +28,7 @@ none_below n = grind (arith, common_steps)
 
 -- no stream is open
 none_at_client : (setup : Setup) (id : ℕ) → is_open (empty_world setup) Client id ≡ false
-none_at_client setup id = ap (λ b. is_request id && b) (none_below (index_of id)) ∙ and_false (is_request id)
+none_at_client setup id = ap (λ b. is_request_stream id && b) (none_below (index_of id)) ∙ and_false (is_request_stream id)
 
 none_open : (setup : Setup) (side : Side) (id : ℕ) → is_open (empty_world setup) side id ≡ false
 none_open setup Client id = none_at_client setup id
@@ -93,12 +93,12 @@ begins_at setup Server =
 
 -- nothing was sent on any stream
 nothing_sent : (setup : Setup) (side : Side) (id : ℕ) → AllByRecursion (IsReadable (other side)) (flow (empty_world setup) side id).sent
-nothing_sent setup Client id = by (is_request id)
+nothing_sent setup Client id = by (is_request_stream id)
   where
     by : (request : Bool) → AllByRecursion (IsReadable Server) (if request then no_exchange else no_exchange).request.sent
     by true = tt
     by false = tt
-nothing_sent setup Server id = by (is_request id)
+nothing_sent setup Server id = by (is_request_stream id)
   where
     by : (request : Bool) → AllByRecursion (IsReadable Client) (if request then no_exchange else no_exchange).response.sent
     by true = tt

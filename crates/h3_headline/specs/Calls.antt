@@ -20,7 +20,7 @@ use Rattle.h3_header.specs.Reads.{head_of_fields}
 use Rattle.h3_header.specs.ReadsBack.{as_read}
 use Rattle.h3_qpack.specs.Encodings.{IsWrittenInstruction}
 use Rattle.h3_qpack.specs.SectionEncoding as section
-use Rattle.h3_connection.specs.Sections.{instructions_for, encoded_section}
+use Rattle.h3_connection.specs.Sections.{own_instructions, written_section}
 use Rattle.h3_world.specs.Order.{is_end}
 use Rattle.h3_field.specs.Field.{Field}
 use Rattle.h3_qpack.specs.EncoderHistory.{EncoderHistory}
@@ -65,7 +65,7 @@ seen_by e s n = is_critical_of (record e { side = s }) n (kind_of s n)
 -- A section that may be sent: its fields are read as its head, and the instructions for it can be written.
 pub record IsWritableHead (w : World) (side : Side) (id : ℕ) (head : Fields) : Type 0 where
   pub read_as : head_of_fields (head_fields head) ≡ as_read head
-  pub instructions : AllByRecursion IsWrittenInstruction (instructions_for (party w side).encoder id (head_fields head))
+  pub instructions : AllByRecursion IsWrittenInstruction (own_instructions (party w side).encoder id (head_fields head))
 
 -- a part that carries a section, and the part that its sender's endpoint keeps of it
 pub record IsOfSection (kind : Section → Part) (own : List ℕ → OwnPart) : Type 0 where
@@ -77,8 +77,8 @@ abbrev pub written : EndpointHistory → (List ℕ → OwnPart) → ℕ → List
 written e own id fields n o s stream =
     record e {
       encoder = section.sent_section s id fields;
-      own = record o { instructions = o.instructions ++ instructions_for s id fields };
-      outgoing = set_stream e.outgoing id (record (unwrap_or stream nothing_sent) { parts = (unwrap_or stream nothing_sent).parts ++ own (encoded_section s id fields) ∷ [] });
+      own = record o { instructions = o.instructions ++ own_instructions s id fields };
+      outgoing = set_stream e.outgoing id (record (unwrap_or stream nothing_sent) { parts = (unwrap_or stream nothing_sent).parts ++ own (written_section s id fields) ∷ [] });
       sent = n;
     }
 

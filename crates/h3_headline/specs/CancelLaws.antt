@@ -10,7 +10,7 @@ use Rattle.h3_world.specs.World.{World, party, with_party, Party}
 use Rattle.h3_connection.specs.Delivering.{incoming_at, give_up, given_up_by, cancellation, with_incoming}
 use Rattle.h3_connection.specs.Endpoint.{EndpointHistory, replied}
 use Rattle.h3_connection.specs.Incoming.{Incoming, nothing_came}
-use Rattle.h3_connection.specs.Sending.{first_of}
+use Rattle.h3_connection.specs.Refusals.{first_of}
 use Rattle.h3_connection.specs.StreamSets.{stream_at, set_stream}
 use Rattle.h3_connection.specs.declared.event.Refusal.{Refusal}
 use Rattle.h3_connection.specs.declared.event.Refusal.TheVariants as refusal

@@ -29,7 +29,7 @@ use Rattle.h3_qpack.specs.WholeInstructions.{whole_in, rest_in, decoder_instruct
 use Rattle.h3_header.specs.Head as header
 use Rattle.h3_header.specs.HeadRead.{IsHead, head_of}
 use Rattle.h3_header.specs.Reads.{IsHeadOf}
-use Rattle.h3_connection.specs.Sections.{instructions_for}
+use Rattle.h3_connection.specs.Sections.{own_instructions}
 
 -- What is cited of worlds: the contracts of `h3_world`'s `laws`, as premises.
 pub record WorldLaws : Type 0 where
@@ -65,4 +65,4 @@ pub record Laws : Type 0 where
   pub lists : ListsAreTheirValue
   -- the instructions for fields whose section is below the bound of all sums can be written
   pub written : (s : EncoderHistory) (stream : ℕ) (fields : List Field) → length s.inserted < 2 ^ 62 → AllByRecursion IsFieldOfBytes fields → section_size fields < 2 ^ 56 →
-      AllByRecursion IsWrittenInstruction (instructions_for s stream fields)
+      AllByRecursion IsWrittenInstruction (own_instructions s stream fields)

@@ -5,7 +5,7 @@ use Rattle.std.specs.Prelude.{slice_get, unwrap_or, ◌&&◌, not, flat_map, ◌
 use Rattle.h3_world.specs.World.{World, Exchange, no_exchange, party, Party}
 use Rattle.h3_world.specs.Streams.{exchange, flow, is_open}
 use Rattle.h3_world.specs.Sound.{IsSoundExchange, IsSoundFlow, IsSoundWorld}
-use Rattle.h3_proto.specs.StreamIds.{index_of, is_request}
+use Rattle.h3_proto.specs.StreamIds.{index_of, is_request_stream}
 use Rattle.h3_proto.specs.declared.stream.Side.{Side}
 use Rattle.h3_proto.specs.declared.stream.Side.TheVariants.{Client, Server}
 use Rattle.h3_world.specs.declared.setup.Setup.{Setup}
@@ -15,7 +15,6 @@ use Rattle.h3_world.specs.Order.{outgoing_of, is_end, last_part}
 use Rattle.std.proofs.lemmas.Grind.{common_steps}
 use Rattle.h3_connection.specs.Delivering.{opened, closed_refusal, request_refusal, refusal_at, delivery_refusal, opened_at, incoming_at, with_incoming}
 use Rattle.h3_connection.specs.Endpoint.{EndpointHistory, kind_of, Own}
-use Rattle.h3_messages.specs.declared.content.Content.TheVariants.{Unsaid}
 use Rattle.h3_connection.specs.Endpoint.Kind.{Request}
 use Rattle.h3_connection.specs.Incoming.{Incoming, nothing_came}
 use Rattle.h3_connection.specs.OwnIds.{other}
@@ -62,7 +61,7 @@ is_unseen setup w Client id sound there closed = absurd (clash (there_open w id 
     clash a b = grind (arith, common_steps, a, b)
 is_unseen setup w Server id sound there closed =
     let e = sound_exchange w id sound.exchanges there in
-    let unseen : (exchange w id).request.seen ≡ false = no_test (is_request id && nat_lt (index_of id) (length w.exchanges)) (exchange w id).request.seen closed (there_open w id there) in
+    let unseen : (exchange w id).request.seen ≡ false = no_test (is_request_stream id && nat_lt (index_of id) (length w.exchanges)) (exchange w id).request.seen closed (there_open w id there) in
     let nothing = e.unsent unseen in
     record {
       server = refl;
@@ -88,7 +87,7 @@ incoming_none setup w side id e h closed = by_stream (stream_at e.incoming id) r
     by_stream (Some i) is k = absurd (subst (ReceivesAt false (flow w (other side) id)) is k)
     by_stream None is k = is
 
-pub kind_is : (side : Side) (id : ℕ) → is_request id ≡ true → kind_of side id ≡ Request
+pub kind_is : (side : Side) (id : ℕ) → is_request_stream id ≡ true → kind_of side id ≡ Request
 kind_is side id request = rw request refl
 
 some_refusal : (side : Side) (i : Incoming) → request_refusal side (Some i) ≡ closed_refusal (i.ended || i.was_reset)

@@ -10,8 +10,8 @@ use Rattle.std.proofs.lemmas.Grind.{flat_map-append}
 use Rattle.std.proofs.lemmas.List.Folds.{list_any-append}
 use Rattle.h3_world.specs.Sending.{appended}
 use Rattle.h3_headline.specs.Contents.{HasSameParts, Moves, all_taken, contents, handed, handed_of, has_end, part_contents, part_taken, piece_of}
-use Rattle.h3_headline.specs.Messages.{Content, IsFrontOf, at_reader}
-use Rattle.h3_headline.specs.Messages.Content.{Byte}
+use Rattle.h3_headline.specs.Messages.{MessageContent, IsFrontOf, at_reader}
+use Rattle.h3_headline.specs.Messages.MessageContent.{Byte}
 
 pub none_of_piece : (o : Option Part) → piece_of 0 o ≡ []
 none_of_piece None = refl
@@ -38,7 +38,7 @@ piece_front (suc n) (b ∷ bytes) =
     let r = piece_front n bytes in
     record { rest = r.rest; is = ap (λ l. Byte b ∷ l) r.is }
 
-part_front : (most n : ℕ) (p : Part) (more : List Content) → IsFrontOf (piece_of n (Some p)) (part_taken most p ++ more)
+part_front : (most n : ℕ) (p : Part) (more : List MessageContent) → IsFrontOf (piece_of n (Some p)) (part_taken most p ++ more)
 part_front most n (Interim s) more = record { rest = part_taken most (Interim s) ++ more; is = refl }
 part_front most n (Head s) more = record { rest = part_taken most (Head s) ++ more; is = refl }
 part_front most n (Trailer s) more = record { rest = part_taken most (Trailer s) ++ more; is = refl }
@@ -80,7 +80,7 @@ ends_then false false new true later h k e = cc (h refl)
 ends_then false false new false later h k e = k e
 
 -- one step and then another
-pub moves_then : (most : ℕ) (f g h : Flow) (s t : List Content) (a b : Bool) (p q : List Content) (c d : Bool) → Moves most f g s a p c → Moves most g h t b q d
+pub moves_then : (most : ℕ) (f g h : Flow) (s t : List MessageContent) (a b : Bool) (p q : List MessageContent) (c d : Bool) → Moves most f g s a p c → Moves most g h t b q d
     → Moves most f h (s ++ t) (a || b) (p ++ q) (c || d)
 moves_then most f g h s t a b p q c d first later =
     record {
@@ -129,7 +129,7 @@ none_out f (inl h) e = h
 none_out f (inr h) e = absurd (subst (OutOfNext f) e h)
 
 -- One more part.
-pub grows : (most : ℕ) (f : Flow) (part : Part) (s : List Content) (a : Bool) → f.parts_out ≤ length f.sent → (f.body_out ≡ 0) ⊎ OutOfNext f (next_part f) → part_contents part ≡ s → is_end (Some part) ≡ a
+pub grows : (most : ℕ) (f : Flow) (part : Part) (s : List MessageContent) (a : Bool) → f.parts_out ≤ length f.sent → (f.body_out ≡ 0) ⊎ OutOfNext f (next_part f) → part_contents part ≡ s → is_end (Some part) ≡ a
     → Moves most f (appended f part) s a [] false
 grows most f part s a out body is end =
     record {

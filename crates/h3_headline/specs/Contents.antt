@@ -17,44 +17,44 @@ use Rattle.h3_world.specs.Setup.{announced_at}
 use Rattle.h3_world.specs.declared.event.Event.{Event}
 use Rattle.h3_connection.specs.declared.event.Pull.{Pull}
 use Rattle.h3_world.specs.Sound.{IsSoundWorld}
-use Rattle.h3_headline.specs.Messages.{Content, at_reader, contents_of, ended_in, finished_in, has_finished, has_pulled_end, is_end_of, is_on, pulled, pulled_in, sent, sent_in}
-use Rattle.h3_headline.specs.Messages.Content.{Byte, HeadFields, InterimFields, TrailerFields}
+use Rattle.h3_headline.specs.Messages.{MessageContent, at_reader, contents_of, ended_in, finished_in, has_finished, has_pulled_end, is_end_of, is_on, pulled, pulled_in, sent, sent_in}
+use Rattle.h3_headline.specs.Messages.MessageContent.{Byte, HeadFields, InterimFields, TrailerFields}
 
-abbrev pub part_contents : Part → List Content
+abbrev pub part_contents : Part → List MessageContent
 part_contents (Interim s) = InterimFields s.fields ∷ []
 part_contents (Head s) = HeadFields s.fields ∷ []
 part_contents (Body bytes own) = map Byte bytes
 part_contents (Trailer s) = TrailerFields s.fields ∷ []
 part_contents End = []
 
-abbrev pub contents : List Part → List Content
+abbrev pub contents : List Part → List MessageContent
 contents parts = flat_map part_contents parts
 
 abbrev pub has_end : List Part → Bool
 has_end parts = list_any (λ p. is_end (Some p)) parts
 
 -- a part as a reader with this limit takes it
-abbrev pub part_taken : ℕ → Part → List Content
+abbrev pub part_taken : ℕ → Part → List MessageContent
 part_taken most part = map (at_reader most) (part_contents part)
 
-abbrev pub all_taken : ℕ → List Part → List Content
+abbrev pub all_taken : ℕ → List Part → List MessageContent
 all_taken most parts = flat_map (part_taken most) parts
 
 -- so many bytes of a piece of the body
-abbrev pub piece_of : ℕ → Option Part → List Content
+abbrev pub piece_of : ℕ → Option Part → List MessageContent
 piece_of n (Some (Body bytes own)) = map Byte (take n bytes)
 piece_of n _ = []
 
 -- what was handed out of some parts, where so many of them and so many bytes of the next one are out
-abbrev pub handed_of : ℕ → List Part → ℕ → ℕ → List Content
+abbrev pub handed_of : ℕ → List Part → ℕ → ℕ → List MessageContent
 handed_of most parts n b = all_taken most (take n parts) ++ piece_of b (slice_get parts n)
 
-abbrev pub handed : ℕ → Flow → List Content
+abbrev pub handed : ℕ → Flow → List MessageContent
 handed most f = handed_of most f.sent f.parts_out f.body_out
 
 -- What a step changes of a flow, as it is seen by a reader with this limit: what is sent, and whether the end; what is handed out, and
 -- whether the end.
-pub record Moves (most : ℕ) (f g : Flow) (sending : List Content) (finishing : Bool) (handing : List Content) (ending : Bool) : Type 0 where
+pub record Moves (most : ℕ) (f g : Flow) (sending : List MessageContent) (finishing : Bool) (handing : List MessageContent) (ending : Bool) : Type 0 where
   pub sent_is : contents g.sent ≡ contents f.sent ++ sending
   pub end_is : has_end g.sent ≡ (has_end f.sent || finishing)
   pub handed_is : handed most g ≡ handed most f ++ handing
@@ -97,7 +97,7 @@ RunMoves setup w new events answers writer id =
     (pulled (other writer) id events answers) (has_pulled_end (other writer) id events answers)
 
 -- A run from the beginning: what was sent, and what was handed out.
-pub record Carries (most : ℕ) (g : Flow) (sending : List Content) (finishing : Bool) (handing : List Content) (ending : Bool) : Type 0 where
+pub record Carries (most : ℕ) (g : Flow) (sending : List MessageContent) (finishing : Bool) (handing : List MessageContent) (ending : Bool) : Type 0 where
   pub sent_is : contents g.sent ≡ sending
   pub end_is : has_end g.sent ≡ finishing
   pub handed_is : handed most g ≡ handing
@@ -112,6 +112,6 @@ pub record IsLastEnd (parts : List Part) (n : ℕ) : Type 0 where
   pub ends : has_end parts ≡ true
 
 -- **Once the end is out, all is.**
-pub record IsAll (most : ℕ) (sending : List Content) (finishing : Bool) (handing : List Content) : Type 0 where
+pub record IsAll (most : ℕ) (sending : List MessageContent) (finishing : Bool) (handing : List MessageContent) : Type 0 where
   pub all : handing ≡ map (at_reader most) sending
   pub has_finished : finishing ≡ true

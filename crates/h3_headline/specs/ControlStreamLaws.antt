@@ -1,8 +1,9 @@
 -- What came of a control stream is read as its settings and its GOAWAY frames.
 use Rattle.std.proofs.Common.{◌≡◌, ℕ, ◌-◌, List, sym, subst, zero, suc, refl, ap, ◌∙◌, ◌++◌, Some, None, ◌<◌, lit<, length, take, ◌^◌, false, ◌||◌, if◌then◌else◌, [], ◌∷◌, length-append, arith, ◌≤◌, flat_map, append-nil, append_assoc, nat_le, Bool, true, Option, drop}
 use Rattle.h3_wire.specs.Known.{known}
-use Rattle.h3_wire.specs.KnownLaws.{IsKnown, known-other}
-use Rattle.h3_wire.specs.UnfinishedLaws.{IsUnfinishedFront, front_of_frame}
+use Rattle.h3_wire.specs.KnownLaws.{known-other}
+use Rattle.h3_wire.specs.Fronts.{IsKnown, IsUnfinishedFront}
+use Rattle.h3_wire.specs.UnfinishedLaws.{front_of_frame}
 use Rattle.h3_wire.specs.declared.proto.frame.Frame.TheVariants as frame
 use Rattle.h3_proto.specs.declared.stream.Side.{Side}
 use Rattle.h3_wire.specs.Frames.{frame_at, Whole, settings_frame}

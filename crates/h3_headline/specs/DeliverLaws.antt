@@ -33,13 +33,13 @@ use Rattle.h3_headline.specs.Standing.{HasDecoderStreamOf, StandsAt}
 use Rattle.h3_headline.specs.Steps.{IsThere}
 
 -- the bytes of the parts are those that the sender's endpoint has
-pub sent_bytes : (parts : List Part) → flat_map sender.part_bytes (flat_map own_part parts) ≡ flat_map part_bytes parts
+pub sent_bytes : (parts : List Part) → flat_map sender.written_part (flat_map own_part parts) ≡ flat_map part_bytes parts
 sent_bytes [] = refl
 sent_bytes (part ∷ parts) =
-    flat_map-append sender.part_bytes (own_part part) (flat_map own_part parts) ∙ ap (λ l. l ++ flat_map sender.part_bytes (flat_map own_part parts)) (one part)
+    flat_map-append sender.written_part (own_part part) (flat_map own_part parts) ∙ ap (λ l. l ++ flat_map sender.written_part (flat_map own_part parts)) (one part)
     ∙ ap (λ l. part_bytes part ++ l) (sent_bytes parts)
   where
-    one : (part : Part) → flat_map sender.part_bytes (own_part part) ≡ part_bytes part
+    one : (part : Part) → flat_map sender.written_part (own_part part) ≡ part_bytes part
     one (Interim s) = append-nil (part_bytes (Interim s))
     one (Head s) = append-nil (part_bytes (Head s))
     one (Body bytes own) = append-nil (part_bytes (Body bytes own))

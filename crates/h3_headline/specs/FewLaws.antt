@@ -4,7 +4,7 @@ use Rattle.std.specs.Prelude.{nat_le, not, is_some, ◌||◌, nat_lt, ◌%◌}
 use Rattle.std.proofs.lemmas.Grind.{common_steps}
 use Rattle.h3_connection.specs.declared.event.Refusal.TheVariants as refusal
 use Rattle.h3_world.specs.Sending.{opened, sent_body, given_up, sent_head, sent_trailer, finished, cut_off, with_goaway}
-use Rattle.h3_connection.specs.Sending.{going_away}
+use Rattle.h3_connection.specs.Refusals.{going_away}
 use Rattle.h3_connection.specs.declared.event.Refusal.{Refusal}
 use Rattle.h3_proto.specs.declared.stream.Side.{Side}
 use Rattle.h3_connection.specs.Lasts.{last_id}

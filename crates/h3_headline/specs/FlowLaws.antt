@@ -3,7 +3,7 @@ use Rattle.std.proofs.Common.{◌≡◌, ℕ, zero, suc, ◌<◌, List, [], ◌�
 use Rattle.std.specs.Prelude.{slice_get, slice_set, ◌==◌, ◌%◌, unwrap_or, if◌then◌else◌, ◌&&◌}
 use Rattle.std.proofs.lemmas.Grind.{common_steps}
 use Rattle.std.proofs.Math.Nat.{div-add-mod}
-use Rattle.h3_proto.specs.StreamIds.{is_request, index_of}
+use Rattle.h3_proto.specs.StreamIds.{is_request_stream, index_of}
 use Rattle.h3_world.specs.World.{World, Exchange, no_exchange, party, Party, with_party}
 use Rattle.h3_world.specs.Streams.{exchange, with_exchange, flow, with_flow, is_open}
 use Rattle.h3_proto.specs.declared.stream.Side.{Side}
@@ -33,10 +33,10 @@ pub same_number : (a b : ℕ) → (a == b) ≡ true → a ≡ b
 same_number a b e = grind (arith, common_steps, e)
 
 -- requests have the places of their ids
-pub places_differ : (id i : ℕ) → is_request id ≡ true → is_request i ≡ true → (id == i) ≡ false → (index_of id == index_of i) ≡ false
+pub places_differ : (id i : ℕ) → is_request_stream id ≡ true → is_request_stream i ≡ true → (id == i) ≡ false → (index_of id == index_of i) ≡ false
 places_differ id i r q e = by_test (index_of id == index_of i) refl
   where
-    none_left : (n : ℕ) → is_request n ≡ true → n % 4 ≡ 0
+    none_left : (n : ℕ) → is_request_stream n ≡ true → n % 4 ≡ 0
     none_left n h = same_number (n % 4) 0 h
 
     same : index_of id ≡ index_of i → id ≡ i
@@ -57,7 +57,7 @@ exchange-with_exchange w id i e there = by_id (id == i) refl
         ap (λ b. if b then unwrap_or (slice_get (slice_set w.exchanges (index_of id) e) (index_of id)) no_exchange else no_exchange) there.request
         ∙ ap (λ o. unwrap_or o no_exchange) (set_here w.exchanges (index_of id) e there.place)
 
-    elsewhere : (id == i) ≡ false → (r : Bool) → is_request i ≡ r
+    elsewhere : (id == i) ≡ false → (r : Bool) → is_request_stream i ≡ r
         → (if r then unwrap_or (slice_get (slice_set w.exchanges (index_of id) e) (index_of i)) no_exchange else no_exchange)
         ≡ (if r then unwrap_or (slice_get w.exchanges (index_of i)) no_exchange else no_exchange)
     elsewhere not true q = ap (λ o. unwrap_or o no_exchange) (set_elsewhere w.exchanges (index_of id) (index_of i) e (places_differ id i there.request q not))
@@ -65,7 +65,7 @@ exchange-with_exchange w id i e there = by_id (id == i) refl
 
     by_id : (t : Bool) → (id == i) ≡ t → exchange (with_exchange w id e) i ≡ (if t then e else exchange w i)
     by_id true h = ap (exchange (with_exchange w id e)) (sym (same_number id i h)) ∙ here
-    by_id false h = elsewhere h (is_request i) refl
+    by_id false h = elsewhere h (is_request_stream i) refl
 
 request_of : (t : Bool) (a b : Exchange) → (if t then a else b).request ≡ (if t then a.request else b.request)
 request_of true a b = refl
@@ -157,36 +157,36 @@ below_is : (a b : ℕ) → a < b → nat_lt a b ≡ true
 below_is a b e = grind (arith, common_steps, e)
 
 pub open_there : (w : World) (side : Side) (id : ℕ) → is_open w side id ≡ true → IsThere w id
-open_there w Client id e = record { request = and_first (is_request id) _ e; place = below _ _ (and_second (is_request id) _ e) }
+open_there w Client id e = record { request = and_first (is_request_stream id) _ e; place = below _ _ (and_second (is_request_stream id) _ e) }
 open_there w Server id e =
-    let both = and_first (is_request id && nat_lt (index_of id) (length w.exchanges)) _ e in
-    record { request = and_first (is_request id) _ both; place = below _ _ (and_second (is_request id) _ both) }
+    let both = and_first (is_request_stream id && nat_lt (index_of id) (length w.exchanges)) _ e in
+    record { request = and_first (is_request_stream id) _ both; place = below _ _ (and_second (is_request_stream id) _ both) }
 
 pub there_open : (w : World) (id : ℕ) → IsThere w id → is_open w Client id ≡ true
 there_open w id h = rw (h.request, below_is (index_of id) (length w.exchanges) h.place) refl
 
 -- the side's own flow changes, and the same streams are open to it
 pub is_open-own : (w : World) (side : Side) (id i : ℕ) (f : Flow) → IsThere w id → is_open (with_flow w side id f) side i ≡ is_open w side i
-is_open-own w Client id i f there = ap (λ n. is_request i && nat_lt (index_of i) n) (set_length w.exchanges (index_of id) (record (exchange w id) { request = f }))
+is_open-own w Client id i f there = ap (λ n. is_request_stream i && nat_lt (index_of i) n) (set_length w.exchanges (index_of id) (record (exchange w id) { request = f }))
 is_open-own w Server id i f there =
-    ap (λ n. is_request i && nat_lt (index_of i) n && (exchange (with_flow w Server id f) i).request.seen) (set_length w.exchanges (index_of id) (record (exchange w id) { response = f }))
-    ∙ ap (λ g. is_request i && nat_lt (index_of i) (length w.exchanges) && g.seen) (flow-with_other w Server id i f there)
+    ap (λ n. is_request_stream i && nat_lt (index_of i) n && (exchange (with_flow w Server id f) i).request.seen) (set_length w.exchanges (index_of id) (record (exchange w id) { response = f }))
+    ∙ ap (λ g. is_request_stream i && nat_lt (index_of i) (length w.exchanges) && g.seen) (flow-with_other w Server id i f there)
 
 -- a flow to the side changes: the stream is open to it once it has seen anything of it
 pub is_open-peer : (w : World) (side : Side) (id i : ℕ) (f : Flow) → IsThere w id → f.seen ≡ true
     → is_open (with_flow w (other side) id f) side i ≡ (if id == i then true else is_open w side i)
 is_open-peer w Client id i f there seen =
-    ap (λ n. is_request i && nat_lt (index_of i) n) (set_length w.exchanges (index_of id) (record (exchange w id) { response = f }))
+    ap (λ n. is_request_stream i && nat_lt (index_of i) n) (set_length w.exchanges (index_of id) (record (exchange w id) { response = f }))
     ∙ sym (same_both (id == i) true (is_open w Client i) (λ e. sym (ap (is_open w Client) (sym (same_number id i e)) ∙ there_open w id there)))
 is_open-peer w Server id i f there seen =
-    ap (λ n. is_request i && nat_lt (index_of i) n && (exchange (with_flow w Client id f) i).request.seen) (set_length w.exchanges (index_of id) (record (exchange w id) { request = f }))
-    ∙ ap (λ g. is_request i && nat_lt (index_of i) (length w.exchanges) && g.seen) (flow-with_flow w Client id i f there)
+    ap (λ n. is_request_stream i && nat_lt (index_of i) n && (exchange (with_flow w Client id f) i).request.seen) (set_length w.exchanges (index_of id) (record (exchange w id) { request = f }))
+    ∙ ap (λ g. is_request_stream i && nat_lt (index_of i) (length w.exchanges) && g.seen) (flow-with_flow w Client id i f there)
     ∙ by_id (id == i) refl
   where
     by_id : (t : Bool) → (id == i) ≡ t
-        → (is_request i && nat_lt (index_of i) (length w.exchanges) && (if t then f else flow w Client i).seen) ≡ (if t then true else is_open w Server i)
+        → (is_request_stream i && nat_lt (index_of i) (length w.exchanges) && (if t then f else flow w Client i).seen) ≡ (if t then true else is_open w Server i)
     by_id true e =
-        ap (λ j. is_request j && nat_lt (index_of j) (length w.exchanges) && f.seen) (sym (same_number id i e))
+        ap (λ j. is_request_stream j && nat_lt (index_of j) (length w.exchanges) && f.seen) (sym (same_number id i e))
         ∙ rw (there.request, below_is (index_of id) (length w.exchanges) there.place, seen) refl
     by_id false e = refl
 
@@ -194,10 +194,10 @@ is_open-peer w Server id i f there seen =
 pub is_open-peer_kept : (w : World) (side : Side) (id i : ℕ) (f : Flow) → IsThere w id → f.seen ≡ (flow w (other side) id).seen
     → is_open (with_flow w (other side) id f) side i ≡ is_open w side i
 is_open-peer_kept w Client id i f there seen =
-    ap (λ n. is_request i && nat_lt (index_of i) n) (set_length w.exchanges (index_of id) (record (exchange w id) { response = f }))
+    ap (λ n. is_request_stream i && nat_lt (index_of i) n) (set_length w.exchanges (index_of id) (record (exchange w id) { response = f }))
 is_open-peer_kept w Server id i f there seen =
-    ap (λ n. is_request i && nat_lt (index_of i) n && (exchange (with_flow w Client id f) i).request.seen) (set_length w.exchanges (index_of id) (record (exchange w id) { request = f }))
-    ∙ ap (λ b. is_request i && nat_lt (index_of i) (length w.exchanges) && b) (ap (λ g. g.seen) (flow-with_flow w Client id i f there) ∙ by_id (id == i) refl)
+    ap (λ n. is_request_stream i && nat_lt (index_of i) n && (exchange (with_flow w Client id f) i).request.seen) (set_length w.exchanges (index_of id) (record (exchange w id) { request = f }))
+    ∙ ap (λ b. is_request_stream i && nat_lt (index_of i) (length w.exchanges) && b) (ap (λ g. g.seen) (flow-with_flow w Client id i f there) ∙ by_id (id == i) refl)
   where
     by_id : (t : Bool) → (id == i) ≡ t → (if t then f else flow w Client i).seen ≡ (flow w Client i).seen
     by_id true e = seen ∙ ap (λ j. (flow w Client j).seen) (same_number id i e)

@@ -3,7 +3,8 @@ use Rattle.std.proofs.Common.{◌≡◌, ℕ, ◌+◌, ◌-◌, ◌≤◌, List,
 use Rattle.std.proofs.lemmas.List.{take_at, take-append-le, drop_at, drop-append-le, length-drop}
 use Rattle.h3_wire.specs.Frames.{Front, frame_at, Whole, Unfinished}
 use Rattle.h3_wire.specs.Known.{known}
-use Rattle.h3_wire.specs.KnownLaws.{IsKnown, known-other}
+use Rattle.h3_wire.specs.KnownLaws.{known-other}
+use Rattle.h3_wire.specs.Fronts.{IsKnown, IsUnfinishedFront}
 use Rattle.h3_wire.specs.declared.proto.frame.Frame.TheVariants as frame
 use Rattle.h3_connection.specs.Skipping.{skip_front, skipped, is_empty_data, skipped_within}
 use Rattle.std.specs.Prelude.{◌&&◌}
@@ -16,7 +17,7 @@ use Rattle.h3_connection.specs.Incoming.{Incoming}
 use Rattle.h3_connection.specs.Pulling.{left_with}
 use Rattle.std.proofs.lemmas.Grind.{common_steps}
 use Rattle.h3_wire.specs.Encoded.{frame_encoding, head_encoding}
-use Rattle.h3_wire.specs.UnfinishedLaws.{IsUnfinishedFront, front_of_frame, front_of_head}
+use Rattle.h3_wire.specs.UnfinishedLaws.{front_of_frame, front_of_head}
 use Rattle.h3_wire.specs.EncodedLaws.{written_head}
 use Rattle.h3_headline.specs.Pulling.{IsLonger, with_unread}
 use Rattle.h3_headline.specs.Standing.{HasBytes}

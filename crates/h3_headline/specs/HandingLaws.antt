@@ -16,8 +16,8 @@ use Rattle.h3_world.specs.Sound.{OutOfNext}
 use Rattle.h3_headline.specs.ContentLaws.{bytes_taken, none_of_piece}
 use Rattle.h3_headline.specs.Contents.{Moves, all_taken, contents, handed, handed_of, has_end, part_taken, piece_of}
 use Rattle.h3_headline.specs.FlowLaws.{same_number}
-use Rattle.h3_headline.specs.Messages.{Content, is_end_item, item_contents, within}
-use Rattle.h3_headline.specs.Messages.Content.{Byte, HeadFields, InterimFields, TooLarge, TrailerFields}
+use Rattle.h3_headline.specs.Messages.{MessageContent, is_end_item, item_contents, within}
+use Rattle.h3_headline.specs.Messages.MessageContent.{Byte, HeadFields, InterimFields, TooLarge, TrailerFields}
 
 -- the next of some parts
 take_next : (parts : List Part) (n : ℕ) (part : Part) → slice_get parts n ≡ Some part → take (n + 1) parts ≡ take n parts ++ part ∷ []
@@ -36,7 +36,7 @@ differ : false ≡ true → ⊥
 differ h = grind (arith, common_steps, h)
 
 -- what was handed out of a flow, with one more part whole
-one_more : (most : ℕ) (f : Flow) (part : Part) (handing : List Content) → next_part f ≡ Some part → part_taken most part ≡ piece_of f.body_out (next_part f) ++ handing
+one_more : (most : ℕ) (f : Flow) (part : Part) (handing : List MessageContent) → next_part f ≡ Some part → part_taken most part ≡ piece_of f.body_out (next_part f) ++ handing
     → handed_of most f.sent (f.parts_out + 1) 0 ≡ handed most f ++ handing
 one_more most f part handing next taken =
     let before = all_taken most (take f.parts_out f.sent) in
@@ -59,7 +59,7 @@ last_out n parts part next is =
     before n = omega arith
 
 -- The rest of the next part goes out.
-part_out : (most : ℕ) (f g : Flow) (part : Part) (handing : List Content) (ending : Bool) → next_part f ≡ Some part → is_over f ≡ false
+part_out : (most : ℕ) (f g : Flow) (part : Part) (handing : List MessageContent) (ending : Bool) → next_part f ≡ Some part → is_over f ≡ false
     → g.sent ≡ f.sent → g.parts_out ≡ f.parts_out + 1 → g.body_out ≡ 0 → part_taken most part ≡ piece_of f.body_out (next_part f) ++ handing → (ending ≡ true → is_end (Some part) ≡ true)
     → Moves most f g [] false handing ending
 part_out most f g part handing ending next over sent parts body taken ends =
@@ -75,7 +75,7 @@ part_out most f g part handing ending next over sent parts body taken ends =
     }
 
 -- a section within the limit
-section_whole : (kind : Fields → Item) (mark : List Field → Content) (most : ℕ) (fields : List Field) (i : Item) → ((h : Fields) → item_contents (kind h) ≡ mark (head_fields h) ∷ [])
+section_whole : (kind : Fields → Item) (mark : List Field → MessageContent) (most : ℕ) (fields : List Field) (i : Item) → ((h : Fields) → item_contents (kind h) ≡ mark (head_fields h) ∷ [])
     → ((head : Fields) × (i ≡ kind head) × (head_fields head ≡ fields) × (section_size fields ≤ most) × (head ≡ head_of_fields fields)) → item_contents i ≡ within most fields (mark fields) ∷ []
 section_whole kind mark most fields i of h =
     ap item_contents h.1 ∙ of h.0 ∙ ap (λ fs. mark fs ∷ []) h.2 ∙ ap (λ b. (if b then TooLarge (section_size fields) else mark fields) ∷ []) (sym (not_above most (section_size fields) h.3))
@@ -84,7 +84,7 @@ section_whole kind mark most fields i of h =
     not_above a b h = grind (arith, common_steps, h)
 
 -- The item of a section is the section, as the reader takes it.
-section_item : (kind : Fields → Item) (mark : List Field → Content) (most : ℕ) (fields : List Field) (i : Item) → ((h : Fields) → item_contents (kind h) ≡ mark (head_fields h) ∷ [])
+section_item : (kind : Fields → Item) (mark : List Field → MessageContent) (most : ℕ) (fields : List Field) (i : Item) → ((h : Fields) → item_contents (kind h) ≡ mark (head_fields h) ∷ [])
     → IsSectionItem kind most fields i → item_contents i ≡ within most fields (mark fields) ∷ []
 section_item kind mark most fields (item.TooLarge size) of h =
     ap (λ n. TooLarge n ∷ []) h.0 ∙ ap (λ b. (if b then TooLarge (section_size fields) else mark fields) ∷ []) (sym (above most (section_size fields) h.1))
@@ -164,7 +164,7 @@ section_ends kind most fields (item.Session id) of h = refl
 section_ends kind most fields (item.Raw bytes) of h = refl
 section_ends kind most fields item.End of h = ap is_end_item h.1 ∙ of h.0
 
-section_out : (most : ℕ) (f : Flow) (part : Part) (kind : Fields → Item) (mark : List Field → Content) (fields : List Field) (i : Item) → next_part f ≡ Some part → is_over f ≡ false → f.body_out ≡ 0
+section_out : (most : ℕ) (f : Flow) (part : Part) (kind : Fields → Item) (mark : List Field → MessageContent) (fields : List Field) (i : Item) → next_part f ≡ Some part → is_over f ≡ false → f.body_out ≡ 0
     → part_taken most part ≡ within most fields (mark fields) ∷ [] → ((h : Fields) → item_contents (kind h) ≡ mark (head_fields h) ∷ []) → ((h : Fields) → is_end_item (kind h) ≡ false)
     → IsSectionItem kind most fields i → Moves most f (record f { parts_out = f.parts_out + 1; waits_for = 0 }) [] false (item_contents i) (is_end_item i)
 section_out most f part kind mark fields i next over none taken of ends h =

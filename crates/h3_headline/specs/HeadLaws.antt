@@ -7,15 +7,16 @@ use Rattle.h3_qpack.specs.Encodings.{IsWrittenInstruction}
 use Rattle.h3_connection.specs.Endpoint.{Own, EndpointHistory}
 use Rattle.h3_connection.specs.Outgoing.{OwnPart, takes_head, is_unsent, takes_body, last_is_trailer}
 use Rattle.h3_connection.specs.OwnIds.{other, encoder_id}
-use Rattle.h3_connection.specs.Sections.{encoded_section, instructions_for}
-use Rattle.h3_connection.specs.Sending.{appended as part_appended, counted, encoded, fields_cost, is_too_large, asked, awaiting_at, first_of, head_part, does, outgoing_at, content_of_own, known_of, saying_at}
+use Rattle.h3_connection.specs.Sections.{written_section, own_instructions}
+use Rattle.h3_connection.specs.Refusals.{is_too_large, first_of}
+use Rattle.h3_connection.specs.Sending.{appended as part_appended, counted, encoded, fields_cost, asked, awaiting_at, head_part, does, outgoing_at, content_of_own, known_of, saying_at}
 use Rattle.h3_connection.specs.StreamSets.{stream_at, set_stream}
 use Rattle.h3_world.specs.declared.setup.Setup.{Setup}
 use Rattle.h3_world.specs.declared.event.Answer.TheVariants as answer
 use Rattle.h3_world.specs.Ends.{Ends, end_at, answered}
 use Rattle.h3_world.specs.Flow.{Flow, Section, Part}
 use Rattle.h3_world.specs.Order.{outgoing_of}
-use Rattle.h3_world.specs.Sending.{appended, having_encoded, section_sent, sent_section, sent_head, sent_trailer}
+use Rattle.h3_world.specs.Sending.{appended, having_encoded, section_sent, with_section, sent_head, sent_trailer}
 use Rattle.h3_world.specs.Streams.{flow, is_open}
 use Rattle.h3_world.specs.World.{World, party, with_party}
 use Rattle.h3_world.specs.Came.{settings_known}
@@ -60,9 +61,9 @@ all_joined P (x ∷ xs) ys h k = (h.0, all_joined P xs ys h.1 k)
 -- **A section goes out.**
 section_does : (setup : Setup) (w : World) (ends : Ends) (side : Side) (id : ℕ) (fields : List Field) (kind : Section → Part) (own : List ℕ → OwnPart) → Stands setup w ends → IsOfSection kind own
     → is_open w side id ≡ true → (outgoing_of (flow w side id)).is_finished ≡ false → IsReadable (other side) (kind (section_sent (party w side) id fields (flow w side id)))
-    → AllByRecursion IsWrittenInstruction (instructions_for (party w side).encoder id fields)
-    → Does setup (sent_section kind w side id fields) ends side answer.Done answer.Done
-    (counted (part_appended (encoded (end_at ends side) id fields) id (own (encoded_section (end_at ends side).encoder id fields))) (fields_cost fields))
+    → AllByRecursion IsWrittenInstruction (own_instructions (party w side).encoder id fields)
+    → Does setup (with_section kind w side id fields) ends side answer.Done answer.Done
+    (counted (part_appended (encoded (end_at ends side) id fields) id (own (written_section (end_at ends side).encoder id fields))) (fields_cost fields))
 section_does setup w ends side id fields kind own h of_section opened unfinished readable instructions =
     let e = end_at ends side in
     let f = end_at ends (other side) in
@@ -73,21 +74,21 @@ section_does setup w ends side id fields kind own h of_section opened unfinished
     let to = flow w side id in
     let part = kind (section_sent old id fields to) in
     let g = appended to part in
-    let v = sent_section kind w side id fields in
-    let new = counted (part_appended (encoded e id fields) id (own (encoded_section e.encoder id fields))) (fields_cost fields) in
+    let v = with_section kind w side id fields in
+    let new = counted (part_appended (encoded e id fields) id (own (written_section e.encoder id fields))) (fields_cost fields) in
     let mid = record e { own = p.own; encoder = p.encoder } in
     let k = hears setup w side f b.there in
     let heard : Hears setup side p.own f =
     record {
       control = k.control;
-      encoder_stream = encoder_stream_more setup (other side) old.own.encoder_taken old.own.instructions (instructions_for old.encoder id fields) (stream_at f.unidirectional (encoder_id (other (other side)))) f.encoder_on f.decoding
+      encoder_stream = encoder_stream_more setup (other side) old.own.encoder_taken old.own.instructions (own_instructions old.encoder id fields) (stream_at f.unidirectional (encoder_id (other (other side)))) f.encoder_on f.decoding
           (sound_party setup w side h.sound).writer.encoder k.encoder_stream;
       decoder_stream = k.decoder_stream;
     } in
     let writes : IsWritable side p.own =
     record {
       goaways = b.writes_here.goaways;
-      instructions = all_joined IsWrittenInstruction old.own.instructions (instructions_for old.encoder id fields) b.writes_here.instructions instructions;
+      instructions = all_joined IsWrittenInstruction old.own.instructions (own_instructions old.encoder id fields) b.writes_here.instructions instructions;
       replies = b.writes_here.replies;
     } in
     let midway : Both setup u side mid f = party_writes setup w side p e f b heard writes in
@@ -98,7 +99,7 @@ section_does setup w ends side id fields kind own h of_section opened unfinished
     ap (λ (o : Own). written e own id fields new.sent o e.encoder (stream_at e.outgoing id)) b.here.own
     ∙ ap (λ s. written e own id fields new.sent old.own s (stream_at e.outgoing id)) b.here.encoder
     ∙ ap (written e own id fields new.sent old.own old.encoder) stream
-    ∙ ap (writing_to e id p new.sent) (sends_part to part (own (encoded_section old.encoder id fields)) (of_section.wrote (section_sent old id fields to)) (of_section.more (section_sent old id fields to)) unfinished) in
+    ∙ ap (writing_to e id p new.sent) (sends_part to part (own (written_section old.encoder id fields)) (of_section.wrote (section_sent old id fields to)) (of_section.more (section_sent old id fields to)) unfinished) in
     does_on setup w v ends side answer.Done new h refl (flow_count u side id g ∙ party_count w side p)
     (subst (λ x. Both setup v side x f) (sym is)
     (flow_extended setup u side id new.sent g mid f midway (is_open-with_party w side side p id ∙ opened) extends))
@@ -114,11 +115,11 @@ too_large_agrees setup w side e fields h = ap (λ o. is_too_large o fields) h.co
 -- an endpoint that asks for no strict messages refuses no list by their rules
 no_broken_head : (setup : Setup) (w : World) (side : Side) (e : EndpointHistory) (fields : List Field) → IsPlain (announced_at setup side) → StandsAt setup w side e → broken_head e.side e.announced e.peer.settings fields ≡ None
 no_broken_head setup w side e fields plain h =
-    ap (λ b. let rule : Option Malformation = if b then option_map malformation_by (violation_of_own_head e.side e.peer.settings fields) else None in rule) (ap (λ (a : Announced). a.choices.strict_messages) h.announced ∙ plain)
+    ap (λ b. let rule : Option Malformation = if b then option_map malformation_by (violation_of_own_head e.side e.peer.settings fields) else None in rule) (ap (λ (a : Announced). a.choices.strict_messages) h.announced ∙ plain.0)
 
 no_broken_trailer : (setup : Setup) (w : World) (side : Side) (e : EndpointHistory) (fields : List Field) → IsPlain (announced_at setup side) → StandsAt setup w side e → broken_trailer e.announced fields ≡ None
 no_broken_trailer setup w side e fields plain h =
-    ap (λ b. let rule : Option Malformation = if b then option_map malformation_by (violation_of_trailer fields) else None in rule) (ap (λ (a : Announced). a.choices.strict_messages) h.announced ∙ plain)
+    ap (λ b. let rule : Option Malformation = if b then option_map malformation_by (violation_of_trailer fields) else None in rule) (ap (λ (a : Announced). a.choices.strict_messages) h.announced ∙ plain.0)
 
 -- a head with a status from 100 to 199 is no request
 only_client : (reader : Side) (head : Fields) → is_for reader head ≡ true → is_interim head.status ≡ true → is_client reader ≡ true
@@ -144,7 +145,7 @@ turned false e = cc
 -- an end that judges plainly remembers nothing of a head
 unasked : (setup : Setup) (w : World) (side : Side) (e f : EndpointHistory) (id : ℕ) (fields : List Field) → IsPlain (announced_at setup side) → StandsAt setup w side e → f.announced ≡ e.announced → asked f id fields ≡ f
 unasked setup w side e f id fields plain h same =
-    let is : f.announced.choices.strict_messages ≡ false = ap (λ (a : Announced). a.choices.strict_messages) (same ∙ h.announced) ∙ plain in
+    let is : f.announced.choices.strict_messages ≡ false = ap (λ (a : Announced). a.choices.strict_messages) (same ∙ h.announced) ∙ plain.0 in
     ap (λ b. let g : EndpointHistory = record f {
       incoming = if b && is_client f.side then awaiting_at f.incoming id (awaited_by fields) (stream_at f.incoming id) else f.incoming;
       outgoing = if b then saying_at f.outgoing id (content_of_own f.side (known_of (stream_at f.incoming id)) fields) (stream_at f.outgoing id) else f.outgoing;
@@ -159,7 +160,7 @@ head_served setup w ends side id head plain h writable =
     let fields = head_fields head in
     let size = refusal.TooLarge (section_size fields) in
     let to = outgoing_of (flow w side id) in
-    let new = counted (part_appended (encoded e id fields) id (head_part head (encoded_section e.encoder id fields))) (fields_cost fields) in
+    let new = counted (part_appended (encoded e id fields) id (head_part head (written_section e.encoder id fields))) (fields_cost fields) in
     subst (λ n. Serves setup (ends_of.done ends side answer.Done (does (sender.head_refusal e id head) e n)) (served setup w (event.Head side id head))) (sym (unasked setup w side e new id fields plain b.here refl))
     (call_agrees setup w (sent_head w side id head) ends side answer.Done answer.Done (sender.head_refusal e id head) (head_refusal setup w side id head) new h
     (refusal_agrees setup w side id e (λ o. (not (takes_head o), refusal.OutOfOrder) ∷ (not (is_for (other e.side) head), refusal.WrongSide) ∷ unless_malformed (broken_head e.side e.announced e.peer.settings fields) ((is_too_large e.peer.settings fields, size) ∷ [])) b.here
@@ -175,9 +176,9 @@ head_served setup w ends side id head plain h writable =
     by_interim (is_interim head.status) refl o.0 (open_parts to.is_finished to.is_reset (is_unsent to.parts) t.0).0 (turned (is_for (other side) head) s.0)))
   where
     by_interim : (i : Bool) → is_interim head.status ≡ i → is_open w side id ≡ true → (outgoing_of (flow w side id)).is_finished ≡ false → is_for (other side) head ≡ true
-        → Does setup (sent_section (if i then Interim else Head) w side id (head_fields head)) ends side answer.Done answer.Done
+        → Does setup (with_section (if i then Interim else Head) w side id (head_fields head)) ends side answer.Done answer.Done
         (counted (part_appended (encoded (end_at ends side) id (head_fields head)) id
-        (if i then OwnInterim (encoded_section (end_at ends side).encoder id (head_fields head)) else OwnHead (encoded_section (end_at ends side).encoder id (head_fields head)))) (fields_cost (head_fields head)))
+        (if i then OwnInterim (written_section (end_at ends side).encoder id (head_fields head)) else OwnHead (written_section (end_at ends side).encoder id (head_fields head)))) (fields_cost (head_fields head)))
     by_interim true i opened unfinished fits =
         section_does setup w ends side id (head_fields head) Interim OwnInterim h (record { wrote = λ s. refl; more = λ s. refl }) opened unfinished
         (only_client (other side) head fits i, ap (is_for (other side)) writable.read_as ∙ for_read (other side) head ∙ fits, ap (λ (x : Fields). is_interim x.status) writable.read_as ∙ i) writable.instructions
@@ -210,7 +211,7 @@ trailer_served setup w ends side id head plain h writable =
     let size = refusal.TooLarge (section_size fields) in
     let to = outgoing_of (flow w side id) in
     call_agrees setup w (sent_trailer w side id head) ends side answer.Done answer.Done (sender.trailer_refusal e id head) (trailer_refusal setup w side id head)
-    (counted (part_appended (encoded e id fields) id (OwnTrailer (encoded_section e.encoder id fields))) (fields_cost fields)) h
+    (counted (part_appended (encoded e id fields) id (OwnTrailer (written_section e.encoder id fields))) (fields_cost fields)) h
     (refusal_agrees setup w side id e (λ o. (not (takes_body o), refusal.OutOfOrder) ∷ (has_pseudo head, refusal.PseudoInTrailer) ∷ unless_malformed (early_trailer o.content) (unless_malformed (broken_trailer e.announced fields) ((is_too_large e.peer.settings fields, size) ∷ []))) b.here
     ∙ ap (λ m. first_of ((not (is_open w side id), refusal.NotOpen) ∷ (not (takes_body to), refusal.OutOfOrder) ∷ (has_pseudo head, refusal.PseudoInTrailer) ∷ unless_malformed m ((is_too_large e.peer.settings fields, size) ∷ [])))
     (no_broken_trailer setup w side e fields plain b.here)

@@ -4,7 +4,7 @@ use Rattle.h3_header.specs.Head.{head_fields, has_pseudo}
 use Rattle.h3_connection.specs.Outgoing.{takes_head, takes_body, takes_end}
 use Rattle.h3_connection.specs.OwnIds.{other}
 use Rattle.h3_connection.specs.Pulling.{is_for}
-use Rattle.h3_connection.specs.Sending.{is_too_large}
+use Rattle.h3_connection.specs.Refusals.{is_too_large}
 use Rattle.h3_world.specs.declared.setup.Setup.{Setup}
 use Rattle.h3_world.specs.declared.event.Event.{Event}
 use Rattle.h3_world.specs.declared.event.Event.TheVariants as event

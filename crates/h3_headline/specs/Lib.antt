@@ -72,6 +72,7 @@ pub mod Status
 pub mod StatusLaws
 pub mod Steps
 pub mod TableReading
+pub mod TableReadingLaws
 pub mod UnitLaws
 pub mod Waiting
 pub mod WaitingAtLaws

@@ -10,7 +10,7 @@ use Rattle.h3_connection.specs.declared.event.Refusal.{Refusal}
 use Rattle.h3_world.specs.declared.event.Answer.{Answer}
 use Rattle.h3_world.specs.declared.event.Answer.TheVariants as answer
 use Rattle.h3_world.specs.Step.{Does, Step}
-use Rattle.h3_connection.specs.Sending.{first_of, is_too_large}
+use Rattle.h3_connection.specs.Refusals.{first_of, is_too_large}
 use Rattle.h3_connection.specs.declared.event.Refusal.TheVariants as refusal
 use Rattle.std.specs.Prelude.{if◌then◌else◌, map, ◌||◌, is_some}
 use Rattle.h3_world.specs.Order.{is_end, outgoing_of, is_sent_off, is_over, next_part}
@@ -44,8 +44,8 @@ use Rattle.h3_headline.specs.Contents.{Goes, HasSameParts, KeepsParts, Moves, Mo
 use Rattle.h3_headline.specs.FlowLaws.{flow-with_party, open_there, same_both, there-with_party}
 use Rattle.h3_headline.specs.HandingLaws.{hands}
 use Rattle.h3_headline.specs.KeepsPartsLaws.{flow_at, keeps_delivery, keeps_end, keeps_flows, keeps_given_up, keeps_reset, keeps_same, keeps_with_flow, keeps_with_party, same_flow}
-use Rattle.h3_headline.specs.Messages.{Content, contents_of, head_content, is_end_of, is_on}
-use Rattle.h3_headline.specs.Messages.Content.{Byte, HeadFields, InterimFields, TrailerFields}
+use Rattle.h3_headline.specs.Messages.{MessageContent, contents_of, head_content, is_end_of, is_on}
+use Rattle.h3_headline.specs.Messages.MessageContent.{Byte, HeadFields, InterimFields, TrailerFields}
 use Rattle.h3_headline.specs.OpeningLaws.{flow_opened}
 use Rattle.h3_headline.specs.SettledLaws.{settled_none, settled_says}
 use Rattle.h3_headline.specs.Steps.{IsThere}
@@ -75,7 +75,7 @@ not_critical true there rules e = cc
 not_critical false there rules e = not_refused there rules e
 
 -- A part is sent on a stream of a world, which is otherwise as another one.
-part_on : (setup : Setup) (w v : World) (s : Side) (i : ℕ) (part : Part) (sending : List Content) (finishing : Bool) (writer : Side) (id : ℕ) → IsSoundWorld setup w → IsThere w i → IsThere v i
+part_on : (setup : Setup) (w v : World) (s : Side) (i : ℕ) (part : Part) (sending : List MessageContent) (finishing : Bool) (writer : Side) (id : ℕ) → IsSoundWorld setup w → IsThere w i → IsThere v i
     → ((x : Side) (j : ℕ) → flow v x j ≡ flow w x j) → part_contents part ≡ sending → is_end (Some part) ≡ finishing
     → Moves (limit_of_reader setup writer) (flow w writer id) (flow (with_flow v s i (appended (flow w s i) part)) writer id)
     (if is_on writer id s i then sending else []) (if is_on writer id s i then finishing else false) [] false
@@ -94,7 +94,7 @@ part_on setup w v s i part sending finishing writer id h there still same is end
         subst (λ f. Moves most f (appended (flow w s i) part) sending finishing [] false) (sym (same_flow w s writer i id e)) (grows most (flow w s i) part sending finishing sound.out sound.body_out is end)
     by_on false e = kept most (flow w writer id) (flow w writer id) (keeps_same w writer id)
 
-content_on : (setup : Setup) (w v : World) (s : Side) (i : ℕ) (part : Part) (sending : List Content) (writer : Side) (id : ℕ) → IsSoundWorld setup w → IsThere w i → IsThere v i
+content_on : (setup : Setup) (w v : World) (s : Side) (i : ℕ) (part : Part) (sending : List MessageContent) (writer : Side) (id : ℕ) → IsSoundWorld setup w → IsThere w i → IsThere v i
     → ((x : Side) (j : ℕ) → flow v x j ≡ flow w x j) → part_contents part ≡ sending → is_end (Some part) ≡ false
     → Moves (limit_of_reader setup writer) (flow w writer id) (flow (with_flow v s i (appended (flow w s i) part)) writer id) (if is_on writer id s i then sending else []) false [] false
 content_on setup w v s i part sending writer id h there still same is end =
@@ -122,7 +122,7 @@ no_end true s = refl
 no_end false s = refl
 
 -- A section is written by the encoder, and sent.
-section_on : (setup : Setup) (w : World) (s : Side) (i : ℕ) (p : Party) (part : Part) (sending : List Content) (writer : Side) (id : ℕ) → IsSoundWorld setup w → IsThere w i
+section_on : (setup : Setup) (w : World) (s : Side) (i : ℕ) (p : Party) (part : Part) (sending : List MessageContent) (writer : Side) (id : ℕ) → IsSoundWorld setup w → IsThere w i
     → part_contents part ≡ sending → is_end (Some part) ≡ false
     → Moves (limit_of_reader setup writer) (flow w writer id) (flow (with_flow (with_party w s p) s i (appended (flow w s i) part)) writer id) (if is_on writer id s i then sending else []) false [] false
 section_on setup w s i p part sending writer id h there is end =

@@ -2,7 +2,7 @@
 use Rattle.std.proofs.Common.{◌≡◌, ℕ, zero, suc, ◌+◌, List, [], ◌∷◌, ◌++◌, refl, ◌≤◌, length, arith, ap, if◌then◌else◌, ◌*◌, true, ◌∙◌, length-append, ◌<◌, Bool, false, nat_lt, sym, subst, Some, None, ◌^◌, Option}
 use Rattle.std.specs.Prelude.{slice_get, unwrap_or, not, ◌/◌, ◌%◌, ◌==◌, ◌&&◌, nat_le}
 use Rattle.h3_world.specs.World.{Exchange, no_exchange, World}
-use Rattle.h3_proto.specs.StreamIds.{is_request, index_of}
+use Rattle.h3_proto.specs.StreamIds.{is_request_stream, index_of}
 use Rattle.h3_world.specs.Sending.{opened}
 use Rattle.h3_world.specs.Streams.{exchange, flow, is_open}
 use Rattle.h3_proto.specs.declared.stream.Side.{Side}
@@ -20,7 +20,7 @@ use Rattle.h3_world.specs.declared.setup.Setup.{Setup}
 use Rattle.h3_world.specs.Order.{outgoing_of}
 use Rattle.h3_connection.specs.Lasts.{last_id}
 use Rattle.h3_connection.specs.Pulling.{is_client}
-use Rattle.h3_connection.specs.Sending.{going_away}
+use Rattle.h3_connection.specs.Refusals.{going_away}
 use Rattle.h3_connection.specs.Sending as sender
 use Rattle.h3_connection.specs.declared.event.Refusal.TheVariants as refusal
 use Rattle.h3_world.specs.Came.{goaways_came}
@@ -50,7 +50,7 @@ beyond (e ∷ es) (suc n) h = beyond es n (omega (arith, h))
 
 -- a stream on which nothing has happened is there as one that is not there
 exchange_opened : (w : World) (i : ℕ) → exchange (opened w) i ≡ exchange w i
-exchange_opened w i = ap (λ e. if is_request i then e else no_exchange) (get_default w.exchanges (index_of i))
+exchange_opened w i = ap (λ e. if is_request_stream i then e else no_exchange) (get_default w.exchanges (index_of i))
 
 pub flow_opened : (w : World) (side : Side) (i : ℕ) → flow (opened w) side i ≡ flow w side i
 flow_opened w Client i = ap (λ e. e.request) (exchange_opened w i)
@@ -59,7 +59,7 @@ flow_opened w Server i = ap (λ e. e.response) (exchange_opened w i)
 four_of : (n : ℕ) → (4 * n) / 4 ≡ n
 four_of n = omega (arith, div-add-mod (4 * n) 4)
 
-request_of : (n : ℕ) → is_request (4 * n) ≡ true
+request_of : (n : ℕ) → is_request_stream (4 * n) ≡ true
 request_of n = let k : (4 * n) % 4 ≡ 0 = omega (arith, div-add-mod (4 * n) 4) in ap (λ m. m == 0) k
 
 new_unused : (w : World) → exchange w (next_id w) ≡ no_exchange
@@ -70,7 +70,7 @@ new_unused w =
 pub one_more : (w : World) → length (opened w).exchanges ≡ length w.exchanges + 1
 one_more w = length-append w.exchanges (no_exchange ∷ [])
 
-within_more : (i n : ℕ) → is_request i ≡ true → (4 * n == i) ≡ false → nat_lt (index_of i) (n + 1) ≡ nat_lt (index_of i) n
+within_more : (i n : ℕ) → is_request_stream i ≡ true → (4 * n == i) ≡ false → nat_lt (index_of i) (n + 1) ≡ nat_lt (index_of i) n
 within_more i n request off = by_test (nat_lt (i / 4) (n + 1)) refl (nat_lt (i / 4) n) refl
   where
     whole : i % 4 ≡ 0
@@ -98,23 +98,23 @@ within_more i n request off = by_test (nat_lt (i / 4) (n + 1)) refl (nat_lt (i /
     by_test false p true q = absurd (omega (arith, over p, less q))
 
 open_opened : (w : World) (i : ℕ) → is_open (opened w) Client i ≡ (if next_id w == i then true else is_open w Client i)
-open_opened w i = ap (λ n. is_request i && nat_lt (index_of i) n) (one_more w) ∙ by_id (next_id w == i) refl
+open_opened w i = ap (λ n. is_request_stream i && nat_lt (index_of i) n) (one_more w) ∙ by_id (next_id w == i) refl
   where
-    here : is_request (next_id w) ≡ true → nat_lt (index_of (next_id w)) (length w.exchanges + 1) ≡ true
+    here : is_request_stream (next_id w) ≡ true → nat_lt (index_of (next_id w)) (length w.exchanges + 1) ≡ true
     here r = let k : index_of (next_id w) ≡ length w.exchanges = four_of (length w.exchanges) in ap (λ n. nat_lt n (length w.exchanges + 1)) k ∙ less (length w.exchanges)
       where
         less : (n : ℕ) → nat_lt n (n + 1) ≡ true
         less n = grind (arith, common_steps)
 
-    elsewhere : (next_id w == i) ≡ false → (r : Bool) → is_request i ≡ r → (r && nat_lt (index_of i) (length w.exchanges + 1)) ≡ (r && nat_lt (index_of i) (length w.exchanges))
+    elsewhere : (next_id w == i) ≡ false → (r : Bool) → is_request_stream i ≡ r → (r && nat_lt (index_of i) (length w.exchanges + 1)) ≡ (r && nat_lt (index_of i) (length w.exchanges))
     elsewhere off true r = within_more i (length w.exchanges) r off
     elsewhere off false r = refl
 
-    by_id : (t : Bool) → (next_id w == i) ≡ t → (is_request i && nat_lt (index_of i) (length w.exchanges + 1)) ≡ (if t then true else is_open w Client i)
+    by_id : (t : Bool) → (next_id w == i) ≡ t → (is_request_stream i && nat_lt (index_of i) (length w.exchanges + 1)) ≡ (if t then true else is_open w Client i)
     by_id true same =
-        ap (λ j. is_request j && nat_lt (index_of j) (length w.exchanges + 1)) (sym (same_number (next_id w) i same))
+        ap (λ j. is_request_stream j && nat_lt (index_of j) (length w.exchanges + 1)) (sym (same_number (next_id w) i same))
         ∙ ap (λ b. b && nat_lt (index_of (next_id w)) (length w.exchanges + 1)) (request_of (length w.exchanges)) ∙ here (request_of (length w.exchanges))
-    by_id false off = elsewhere off (is_request i) refl
+    by_id false off = elsewhere off (is_request_stream i) refl
 
 -- a server has not seen it
 unopened : (w : World) (i : ℕ) → is_open (opened w) Server i ≡ is_open w Server i

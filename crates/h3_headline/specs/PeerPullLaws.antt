@@ -20,7 +20,7 @@ use Rattle.h3_world.specs.Pulling.{pull_unidirectional}
 use Rattle.h3_proto.specs.declared.stream.Side.TheVariants.{Client, Server}
 use Rattle.h3_connection.specs.Endpoint.Kind.{PeerUnidirectional, Request, ServerOpened, OwnUnidirectional}
 use Rattle.std.proofs.lemmas.Grind.{common_steps}
-use Rattle.h3_proto.specs.StreamIds.{is_request}
+use Rattle.h3_proto.specs.StreamIds.{is_request_stream}
 use Rattle.h3_headline.specs.FlowLaws.{same_number}
 use Rattle.h3_headline.specs.Pulls.{answer_of, answering, having_streams, in_role, kind_by}
 use Rattle.h3_headline.specs.SettledPullLaws.{set_same}
@@ -92,7 +92,7 @@ pub unidirectional_pull : (setup : Setup) (w : World) (side : Side) (id : ℕ) (
 unidirectional_pull setup w side id e h is = plain_pull setup w side id e h ∙ ap (pull_at e id) (peer_kind side id is) ∙ peer_answers setup w side id e h
 
 -- **A stream that the server opens in both directions, and one that the side itself opens in one: no messages come.**
-pub silent_pull : (setup : Setup) (w : World) (side : Side) (id : ℕ) (e : EndpointHistory) → StandsAt setup w side e → is_request id ≡ false → (id % 4 == control_id (other side)) ≡ false → pulls e id ≡ (pull.NoMessages, e)
+pub silent_pull : (setup : Setup) (w : World) (side : Side) (id : ℕ) (e : EndpointHistory) → StandsAt setup w side e → is_request_stream id ≡ false → (id % 4 == control_id (other side)) ≡ false → pulls e id ≡ (pull.NoMessages, e)
 silent_pull setup w side id e h none off =
     plain_pull setup w side id e h
     ∙ ap (λ t. pull_at e id (if t then Request else (if id % 4 == 1 then ServerOpened else (if id % 4 == control_id side then OwnUnidirectional else PeerUnidirectional)))) none

@@ -20,7 +20,7 @@ use Rattle.h3_world.specs.OwnStreams.{settings_bytes}
 use Rattle.h3_proto.specs.declared.stream.Side.{Side}
 use Rattle.h3_connection.specs.OwnIds.{other}
 use Rattle.h3_field.specs.Instruction.{DecoderInstruction, decoder_bytes}
-use Rattle.h3_connection.specs.Control.{Found, increment, is_usable, with_table, if_learned, then_decoder}
+use Rattle.h3_connection.specs.Control.{Found, increment, is_table_usable, with_table, if_learned, then_decoder}
 use Rattle.h3_qpack.specs.DecoderState.{DecoderState}
 use Rattle.h3_connection.specs.Listeners.{Decoding, after_hearing, fault_if, insertions_heard}
 use Rattle.h3_connection.specs.Delivering.{with_unidirectional}
@@ -107,9 +107,6 @@ no_fault p = (p, None)
 
 -- a control stream of which so many bytes came, and so many come now
 module _ (writer : Side) (a : Announced) (came count : ℕ) (gs : List ℕ) where
-  abbrev start : ℕ
-  start = length (settings_bytes a)
-
   abbrev pub new_bytes : List ℕ
   new_bytes = behind_type came count (settings_frame_of a ++ flat_map goaway_encoding gs)
 
@@ -183,7 +180,7 @@ after_control false false e limits came replies = e
 after_control true c e limits came replies = e
 
 abbrev pub limited_by : EndpointHistory → ℕ → ℕ → EndpointHistory
-limited_by e capacity blocked = if is_usable e.encoder.most_capacity capacity blocked then with_table e capacity blocked else e
+limited_by e capacity blocked = if is_table_usable e.encoder.most_capacity capacity blocked then with_table e capacity blocked else e
 
 abbrev pub settled : Option (List (ℕ × ℕ)) → Option (List (ℕ × ℕ)) → EndpointHistory → Found
 settled before after e = then_decoder before after (if_learned before after e) None

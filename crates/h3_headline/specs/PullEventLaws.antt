@@ -40,7 +40,7 @@ use Rattle.h3_field.specs.Instruction.{DecoderInstruction}
 use Rattle.h3_connection.specs.Sending.{after_fault, after_answer, pull_request, pull_at}
 use Rattle.h3_connection.specs.declared.event.Fault.TheVariants as faults
 use Rattle.h3_connection.specs.Incoming.{Incoming}
-use Rattle.h3_proto.specs.StreamIds.{is_request}
+use Rattle.h3_proto.specs.StreamIds.{is_request_stream}
 use Rattle.h3_connection.specs.StreamSets.{stream_at}
 use Rattle.h3_connection.specs.declared.event.StreamFault.{StreamFault}
 use Rattle.h3_connection.specs.declared.event.Item.TheVariants as item
@@ -97,7 +97,7 @@ ends_within : (laws : Laws) (setup : Setup) (w : World) (ends : Ends) (side : Si
 ends_within laws setup w ends side h =
     let e = end_at ends side in
     let b = both_of setup w side ends h in
-    let shown = laws.worlds.both setup w w (event.Show side) (answer.Shown (limits_shown setup w side) (sizes_shown setup w side) (streams_waiting w side)) tt (refl, refl) tt h.sound in
+    let shown = laws.worlds.both setup w w (event.Show side) (answer.Shown (limits_shown setup w side) (sizes_shown w side) (streams_waiting w side)) tt (refl, refl) tt h.sound in
     let bound = within setup w side shown.0.within_limits in
     let waits = endpoint_waits setup w side e b.here (insertions_read setup w side e b.here) in
     let same = ap (λ (x : Announced). x.limits.blocked) b.here.announced in
@@ -211,7 +211,7 @@ request_keeps : (e : EndpointHistory) (id : ℕ) (o : Option Incoming) → (pull
 request_keeps e id None = refl
 request_keeps e id (Some i) = answer_keeps _ _
 
-next_kept : (setup : Setup) (w : World) (side : Side) (id : ℕ) (e after : EndpointHistory) (a : Pull) → StandsAt setup w side e → is_request id ≡ true → pulls e id ≡ (a, after) → after.next_id ≡ e.next_id
+next_kept : (setup : Setup) (w : World) (side : Side) (id : ℕ) (e after : EndpointHistory) (a : Pull) → StandsAt setup w side e → is_request_stream id ≡ true → pulls e id ≡ (a, after) → after.next_id ≡ e.next_id
 next_kept setup w side id e after a h request is =
     ap (λ (x : Pull × EndpointHistory). x.1.next_id) (sym is ∙ plain_pull setup w side id e h ∙ ap (pull_at e id) (kind_is side id request)) ∙ request_keeps e id (stream_at e.incoming id)
 
@@ -242,11 +242,11 @@ open_on laws setup w ends side id made plain h there alive more =
         let happens = laws.worlds.both setup w new (event.Pull side id) (answer.Pulled a) tt step exact h.sound in
         subst (λ (x : Announced). streams_waiting new side ≤ x.limits.blocked) (sym (both_of setup w side ends h).here.announced) (within setup new side happens.0.within_limits)
 
-settled_is : (w : World) (side : Side) (id : ℕ) (is_peer request opened : Bool) (fault : Option StreamFault) (over : Bool) → (id % 4 == control_id (other side)) ≡ is_peer → is_request id ≡ request → is_open w side id ≡ opened
+settled_is : (w : World) (side : Side) (id : ℕ) (is_peer request opened : Bool) (fault : Option StreamFault) (over : Bool) → (id % 4 == control_id (other side)) ≡ is_peer → is_request_stream id ≡ request → is_open w side id ≡ opened
     → (flow w (other side) id).fault ≡ fault → is_over (flow w (other side) id) ≡ over → settled w side id ≡ settled_by w side id is_peer request opened fault over
 settled_is w side id is_peer request opened fault over a b c d e =
     let f = flow w (other side) id in
-    ap (λ x. settled_by w side id x (is_request id) (is_open w side id) f.fault (is_over f)) a
+    ap (λ x. settled_by w side id x (is_request_stream id) (is_open w side id) f.fault (is_over f)) a
     ∙ ap (λ x. settled_by w side id is_peer x (is_open w side id) f.fault (is_over f)) b
     ∙ ap (λ x. settled_by w side id is_peer request x f.fault (is_over f)) c
     ∙ ap (λ x. settled_by w side id is_peer request opened x (is_over f)) d
@@ -255,9 +255,9 @@ settled_is w side id is_peer request opened fault over a b c d e =
 -- **A pull.**
 pub pull_on : (laws : Laws) (setup : Setup) (w : World) (ends : Ends) (side : Side) (id : ℕ) → IsMadeSetup setup → JudgesPlainly setup → Stands setup w ends → StandsOn setup w ends (event.Pull side id)
 pull_on laws setup w ends side id made plain h =
-    by_tests (id % 4 == control_id (other side)) refl (is_request id) refl (is_open w side id) refl (flow w (other side) id).fault refl (is_over (flow w (other side) id)) refl
+    by_tests (id % 4 == control_id (other side)) refl (is_request_stream id) refl (is_open w side id) refl (flow w (other side) id).fault refl (is_over (flow w (other side) id)) refl
   where
-    by_tests : (is_peer : Bool) → (id % 4 == control_id (other side)) ≡ is_peer → (request : Bool) → is_request id ≡ request → (opened : Bool) → is_open w side id ≡ opened → (fault : Option StreamFault)
+    by_tests : (is_peer : Bool) → (id % 4 == control_id (other side)) ≡ is_peer → (request : Bool) → is_request_stream id ≡ request → (opened : Bool) → is_open w side id ≡ opened → (fault : Option StreamFault)
         → (flow w (other side) id).fault ≡ fault → (over : Bool) → is_over (flow w (other side) id) ≡ over → StandsOn setup w ends (event.Pull side id)
     by_tests true a request b opened c fault d over e =
         settled_on laws setup w ends side id (pull_unidirectional w (other side) id) h (settled_is w side id true request opened fault over a b c d e)

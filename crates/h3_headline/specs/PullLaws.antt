@@ -14,7 +14,7 @@ use Rattle.h3_world.specs.Streams.{flow, with_flow, is_open}
 use Rattle.h3_proto.specs.declared.stream.Side.TheVariants.{Client, Server}
 use Rattle.h3_connection.specs.Endpoint.{Own, EndpointHistory, replied, heads_waiting, kind_of}
 use Rattle.std.proofs.lemmas.Grind.{common_steps}
-use Rattle.h3_proto.specs.StreamIds.{is_request}
+use Rattle.h3_proto.specs.StreamIds.{is_request_stream}
 use Rattle.h3_connection.specs.declared.event.Item.{Item}
 use Rattle.h3_connection.specs.declared.event.Item.TheVariants as item
 use Rattle.h3_world.specs.Order.{is_over, outgoing_of, next_part}
@@ -109,7 +109,7 @@ paused_receives w side id count there =
     let nothing : owning (party w side) (saying (party w side).own []) ≡ party w side = ap (λ (o : Own). owning (party w side) o) (saying_nothing (party w side).own) in
     subst (λ (v : World). Receives w v side id [] g) (ap (with_owner w side id g) nothing ∙ ap (λ v. with_flow v (other side) id g) (same_party w side)) (pulled_receives w side id [] g there refl)
 
-not_own : (side : Side) (id : ℕ) → is_request id ≡ true → (id % 4 == control_id (other side)) ≡ false
+not_own : (side : Side) (id : ℕ) → is_request_stream id ≡ true → (id % 4 == control_id (other side)) ≡ false
 not_own Client id e = grind (arith, common_steps, e)
 not_own Server id e = grind (arith, common_steps, e)
 
@@ -117,7 +117,7 @@ pub none_settled : (w : World) (side : Side) (id : ℕ) → is_open w side id �
 none_settled w side id there alive more =
     let f = flow w (other side) id in
     let request = (open_there w side id there).request in
-    ap (λ b. if b then Some (pull_unidirectional w (other side) id) else (if not (is_request id) then Some pull.NoMessages else (if not (is_open w side id) then Some (pull_unopened side) else fault_or f.fault (if is_over f then Some (pull.Item item.End) else None)))) (not_own side id request)
+    ap (λ b. if b then Some (pull_unidirectional w (other side) id) else (if not (is_request_stream id) then Some pull.NoMessages else (if not (is_open w side id) then Some (pull_unopened side) else fault_or f.fault (if is_over f then Some (pull.Item item.End) else None)))) (not_own side id request)
     ∙ ap (λ b. if not b then Some pull.NoMessages else (if not (is_open w side id) then Some (pull_unopened side) else fault_or f.fault (if is_over f then Some (pull.Item item.End) else None))) request
     ∙ ap (λ b. if not b then Some (pull_unopened side) else fault_or f.fault (if is_over f then Some (pull.Item item.End) else None)) there
     ∙ ap (λ o. fault_or o (if is_over f then Some (pull.Item item.End) else None)) alive

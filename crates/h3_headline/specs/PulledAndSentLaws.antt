@@ -8,7 +8,7 @@ use Rattle.h3_world.specs.Flow.Part.{Interim, Head, Body, Trailer, End}
 use Rattle.h3_world.specs.Sound.{AreSent}
 use Rattle.h3_world.specs.World.{Party, World, no_exchange, party}
 use Rattle.std.proofs.lemmas.Option.{slice_get_past}
-use Rattle.h3_proto.specs.StreamIds.{is_request, index_of}
+use Rattle.h3_proto.specs.StreamIds.{is_request_stream, index_of}
 use Rattle.h3_world.specs.Streams.{exchange, flow}
 use Rattle.h3_proto.specs.declared.stream.Side.{Side}
 use Rattle.h3_proto.specs.declared.stream.Side.TheVariants.{Client, Server}
@@ -20,7 +20,7 @@ use Rattle.h3_headline.specs.ComingLaws.{sound_flow}
 use Rattle.h3_headline.specs.ContentLaws.{handed_front, taken_by_parts}
 use Rattle.h3_headline.specs.Contents.{Carried, Carries, IsAll, IsLastEnd, all_taken, handed_of, has_end, limit_of_reader, part_taken, piece_of}
 use Rattle.h3_headline.specs.FlowLaws.{and_first, and_second, same_both}
-use Rattle.h3_headline.specs.Messages.{Content, IsFrontOf, at_reader, has_finished, has_pulled_end, pulled, sent}
+use Rattle.h3_headline.specs.Messages.{MessageContent, IsFrontOf, at_reader, has_finished, has_pulled_end, pulled, sent}
 use Rattle.h3_headline.specs.PartLaws.{end_last}
 use Rattle.h3_headline.specs.Steps.{IsThere}
 
@@ -28,7 +28,7 @@ pub differ : false ≡ true → ⊥
 differ h = grind (arith, common_steps, h)
 
 -- **A front.**
-pub is_front : (most : ℕ) (g : Flow) (sending : List Content) (finishing : Bool) (handing : List Content) (ending : Bool) → Carries most g sending finishing handing ending → IsFrontOf handing (map (at_reader most) sending)
+pub is_front : (most : ℕ) (g : Flow) (sending : List MessageContent) (finishing : Bool) (handing : List MessageContent) (ending : Bool) → Carries most g sending finishing handing ending → IsFrontOf handing (map (at_reader most) sending)
 is_front most g sending finishing handing ending c =
     let r = handed_front most g.parts_out g.body_out g.sent in
     record { rest = r.rest; is = ap (map (at_reader most)) (sym c.sent_is) ∙ taken_by_parts most g.sent ∙ r.is ∙ ap (λ l. l ++ r.rest) c.handed_is }
@@ -41,7 +41,7 @@ all_of_parts most (p ∷ ps) zero b e = cc
 all_of_parts most (p ∷ ps) (suc n) b e =
     append_assoc (part_taken most p) (all_taken most (take n ps)) (piece_of b (slice_get ps n)) ∙ ap (λ l. part_taken most p ++ l) (all_of_parts most ps n b e)
 
-pub is_all : (most : ℕ) (g : Flow) (sending : List Content) (finishing : Bool) (handing : List Content) (ending : Bool) → Carries most g sending finishing handing ending → next_part g ≡ None → handing ≡ map (at_reader most) sending
+pub is_all : (most : ℕ) (g : Flow) (sending : List MessageContent) (finishing : Bool) (handing : List MessageContent) (ending : Bool) → Carries most g sending finishing handing ending → next_part g ≡ None → handing ≡ map (at_reader most) sending
 is_all most g sending finishing handing ending c none =
     sym c.handed_is ∙ all_of_parts most g.sent g.parts_out g.body_out none ∙ sym (taken_by_parts most g.sent) ∙ ap (map (at_reader most)) c.sent_is
 
@@ -68,7 +68,7 @@ last_end p before start (q ∷ qs) (suc n) h e =
 -- a flow whose end is out is there
 no_flow : (w : World) (id : ℕ) → nat_lt (index_of id) (length w.exchanges) ≡ false → exchange w id ≡ no_exchange
 no_flow w id e =
-    ap (λ o. if is_request id then unwrap_or o no_exchange else no_exchange) (slice_get_past w.exchanges (index_of id) (beyond (index_of id) (length w.exchanges) e)) ∙ same_both (is_request id) no_exchange no_exchange (λ e. refl)
+    ap (λ o. if is_request_stream id then unwrap_or o no_exchange else no_exchange) (slice_get_past w.exchanges (index_of id) (beyond (index_of id) (length w.exchanges) e)) ∙ same_both (is_request_stream id) no_exchange no_exchange (λ e. refl)
   where
     beyond : (a b : ℕ) → nat_lt a b ≡ false → b ≤ a
     beyond a b h = grind (arith, common_steps, h)
@@ -78,9 +78,9 @@ not_over w Client id none e = differ (ap (λ x. is_over x.request) (sym none) �
 not_over w Server id none e = differ (ap (λ x. is_over x.response) (sym none) ∙ e)
 
 over_there : (w : World) (writer : Side) (id : ℕ) → is_over (flow w writer id) ≡ true → IsThere w id
-over_there w writer id e = record { request = by_request (is_request id) refl; place = by_place (nat_lt (index_of id) (length w.exchanges)) refl }
+over_there w writer id e = record { request = by_request (is_request_stream id) refl; place = by_place (nat_lt (index_of id) (length w.exchanges)) refl }
   where
-    by_request : (b : Bool) → is_request id ≡ b → is_request id ≡ true
+    by_request : (b : Bool) → is_request_stream id ≡ b → is_request_stream id ≡ true
     by_request true is = is
     by_request false is = absurd (not_over w writer id (ap (λ b. if b then unwrap_or (slice_get w.exchanges (index_of id)) no_exchange else no_exchange) is) e)
 

@@ -5,13 +5,15 @@ use Rattle.h3_connection.specs.Incoming.{Incoming, is_body}
 use Rattle.h3_world.specs.Flow.{Flow, part_bytes, flow_bytes, Part, Section}
 use Rattle.h3_world.specs.World.{Party}
 use Rattle.std.proofs.lemmas.List.{drop_all}
+use Rattle.h3_world.specs.Setup.{TakesAnyLength}
 use Rattle.h3_world.specs.Sound.{IsSoundFlow, IsSentSection}
-use Rattle.h3_connection.specs.Pulling.{just, left_with, at_end, at_frame, framed, next_frame, between_frames, connection_fault, begun_section}
+use Rattle.h3_connection.specs.Pulling.{just, left_with, at_end, at_frame, framed, next_frame, between_frames, connection_fault, begun_section, excess}
 use Rattle.h3_connection.specs.declared.event.Pull.TheVariants as pull
 use Rattle.h3_world.specs.Pauses.{pause_before}
 use Rattle.h3_qpack.specs.DecoderState.{DecoderState}
+use Rattle.h3_wire.specs.ExcessiveLaws.{none_excessive}
 use Rattle.h3_wire.specs.Frames.{Whole, Unfinished, frame_at}
-use Rattle.h3_wire.specs.UnfinishedLaws.{IsUnfinishedFront}
+use Rattle.h3_wire.specs.Fronts.{IsUnfinishedFront}
 use Rattle.h3_wire.specs.declared.proto.frame.PayloadLen.{PayloadLen}
 use Rattle.h3_wire.specs.declared.proto.frame.Frame.{Frame}
 use Rattle.h3_proto.specs.declared.stream.Side.{Side}
@@ -50,10 +52,13 @@ not_ended p f sound missing = by_end f.ended refl
 pub waits_on : (most id : ℕ) (p : Party) (f : Flow) (came : ℕ) (part : Option Part) (i : Incoming) → IsBefore p f i → pause_before f came part ≡ Some pull.Pending → ComesTo most id f came part (just pull.Pending i)
 waits_on most id p f came part i h pause = Pauses pull.Pending pause refl refl (subst (λ n. ReceivesFlow (record f { waits_for = n }) i) h.no_wait h.same)
 
-module _ (side : Side) (announced : Announced) (id : ℕ) (r : DecoderState) where
-  -- the bytes are all looked at
+module _ (side : Side) (announced : Announced) (any : TakesAnyLength announced) (id : ℕ) (r : DecoderState) where
+  -- the bytes are all looked at, and no frame is too long
   pub looks : (i : Incoming) → skipped (is_body i.place) (concat i.unread) ≡ concat i.unread → between_frames side announced id r i ≡ next_frame side announced id r i (concat i.unread)
-  looks i all = ap (λ l. next_frame side announced id r (left_with i l) l) all ∙ ap (λ x. next_frame side announced id r x (concat i.unread)) (left_all i)
+  looks i all =
+      let bytes = skipped (is_body i.place) (concat i.unread) in
+      ap (λ b. if b then excess i else next_frame side announced id r (left_with i bytes) bytes) (none_excessive announced.choices.unfinished_limit bytes any)
+      ∙ ap (λ l. next_frame side announced id r (left_with i l) l) all ∙ ap (λ x. next_frame side announced id r x (concat i.unread)) (left_all i)
 
   -- less than a frame is there
   pub unfinished_waits : (i : Incoming) → i.ended ≡ false → IsUnfinishedFront (concat i.unread) → between_frames side announced id r i ≡ just pull.Pending i

@@ -60,7 +60,7 @@ whole_length p f part at =
 section_pending : (f : Flow) (came : ℕ) (s : Section) → f.delivered < s.own_length → section_pause f came s ≡ Some pull.Pending
 section_pending f came s missing = ap (λ b. if b then Some pull.Pending else (if nat_lt came s.count then Some (pull.Waiting s.count) else None)) (lt-ltb f.delivered s.own_length missing)
 
-module _ (lists : ListsAreTheirValue) (side : Side) (announced : Announced) (id : ℕ) (r : DecoderState) (came : ℕ) where
+module _ (lists : ListsAreTheirValue) (side : Side) (announced : Announced) (plain : IsPlain announced) (id : ℕ) (r : DecoderState) (came : ℕ) where
   -- A section is next.
   section_comes : (kind : header.Head → Item) (p : Party) (f : Flow) (part : Part) (s : Section) (i : Incoming) → IsBefore p f i → IsPartAt p f.sent f.parts_out part → next_part f ≡ Some part
       → IsSectionPart kind s part → part_bytes part ≡ frame_encoding 1 s.encoded → IsSentSection p s → s.own_length ≡ before_bytes f + length (part_bytes part)
@@ -76,7 +76,7 @@ module _ (lists : ListsAreTheirValue) (side : Side) (announced : Announced) (id 
         let missing : f.delivered < length (flow_bytes f) = omega (arith, came_is p f i h, whole_length p f part at, short, ap length bytes) in
         let few : f.delivered < s.own_length = omega (arith, came_is p f i h, own, short, ap length bytes) in
         subst (ComesTo (section_of announced) id f came (Some part))
-        (sym (unfinished_waits side announced id r i (h.on.ended ∙ not_ended p f h.sound missing) (unfinished_section s.encoded (concat i.unread) sent.has_length short front)))
+        (sym (unfinished_waits side announced plain.1 id r i (h.on.ended ∙ not_ended p f h.sound missing) (unfinished_section s.encoded (concat i.unread) sent.has_length short front)))
         (waits_on (section_of announced) id p f came (Some part) i h (is.pause f came ∙ section_pending f came s few))
     | inr there ↦
         let rest = flat_map part_bytes (drop (f.parts_out + 1) f.sent) in
@@ -87,7 +87,7 @@ module _ (lists : ListsAreTheirValue) (side : Side) (announced : Announced) (id 
         let x = begun_section (left_with i left) s.encoded in
         let some : 0 < length (frame_encoding 1 s.encoded) = section_bytes s.encoded in
         subst (ComesTo (section_of announced) id f came (Some part))
-        (sym (whole_frame side announced id r i (frame.Headers s.encoded) left found refl (omega (arith, some, there)) ∙ frames (left_with i left) h.content))
+        (sym (whole_frame side announced plain.1 id r i (frame.Headers s.encoded) left found refl (omega (arith, some, there)) ∙ frames (left_with i left) h.content))
         (first_try side announced id r kind f came part s x (section_there kind p f part s i h at next is bytes sent own there) refl refl decodes (reads (past_section x) refl h.content))
   ]
     where
@@ -119,7 +119,7 @@ module _ (lists : ListsAreTheirValue) (side : Side) (announced : Announced) (id 
         let missing : f.delivered < length (flow_bytes f) = omega (arith, came_is p f i h, whole_length p f (Body bytes own) at, short, length-append head bytes) in
         let none : body_there f bytes own ≡ 0 = omega (arith, came_is p f i h, at.sent.2, short, length-append head bytes, h.out) in
         subst (ComesTo (section_of announced) id f came (Some (Body bytes own)))
-        (sym (unfinished_waits side announced id r i (h.on.ended ∙ not_ended p f h.sound missing) (unfinished_data (length bytes) (concat i.unread) at.sent.1 short front)))
+        (sym (unfinished_waits side announced plain.1 id r i (h.on.ended ∙ not_ended p f h.sound missing) (unfinished_data (length bytes) (concat i.unread) at.sent.1 short front)))
         (waits_on (section_of announced) id p f came (Some (Body bytes own)) i h (ap (λ n. if n == 0 then Some pull.Pending else None) none))
     | inr there ↦
         let rest = flat_map part_bytes (drop (f.parts_out + 1) f.sent) in
@@ -134,7 +134,7 @@ module _ (lists : ListsAreTheirValue) (side : Side) (announced : Announced) (id 
         let whole : drop f.body_out bytes ≡ bytes = ap (λ n. drop n bytes) h.out in
         let behind = left_behind i head there in
         subst (ComesTo (section_of announced) id f came (Some (Body bytes own)))
-        (sym (whole_frame side announced id r i (frame.Data (record { 0 = length bytes })) left found full (omega (arith, some, there))
+        (sym (whole_frame side announced plain.1 id r i (frame.Data (record { 0 = length bytes })) left found full (omega (arith, some, there))
         ∙ ap (λ place. at_frame side announced id r side (left_with i left) place (frame.Data (record { 0 = length bytes }))) (h.place ∙ at.place_is) ∙ data_in_body side (left_with i left) (length bytes)))
         (payload_comes (section_of announced) id f came bytes own x (record {
           on = record { alive = h.on.alive; fault = h.on.fault; ended = h.on.ended; was_reset = h.on.was_reset; goes_on = h.on.goes_on; not_over = h.on.not_over };
@@ -167,7 +167,7 @@ module _ (lists : ListsAreTheirValue) (side : Side) (announced : Announced) (id 
       → ComesTo (section_of announced) id f came (Some End) (between_frames side announced id r i)
   end_comes p f i h at next =
       let none = nothing_left (concat i.unread) (drop f.delivered (flow_bytes f)) (h.unread ∙ at.bytes_behind ∙ ap (flat_map part_bytes) (at.last refl)) in
-      subst (ComesTo (section_of announced) id f came (Some End)) (sym (nothing_there side announced id r i none.0)) (by_end f.ended refl none.1)
+      subst (ComesTo (section_of announced) id f came (Some End)) (sym (nothing_there side announced plain.1 id r i none.0)) (by_end f.ended refl none.1)
     where
       over : (nat_lt 0 (f.parts_out + 1) && is_end (slice_get f.sent (f.parts_out + 1 - 1))) ≡ true
       over =
@@ -207,7 +207,7 @@ module _ (lists : ListsAreTheirValue) (side : Side) (announced : Announced) (id 
   none_comes p f i h next =
       let none = nothing_left (concat i.unread) (drop f.delivered (flow_bytes f)) (h.unread ∙ ap (flat_map part_bytes) (none_left f.sent f.parts_out next)) in
       subst (ComesTo (section_of announced) id f came None)
-      (sym (nothing_there side announced id r i none.0 ∙ ap (λ b. if b then at_end side announced id r i i.place else just pull.Pending i) (h.on.ended ∙ still_open f.ended refl)))
+      (sym (nothing_there side announced plain.1 id r i none.0 ∙ ap (λ b. if b then at_end side announced id r i i.place else just pull.Pending i) (h.on.ended ∙ still_open f.ended refl)))
       (waits_on (section_of announced) id p f came None i h refl)
     where
       finished : (a b : Bool) → (a && b) ≡ true → b ≡ true
@@ -227,26 +227,26 @@ module _ (lists : ListsAreTheirValue) (side : Side) (announced : Announced) (id 
       still_open false e = refl
 
   -- **In front of a part.**
-  pub before_comes : IsPlain announced → (p : Party) (f : Flow) (part : Option Part) (i : Incoming) → IsBefore p f i → next_part f ≡ part → DecodesNext lists side announced id r came part → IsReadableNext lists side announced id r came part
+  pub before_comes : (p : Party) (f : Flow) (part : Option Part) (i : Incoming) → IsBefore p f i → next_part f ≡ part → DecodesNext lists side announced id r came part → IsReadableNext lists side announced id r came part
       → ComesTo (section_of announced) id f came part (between_frames side announced id r i)
-  before_comes plain p f None i h next decodes readable = none_comes p f i h next
-  before_comes plain p f (Some (Interim s)) i h next decodes readable =
+  before_comes p f None i h next decodes readable = none_comes p f i h next
+  before_comes p f (Some (Interim s)) i h next decodes readable =
       let at = part_at p f (Interim s) h.sound next in
       let place = h.place ∙ at.place_is in
       section_comes item.Interim p f (Interim s) s i h at next (interim_part s) refl at.sent.0 at.sent.1
       (λ j unsaid. ap (λ q. at_frame side announced id r side j q (frame.Headers s.encoded)) place ∙ headers_before_head side j s.encoded) decodes
       (λ x same unsaid. reads_interim lists side announced plain id r s x (acknowledgment id s.count) at.sent.0.reads_back at.sent.0.small readable (same ∙ place) unsaid)
-  before_comes plain p f (Some (Head s)) i h next decodes readable =
+  before_comes p f (Some (Head s)) i h next decodes readable =
       let at = part_at p f (Head s) h.sound next in
       let place = h.place ∙ at.place_is in
       section_comes item.Head p f (Head s) s i h at next (head_part s) refl at.sent.0 at.sent.1
       (λ j unsaid. ap (λ q. at_frame side announced id r side j q (frame.Headers s.encoded)) place ∙ headers_before_head side j s.encoded) decodes
       (λ x same unsaid. reads_head lists side announced plain id r s x (acknowledgment id s.count) at.sent.0.reads_back at.sent.0.small readable (same ∙ place) unsaid)
-  before_comes plain p f (Some (Body bytes own)) i h next decodes readable = body_comes p f bytes own i h (part_at p f (Body bytes own) h.sound next) next
-  before_comes plain p f (Some (Trailer s)) i h next decodes readable =
+  before_comes p f (Some (Body bytes own)) i h next decodes readable = body_comes p f bytes own i h (part_at p f (Body bytes own) h.sound next) next
+  before_comes p f (Some (Trailer s)) i h next decodes readable =
       let at = part_at p f (Trailer s) h.sound next in
       let place = h.place ∙ at.place_is in
       section_comes item.Trailer p f (Trailer s) s i h at next (trailer_part s) refl at.sent.0 at.sent.1
       (λ j unsaid. ap (λ q. at_frame side announced id r side j q (frame.Headers s.encoded)) place ∙ headers_in_body side j s.encoded unsaid) decodes
       (λ x same unsaid. reads_trailer lists side announced plain id r s x (acknowledgment id s.count) at.sent.0.reads_back at.sent.0.small readable (same ∙ place) unsaid)
-  before_comes plain p f (Some End) i h next decodes readable = end_comes p f i h (part_at p f End h.sound next) next
+  before_comes p f (Some End) i h next decodes readable = end_comes p f i h (part_at p f End h.sound next) next

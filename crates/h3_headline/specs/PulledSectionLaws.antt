@@ -86,7 +86,7 @@ a_pause f came s own missing = rw (le-ltb f.delivered s.own_length own, lt-ltb c
 module _ (lists : ListsAreTheirValue) (side : Side) (announced : Announced) (plain : IsPlain announced) (id : ℕ) (r : DecoderState) where
   -- no rule is asked for
   none_broken : (place : Place) (fields : List Field) → broken_rule side announced place fields ≡ None
-  none_broken place fields = ap (λ b. let rule : Option Malformation = if b then option_map malformation_by (violation_at side announced place fields) else None in rule) plain
+  none_broken place fields = ap (λ b. let rule : Option Malformation = if b then option_map malformation_by (violation_at side announced place fields) else None in rule) plain.0
 
   -- a list that reads back is judged by its head
   judged_is : (x : Incoming) (replies : List DecoderInstruction) (fields : List Field) → x.content ≡ Unsaid → ReadsBack fields
@@ -94,7 +94,7 @@ module _ (lists : ListsAreTheirValue) (side : Side) (announced : Announced) (pla
       ≡ head_or_trailer side id x replies None x.place (head_of_fields fields)
   judged_is x replies fields unsaid back =
       ap (λ b. let y : Incoming = record x { content = if b then content_behind side x.place x.content fields else x.content; response = if b then response_behind side x.place x.response fields else x.response } in
-      judged side id y replies (if_whole x.content (broken_rule side announced x.place fields)) (head_of fields)) plain
+      judged side id y replies (if_whole x.content (broken_rule side announced x.place fields)) (head_of fields)) plain.0
       ∙ ap (λ c. judged side id x replies (if_whole c (broken_rule side announced x.place fields)) (head_of fields)) unsaid
       ∙ ap (λ b. judged side id x replies b (head_of fields)) (none_broken x.place fields) ∙ ap (judged side id x replies None) (lists fields (head_of_fields fields) (back.0, refl))
 
@@ -122,7 +122,7 @@ module _ (lists : ListsAreTheirValue) (side : Side) (announced : Announced) (pla
       status = last_value (codes ":status") s.fields
 
       large_is : too_large (past_large side announced x s.fields) ≡ answer_at (item.TooLarge (told_size s.fields)) (next_place side x.place s.fields)
-      large_is = ap (λ b. too_large (record x { place = next_place side x.place s.fields; content = if b then content_behind_large side x.place x.content status else x.content })) plain
+      large_is = ap (λ b. too_large (record x { place = next_place side x.place s.fields; content = if b then content_behind_large side x.place x.content status else x.content })) plain.0
 
       by_size : (b : Bool) → nat_lt (section_of announced) (told_size s.fields) ≡ b → IsReadAs side announced id r kind part s x replies
       by_size true e = record {

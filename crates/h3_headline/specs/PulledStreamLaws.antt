@@ -87,7 +87,7 @@ module _ (lists : ListsAreTheirValue) (side : Side) (announced : Announced) (id 
       by_left zero e at waits =
           let front = subst (λ n. StandsBefore f n part (unread_of i.section)) e at in
           subst (ComesTo (section_of announced) id f came part) (sym (ap (λ b. if b then at_payload id i else between_frames side announced id r i) (le-ltb 0 i.body_left (omega (arith, e)))))
-          (before_comes lists side announced id r came plain p f part i (record {
+          (before_comes lists side announced plain id r came p f part i (record {
             on = on;
             sound = sound;
             section = none;

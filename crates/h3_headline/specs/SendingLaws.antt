@@ -9,7 +9,8 @@ use Rattle.std.proofs.Common.{◌*◌, ◌^◌, ◌≤◌, length, ◌≡◌, re
 use Rattle.h3_world.specs.declared.event.Answer.{Answer}
 use Rattle.h3_world.specs.Sound.{IsSoundWorld}
 use Rattle.h3_connection.specs.Endpoint.{EndpointHistory}
-use Rattle.h3_connection.specs.Sending.{does, first_of, outgoing_at, closed_or, unless_closed}
+use Rattle.h3_connection.specs.Refusals.{first_of}
+use Rattle.h3_connection.specs.Sending.{does, outgoing_at, closed_or, unless_closed}
 use Rattle.h3_connection.specs.declared.event.Refusal.{Refusal}
 use Rattle.h3_world.specs.Ends as ends_of
 use Rattle.h3_world.specs.Machine as machine

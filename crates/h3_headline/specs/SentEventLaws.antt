@@ -9,7 +9,7 @@ use Rattle.h3_header.specs.Head.{Head as Fields, head_fields}
 use Rattle.h3_world.specs.Sendable.{IsSendableHead, IsSendable}
 use Rattle.h3_world.specs.declared.event.Event.TheVariants as event
 use Rattle.h3_world.specs.Ends.{Ends}
-use Rattle.h3_world.specs.Setup.{IsPlain, announced_at}
+use Rattle.h3_world.specs.Setup.{IsMadeSetup, IsPlain, announced_at}
 use Rattle.h3_headline.specs.Calls.{IsWritableHead}
 use Rattle.h3_headline.specs.CancelLaws.{cancel_served}
 use Rattle.h3_headline.specs.Cited.{Laws, StreamLaws}
@@ -64,5 +64,5 @@ cancel_on laws setup w ends side id sendable h = served_stands laws.worlds setup
 pub goaway_on : (laws : Laws) (setup : Setup) (w : World) (ends : Ends) (side : Side) (id : ℕ) → IsSendable (event.Goaway side id) → Stands setup w ends → StandsOn setup w ends (event.Goaway side id)
 goaway_on laws setup w ends side id sendable h = served_stands laws.worlds setup w ends (event.Goaway side id) sendable h (goaway_served setup w ends side id h sendable)
 
-pub show_on : (laws : Laws) (setup : Setup) (w : World) (ends : Ends) (side : Side) → IsSendable (event.Show side) → Stands setup w ends → StandsOn setup w ends (event.Show side)
-show_on laws setup w ends side sendable h = served_stands laws.worlds setup w ends (event.Show side) sendable h (show_served setup w ends side h)
+pub show_on : (laws : Laws) (setup : Setup) (w : World) (ends : Ends) (side : Side) → IsMadeSetup setup → IsSendable (event.Show side) → Stands setup w ends → StandsOn setup w ends (event.Show side)
+show_on laws setup w ends side made sendable h = served_stands laws.worlds setup w ends (event.Show side) sendable h (show_served laws.streams setup w ends side made h)

@@ -1,5 +1,5 @@
 -- A piece of a body, the end of a message, and a reset: what the ends answer, and where they stand.
-use Rattle.std.proofs.Common.{◌≡◌, Bool, true, false, refl, ℕ, [], ◌∷◌, sym, ap, ◌∙◌, subst, Option, ◌+◌, List, ◌++◌, length, None, arith, if◌then◌else◌, Some}
+use Rattle.std.proofs.Common.{◌≡◌, Bool, true, false, refl, ℕ, [], ◌∷◌, sym, ap, ◌∙◌, subst, Option, ◌+◌, List, length, None, arith, if◌then◌else◌, Some}
 use Rattle.std.specs.Prelude.{not, ◌&&◌, unwrap_or, ◌==◌, ◌||◌, drop}
 use Rattle.h3_proto.specs.declared.stream.Side.{Side}
 use Rattle.h3_connection.specs.Endpoint.{EndpointHistory, is_read_as, Kind, kind_of, is_critical_id, is_critical_of}
@@ -9,9 +9,9 @@ use Rattle.h3_connection.specs.Outgoing.{Outgoing, nothing_sent, takes_body, tak
 use Rattle.h3_connection.specs.Outgoing as sender_part
 use Rattle.h3_connection.specs.Outgoing.OwnPart.{OwnBody}
 use Rattle.h3_connection.specs.OwnIds.{other, control_id, encoder_id, decoder_id, is_own}
-use Rattle.h3_connection.specs.Sending.{first_of, outgoing_at, with_outgoing, counted}
+use Rattle.h3_connection.specs.Refusals.{first_of}
+use Rattle.h3_connection.specs.Sending.{outgoing_at, with_outgoing, counted}
 use Rattle.h3_connection.specs.Sending as sender
-use Rattle.h3_connection.specs.StreamSets.{set_stream}
 use Rattle.h3_messages.specs.Content.{may_end}
 use Rattle.h3_connection.specs.StrictSending.{passes_content}
 use Rattle.h3_connection.specs.declared.event.Malformation.TheVariants as malformation

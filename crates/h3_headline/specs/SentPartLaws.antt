@@ -6,9 +6,8 @@ use Rattle.std.proofs.lemmas.Grind.{flat_map-append}
 use Rattle.h3_world.specs.Sending.{appended}
 use Rattle.std.specs.List.{flat_map, concat, AllByRecursion}
 use Rattle.h3_proto.specs.declared.stream.Side.{Side}
-use Rattle.h3_messages.specs.declared.content.Content.TheVariants.{Unsaid}
 use Rattle.h3_connection.specs.Incoming.{Incoming}
-use Rattle.h3_connection.specs.Outgoing.{Outgoing, OwnPart}
+use Rattle.h3_connection.specs.Outgoing.{OwnPart}
 use Rattle.h3_connection.specs.OwnIds.{other}
 use Rattle.h3_world.specs.Flow.Part.{Interim, Head, Body, Trailer, End}
 use Rattle.h3_world.specs.Order.{next_part, is_end, last_part, outgoing_of}

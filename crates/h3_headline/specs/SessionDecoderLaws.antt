@@ -20,7 +20,7 @@ use Rattle.h3_world.specs.Flow.{Section, Part, part_bytes}
 use Rattle.std.specs.List.{AllByRecursion}
 use Rattle.h3_world.specs.Flow.Part.{Interim, Head, Body, Trailer, End}
 use Rattle.std.specs.Prelude.{slice_get, unwrap_or, ◌==◌, map, filter, is_some}
-use Rattle.h3_proto.specs.StreamIds.{is_request, index_of}
+use Rattle.h3_proto.specs.StreamIds.{is_request_stream, index_of}
 use Rattle.h3_world.specs.Streams as streams
 use Rattle.h3_proto.specs.declared.stream.Side.TheVariants.{Client, Server}
 use Rattle.h3_world.specs.Streams.{flow, is_open}
@@ -143,7 +143,7 @@ exchange_taken w (e ∷ es) zero h = (sent_taken w.client None 0 e.request.sent 
 exchange_taken w (e ∷ es) (suc n) h = exchange_taken w es n h.1
 
 id_taken : (w : World) (id : ℕ) → AllByRecursion (IsSoundExchange w) w.exchanges → AreTaken (streams.exchange w id)
-id_taken w id h = by_test (is_request id)
+id_taken w id h = by_test (is_request_stream id)
   where
     by_test : (b : Bool) → AreTaken (if b then unwrap_or (slice_get w.exchanges (index_of id)) no_exchange else no_exchange)
     by_test true = exchange_taken w w.exchanges (index_of id) h

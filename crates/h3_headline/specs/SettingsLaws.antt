@@ -5,7 +5,7 @@ use Rattle.std.proofs.lemmas.Bool.{eqb-true}
 use Rattle.h3_proto.specs.Settings.{is_known, value_of}
 use Rattle.h3_connection.specs.Shown.{limits_of}
 use Rattle.h3_field.specs.Field.{Field}
-use Rattle.h3_connection.specs.Sending.{is_too_large}
+use Rattle.h3_connection.specs.Refusals.{is_too_large}
 use Rattle.h3_headline.specs.Standing.{with_meaning}
 
 -- a setting that is left out is not the one that is looked for

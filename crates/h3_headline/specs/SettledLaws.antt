@@ -7,7 +7,7 @@ use Rattle.h3_connection.specs.declared.event.Fault.TheVariants.{Stream}
 use Rattle.h3_connection.specs.declared.event.Item.TheVariants as item
 use Rattle.h3_connection.specs.declared.event.Pull.TheVariants as pull
 use Rattle.h3_connection.specs.declared.event.StreamFault.{StreamFault}
-use Rattle.h3_proto.specs.StreamIds.{is_request}
+use Rattle.h3_proto.specs.StreamIds.{is_request_stream}
 use Rattle.h3_proto.specs.declared.stream.Side.{Side}
 use Rattle.h3_connection.specs.OwnIds.{other, control_id}
 use Rattle.h3_connection.specs.Pulling.{is_client}
@@ -43,7 +43,7 @@ none_or_pause false over = record { contents = refl; ends = λ x. absurd (differ
 pub settled_says : (w : World) (side : Side) (i : ℕ) (q : Pull) → settled w side i ≡ Some q → SaysNothing (is_over (flow w (other side) i)) q
 settled_says w side i q e =
     let over = is_over (flow w (other side) i) in
-    rules_say (i % 4 == control_id (other side)) (is_request i) (is_open w side i) (flow w (other side) i).fault over (pull_unidirectional w (other side) i) (pull_unopened side) q
+    rules_say (i % 4 == control_id (other side)) (is_request_stream i) (is_open w side i) (flow w (other side) i).fault over (pull_unidirectional w (other side) i) (pull_unopened side) q
     (pause_or_none (own_delivered w (other side) i == 0) over) (none_or_pause (is_client side) over) e
 
 rules_look : (unidirectional request there : Bool) (fault : Option StreamFault) (over : Bool) (one unopened : Pull) → by_rules unidirectional request there fault over one unopened ≡ None → LooksOn there over
@@ -56,4 +56,4 @@ rules_look false true true None false one unopened e = record { is_there = refl;
 
 pub settled_none : (w : World) (side : Side) (i : ℕ) → settled w side i ≡ None → LooksOn (is_open w side i) (is_over (flow w (other side) i))
 settled_none w side i e =
-    rules_look (i % 4 == control_id (other side)) (is_request i) (is_open w side i) (flow w (other side) i).fault (is_over (flow w (other side) i)) (pull_unidirectional w (other side) i) (pull_unopened side) e
+    rules_look (i % 4 == control_id (other side)) (is_request_stream i) (is_open w side i) (flow w (other side) i).fault (is_over (flow w (other side) i)) (pull_unidirectional w (other side) i) (pull_unopened side) e

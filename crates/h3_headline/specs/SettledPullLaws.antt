@@ -6,7 +6,7 @@ use Rattle.h3_connection.specs.Delivering.{with_incoming}
 use Rattle.h3_connection.specs.Endpoint.{EndpointHistory, Own, replied, heads_waiting, kind_of}
 use Rattle.h3_connection.specs.Incoming.{Incoming}
 use Rattle.h3_connection.specs.declared.event.Pull.TheVariants as pull
-use Rattle.h3_proto.specs.StreamIds.{is_request}
+use Rattle.h3_proto.specs.StreamIds.{is_request_stream}
 use Rattle.h3_proto.specs.declared.stream.Side.{Side}
 use Rattle.h3_connection.specs.Keeping.{pulls, pulls_behind}
 use Rattle.h3_connection.specs.Pulling.{just, pull_stream, is_client}
@@ -47,7 +47,7 @@ unchanged : (e : EndpointHistory) (id : ℕ) (i : Incoming) → stream_at e.inco
 unchanged e id i there =
     ap (λ s. having_own (with_streams e s) (saying e.own [])) (set_same e.incoming id i there) ∙ ap (λ (o : Own). having_own e o) (saying_nothing e.own)
 
-pulls_stream : (setup : Setup) (w : World) (side : Side) (id : ℕ) (e : EndpointHistory) (i : Incoming) (a : Pull) → StandsAt setup w side e → is_request id ≡ true → IsWithin e → stream_at e.incoming id ≡ Some i
+pulls_stream : (setup : Setup) (w : World) (side : Side) (id : ℕ) (e : EndpointHistory) (i : Incoming) (a : Pull) → StandsAt setup w side e → is_request_stream id ≡ true → IsWithin e → stream_at e.incoming id ≡ Some i
     → pull_stream e.side e.announced id e.decoding.decoder i ≡ just a i → after_answer a e ≡ (a, e) → pulls e id ≡ (a, e)
 pulls_stream setup w side id e i a h request few there is open_still =
     let same : nat_lt e.announced.limits.blocked (heads_waiting e.decoding.decoder (set_stream e.incoming id i)) ≡ false =
@@ -74,7 +74,7 @@ over_pull lists setup w side id e h there few alive over =
     (over_stays lists e.side e.announced id e.decoding.decoder 0 (flow w (other side) id) i.0 i.2 alive over) refl
 
 -- **It is not open.**
-pub unopened_pull : (setup : Setup) (w : World) (side : Side) (id : ℕ) (e : EndpointHistory) → StandsAt setup w side e → is_request id ≡ true → is_open w side id ≡ false → pulls e id ≡ (pull_unopened side, e)
+pub unopened_pull : (setup : Setup) (w : World) (side : Side) (id : ℕ) (e : EndpointHistory) → StandsAt setup w side e → is_request_stream id ≡ true → is_open w side id ≡ false → pulls e id ≡ (pull_unopened side, e)
 unopened_pull setup w side id e h request closed =
     ap (λ k. pulls_behind k e id) h.nothing_kept ∙ ap (λ c. pull_unless c e (pull_at e id (kind_of e.side id))) h.no_fault
     ∙ ap (pull_at e id) (kind_is e.side id request) ∙ ap (pull_request e id) (incoming_none setup w side id e h closed)

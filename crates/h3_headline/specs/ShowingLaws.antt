@@ -12,9 +12,10 @@ use Rattle.h3_qpack.specs.WholeInstructions.{whole_in}
 use Rattle.h3_connection.specs.Endpoint.{EndpointHistory}
 use Rattle.h3_connection.specs.OwnIds.{other}
 use Rattle.h3_world.specs.declared.setup.Setup.{Setup}
-use Rattle.h3_world.specs.Setup.{announced_at}
+use Rattle.h3_world.specs.Setup.{IsMadeSetup, announced_at}
+use Rattle.h3_headline.specs.Cited.{StreamLaws}
 use Rattle.h3_world.specs.Came.{insertions_came}
-use Rattle.h3_proto.specs.StreamIds.{is_request, index_of}
+use Rattle.h3_proto.specs.StreamIds.{is_request_stream, index_of}
 use Rattle.h3_proto.specs.declared.stream.Side.TheVariants.{Client, Server}
 use Rattle.h3_world.specs.Shown.{incoming, streams_waiting, limits_shown, sizes_shown}
 use Rattle.h3_world.specs.Streams.{flow, is_open}
@@ -121,7 +122,7 @@ inserted_is setup w side e h =
     take_front : ℕ → List EncoderInstruction → List EncoderInstruction
     take_front n is = take (whole_in encoder_bytes (n - 1) is) is
 
-received : (w : World) (side : Side) (id : ℕ) (x : Exchange) → is_request id ≡ true → slice_get w.exchanges (index_of id) ≡ Some x → flow w (other side) id ≡ incoming side x
+received : (w : World) (side : Side) (id : ℕ) (x : Exchange) → is_request_stream id ≡ true → slice_get w.exchanges (index_of id) ≡ Some x → flow w (other side) id ≡ incoming side x
 received w Client id x request at =
     ap (λ b. (if b then unwrap_or (slice_get w.exchanges (index_of id)) no_exchange else no_exchange).response) request ∙ ap (λ o. (unwrap_or o no_exchange).response) at
 received w Server id x request at =
@@ -156,7 +157,7 @@ waits_agree setup w side e h sound =
         zero_mod : (4 * (0 + j)) % 4 ≡ 0
         zero_mod = omega (arith, div-add-mod (4 * (0 + j)) 4)
 
-        request : is_request id ≡ true
+        request : is_request_stream id ≡ true
         request = ap (λ m. m == 0) zero_mod
 
         is : flow w (other side) id ≡ incoming side x
@@ -179,14 +180,14 @@ waits_agree setup w side e h sound =
         by_open false closed = absurd (none_above came (flow w (other side) id).waits_for (sym (is_unseen setup w side id sound there closed).kept.waits_for) above)
 
 -- **What an end shows.**
-pub show_served : (setup : Setup) (w : World) (ends : Ends) (side : Side) → Stands setup w ends → Serves setup (answered ends (event.Show side)) (served setup w (event.Show side))
-show_served setup w ends side h =
+pub show_served : (laws : StreamLaws) (setup : Setup) (w : World) (ends : Ends) (side : Side) → IsMadeSetup setup → Stands setup w ends → Serves setup (answered ends (event.Show side)) (served setup w (event.Show side))
+show_served laws setup w ends side made h =
     let e = end_at ends side in
     let b = both_of setup w side ends h in
     record {
       answer = ap (λ l. answer.Shown l (table_sizes e) (waiting_heads e)) (limits_agree setup w side e b.here)
-          ∙ ap (λ s. answer.Shown (limits_shown setup w side) s (waiting_heads e)) (sizes_agree setup w side e b.here)
-          ∙ ap (answer.Shown (limits_shown setup w side) (sizes_shown setup w side)) (waits_agree setup w side e b.here h.sound);
+          ∙ ap (λ s. answer.Shown (limits_shown setup w side) s (waiting_heads e)) (sizes_agree laws setup w side e made h.sound b.here)
+          ∙ ap (answer.Shown (limits_shown setup w side) (sizes_shown w side)) (waits_agree setup w side e b.here h.sound);
       both = both_of setup w Client ends h;
       next_id = h.next_id;
     }

@@ -1,6 +1,6 @@
 -- One event of two endpoints that stand in a world.
 use Rattle.std.proofs.Common.{◌≡◌, ℕ, ◌<◌, true, length, ◌*◌, ◌≤◌, ◌^◌}
-use Rattle.h3_proto.specs.StreamIds.{is_request, index_of}
+use Rattle.h3_proto.specs.StreamIds.{is_request_stream, index_of}
 use Rattle.h3_world.specs.World.{World}
 use Rattle.h3_world.specs.declared.setup.Setup.{Setup}
 use Rattle.h3_world.specs.declared.event.Event.{Event}
@@ -10,7 +10,7 @@ use Rattle.h3_headline.specs.Standing.{Stands}
 
 -- The id is a request stream that was opened.
 pub record IsThere (w : World) (id : ℕ) : Type 0 where
-  pub request : is_request id ≡ true
+  pub request : is_request_stream id ≡ true
   pub place : index_of id < length w.exchanges
 
 -- All else keeps as many.

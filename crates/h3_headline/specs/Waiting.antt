@@ -6,7 +6,7 @@ use Rattle.h3_world.specs.World.{Exchange}
 use Rattle.h3_world.specs.Shown.{incoming}
 use Rattle.h3_connection.specs.Incoming.{Incoming}
 use Rattle.h3_connection.specs.StreamSets.{Streams, stream_at}
-use Rattle.h3_proto.specs.StreamIds.{is_request, index_of}
+use Rattle.h3_proto.specs.StreamIds.{is_request_stream, index_of}
 
 abbrev pub waits_in : ℕ → Side → Exchange → Bool
 waits_in n side e = nat_lt n (incoming side e).waits_for && is_none (incoming side e).fault
@@ -19,7 +19,7 @@ waiting_above n streams = count_by (λ s. nat_lt n s.1.waits_for) streams
 
 -- a stream that waits is one of an exchange that does
 pub record WaitsAt (n : ℕ) (side : Side) (es : List Exchange) (id : ℕ) : Type 0 where
-  pub request : is_request id ≡ true
+  pub request : is_request_stream id ≡ true
   pub e : Exchange
   pub at : slice_get es (index_of id) ≡ Some e
   pub waits : waits_in n side e ≡ true

@@ -9,12 +9,12 @@ use Rattle.h3_connection.specs.Endpoint.{EndpointHistory, Own, goaway_encoding}
 use Rattle.h3_connection.specs.OwnIds.{other, control_id}
 use Rattle.std.specs.List.{AllByRecursion}
 use Rattle.std.specs.Prelude.{not, ◌&&◌, flat_map}
-use Rattle.h3_proto.specs.StreamIds.{is_request}
+use Rattle.h3_proto.specs.StreamIds.{is_request_stream}
 use Rattle.h3_connection.specs.PeerReading.{is_no_goaway, is_above}
 use Rattle.h3_connection.specs.Pulling.{is_client}
 use Rattle.h3_connection.specs.declared.event.Refusal.{Refusal}
 use Rattle.h3_connection.specs.declared.event.Refusal.TheVariants as refusal
-use Rattle.h3_connection.specs.Sending.{raised}
+use Rattle.h3_connection.specs.Refusals.{raised}
 use Rattle.h3_connection.specs.Lasts.{last_id}
 use Rattle.h3_connection.specs.Sending as sender
 use Rattle.h3_connection.specs.StreamSets.{stream_at}
@@ -88,9 +88,9 @@ party_count w Client p = refl
 party_count w Server p = refl
 
 -- what is not refused may be written
-allowed : (side : Side) (id : ℕ) (later : Option Refusal) → (if not (is_client side) && not (is_request id) then Some refusal.NotRequestId else later) ≡ None → (is_no_goaway (other side) id ≡ false) × (later ≡ None)
+allowed : (side : Side) (id : ℕ) (later : Option Refusal) → (if not (is_client side) && not (is_request_stream id) then Some refusal.NotRequestId else later) ≡ None → (is_no_goaway (other side) id ≡ false) × (later ≡ None)
 allowed Client id later e = (refl, e)
-allowed Server id later e = by_test (not (is_request id)) e
+allowed Server id later e = by_test (not (is_request_stream id)) e
   where
     by_test : (b : Bool) → (if true && b then Some refusal.NotRequestId else later) ≡ None → (b ≡ false) × (later ≡ None)
     by_test true k = cc
@@ -115,8 +115,8 @@ goaway_served setup w ends side id h small =
     let new = record e { own = record e.own { goaways = e.own.goaways ++ id ∷ [] } } in
     call_agrees setup w (with_goaway w side id) ends side answer.Done answer.Done (sender.goaway_refusal e id) (goaway_refusal w side id) new h
     (goes_unclosed setup w side e _ b.here
-    ∙ ap (λ s. if not (is_client s) && not (is_request id) then Some refusal.NotRequestId else raised id (last_id e.own.goaways)) b.here.side_is
-    ∙ ap (λ (o : Own). if not (is_client side) && not (is_request id) then Some refusal.NotRequestId else raised id (last_id o.goaways)) b.here.own)
+    ∙ ap (λ s. if not (is_client s) && not (is_request_stream id) then Some refusal.NotRequestId else raised id (last_id e.own.goaways)) b.here.side_is
+    ∙ ap (λ (o : Own). if not (is_client side) && not (is_request_stream id) then Some refusal.NotRequestId else raised id (last_id o.goaways)) b.here.own)
     (λ goes.
     let a = allowed side id (raised id (last_id old.own.goaways)) goes in
     let k = hears setup w side f b.there in

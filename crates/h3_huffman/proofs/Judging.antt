@@ -5,7 +5,8 @@ use Rattle.std.proofs.Math.Seq.{take-length}
 use Rattle.h3_huffman.specs.Huffman.{bits, code_word}
 use Rattle.h3_huffman.specs.Payload.{IsByte, IsNoPayload}
 use Rattle.h3_huffman.specs.Unhuffman.{unhuffman}
-use Rattle.h3_huffman.specs.UnhuffmanLaws.{unhuffman_some, unhuffman_none}
+use Rattle.h3_huffman.specs.UnhuffmanLaws.{unhuffman_some}
+use Rattle.h3_huffman.proofs.NoStrings.{unhuffman_none}
 use Rattle.h3_huffman.proofs.Bits.{bits-front}
 use Rattle.h3_huffman.proofs.Reading.{Standing}
 use Rattle.h3_huffman.proofs.Steps.{stand_begin, stand_byte, stand_step, single_symbol, wide_of, wide_front, all_read}

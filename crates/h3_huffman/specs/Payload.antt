@@ -9,3 +9,6 @@ IsByte byte = byte < 256
 -- No string of bytes is encoded so.
 abbrev pub IsNoPayload : List ℕ → Type 0
 IsNoPayload payload = (plain : List ℕ) → AllByRecursion IsByte plain → payload ≡ huffman plain → ⊥
+
+abbrev pub IsBit : ℕ → Type 0
+IsBit bit = bit < 2

@@ -3,7 +3,7 @@ use Rattle.std.proofs.Common.{◌≡◌, ℕ, zero, suc, ◌+◌, ◌*◌, ◌/�
 use Rattle.std.specs.List.{AllByRecursion, list_all}
 use Rattle.std.proofs.lemmas.Bool.{and_parts, ltb-true, eqb-true, cases_eq}
 use Rattle.h3_huffman.specs.Huffman.{bits, octets, bits_value, huffman, code_word}
-use Rattle.h3_huffman.specs.Payload.{IsByte}
+use Rattle.h3_huffman.specs.Payload.{IsByte, IsBit}
 use Rattle.h3_huffman.specs.Tree.{code_tree}
 use Rattle.h3_huffman.specs.Tables.{is_bit, are_words, all_from}
 
@@ -36,9 +36,6 @@ two_div n b h = omega arith
 
 pub two_mod : (n b : ℕ) → b < 2 → (2 * n + b) % 2 ≡ b
 two_mod n b h = omega arith
-
-abbrev pub IsBit : ℕ → Type 0
-IsBit bit = bit < 2
 
 pub bits_octet : (a b c d e f g h : ℕ) → a < 2 → b < 2 → c < 2 → d < 2 → e < 2 → f < 2 → g < 2 → h < 2 → bits 8 (bits_value (a ∷ b ∷ c ∷ d ∷ e ∷ f ∷ g ∷ h ∷ [])) ≡ a ∷ b ∷ c ∷ d ∷ e ∷ f ∷ g ∷ h ∷ []
 unfolding bits

@@ -1,42 +1,22 @@
 -- A Huffman encoding is that of its value, and of no other string.
-use Rattle.std.proofs.Common.{◌≡◌, ℕ, zero, suc, ◌+◌, ◌==◌, ◌<◌, ◌≤◌, nat_le, Bool, true, false, ◌&&◌, bytes_eq, List, [], ◌∷◌, ◌++◌, length, replicate, flat_map, if◌then◌else◌, Option, Some, None, refl, ap, sym, ◌∙◌, subst, arith, append_assoc, length-append}
+use Rattle.std.proofs.Common.{◌≡◌, ℕ, zero, suc, ◌+◌, ◌<◌, ◌≤◌, Bool, true, false, ◌&&◌, bytes_eq, List, [], ◌∷◌, ◌++◌, length, replicate, flat_map, if◌then◌else◌, Option, Some, None, refl, ap, sym, ◌∙◌, subst, arith, append_assoc, length-append}
 use Rattle.std.specs.List.{AllByRecursion, list_all}
 use Rattle.std.proofs.lemmas.Bool.{and_parts, ltb-true, lt-ltb, leb-true, eqb-true}
 use Rattle.h3_huffman.specs.Huffman.{bits, huffman, code_word}
-use Rattle.h3_huffman.specs.Payload.{IsByte, IsNoPayload}
+use Rattle.h3_huffman.specs.Payload.{IsByte}
 use Rattle.h3_huffman.specs.Tree.{Tree, Empty, Leaf, Fork, code_tree}
 use Rattle.h3_huffman.specs.Tables.{all_from}
 use Rattle.h3_huffman.specs.PayloadLaws.{all_from_at, bytes_same, huffman_bits}
 use Rattle.h3_huffman.specs.Unhuffman.{first_symbol, then_symbols, symbols_in, is_byte, payload_bits, symbols_of, if_encoded, unhuffman}
-
--- the word of a symbol leads to it with nothing left, and is not empty
-abbrev is_followed_to : ℕ → Option (ℕ × List ℕ) → Bool
-is_followed_to symbol None = false
-is_followed_to symbol (Some (found, [])) = found == symbol
-is_followed_to symbol (Some (found, b ∷ bs)) = false
-
-abbrev leads_there : ℕ → Bool
-leads_there symbol = is_followed_to symbol (first_symbol code_tree (code_word symbol)) && nat_le 1 (length (code_word symbol))
+use Rattle.h3_huffman.specs.Leading.{is_followed_to, leads_there, leads_nowhere, first_or, rest_or}
 
 words_follow : all_from leads_there 0 256 ≡ true
 unfolding code_word bits
 words_follow = refl
 
-abbrev leads_nowhere : Option (ℕ × List ℕ) → Bool
-leads_nowhere None = true
-leads_nowhere (Some p) = false
-
 pads_lead_nowhere : all_from (λ k. leads_nowhere (first_symbol code_tree (replicate k 1))) 0 8 ≡ true
 unfolding code_word bits
 pads_lead_nowhere = refl
-
-abbrev first_or : Option (ℕ × List ℕ) → ℕ
-first_or None = 0
-first_or (Some p) = p.0
-
-abbrev rest_or : Option (ℕ × List ℕ) → List ℕ
-rest_or None = []
-rest_or (Some p) = p.1
 
 first_symbol-append : (t : Tree) (x y : List ℕ) (symbol : ℕ) → first_symbol t x ≡ Some (symbol, []) → first_symbol t (x ++ y) ≡ Some (symbol, y)
 first_symbol-append (Leaf s) [] y symbol e = let same : s ≡ symbol = ap first_or e in rw same refl
@@ -127,20 +107,6 @@ unhuffman_is payload plain e =
       subst (λ l. AllByRecursion IsByte l) c.1 (each_byte _ parts.0),
       sym (bytes_same _ _ parts.1) ∙ ap (λ l. huffman l) c.1,
     )
-
-none_left : (o : Option (List ℕ)) → ((bytes : List ℕ) → o ≡ Some bytes → ⊥) → o ≡ None
-none_left None h = refl
-none_left (Some bytes) h = absurd (h bytes refl)
-
--- what is no string's encoding has no value
-pub unhuffman_none : (payload : List ℕ) → IsNoPayload payload → unhuffman payload ≡ None
-unhuffman_none payload h = none_left (unhuffman payload) (λ plain e. let is = unhuffman_is payload plain e in h plain is.0 is.1)
-
-pub no_unhuffman : (payload : List ℕ) → unhuffman payload ≡ None → IsNoPayload payload
-no_unhuffman payload none plain each e =
-    let some = unhuffman_some plain each in
-    let both : Some plain ≡ None = sym some ∙ ap (λ l. unhuffman l) (sym e) ∙ none in
-    absurd (cc)
 
 some_same : (s t : List ℕ) → Some s ≡ Some t → s ≡ t
 some_same s t e = cc

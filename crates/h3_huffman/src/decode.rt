@@ -1,5 +1,5 @@
 //! Reads Huffman payloads.
-ghost use Rattle.std.specs.Prelude.{◌≡◌, ◌↔◌, IsTrue, ℕ, ◌+◌, ◌-◌, ◌*◌, ◌/◌, ◌%◌, ◌^◌, ◌<◌, ◌≤◌, List, ◌++◌, length, take, drop, replicate, flat_map, is_some, MatchOption};
+ghost use Rattle.std.specs.Prelude.{◌≡◌, ◌↔◌, IsTrue, ◌+◌, ◌-◌, ◌*◌, ◌/◌, ◌%◌, ◌^◌, ◌<◌, ◌≤◌, ◌++◌, length, take, drop, replicate, flat_map, is_some, MatchOption};
 ghost use Rattle.std.specs.List.{AllByRecursion};
 ghost use Rattle.h3_huffman.specs.Huffman.{huffman, bits, code_word};
 ghost use Rattle.h3_huffman.specs.Payload.{IsByte, IsNoPayload};
@@ -108,10 +108,12 @@ pub fn is_encoding(payload: &[u8]) -> bool
     let mut acc: u64 = 0;
     let mut count: u64 = 0;
     let mut read: usize = 0;
+    // (the label names the loop in its proof)
     'reading: while read < payload.len() {
         acc = acc << 8 | u64::from(payload[read]);
         count += 8;
         read += 1;
+        // (the label names the loop in its proof)
         'symbols: while count >= 30 {
             let first = first_word(((acc >> (count - 30)) % (1 << 30)) as u32);
             if first.symbol == 256 {
@@ -121,6 +123,7 @@ pub fn is_encoding(payload: &[u8]) -> bool
         }
     }
     let wide = acc << 32 | 0xffff_ffff;
+    // (the label names the loop in its proof)
     'ending: while !is_padding(acc, count) {
         let first = first_word(((wide >> (count + 2)) % (1 << 30)) as u32);
         if first.symbol == 256 || first.length > count {
@@ -140,6 +143,7 @@ pub fn decode_into(payload: &[u8], out: &mut [u8]) -> Option<usize>
     let mut count: u64 = 0;
     let mut read: usize = 0;
     let mut written: usize = 0;
+    // (the label names the loop in its proof)
     'reading: while read < payload.len() {
         if payload.len() - read >= 4 {
             acc = acc << 32 | u64::from(word_at(payload, read));
@@ -150,6 +154,7 @@ pub fn decode_into(payload: &[u8], out: &mut [u8]) -> Option<usize>
             count += 8;
             read += 1;
         }
+        // (the label names the loop in its proof)
         'symbols: while count >= 30 {
             let index = (acc >> (count - 12)) % 4096;
             if index < LONG {
@@ -168,6 +173,7 @@ pub fn decode_into(payload: &[u8], out: &mut [u8]) -> Option<usize>
         }
     }
     let wide = acc << 32 | 0xffff_ffff;
+    // (the label names the loop in its proof)
     'ending: while !is_padding(acc, count) {
         let index = (wide >> (count + 20)) % 4096;
         if index < LONG {

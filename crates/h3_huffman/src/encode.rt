@@ -1,5 +1,5 @@
 //! Writes Huffman payloads.
-ghost use Rattle.std.specs.Prelude.{◌≡◌, ℕ, ◌+◌, ◌*◌, ◌^◌, ◌<◌, ◌≤◌, List, ◌++◌, take, length, flat_map};
+ghost use Rattle.std.specs.Prelude.{◌≡◌, ◌+◌, ◌*◌, ◌^◌, ◌<◌, ◌≤◌, ◌++◌, take, length, flat_map};
 ghost use Rattle.std.specs.Int.{w32, to_be_bytes};
 ghost use Rattle.h3_huffman.specs.Huffman.{huffman, bits, code_word};
 ghost use Rattle.h3_huffman.specs.Writing.{Written};
@@ -117,6 +117,7 @@ pub fn encode_into(plain: &[u8], out: &mut [u8])
         mut count,
         mut written,
     } = put_words(plain, out);
+    // (the label names the loop in its proof)
     'last: while count >= 8 {
         count -= 8;
         out[written] = ((acc >> count) % 256) as u8;

@@ -2,20 +2,24 @@
 use Rattle.std.proofs.Common.{◌≡◌, ℕ, Bool, true, false, ◌&&◌, if◌then◌else◌, List, [], ◌++◌, refl, ap, sym, ◌∙◌, subst, append-nil}
 use Rattle.std.specs.Prelude.{Err}
 use Rattle.std.specs.List.{concat}
+use Rattle.h3_wire.specs.ExcessiveFrames.{is_excessive}
+use Rattle.h3_wire.specs.ExcessiveLaws.{excessive_more, no_data}
 use Rattle.h3_wire.specs.Frames.{Front, Whole, Unknown, Refused, Unfinished, frame_at}
-use Rattle.h3_wire.specs.FrameLaws.{IsFinished, with_more, frame_at-more}
+use Rattle.h3_wire.specs.FrameLaws.{frame_at-more}
+use Rattle.h3_wire.specs.Fronts.{IsFinished, with_more, IsKnown}
 use Rattle.h3_wire.specs.Known.{known, refusal, IsWaiting, Gives}
-use Rattle.h3_wire.specs.KnownLaws.{IsKnown, known-other, known-more}
+use Rattle.h3_wire.specs.KnownLaws.{known-other, known-more}
 use Rattle.h3_wire.specs.Pieces.{IsRest}
 use Rattle.h3_wire.specs.declared.frame.errors.FrameProtocolError.{FrameProtocolError}
 use Rattle.h3_wire.specs.declared.frame.errors.FrameStreamError.{FrameStreamError}
 use Rattle.h3_wire.specs.declared.frame.errors.FrameStreamError.TheVariants as stream
 use Rattle.h3_wire.specs.declared.proto.frame.PayloadLen.{PayloadLen}
 use Rattle.h3_wire.specs.declared.proto.frame.Frame.{Frame}
+use Rattle.h3_wire.specs.declared.proto.frame.Frame.TheVariants as frame
 use Rattle.h3_connection.specs.Incoming.{Incoming, Passes, is_body}
 use Rattle.h3_connection.specs.Skipping.{is_empty_data, skip_front, skipped}
 use Rattle.h3_connection.specs.SkippingLaws.{skipped_step}
-use Rattle.h3_incoming.specs.Finding.{Finds, PassesFrames}
+use Rattle.h3_incoming.specs.Finding.{Finds, IsWithin, PassesFrames}
 use Rattle.h3_incoming.specs.declared.stream.front.Found.{Found}
 use Rattle.h3_incoming.specs.declared.stream.front.Found.TheVariants as found
 
@@ -76,10 +80,72 @@ passed_now in_body old new p = ap (skipped in_body) (sym (append-nil new)) ∙ p
 pub found_now : (in_body : Bool) (f : Frame PayloadLen) (old new : List ℕ) → Finds in_body (found.Frame f) old new → frame_at (skipped in_body old) ≡ Whole f new
 found_now in_body f old new h = ap (λ l. frame_at (skipped in_body l)) (sym (append-nil old)) ∙ h [] ∙ ap (λ l. Whole f l) (append-nil new)
 
+-- **What was found is no longer than its reader takes, or is told as longer.**
+front_stays : (in_body : Bool) (bytes : List ℕ) (x : Front) → frame_at (known bytes) ≡ x → ((f : Frame PayloadLen) (rest : List ℕ) → x ≡ Whole f rest → (in_body && is_empty_data f) ≡ false) → skipped in_body bytes ≡ known bytes
+front_stays in_body bytes (Whole f rest) e full =
+    skipped_step in_body bytes ∙ ap (λ x. skip_front (skipped in_body) in_body (known bytes) x) e ∙ ap (λ b. if b then skipped in_body rest else known bytes) (full f rest refl)
+front_stays in_body bytes (Unfinished least) e full = skipped_step in_body bytes ∙ ap (λ x. skip_front (skipped in_body) in_body (known bytes) x) e
+front_stays in_body bytes (Unknown kind rest) e full = skipped_step in_body bytes ∙ ap (λ x. skip_front (skipped in_body) in_body (known bytes) x) e
+front_stays in_body bytes (Refused why) e full = skipped_step in_body bytes ∙ ap (λ x. skip_front (skipped in_body) in_body (known bytes) x) e
+
+-- What is too long gives something: DATA never is.
+pub within_excessive : (most : ℕ) (in_body : Bool) (bytes : List ℕ) → is_excessive most (known bytes) ≡ true → IsWithin most in_body found.Excessive bytes
+within_excessive most in_body bytes e = ap (is_excessive most) (front_stays in_body bytes (frame_at (known bytes)) refl full) ∙ e
+  where
+    empty_is : (a b : Bool) → (a && b) ≡ true → b ≡ true
+    empty_is true b h = h
+    empty_is false b h = absurd (cc)
+
+    full : (f : Frame PayloadLen) (rest : List ℕ) → frame_at (known bytes) ≡ Whole f rest → (in_body && is_empty_data f) ≡ false
+    full f rest at = by_test (in_body && is_empty_data f) refl
+      where
+        not_empty : (g : Frame PayloadLen) → frame_at (known bytes) ≡ Whole g rest → is_empty_data g ≡ true → ⊥
+        not_empty (frame.Data len) at t = no_data most (known bytes) rest len at e
+        not_empty (frame.Headers section) at t = cc
+        not_empty (frame.CancelPush push) at t = cc
+        not_empty (frame.Settings settings) at t = cc
+        not_empty (frame.PushPromise promise) at t = cc
+        not_empty (frame.Goaway number) at t = cc
+        not_empty (frame.MaxPushId push) at t = cc
+        not_empty (frame.WebTransportStream session) at t = cc
+        not_empty (frame.Grease kind) at t = cc
+
+        by_test : (b : Bool) → (in_body && is_empty_data f) ≡ b → b ≡ false
+        by_test true t = absurd (not_empty f at (empty_is in_body (is_empty_data f) t))
+        by_test false t = refl
+
+pub within_unfinished : (most : ℕ) (in_body : Bool) (bytes left : List ℕ) → left ≡ known bytes → IsWaiting (frame_at left) → is_excessive most (known bytes) ≡ false → IsWithin most in_body found.Unfinished bytes
+within_unfinished most in_body bytes left is h e = ap (is_excessive most) (sym (finds_unfinished in_body bytes left is h).0 ∙ is) ∙ e
+
+pub within_refused : (most : ℕ) (in_body : Bool) (bytes left : List ℕ) (why : FrameProtocolError) → left ≡ known bytes → frame_at left ≡ Refused (refusal why) → is_excessive most (known bytes) ≡ false
+    → IsWithin most in_body (found.Refused why) bytes
+within_refused most in_body bytes left why is h e = ap (is_excessive most) (sym (finds_refused in_body bytes left why is h).0 ∙ is) ∙ e
+
+pub within_frame : (most : ℕ) (in_body : Bool) (bytes rest : List ℕ) (f : Frame PayloadLen) → frame_at (known bytes) ≡ Whole f rest → (in_body && is_empty_data f) ≡ false → is_excessive most (known bytes) ≡ false
+    → IsWithin most in_body (found.Frame f) bytes
+within_frame most in_body bytes rest f e t none more =
+    let finished : IsFinished (frame_at (known bytes)) = subst IsFinished (sym e) tt in
+    let here : frame_at (known bytes ++ more) ≡ Whole f (rest ++ more) = frame_at-more (known bytes) more finished ∙ ap (λ x. with_more x more) e in
+    let same : known (bytes ++ more) ≡ known bytes ++ more = known-more bytes more ∙ known-other (known bytes ++ more) (subst IsKnown (sym here) tt) in
+    let all : skipped in_body (bytes ++ more) ≡ known (bytes ++ more) =
+    skipped_step in_body (bytes ++ more) ∙ ap (λ x. skip_front (skipped in_body) in_body (known (bytes ++ more)) x) (known_frame-more bytes rest more f e)
+    ∙ ap (λ b. if b then skipped in_body (rest ++ more) else known (bytes ++ more)) t in
+    ap (is_excessive most) (all ∙ same) ∙ excessive_more most (known bytes) more finished ∙ none
+
+pub within_on : (most : ℕ) (in_body : Bool) (f : Found) (old mid : List ℕ) → PassesFrames in_body old mid → IsWithin most in_body f mid → IsWithin most in_body f old
+within_on most in_body (found.Frame f) old mid p h = λ more. ap (is_excessive most) (sym (p more)) ∙ h more
+within_on most in_body found.Unfinished old mid p h = ap (is_excessive most) (sym (passed_now in_body old mid p)) ∙ h
+within_on most in_body (found.Refused why) old mid p h = ap (is_excessive most) (sym (passed_now in_body old mid p)) ∙ h
+within_on most in_body found.Excessive old mid p h = ap (is_excessive most) (sym (passed_now in_body old mid p)) ∙ h
+
+pub within_now : (most : ℕ) (in_body : Bool) (f : Frame PayloadLen) (old : List ℕ) → IsWithin most in_body (found.Frame f) old → is_excessive most (skipped in_body old) ≡ false
+within_now most in_body f old h = ap (λ l. is_excessive most (skipped in_body l)) (sym (append-nil old)) ∙ h []
+
 pub finds_on : (in_body : Bool) (f : Found) (old mid new : List ℕ) → PassesFrames in_body old mid → Finds in_body f mid new → Finds in_body f old new
 finds_on in_body (found.Frame f) old mid new p h = λ more. ap frame_at (sym (p more)) ∙ h more
 finds_on in_body found.Unfinished old mid new p h = (h.0 ∙ passed_now in_body old mid p, h.1, λ more. h.2 more ∙ p more)
 finds_on in_body (found.Refused why) old mid new p h = (h.0 ∙ passed_now in_body old mid p, h.1)
+finds_on in_body found.Excessive old mid new p h = tt
 
 pub passed_then : (in_body : Bool) (old mid new : List ℕ) → PassesFrames in_body old mid → PassesFrames in_body mid new → PassesFrames in_body old new
 passed_then in_body old mid new p q more = q more ∙ p more
@@ -100,6 +166,11 @@ pub passes_frames : (old stored : Incoming) (left : List (List ℕ)) (in_body : 
     → PassesFrames (is_body old.place) (concat old.unread) (concat left)
 passes_frames old stored left in_body r h =
     subst (λ (o : Incoming). PassesFrames (is_body old.place) (concat o.unread) (concat left)) r.is (subst (λ b. PassesFrames b (concat stored.unread) (concat left)) r.body h)
+
+pub within : (most : ℕ) (old stored : Incoming) (left : List (List ℕ)) (in_body : Bool) (f : Found) → Reads old stored left in_body → IsWithin most in_body f (concat stored.unread)
+    → IsWithin most (is_body old.place) f (concat old.unread)
+within most old stored left in_body f r h =
+    subst (λ (o : Incoming). IsWithin most (is_body old.place) f (concat o.unread)) r.is (subst (λ b. IsWithin most b f (concat stored.unread)) r.body h)
 
 pub finds : (old stored : Incoming) (left : List (List ℕ)) (in_body : Bool) (f : Found) → Reads old stored left in_body → Finds in_body f (concat stored.unread) (concat left)
     → Finds (is_body old.place) f (concat old.unread) (concat left)

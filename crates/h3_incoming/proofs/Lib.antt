@@ -5,4 +5,5 @@ pub mod ResumeLaws
 pub mod JudgeLaws
 pub mod Outlines
 pub mod ListLaws
+pub mod NextFrame
 pub mod FieldsPullLaws

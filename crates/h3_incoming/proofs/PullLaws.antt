@@ -4,8 +4,10 @@ use Rattle.std.specs.Prelude.{Option, Some, None, IfSome, is_some}
 use Rattle.std.specs.List.{concat}
 use Rattle.std.proofs.lemmas.Bool.{lt-ltb}
 use Rattle.std.proofs.lemmas.List.{length-drop}
+use Rattle.h3_wire.specs.ExcessiveFrames.{is_excessive}
 use Rattle.h3_wire.specs.Frames.{Front, Whole, Refused, Unfinished, frame_at}
-use Rattle.h3_wire.specs.FrameLaws.{IsFinished, IsShorter, frame_at-nil, frame_at-shorter}
+use Rattle.h3_wire.specs.FrameLaws.{frame_at-nil, frame_at-shorter}
+use Rattle.h3_wire.specs.Fronts.{IsFinished, IsShorter}
 use Rattle.h3_wire.specs.Known.{refusal}
 use Rattle.h3_wire.specs.Pieces.{without, ending}
 use Rattle.h3_wire.specs.PieceLaws.{rest_is, concat-without, without-without}
@@ -27,7 +29,7 @@ use Rattle.h3_connection.specs.declared.setup.Announced.{Announced}
 use Rattle.h3_connection.specs.Codes.{refusal_code}
 use Rattle.h3_connection.specs.Incoming.{Incoming, Passes, is_body}
 use Rattle.h3_connection.specs.Skipping.{skipped}
-use Rattle.h3_connection.specs.Pulling.{Pulled, is_memory, just, connection_fault, left_with, raw, malformed, in_payload, at_payload, at_section, at_frame, framed, next_frame, between_frames, in_message, next_item, pull_stream}
+use Rattle.h3_connection.specs.Pulling.{Pulled, is_memory, just, connection_fault, left_with, raw, malformed, in_payload, at_payload, at_section, at_frame, framed, next_frame, between_frames, excess, in_message, next_item, pull_stream}
 use Rattle.h3_incoming.specs.Finding.{Finds}
 use Rattle.h3_incoming.specs.Gives.{Gives}
 use Rattle.h3_incoming.specs.Placing.{is_session}
@@ -135,22 +137,37 @@ module _ (side : Side) (own : Announced) (id : ℕ) (r : DecoderState) where
   next_is i [] x e h = let wrong : IsFinished (Unfinished 1) = subst IsFinished (sym e ∙ frame_at-nil) h in absurd wrong
   next_is i (byte ∷ bytes) x e h = ap (framed side own id r i) e
 
+  -- what stands between frames is too long, or it is not
+  pub between_excess : (i : Incoming) → is_excessive own.choices.unfinished_limit (skipped (is_body i.place) (concat i.unread)) ≡ true → between_frames side own id r i ≡ excess i
+  between_excess i e =
+      let bytes = skipped (is_body i.place) (concat i.unread) in
+      ap (λ b. if b then excess i else next_frame side own id r (left_with i bytes) bytes) e
+
+  pub between_within : (i : Incoming) → is_excessive own.choices.unfinished_limit (skipped (is_body i.place) (concat i.unread)) ≡ false
+      → between_frames side own id r i ≡ next_frame side own id r (left_with i (skipped (is_body i.place) (concat i.unread))) (skipped (is_body i.place) (concat i.unread))
+  between_within i e =
+      let bytes = skipped (is_body i.place) (concat i.unread) in
+      ap (λ b. if b then excess i else next_frame side own id r (left_with i bytes) bytes) e
+
   pub between_unfinished : (i new : Incoming) → Passes i new → concat new.unread ≡ skipped (is_body i.place) (concat i.unread)
+      → is_excessive own.choices.unfinished_limit (skipped (is_body i.place) (concat i.unread)) ≡ false
       → between_frames side own id r i ≡ next_frame side own id r new (concat new.unread)
-  between_unfinished i new p e =
-      ap (λ bytes. next_frame side own id r (left_with i bytes) bytes) (sym e)
+  between_unfinished i new p e within =
+      between_within i within ∙ ap (λ bytes. next_frame side own id r (left_with i bytes) bytes) (sym e)
       ∙ ap (λ j. next_frame side own id r j (concat new.unread)) (sym (left_is i new p))
 
   pub between_refused : (i new : Incoming) (e : FrameProtocolError) → Passes i new → Finds (is_body i.place) (found.Refused e) (concat i.unread) (concat new.unread)
+      → is_excessive own.choices.unfinished_limit (skipped (is_body i.place) (concat i.unread)) ≡ false
       → between_frames side own id r i ≡ connection_fault (refusal_code (refusal e)) new
-  between_refused i new e p h = between_unfinished i new p h.0 ∙ next_is new (concat new.unread) (Refused (refusal e)) h.1 tt
+  between_refused i new e p h within = between_unfinished i new p h.0 within ∙ next_is new (concat new.unread) (Refused (refusal e)) h.1 tt
 
   pub between_frame : (i new : Incoming) (f : Frame PayloadLen) → Passes i new → frame_at (skipped (is_body i.place) (concat i.unread)) ≡ Whole f (concat new.unread)
+      → is_excessive own.choices.unfinished_limit (skipped (is_body i.place) (concat i.unread)) ≡ false
       → between_frames side own id r i ≡ at_frame side own id r side new i.place f
-  between_frame i new f p e =
+  between_frame i new f p e within =
       let bytes = skipped (is_body i.place) (concat i.unread) in
       let less : IsShorter (length bytes) (Whole f (concat new.unread)) = subst (IsShorter (length bytes)) e (frame_at-shorter bytes) in
-      next_is (left_with i bytes) bytes (Whole f (concat new.unread)) e tt
+      between_within i within ∙ next_is (left_with i bytes) bytes (Whole f (concat new.unread)) e tt
       ∙ ap (λ j. at_frame side own id r side j i.place f) (left_left i bytes (concat new.unread) (omega (arith, less)) (skipped-length (is_body i.place) (concat i.unread)) ∙ sym (left_is i new p))
 
   pub gives_section : (i : Incoming) (section : Option (List ℕ)) (answer : Pull) (new : Incoming) (before after : List ℕ) → i.fault ≡ None → i.is_over ≡ false → is_session i.place ≡ false

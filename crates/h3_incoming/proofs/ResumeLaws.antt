@@ -4,6 +4,7 @@ use Rattle.std.specs.Prelude.{None}
 use Rattle.std.specs.List.{concat}
 use Rattle.std.proofs.lemmas.List.{length-drop}
 use Rattle.std.proofs.lemmas.List.Folds.{concat-append}
+use Rattle.h3_wire.specs.ExcessiveFrames.{is_excessive}
 use Rattle.h3_wire.specs.Frames.{Whole, frame_at}
 use Rattle.h3_wire.specs.Pieces.{IsRest}
 use Rattle.h3_wire.specs.PieceLaws.{rest_behind, concat-without}
@@ -19,17 +20,17 @@ use Rattle.h3_connection.specs.declared.setup.Announced.{Announced}
 use Rattle.h3_connection.specs.Incoming.{Incoming, Passes, is_body, given_up}
 use Rattle.h3_connection.specs.Skipping.{skipped, is_empty_data}
 use Rattle.h3_connection.specs.Codes.{frame_unexpected}
-use Rattle.h3_connection.specs.Pulling.{begun_section, begun_payload, left_with, at_payload, new_section, connection_fault, at_frame, next_frame, between_frames, pull_stream}
-use Rattle.h3_incoming.specs.Finding.{Finds, PassesFrames}
+use Rattle.h3_connection.specs.Pulling.{begun_section, begun_payload, left_with, at_payload, new_section, connection_fault, excess, at_frame, next_frame, between_frames, pull_stream}
+use Rattle.h3_incoming.specs.Finding.{Finds, IsWithin, PassesFrames}
 use Rattle.h3_incoming.specs.Placing.{is_session}
 use Rattle.h3_incoming.specs.Resuming.{Begins, Resumes, delivered}
 use Rattle.h3_incoming.specs.declared.stream.front.Found.TheVariants as found
 use Rattle.h3_connection.specs.SkippingLaws.{skipped-length, found_not_empty}
 use Rattle.h3_incoming.proofs.PullLaws.{pull_of_section, pull_of_payload, pull_of_frame, left_is, left_left, place_passed, between_frame}
 
-pub resumes_same : (old new : Incoming) → new ≡ old → Resumes old new
-resumes_same old new e = subst (λ x. Resumes old x) (sym e) (record {
-  pulls = λ side own id r pieces ends. refl;
+pub resumes_same : (own : Announced) (old new : Incoming) → new ≡ old → Resumes own old new
+resumes_same own old new e = subst (λ x. Resumes own old x) (sym e) (record {
+  pulls = λ side id r pieces ends. refl;
   gives_up = λ fault. refl;
   place = refl;
   response = refl;
@@ -70,13 +71,17 @@ passes_behind old mid pieces ends p = record {
   rest = rest_behind old.unread mid.unread pieces p.rest;
 }
 
+-- what came is let go
+let_go_alike : (old new : Incoming) → Passes old new → excess new ≡ excess old
+let_go_alike old new p = ap {A = Incoming} (λ i. excess i) p.same
+
 between_passed : (old new : Incoming) → Passes old new → IsBetween old → IsBetween new
 between_passed old new p b = subst IsBetween (sym p.same) (record { no_fault = b.no_fault; goes_on = b.goes_on; message = b.message; none = b.none; closed = b.closed; waits = b.waits })
 
 -- Some frames were passed, and the next was not read.
-pub resumes_passed : (old new : Incoming) → IsBetween old → Passes old new → PassesFrames (is_body old.place) (concat old.unread) (concat new.unread) → Resumes old new
-resumes_passed old new b p skips = record {
-  pulls = λ side own id r pieces ends. goes_on_alike side own id r pieces ends;
+pub resumes_passed : (own : Announced) (old new : Incoming) → IsBetween old → Passes old new → PassesFrames (is_body old.place) (concat old.unread) (concat new.unread) → Resumes own old new
+resumes_passed own old new b p skips = record {
+  pulls = λ side id r pieces ends. goes_on_alike side id r pieces ends;
   gives_up = λ fault. ap {A = Incoming} (λ i. given_up i fault) p.same;
   place = ap {A = Incoming} (λ i. i.place) p.same;
   response = ap {A = Incoming} (λ i. i.response) p.same;
@@ -88,9 +93,9 @@ resumes_passed old new b p skips = record {
   fault = ap {A = Incoming} (λ i. i.fault) p.same;
 }
   where
-    goes_on_alike : (side : Side) (own : Announced) (id : ℕ) (r : DecoderState) (pieces : List (List ℕ)) (ends : Bool)
+    goes_on_alike : (side : Side) (id : ℕ) (r : DecoderState) (pieces : List (List ℕ)) (ends : Bool)
         → pull_stream side own id r (delivered new pieces ends) ≡ pull_stream side own id r (delivered old pieces ends)
-    goes_on_alike side own id r pieces ends =
+    goes_on_alike side id r pieces ends =
         let o = delivered old pieces ends in
         let n = delivered new pieces ends in
         let bytes = skipped (is_body old.place) (concat o.unread) in
@@ -104,8 +109,9 @@ resumes_passed old new b p skips = record {
         ap (λ (i : Incoming). left_with i bytes) (left_is o n behind)
         ∙ left_left o (concat n.unread) bytes short (rest_short o.unread n.unread behind.rest) in
         between_pull side own id r new pieces ends (between_passed old new p b)
-        ∙ ap (λ l. next_frame side own id r (left_with n l) l) same
-        ∙ ap (λ (i : Incoming). next_frame side own id r i bytes) left
+        ∙ ap (λ l. if is_excessive own.choices.unfinished_limit l then excess n else next_frame side own id r (left_with n l) l) same
+        ∙ ap (λ (i : Incoming). if is_excessive own.choices.unfinished_limit bytes then excess n else next_frame side own id r i bytes) left
+        ∙ ap (λ x. if is_excessive own.choices.unfinished_limit bytes then x else next_frame side own id r (left_with o bytes) bytes) (let_go_alike o n behind)
         ∙ sym (between_pull side own id r old pieces ends b)
 
 -- The next frame has begun what it gives.
@@ -177,13 +183,13 @@ is_begun mid new (frame.MaxPushId push) place none h = absurd h
 is_begun mid new (frame.WebTransportStream session) place none h = absurd h
 is_begun mid new (frame.Grease kind) place none h = absurd h
 
-pub resumes_begun : (old mid new : Incoming) (f : Frame PayloadLen) → IsBetween old → Passes old mid → Finds (is_body old.place) (found.Frame f) (concat old.unread) (concat mid.unread)
-    → Begins mid.place f mid new → Resumes old new
-resumes_begun old mid new f b p finds begins =
+pub resumes_begun : (own : Announced) (old mid new : Incoming) (f : Frame PayloadLen) → IsBetween old → Passes old mid → Finds (is_body old.place) (found.Frame f) (concat old.unread) (concat mid.unread)
+    → IsWithin own.choices.unfinished_limit (is_body old.place) (found.Frame f) (concat old.unread) → Begins mid.place f mid new → Resumes own old new
+resumes_begun own old mid new f b p finds small begins =
     let here = between_passed old mid p b in
     let begun = is_begun mid new f mid.place here.waits begins in
     record {
-      pulls = λ side own id r pieces ends. goes_on_alike side own id r pieces ends here;
+      pulls = λ side id r pieces ends. goes_on_alike side id r pieces ends here;
       gives_up = λ fault. begun.gives_up fault ∙ ap {A = Incoming} (λ i. given_up i fault) p.same;
       place = begun.place ∙ ap {A = Incoming} (λ i. i.place) p.same;
       response = begun.response ∙ ap {A = Incoming} (λ i. i.response) p.same;
@@ -195,9 +201,9 @@ resumes_begun old mid new f b p finds begins =
       fault = begun.fault ∙ ap {A = Incoming} (λ i. i.fault) p.same;
     }
   where
-    goes_on_alike : (side : Side) (own : Announced) (id : ℕ) (r : DecoderState) (pieces : List (List ℕ)) (ends : Bool) → IsBetween mid
+    goes_on_alike : (side : Side) (id : ℕ) (r : DecoderState) (pieces : List (List ℕ)) (ends : Bool) → IsBetween mid
         → pull_stream side own id r (delivered new pieces ends) ≡ pull_stream side own id r (delivered old pieces ends)
-    goes_on_alike side own id r pieces ends here =
+    goes_on_alike side id r pieces ends here =
         let o = delivered old pieces ends in
         let m = delivered mid pieces ends in
         let there : frame_at (skipped (is_body old.place) (concat o.unread)) ≡ Whole f (concat m.unread) =
@@ -206,5 +212,6 @@ resumes_begun old mid new f b p finds begins =
         let place = place_passed old mid p in
         begun_alike side own id r pieces ends mid new f mid.place here begins (subst (λ q. (is_body q && is_empty_data f) ≡ false) (sym place) some)
         ∙ ap (λ q. at_frame side own id r side m q f) place
-        ∙ sym (between_frame side own id r o m f (passes_behind old mid pieces ends p) there)
+        ∙ sym (between_frame side own id r o m f (passes_behind old mid pieces ends p) there
+        (ap (λ l. is_excessive own.choices.unfinished_limit (skipped (is_body old.place) l)) (concat-append old.unread pieces) ∙ small (concat pieces)))
         ∙ sym (between_pull side own id r old pieces ends b)

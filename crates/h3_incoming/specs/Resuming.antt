@@ -30,9 +30,9 @@ Begins place (frame.Headers bytes) old new = (permits_section place old.content 
 Begins place (frame.Data len) old new = (is_body place ≡ true) × (new ≡ begun_payload old len.0)
 Begins place _ old new = ⊥
 
--- Whatever is delivered later, whatever the table is by then, its pulls answer the same, and leave the same.
-pub record Resumes (old new : Incoming) : Type 0 where
-  pub pulls : (side : Side) (own : Announced) (id : ℕ) (r : DecoderState) (pieces : List (List ℕ)) (ends : Bool)
+-- Whatever is delivered later, whatever the table is by then, its pulls answer the same, and leave the same, at an end that announced this.
+pub record Resumes (own : Announced) (old new : Incoming) : Type 0 where
+  pub pulls : (side : Side) (id : ℕ) (r : DecoderState) (pieces : List (List ℕ)) (ends : Bool)
       → pull_stream side own id r (delivered new pieces ends) ≡ pull_stream side own id r (delivered old pieces ends)
   pub gives_up : (fault : StreamFault) → given_up new fault ≡ given_up old fault
   -- where its message is

@@ -73,10 +73,11 @@ impl Model for IncomingStream {
 
     ghost use Rattle.std.specs.Prelude.{◌≡◌, ◌<◌, ◌≤◌, true, false, [], None};
     ghost use Rattle.std.specs.Option.{is_some};
+    ghost use Rattle.h3_wire.specs.UnreadFrames.{AreBetween};
 
-    ghost invariant = { λ s. (0 < s.body_left → s.unread.decoder.expected ≡ None)
-        × (is_some s.section ≡ true → s.unread.decoder.expected ≡ None)
-        × (is_session s.place ≡ true → s.unread.decoder.expected ≡ None)
+    ghost invariant = { λ s. (0 < s.body_left → AreBetween s.unread)
+        × (is_some s.section ≡ true → AreBetween s.unread)
+        × (is_session s.place ≡ true → AreBetween s.unread)
         × (is_some s.fault ≡ true → s.unread.pieces ≡ [])
         × (s.tries ≤ 2)
         × (0 < s.waits_for → s.tries ≡ 1)
@@ -106,8 +107,8 @@ impl IncomingStream {
         }
     }
 
-    /// More bytes came. They are kept as they are, with no copy; those of a stream that was given up are thrown away. An `Err`
-    /// changes nothing, and hands the bytes back: memory was refused.
+    /// More bytes came. They are kept as they are, with no copy but of small pieces; those of a stream that was given up are thrown away, and
+    /// those of an unknown frame that is under way are let go. An `Err` changes nothing, and hands the bytes back: memory was refused.
     pub fn deliver(&mut self, bytes: Bytes) -> Result<(), Bytes>
         requires { length (concat self.old.unread) + length bytes < 2 ^ 64 }
         ensures ok { OnOk result (self.new ≡ kept self.old bytes) }
@@ -118,7 +119,22 @@ impl IncomingStream {
             return Ok(());
         }
         self.came_behind = self.is_over;
-        self.unread.push(bytes)
+        match self.unread.push(bytes) {
+            Ok(()) => {
+                self.spare();
+                Ok(())
+            }
+            Err(bytes) => Err(bytes),
+        }
+    }
+
+    // Where an unknown frame is under way at the front, its bytes are let go.
+    pub(super) fn spare(&mut self)
+        ensures { self.new ≡ self.old }
+    {
+        if self.begins_frame() {
+            self.unread.spare();
+        }
     }
 
     /// Its end came.

@@ -8,7 +8,8 @@ use Rattle.h3_connection.specs.Incoming.{Incoming}
 use Rattle.h3_connection.specs.Outgoing.{Outgoing, nothing_sent, takes_body, with_body}
 use Rattle.h3_connection.specs.StrictSending.{passes_content}
 use Rattle.h3_connection.specs.declared.event.Malformation.TheVariants as malformation
-use Rattle.h3_connection.specs.Sending.{does, first_of, closed_or, body_refusal, counted, sent_bytes, send_body}
+use Rattle.h3_connection.specs.Refusals.{first_of}
+use Rattle.h3_connection.specs.Sending.{does, closed_or, body_refusal, counted, sent_bytes, send_body}
 use Rattle.h3_connection.specs.StreamSets.{Streams, stream_at, set_stream}
 use Rattle.h3_connection.specs.declared.event.Refusal.{Refusal}
 use Rattle.h3_connection.specs.declared.event.Refusal.TheVariants as refusal

@@ -3,7 +3,7 @@ use Rattle.std.proofs.Common.{◌≡◌, ℕ, Bool, true, false, List, [], ◌++
 use Rattle.std.specs.Prelude.{is_some}
 use Rattle.h3_qpack.specs.Hearing.{listen}
 use Rattle.h3_connection.specs.declared.arrival.Arrival.{Arrival}
-use Rattle.h3_connection.specs.Control.{Found, listened_to, read_decoder, read_control, after_peer, then_decoder, if_learned, learned, is_usable, with_table}
+use Rattle.h3_connection.specs.Control.{Found, listened_to, read_decoder, read_control, after_peer, then_decoder, if_learned, learned, is_table_usable, with_table}
 use Rattle.h3_connection.specs.Endpoint.{EndpointHistory}
 use Rattle.h3_connection.specs.Incoming.{Incoming}
 use Rattle.h3_connection.specs.PeerReading.{Peer, PeerFound, with_unread, read_peer}
@@ -44,7 +44,7 @@ module _ (mine : List Delivery) (incoming : Streams Incoming) (kept : List Arriv
   none_held held = record held { control = []; decoder = [] }
 
   pub learned_ahead : (held : Held) (behind : EndpointHistory) (pairs : List (ℕ × ℕ)) → learned (ahead behind mine held incoming kept) pairs ≡ ahead (learned behind pairs) mine held incoming kept
-  learned_ahead held behind pairs = by_test (is_usable behind.encoder.most_capacity capacity blocked)
+  learned_ahead held behind pairs = by_test (is_table_usable behind.encoder.most_capacity capacity blocked)
     where
       capacity : ℕ
       capacity = Rattle.std.specs.Prelude.unwrap_or (Rattle.h3_proto.specs.Settings.value_of 1 pairs) 0

@@ -11,8 +11,9 @@ use Rattle.h3_connection.specs.Incoming.{Incoming}
 use Rattle.h3_connection.specs.Outgoing.{Outgoing, OwnPart, nothing_sent, takes_head, takes_body, takes_end, with_finish, with_reset}
 use Rattle.h3_connection.specs.Outgoing.OwnPart.{OwnTrailer}
 use Rattle.h3_connection.specs.Pulling.{is_client, is_for}
-use Rattle.h3_connection.specs.Sections.{encoded_section}
-use Rattle.h3_connection.specs.Sending.{does, first_of, closed_or, is_too_large, head_refusal, trailer_refusal, finish_refusal, goaway_refusal, with_outgoing, outgoing_at, counted, encoded, appended, fields_cost, head_part, asked, send_head, send_trailer, finish, goaway}
+use Rattle.h3_connection.specs.Sections.{written_section}
+use Rattle.h3_connection.specs.Refusals.{first_of, is_too_large}
+use Rattle.h3_connection.specs.Sending.{does, closed_or, head_refusal, trailer_refusal, finish_refusal, goaway_refusal, with_outgoing, outgoing_at, counted, encoded, appended, fields_cost, head_part, asked, send_head, send_trailer, finish, goaway}
 use Rattle.h3_connection.specs.StreamSets.{Streams, stream_at, set_stream}
 use Rattle.h3_connection.specs.StrictSending.{broken_head, broken_trailer, early_trailer, unless_malformed}
 use Rattle.h3_messages.specs.Content.{may_end}
@@ -77,11 +78,11 @@ module _ (mine : List Delivery) (held : Held) (incoming : Streams Incoming) (kep
 
   -- a section that goes out
   section_ahead : (id : ℕ) (fields : List Field) (own : List ℕ → OwnPart) → is_some (stream_at behind.outgoing id) ≡ true
-      → counted (appended (encoded (ahead behind mine held incoming kept) id fields) id (own (encoded_section (ahead behind mine held incoming kept).encoder id fields))) (fields_cost fields)
-      ≡ ahead (counted (appended (encoded behind id fields) id (own (encoded_section behind.encoder id fields))) (fields_cost fields)) mine held incoming kept
+      → counted (appended (encoded (ahead behind mine held incoming kept) id fields) id (own (written_section (ahead behind mine held incoming kept).encoder id fields))) (fields_cost fields)
+      ≡ ahead (counted (appended (encoded behind id fields) id (own (written_section behind.encoder id fields))) (fields_cost fields)) mine held incoming kept
   section_ahead id fields own there =
       ap (λ l. record (ahead (counted (encoded behind id fields) (fields_cost fields)) mine held incoming kept) { outgoing = l })
-      (changed_ahead mine behind.outgoing id (λ o. record o { parts = o.parts ++ own (encoded_section behind.encoder id fields) ∷ [] }) (λ o. refl) there)
+      (changed_ahead mine behind.outgoing id (λ o. record o { parts = o.parts ++ own (written_section behind.encoder id fields) ∷ [] }) (λ o. refl) there)
 
   -- **A head.** An end that judges plainly remembers nothing of a request.
   pub head_ahead : behind.announced.choices.strict_messages ≡ false → (id : ℕ) (head : Head) → send_head (ahead behind mine held incoming kept) id head ≡ lifted (send_head behind id head)
@@ -95,7 +96,7 @@ module _ (mine : List Delivery) (held : Held) (incoming : Streams Incoming) (kep
       fields = head_fields head
 
       sent : EndpointHistory → EndpointHistory
-      sent e = counted (appended (encoded e id fields) id (head_part head (encoded_section e.encoder id fields))) (fields_cost fields)
+      sent e = counted (appended (encoded e id fields) id (head_part head (written_section e.encoder id fields))) (fields_cost fields)
 
       rules : Outgoing → List (Bool × Refusal)
       rules o =
@@ -105,9 +106,9 @@ module _ (mine : List Delivery) (held : Held) (incoming : Streams Incoming) (kep
   -- **A trailer.**
   pub trailer_ahead : (id : ℕ) (head : Head) → send_trailer (ahead behind mine held incoming kept) id head ≡ lifted (send_trailer behind id head)
   trailer_ahead id head =
-      ap (λ r. does r f (counted (appended (encoded f id fields) id (OwnTrailer (encoded_section f.encoder id fields))) (fields_cost fields))) (judged_ahead mine behind.closed rules behind.outgoing id (λ o. refl))
-      ∙ done_ahead (trailer_refusal behind id head) (counted (appended (encoded f id fields) id (OwnTrailer (encoded_section f.encoder id fields))) (fields_cost fields))
-      (counted (appended (encoded behind id fields) id (OwnTrailer (encoded_section behind.encoder id fields))) (fields_cost fields))
+      ap (λ r. does r f (counted (appended (encoded f id fields) id (OwnTrailer (written_section f.encoder id fields))) (fields_cost fields))) (judged_ahead mine behind.closed rules behind.outgoing id (λ o. refl))
+      ∙ done_ahead (trailer_refusal behind id head) (counted (appended (encoded f id fields) id (OwnTrailer (written_section f.encoder id fields))) (fields_cost fields))
+      (counted (appended (encoded behind id fields) id (OwnTrailer (written_section behind.encoder id fields))) (fields_cost fields))
       (λ goes. section_ahead id fields OwnTrailer (goes_open behind.closed rules (stream_at behind.outgoing id) goes))
     where
       fields : List Field

@@ -9,8 +9,9 @@ use Rattle.h3_connection.specs.Endpoint.{EndpointHistory, replied, is_critical_i
 use Rattle.h3_connection.specs.Incoming.{Incoming, nothing_came}
 use Rattle.h3_connection.specs.Outgoing.{nothing_sent}
 use Rattle.h3_connection.specs.PartReading.{Resumes}
-use Rattle.h3_connection.specs.Sections.{encoded_section}
-use Rattle.h3_connection.specs.Sending.{does, first_of, closed_or, body_refusal, appended, asked, counted, encoded, fields_cost, head_part, sent_bytes, open_refusal, head_refusal, trailer_refusal, finish_refusal, goaway_refusal, open_request, send_head, send_body, send_trailer, finish, goaway, cancel}
+use Rattle.h3_connection.specs.Sections.{written_section}
+use Rattle.h3_connection.specs.Refusals.{first_of}
+use Rattle.h3_connection.specs.Sending.{does, closed_or, body_refusal, appended, asked, counted, encoded, fields_cost, head_part, sent_bytes, open_refusal, head_refusal, trailer_refusal, finish_refusal, goaway_refusal, open_request, send_head, send_body, send_trailer, finish, goaway, cancel}
 use Rattle.h3_connection.specs.Shown.{waiting_heads}
 use Rattle.h3_connection.specs.StreamSets.{HaveDistinctIds, Streams, stream_at, set_stream}
 use Rattle.h3_connection.specs.StreamSetLaws.{set-distinct}
@@ -72,7 +73,7 @@ module _ (mine : List Delivery) (held : Held) (kept : List Arrival) (side : Side
       }))
     where
       sent : EndpointHistory
-      sent = counted (appended (encoded behind id (head_fields head)) id (head_part head (encoded_section behind.encoder id (head_fields head)))) (fields_cost (head_fields head))
+      sent = counted (appended (encoded behind id (head_fields head)) id (head_part head (written_section behind.encoder id (head_fields head)))) (fields_cost (head_fields head))
 
   pub trailer_alike : (id : ℕ) (head : Head) → Alike (send_trailer behind id head) (send_trailer (ahead behind mine held incoming kept) id head)
   trailer_alike id head =

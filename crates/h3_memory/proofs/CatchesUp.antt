@@ -12,7 +12,7 @@ use Rattle.h3_world.specs.Setup.{IsMadeSetup}
 use Rattle.h3_world.specs.World.{World}
 use Rattle.h3_headline.specs.Cited.{Laws}
 use Rattle.h3_memory.specs.Kept.{Delivery, Bytes, End, Reset, KeepingWorld, kept_at, read_delivery, read_deliveries}
-use Rattle.h3_memory.specs.Keeping.{AreKept, Held, Keeps, StandsKeeping, ahead}
+use Rattle.h3_memory.specs.Keeping.{AreKept, Held, StandsKeeping}
 use Rattle.h3_memory.proofs.BehindOwn.{found_as}
 use Rattle.h3_memory.proofs.KeptAlike.{all_none}
 use Rattle.h3_memory.proofs.KeptLaws.{KeptLaws}

@@ -3,7 +3,7 @@ use Rattle.std.proofs.Common.{ℕ}
 use Rattle.h3_proto.specs.declared.stream.Side.{Side}
 use Rattle.h3_world.specs.declared.event.Event.{Event}
 use Rattle.h3_world.specs.declared.event.Event.TheVariants as event
-use Rattle.h3_world.specs.Setup.{JudgesPlainly}
+use Rattle.h3_world.specs.Setup.{IsMadeSetup, JudgesPlainly}
 use Rattle.h3_world.specs.declared.setup.Setup.{Setup}
 use Rattle.h3_headline.specs.Cited.{Laws}
 use Rattle.h3_memory.specs.Theorem.{StepsOn}
@@ -18,17 +18,17 @@ pub record ReadersStep (setup : Setup) : Type 0 where
   pub reset : (writer : Side) (id : ℕ) → StepsOn setup (event.DeliverReset writer id)
   pub pull : (side : Side) (id : ℕ) → StepsOn setup (event.Pull side id)
 
-pub every_step : (qpack : KeptLaws) (laws : Laws) (setup : Setup) → JudgesPlainly setup → ReadersStep setup → (e : Event) → StepsOn setup e
-every_step qpack laws setup plain readers (event.OpenRequest side) = opened_step qpack laws setup side
-every_step qpack laws setup plain readers (event.Head side id head) = head_step qpack laws setup plain side id head
-every_step qpack laws setup plain readers (event.Body side id bytes) = body_step qpack laws setup side id bytes
-every_step qpack laws setup plain readers (event.Trailer side id trailer) = trailer_step qpack laws setup plain side id trailer
-every_step qpack laws setup plain readers (event.Finish side id) = finish_step qpack laws setup side id
-every_step qpack laws setup plain readers (event.Reset side id) = reset_step qpack laws setup side id
-every_step qpack laws setup plain readers (event.Cancel side id) = cancel_step qpack laws setup side id
-every_step qpack laws setup plain readers (event.Goaway side id) = goaway_step qpack laws setup side id
-every_step qpack laws setup plain readers (event.Show side) = show_step qpack laws setup side
-every_step qpack laws setup plain readers (event.Deliver writer id count) = readers.bytes writer id count
-every_step qpack laws setup plain readers (event.DeliverEnd writer id) = readers.end writer id
-every_step qpack laws setup plain readers (event.DeliverReset writer id) = readers.reset writer id
-every_step qpack laws setup plain readers (event.Pull side id) = readers.pull side id
+pub every_step : (qpack : KeptLaws) (laws : Laws) (setup : Setup) → IsMadeSetup setup → JudgesPlainly setup → ReadersStep setup → (e : Event) → StepsOn setup e
+every_step qpack laws setup made plain readers (event.OpenRequest side) = opened_step qpack laws setup side
+every_step qpack laws setup made plain readers (event.Head side id head) = head_step qpack laws setup plain side id head
+every_step qpack laws setup made plain readers (event.Body side id bytes) = body_step qpack laws setup side id bytes
+every_step qpack laws setup made plain readers (event.Trailer side id trailer) = trailer_step qpack laws setup plain side id trailer
+every_step qpack laws setup made plain readers (event.Finish side id) = finish_step qpack laws setup side id
+every_step qpack laws setup made plain readers (event.Reset side id) = reset_step qpack laws setup side id
+every_step qpack laws setup made plain readers (event.Cancel side id) = cancel_step qpack laws setup side id
+every_step qpack laws setup made plain readers (event.Goaway side id) = goaway_step qpack laws setup side id
+every_step qpack laws setup made plain readers (event.Show side) = show_step qpack laws setup side made
+every_step qpack laws setup made plain readers (event.Deliver writer id count) = readers.bytes writer id count
+every_step qpack laws setup made plain readers (event.DeliverEnd writer id) = readers.end writer id
+every_step qpack laws setup made plain readers (event.DeliverReset writer id) = readers.reset writer id
+every_step qpack laws setup made plain readers (event.Pull side id) = readers.pull side id

@@ -35,7 +35,7 @@ stands_noticed q setup = λ w side mine ds f g arrivals r. noticed_stands setup 
 
 pub every_event : (q : KeptLaws) (laws : Laws) (setup : Setup) → IsMadeSetup setup → JudgesPlainly setup → ReadsFramesOn setup → (e : Event) → StepsOn setup e
 every_event q laws setup made plain frames =
-    every_step q laws setup plain (record {
+    every_step q laws setup made plain (record {
       bytes = deliver_step q laws setup made frames (stands_noticed q setup);
       end = end_step q laws setup made frames (stands_noticed q setup);
       reset = gone_step q laws setup made frames (stands_noticed q setup);

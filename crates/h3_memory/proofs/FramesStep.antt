@@ -3,10 +3,10 @@ use Rattle.std.proofs.Common.{◌≡◌, ℕ, Bool, true, false, List, [], ◌�
 use Rattle.std.specs.Prelude.{◌==◌, unwrap_or}
 use Rattle.h3_proto.specs.Settings.{value_of}
 use Rattle.h3_proto.specs.declared.stream.Side.{Side}
-use Rattle.h3_wire.specs.UnfinishedLaws.{IsUnfinishedFront}
+use Rattle.h3_wire.specs.Fronts.{IsUnfinishedFront}
 use Rattle.h3_connection.specs.declared.arrival.Arrival.{Arrival}
 use Rattle.h3_connection.specs.declared.arrival.Arrival.TheVariants.{BytesCame}
-use Rattle.h3_connection.specs.Control.{Found, after_peer, if_learned, is_usable, learned, then_decoder, with_table}
+use Rattle.h3_connection.specs.Control.{Found, after_peer, if_learned, is_table_usable, learned, then_decoder, with_table}
 use Rattle.h3_connection.specs.Endpoint.{EndpointHistory}
 use Rattle.h3_connection.specs.Keeping.{read_arrival}
 use Rattle.h3_connection.specs.OwnIds.{other, control_id, decoder_id}
@@ -60,14 +60,14 @@ early_same (Some pairs) on = refl
 
 -- what is learned leaves the decoder stream and the settings alone
 learned_unread : (e : EndpointHistory) (pairs : List (ℕ × ℕ)) → (learned e pairs).decoder_unread ≡ e.decoder_unread
-learned_unread e pairs = by_test (is_usable e.encoder.most_capacity (unwrap_or (value_of 1 pairs) 0) (unwrap_or (value_of 7 pairs) 0))
+learned_unread e pairs = by_test (is_table_usable e.encoder.most_capacity (unwrap_or (value_of 1 pairs) 0) (unwrap_or (value_of 7 pairs) 0))
   where
     by_test : (b : Bool) → (if b then with_table e (unwrap_or (value_of 1 pairs) 0) (unwrap_or (value_of 7 pairs) 0) else e).decoder_unread ≡ e.decoder_unread
     by_test true = refl
     by_test false = refl
 
 learned_peer : (e : EndpointHistory) (pairs : List (ℕ × ℕ)) → (learned e pairs).peer ≡ e.peer
-learned_peer e pairs = by_test (is_usable e.encoder.most_capacity (unwrap_or (value_of 1 pairs) 0) (unwrap_or (value_of 7 pairs) 0))
+learned_peer e pairs = by_test (is_table_usable e.encoder.most_capacity (unwrap_or (value_of 1 pairs) 0) (unwrap_or (value_of 7 pairs) 0))
   where
     by_test : (b : Bool) → (if b then with_table e (unwrap_or (value_of 1 pairs) 0) (unwrap_or (value_of 7 pairs) 0) else e).peer ≡ e.peer
     by_test true = refl

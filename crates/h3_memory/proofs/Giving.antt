@@ -16,7 +16,7 @@ use Rattle.h3_connection.specs.Shown as shown
 use Rattle.h3_world.specs.declared.setup.Setup.{Setup}
 use Rattle.h3_world.specs.declared.event.Answer.{Answer}
 use Rattle.h3_world.specs.declared.event.Answer.TheVariants as answer
-use Rattle.h3_world.specs.Delivering.{delivered, is_closed, reset_code}
+use Rattle.h3_world.specs.Delivering.{delivered, is_closed}
 use Rattle.h3_world.specs.Ends.{Ends}
 use Rattle.h3_world.specs.Setup.{IsMadeSetup}
 use Rattle.h3_world.specs.Streams.{has_outgoing, waiting}

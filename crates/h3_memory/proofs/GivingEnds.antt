@@ -27,7 +27,7 @@ use Rattle.h3_headline.specs.FlowLaws.{same_number}
 use Rattle.h3_headline.specs.OwnEventLaws.{own_outgoing}
 use Rattle.h3_headline.specs.Standing.{StandsAt}
 use Rattle.h3_memory.specs.Kept.{Delivery, End, Reset, read_deliveries}
-use Rattle.h3_memory.specs.Keeping.{MayAllBeRead, came_of, text_of}
+use Rattle.h3_memory.specs.Keeping.{came_of, text_of}
 use Rattle.h3_memory.proofs.Giving.{Agrees, agrees_if, offered_to, outgoing_before, outgoing_then, read_so, still, taken_so, waits_then}
 use Rattle.h3_memory.proofs.CatchesUp.{ReadsAll, reads_all}
 use Rattle.h3_memory.proofs.HandsOver.{told_ahead}

@@ -40,7 +40,7 @@ use Rattle.h3_memory.proofs.StepsKept.{step_keeps}
 
 -- no more streams wait than a side allows
 within : (laws : WorldLaws) (setup : Setup) (w : World) → IsSoundWorld setup w → IsWithinLimits setup w
-within laws setup w h = (laws.both setup w w (event.Show Client) (answer.Shown (limits_shown setup w Client) (sizes_shown setup w Client) (streams_waiting w Client)) tt (refl, refl) tt h).0.within_limits
+within laws setup w h = (laws.both setup w w (event.Show Client) (answer.Shown (limits_shown setup w Client) (sizes_shown w Client) (streams_waiting w Client)) tt (refl, refl) tt h).0.within_limits
 
 -- What holds of an answer, where no memory was refused.
 record TellsWell (setup : Setup) (k : KeepingWorld) (e : Event) (a : Answer) : Type 0 where

@@ -1,10 +1,8 @@
 -- A part of what is held of the encoder stream, or of the decoder stream once the settings are known, is read.
 use Rattle.std.proofs.Common.{◌≡◌, ◌⊎◌, inl, inr, ℕ, ◌-◌, Bool, true, false, List, [], ◌∷◌, ◌++◌, refl, sym, ap, ◌∙◌, subst, if◌then◌else◌, Some, None}
-use Rattle.std.specs.Prelude.{◌==◌}
-use Rattle.h3_field.specs.Instruction.{DecoderInstruction}
 use Rattle.h3_proto.specs.declared.stream.Side.{Side}
 use Rattle.h3_qpack.specs.EncoderHistory.{EncoderHistory}
-use Rattle.h3_qpack.specs.Hearing.{listened, listen}
+use Rattle.h3_qpack.specs.Hearing.{listen}
 use Rattle.h3_connection.specs.declared.arrival.Arrival.{Arrival}
 use Rattle.h3_connection.specs.declared.arrival.Arrival.TheVariants.{BytesCame}
 use Rattle.h3_connection.specs.Control.{Found, increment, read_encoder, read_decoder, listened_to}

@@ -13,7 +13,7 @@ use Rattle.h3_world.specs.declared.setup.Setup.{Setup}
 use Rattle.h3_world.specs.Came.{settings_came}
 use Rattle.h3_world.specs.World.{World, party}
 use Rattle.h3_headline.specs.FlowLaws.{other-other, same_number}
-use Rattle.h3_headline.specs.Standing.{StandsAt, are_settings_there, replies_unread}
+use Rattle.h3_headline.specs.Standing.{StandsAt, replies_unread}
 use Rattle.h3_headline.specs.WritesMoreLaws.{type_of_decoder}
 use Rattle.h3_memory.specs.Kept.{Delivery, Bytes, held_bytes}
 use Rattle.h3_memory.specs.Keeping.{AreKept, Held, came_of, held_of, text_of, with_count, without_held}

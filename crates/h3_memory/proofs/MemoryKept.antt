@@ -5,7 +5,7 @@ use Rattle.std.proofs.lemmas.Grind.{common_steps}
 use Rattle.h3_field.specs.Field.{Field}
 use Rattle.h3_proto.specs.declared.stream.Side.{Side}
 use Rattle.h3_connection.specs.OwnIds.{other, is_own}
-use Rattle.h3_connection.specs.Sections.{instructions_for}
+use Rattle.h3_connection.specs.Sections.{own_instructions}
 use Rattle.h3_connection.specs.declared.event.Refusal.{Refusal}
 use Rattle.h3_connection.specs.declared.event.Refusal.TheVariants as refusal
 use Rattle.h3_world.specs.declared.setup.Setup.{Setup}
@@ -41,7 +41,7 @@ insertions_leave : (setup : Setup) (w : World) (side : Side) (id : ℕ) (fields 
 insertions_leave setup w side id fields =
     let p = party w side in
     party_leaves setup w side (having_inserted_for p id fields)
-    (record { goaways = []; goaways_are = sym (append-nil p.own.goaways); instructions = instructions_for p.encoder id fields; instructions_are = refl; replies = []; replies_are = sym (append-nil p.own.replies) })
+    (record { goaways = []; goaways_are = sym (append-nil p.own.goaways); instructions = own_instructions p.encoder id fields; instructions_are = refl; replies = []; replies_are = sym (append-nil p.own.replies) })
     (record { control = refl; encoder = refl; decoder = refl })
 
 pub section_cut : (q : KeptLaws) (setup : Setup) (k new : KeepingWorld) (side : Side) (id : ℕ) (fields : List Field) (o : Option Refusal) → IsSoundKeeping setup k → CutsSection o k side id fields new → IsSoundKeeping setup new

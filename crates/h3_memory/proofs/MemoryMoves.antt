@@ -25,7 +25,7 @@ use Rattle.h3_headline.specs.ContentLaws.{moves_then, stays}
 use Rattle.h3_headline.specs.Contents.{Moves, KeepsParts, limit_of_reader, MovesBy}
 use Rattle.h3_headline.specs.FlowLaws.{open_there}
 use Rattle.h3_headline.specs.KeepsPartsLaws.{keeps_same, keeps_with_flow, keeps_delivery, keeps_end, keeps_reset}
-use Rattle.h3_headline.specs.Messages.{Content, is_on, sent_in, finished_in, pulled_in, ended_in}
+use Rattle.h3_headline.specs.Messages.{MessageContent, is_on, sent_in, finished_in, pulled_in, ended_in}
 use Rattle.h3_headline.specs.MovedLaws.{moved}
 use Rattle.h3_memory.specs.Kept.{Delivery, Bytes, End, Reset, KeepingWorld, kept_at, with_kept, caught_up, is_settled, noticed_all}
 use Rattle.h3_memory.specs.MemoryStep.{Answers, CutsSection, Keeps, LacksMemory, Pulls, StepOf, StepWithMemory, read_behind}
@@ -209,7 +209,7 @@ refused_nothing (event.DeliverReset side i) r writer id = record { sends = refl;
 refused_nothing (event.Show side) r writer id = record { sends = refl; finishes = refl; hands = refl; ends = refl }
 refused_nothing (event.Pull side i) r writer id = record { sends = refl; finishes = refl; hands = nothing (is_on (other writer) id side i); ends = no_end (is_on (other writer) id side i) }
   where
-    nothing : (b : Bool) → ◌≡◌ {A = List Content} (if b then [] else []) []
+    nothing : (b : Bool) → ◌≡◌ {A = List MessageContent} (if b then [] else []) []
     nothing true = refl
     nothing false = refl
 
@@ -232,7 +232,7 @@ fault_nothing (event.DeliverReset side i) writer id = record { sends = refl; fin
 fault_nothing (event.Show side) writer id = record { sends = refl; finishes = refl; hands = refl; ends = refl }
 fault_nothing (event.Pull side i) writer id = record { sends = refl; finishes = refl; hands = nothing (is_on (other writer) id side i); ends = no_end (is_on (other writer) id side i) }
   where
-    nothing : (b : Bool) → ◌≡◌ {A = List Content} (if b then [] else []) []
+    nothing : (b : Bool) → ◌≡◌ {A = List MessageContent} (if b then [] else []) []
     nothing true = refl
     nothing false = refl
 

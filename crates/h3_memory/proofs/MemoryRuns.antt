@@ -2,7 +2,7 @@
 use Rattle.std.proofs.Common.{◌≡◌, ℕ, Bool, true, false, List, [], ◌∷◌, length, refl, sym, ap, subst, None}
 use Rattle.std.specs.Prelude.{suc, ◌||◌, map}
 use Rattle.std.specs.List.{AllByRecursion, list_any}
-use Rattle.h3_proto.specs.StreamIds.{is_request}
+use Rattle.h3_proto.specs.StreamIds.{is_request_stream}
 use Rattle.h3_proto.specs.declared.stream.Side.{Side}
 use Rattle.h3_proto.specs.declared.stream.Side.TheVariants.{Client, Server}
 use Rattle.h3_connection.specs.Announcing.{section_of}
@@ -21,7 +21,7 @@ use Rattle.h3_headline.specs.Cited.{WorldLaws}
 use Rattle.h3_headline.specs.ContentLaws.{moves_then, stays}
 use Rattle.h3_headline.specs.Contents.{Moves, limit_of_reader, Carried, Carries, IsAll, RunMoves}
 use Rattle.h3_headline.specs.FlowLaws.{other-other, same_both}
-use Rattle.h3_headline.specs.Messages.{Content, IsFrontOf, at_reader, sent, has_finished, pulled, has_pulled_end, sent_in, finished_in, pulled_in, ended_in}
+use Rattle.h3_headline.specs.Messages.{MessageContent, IsFrontOf, at_reader, sent, has_finished, pulled, has_pulled_end, sent_in, finished_in, pulled_in, ended_in}
 use Rattle.h3_headline.specs.PulledAndSentLaws.{is_all, is_complete, is_front}
 use Rattle.h3_memory.specs.Kept.{KeepingWorld, nothing_kept}
 use Rattle.h3_memory.specs.MemoryStep.{HappensWithMemory}
@@ -36,10 +36,10 @@ nothing most f = stays most f f false (record { sent = refl; parts_out = refl; b
 
 -- before anything, each flow is unused
 nothing_yet : (setup : Setup) (writer : Side) (id : ℕ) → flow (empty_world setup) writer id ≡ unused
-nothing_yet setup Client id = ap (λ e. e.request) (same_both (is_request id) no_exchange no_exchange (λ e. refl))
-nothing_yet setup Server id = ap (λ e. e.response) (same_both (is_request id) no_exchange no_exchange (λ e. refl))
+nothing_yet setup Client id = ap (λ e. e.request) (same_both (is_request_stream id) no_exchange no_exchange (λ e. refl))
+nothing_yet setup Server id = ap (λ e. e.response) (same_both (is_request_stream id) no_exchange no_exchange (λ e. refl))
 
-carries : (most : ℕ) (f g : Flow) (sending : List Content) (finishing : Bool) (handing : List Content) (ending : Bool) → f ≡ unused → Moves most f g sending finishing handing ending
+carries : (most : ℕ) (f g : Flow) (sending : List MessageContent) (finishing : Bool) (handing : List MessageContent) (ending : Bool) → f ≡ unused → Moves most f g sending finishing handing ending
     → Carries most g sending finishing handing ending
 carries most f g sending finishing handing ending none m =
     let n = subst (λ x. Moves most x g sending finishing handing ending) none m in

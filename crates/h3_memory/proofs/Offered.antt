@@ -12,7 +12,7 @@ use Rattle.h3_world.specs.Delivering.{delivery, end_delivery, reset_delivery, de
 use Rattle.h3_world.specs.Flow.{Flow, flow_bytes, bytes_waiting}
 use Rattle.h3_world.specs.OwnStreams.{control_stream, encoder_stream, decoder_stream}
 use Rattle.h3_world.specs.Setup.{announced_at}
-use Rattle.h3_world.specs.Sound.{IsSoundWorld, IsSoundFlow}
+use Rattle.h3_world.specs.Sound.{IsSoundWorld}
 use Rattle.h3_world.specs.Streams.{flow, is_open, has_outgoing, waiting}
 use Rattle.h3_world.specs.World.{World, party}
 use Rattle.h3_headline.specs.ComingLaws.{sound_flow}

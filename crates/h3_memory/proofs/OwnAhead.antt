@@ -1,13 +1,13 @@
 -- What comes on an own stream of the writer, to an endpoint ahead of one that stands in the world.
 use Rattle.std.proofs.Common.{◌≡◌, ℕ, Bool, true, false, List, [], ◌++◌, refl, ap, ◌∙◌, if◌then◌else◌, Option, Some, None}
-use Rattle.std.specs.Prelude.{◌==◌, take, drop, is_some, flat_map, length}
+use Rattle.std.specs.Prelude.{take, drop, is_some, flat_map}
 use Rattle.h3_field.specs.Instruction.{encoder_bytes, decoder_bytes}
 use Rattle.h3_proto.specs.declared.stream.Side.{Side}
 use Rattle.h3_proto.specs.declared.stream.Side.TheVariants.{Client, Server}
 use Rattle.h3_qpack.specs.Hearing.{listen}
 use Rattle.h3_connection.specs.declared.arrival.Arrival.{Arrival}
 use Rattle.h3_connection.specs.declared.arrival.Arrival.TheVariants.{BytesCame}
-use Rattle.h3_connection.specs.Control.{Found, read_control, read_encoder, read_decoder, listened_to, after_peer, then_decoder, if_learned, learned, is_usable, with_table}
+use Rattle.h3_connection.specs.Control.{Found, read_control, read_encoder, read_decoder, listened_to, after_peer, then_decoder, if_learned, learned, is_table_usable, with_table}
 use Rattle.h3_connection.specs.Delivering.{bytes_at, heard_as, unless_second, read_unidirectional, with_unidirectional, unidirectional_at}
 use Rattle.h3_connection.specs.Endpoint.{EndpointHistory, goaway_encoding, is_second, kind_of}
 use Rattle.h3_connection.specs.Endpoint.Kind.{PeerUnidirectional}
@@ -100,7 +100,7 @@ decoder_leaves e bytes = by_settings (is_some e.peer.settings)
     by_settings false = refl
 
 learned_leaves : (e : EndpointHistory) (pairs : List (ℕ × ℕ)) → streams_of (learned e pairs) ≡ streams_of e
-learned_leaves e pairs = by_test (is_usable e.encoder.most_capacity capacity blocked)
+learned_leaves e pairs = by_test (is_table_usable e.encoder.most_capacity capacity blocked)
   where
     capacity : ℕ
     capacity = Rattle.std.specs.Prelude.unwrap_or (Rattle.h3_proto.specs.Settings.value_of 1 pairs) 0

@@ -16,7 +16,7 @@ use Rattle.h3_world.specs.Setup.{IsMadeSetup}
 use Rattle.h3_world.specs.World.{World}
 use Rattle.h3_headline.specs.Cited.{Laws}
 use Rattle.h3_memory.specs.Kept.{Delivery, Bytes, End, Reset, read_delivery, ReadsPart, Reads, Cuts}
-use Rattle.h3_memory.specs.Keeping.{EachResumes, Held, MayAllBeRead, ahead, came_of, held_of, text_of}
+use Rattle.h3_memory.specs.Keeping.{EachResumes, MayAllBeRead, ahead, came_of, held_of, text_of}
 use Rattle.h3_memory.proofs.BehindOwn.{BehindReads, found_as}
 use Rattle.h3_memory.proofs.BehindReads.{behind_reads}
 use Rattle.h3_memory.proofs.CutReading.{InTwo, cut_arrival, in_two}

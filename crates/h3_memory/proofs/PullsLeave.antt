@@ -1,7 +1,7 @@
 -- A pull leaves what is kept readable.
 use Rattle.std.proofs.Common.{◌≡◌, inr, ℕ, ◌+◌, Bool, true, false, not, List, [], ◌++◌, length, refl, sym, subst, append-nil, if◌then◌else◌, Option, Some, None, MatchOption}
 use Rattle.std.specs.Prelude.{◌%◌, ◌==◌}
-use Rattle.h3_proto.specs.StreamIds.{is_request}
+use Rattle.h3_proto.specs.StreamIds.{is_request_stream}
 use Rattle.h3_proto.specs.declared.stream.Side.{Side}
 use Rattle.h3_connection.specs.OwnIds.{other, control_id}
 use Rattle.h3_connection.specs.declared.event.Item.{Item}
@@ -95,7 +95,7 @@ pause_leaves setup w side id count there =
 
 -- where a part is looked at the stream is open
 unsettled_open : (w : World) (side : Side) (id : ℕ) → settled w side id ≡ None → is_open w side id ≡ true
-unsettled_open w side id e = by_tests (id % 4 == control_id (other side)) (is_request id) (is_open w side id) e
+unsettled_open w side id e = by_tests (id % 4 == control_id (other side)) (is_request_stream id) (is_open w side id) e
   where
     f : Flow
     f = flow w (other side) id

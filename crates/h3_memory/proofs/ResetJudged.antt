@@ -7,14 +7,15 @@ use Rattle.h3_proto.specs.declared.stream.Side.TheVariants.{Client, Server}
 use Rattle.h3_connection.specs.Endpoint.{EndpointHistory, is_critical_id}
 use Rattle.h3_connection.specs.Outgoing.{Outgoing, nothing_sent, is_sent_off}
 use Rattle.h3_connection.specs.OwnIds.{other}
-use Rattle.h3_connection.specs.Sending.{closed_or, first_of}
+use Rattle.h3_connection.specs.Refusals.{first_of}
+use Rattle.h3_connection.specs.Sending.{closed_or}
 use Rattle.h3_connection.specs.Sending as sender
 use Rattle.h3_connection.specs.declared.event.Refusal.{Refusal}
 use Rattle.h3_connection.specs.declared.event.Refusal.TheVariants as refusal
 use Rattle.h3_world.specs.declared.setup.Setup.{Setup}
 use Rattle.h3_world.specs.Ends.{Ends, end_at}
 use Rattle.h3_world.specs.Flow.{Flow, Part}
-use Rattle.h3_world.specs.Order.{is_finished, outgoing_of}
+use Rattle.h3_world.specs.Order.{outgoing_of}
 use Rattle.h3_world.specs.Order as order
 use Rattle.h3_world.specs.Refusals.{is_critical, reset_refusal}
 use Rattle.h3_world.specs.Streams.{flow, is_open}

@@ -12,9 +12,9 @@ use Rattle.h3_proto.specs.declared.stream.Side.{Side}
 use Rattle.h3_proto.specs.declared.stream.Side.TheVariants.{Client, Server}
 use Rattle.h3_connection.specs.Endpoint.{EndpointHistory, Own}
 use Rattle.h3_connection.specs.OwnIds.{other, encoder_id}
-use Rattle.h3_connection.specs.Sections.{instructions_for}
+use Rattle.h3_connection.specs.Sections.{own_instructions}
 use Rattle.h3_connection.specs.Sections as sections
-use Rattle.h3_connection.specs.Sending.{first_of}
+use Rattle.h3_connection.specs.Refusals.{first_of}
 use Rattle.h3_connection.specs.StreamSets.{stream_at}
 use Rattle.h3_connection.specs.declared.event.Refusal.{Refusal}
 use Rattle.h3_connection.specs.declared.event.Refusal.TheVariants as refusal
@@ -59,7 +59,7 @@ few_inserted laws setup w side sound =
 
 -- the endpoint, by what it wrote
 abbrev inserted_by : EndpointHistory → ℕ → List Field → Own → EncoderHistory → EndpointHistory
-inserted_by e id fields o s = record e { encoder = sections.having_inserted s id fields; own = record o { instructions = o.instructions ++ instructions_for s id fields } }
+inserted_by e id fields o s = record e { encoder = sections.having_inserted s id fields; own = record o { instructions = o.instructions ++ own_instructions s id fields } }
 
 joined : (setup : Setup) (v : World) (ends : Ends) (side : Side) (e : EndpointHistory) → Both setup v side e (end_at ends (other side)) → IsSoundWorld setup v
     → (with_end ends side e).client.next_id ≡ 4 * length v.exchanges → 4 * length v.exchanges ≤ 2 ^ 62 → Stands setup v (with_end ends side e)
@@ -109,14 +109,14 @@ cut_off_stands qpack laws setup w ends side id fields of_bytes small h =
     let heard : Hears setup side q.own f =
     record {
       control = k.control;
-      encoder_stream = encoder_stream_more setup (other side) old.own.encoder_taken old.own.instructions (instructions_for old.encoder id fields) (stream_at f.unidirectional (encoder_id (other (other side)))) f.encoder_on f.decoding
+      encoder_stream = encoder_stream_more setup (other side) old.own.encoder_taken old.own.instructions (own_instructions old.encoder id fields) (stream_at f.unidirectional (encoder_id (other (other side)))) f.encoder_on f.decoding
           (sound_party setup w side h.sound).writer.encoder k.encoder_stream;
       decoder_stream = k.decoder_stream;
     } in
     let writes : IsWritable side q.own =
     record {
       goaways = b.writes_here.goaways;
-      instructions = all_joined IsWrittenInstruction old.own.instructions (instructions_for old.encoder id fields) b.writes_here.instructions
+      instructions = all_joined IsWrittenInstruction old.own.instructions (own_instructions old.encoder id fields) b.writes_here.instructions
           (laws.written old.encoder id fields (few_inserted laws.streams setup w side h.sound) of_bytes small);
       replies = b.writes_here.replies;
     } in
@@ -133,7 +133,7 @@ inserts_leave : (setup : Setup) (w : World) (side : Side) (id : ℕ) (fields : L
 inserts_leave setup w side id fields =
     let p = party w side in
     party_leaves setup w side (having_inserted_for p id fields)
-    (record { goaways = []; goaways_are = sym (append-nil p.own.goaways); instructions = instructions_for p.encoder id fields; instructions_are = refl; replies = []; replies_are = sym (append-nil p.own.replies) })
+    (record { goaways = []; goaways_are = sym (append-nil p.own.goaways); instructions = own_instructions p.encoder id fields; instructions_are = refl; replies = []; replies_are = sym (append-nil p.own.replies) })
     (record { control = refl; encoder = refl; decoder = refl })
 
 -- **And those that keep something.**

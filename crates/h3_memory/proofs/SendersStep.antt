@@ -8,7 +8,7 @@ use Rattle.h3_connection.specs.Outgoing.{takes_body, takes_head}
 use Rattle.h3_connection.specs.OwnIds.{other}
 use Rattle.h3_connection.specs.Pulling.{is_for}
 use Rattle.h3_connection.specs.Sending as sender
-use Rattle.h3_connection.specs.Sending.{is_too_large}
+use Rattle.h3_connection.specs.Refusals.{is_too_large}
 use Rattle.h3_connection.specs.declared.event.Refusal.{Refusal}
 use Rattle.h3_world.specs.declared.setup.Setup.{Setup}
 use Rattle.h3_world.specs.declared.event.Event.{Event}
@@ -21,7 +21,7 @@ use Rattle.h3_world.specs.Headline.{is_memory}
 use Rattle.h3_world.specs.Order.{outgoing_of}
 use Rattle.h3_world.specs.Refusals as refusals
 use Rattle.h3_world.specs.Sendable.{IsSendable}
-use Rattle.h3_world.specs.Setup.{JudgesPlainly}
+use Rattle.h3_world.specs.Setup.{IsMadeSetup, JudgesPlainly}
 use Rattle.h3_world.specs.Step.{Does, IsExact}
 use Rattle.h3_world.specs.Streams.{flow, is_open}
 use Rattle.h3_world.specs.World.{World}
@@ -193,8 +193,8 @@ module _ (qpack : KeptLaws) (laws : Laws) (setup : Setup) where
       lacks k ends new a sendable h IsKept m l = absurd l
       lacks k ends new a sendable h PullLacks m l = absurd l
 
-  pub show_step : (side : Side) → StepsOn setup (event.Show side)
-  show_step side = steps setup (event.Show side) (λ b w a. any_exact b) (λ k ends sendable h. show_answered laws setup k ends h side sendable) lacks
+  pub show_step : (side : Side) → IsMadeSetup setup → StepsOn setup (event.Show side)
+  show_step side made = steps setup (event.Show side) (λ b w a. any_exact b) (λ k ends sendable h. show_answered laws setup k ends h side made sendable) lacks
     where
       lacks : (k : KeepingWorld) (ends new : Ends) (a : Answer) → IsSendable (event.Show side) → StandsKeeping setup k ends → TellsMemory a → is_memory a ≡ true → refused.LacksMemory ends (event.Show side) a new
           → StandsOn setup k (event.Show side) a new

@@ -4,13 +4,14 @@ use Rattle.std.specs.Prelude.{not, ◌&&◌, ◌||◌, ◌==◌, ◌/◌, ◌^�
 use Rattle.std.proofs.Math.Nat.{div-add-mod}
 use Rattle.std.proofs.lemmas.Grind.{common_steps}
 use Rattle.h3_header.specs.Head.{Head as Fields}
-use Rattle.h3_proto.specs.StreamIds.{is_request, index_of}
+use Rattle.h3_proto.specs.StreamIds.{is_request_stream, index_of}
 use Rattle.h3_proto.specs.declared.stream.Side.{Side}
 use Rattle.h3_proto.specs.declared.stream.Side.TheVariants.{Client, Server}
 use Rattle.h3_connection.specs.Endpoint.{EndpointHistory}
 use Rattle.h3_connection.specs.Lasts.{last_id}
 use Rattle.h3_connection.specs.OwnIds.{other, is_own}
 use Rattle.h3_connection.specs.Pulling.{is_client}
+use Rattle.h3_connection.specs.Refusals as refusals
 use Rattle.h3_connection.specs.Sending as sender
 use Rattle.h3_connection.specs.Shown.{peer_limits, table_sizes, waiting_heads}
 use Rattle.h3_connection.specs.declared.event.Refusal.{Refusal}
@@ -24,7 +25,7 @@ use Rattle.h3_world.specs.declared.event.Answer.TheVariants as answer
 use Rattle.h3_world.specs.Ends.{Ends, end_at, answered, done}
 use Rattle.h3_world.specs.Refusals.{next_id}
 use Rattle.h3_world.specs.Sendable.{IsSendable}
-use Rattle.h3_world.specs.Setup.{IsPlain, announced_at}
+use Rattle.h3_world.specs.Setup.{IsMadeSetup, IsPlain, announced_at}
 use Rattle.h3_world.specs.Step.{Step}
 use Rattle.h3_world.specs.Streams.{has_outgoing}
 use Rattle.h3_world.specs.World.{World}
@@ -87,12 +88,12 @@ last_false false = refl
 next_closed : (w : World) → has_outgoing w Client (next_id w) ≡ false
 next_closed w = by_count (length w.exchanges)
   where
-    by_count : (n : ℕ) → (is_own Client (4 * n) || (is_request (4 * n) && nat_lt (index_of (4 * n)) n)) ≡ false
+    by_count : (n : ℕ) → (is_own Client (4 * n) || (is_request_stream (4 * n) && nat_lt (index_of (4 * n)) n)) ≡ false
     by_count n =
-        ap (λ b. b || 4 * n == 6 || 4 * n == 10 || (is_request (4 * n) && nat_lt (index_of (4 * n)) n)) (apart n 2 (λ e. omega (arith, e)))
-        ∙ ap (λ b. b || 4 * n == 10 || (is_request (4 * n) && nat_lt (index_of (4 * n)) n)) (apart n 6 (λ e. omega (arith, e)))
-        ∙ ap (λ b. b || (is_request (4 * n) && nat_lt (index_of (4 * n)) n)) (apart n 10 (λ e. omega (arith, e)))
-        ∙ ap (λ b. is_request (4 * n) && b) (not_below n ((4 * n) / 4) (omega (arith, div-add-mod (4 * n) 4))) ∙ last_false (is_request (4 * n))
+        ap (λ b. b || 4 * n == 6 || 4 * n == 10 || (is_request_stream (4 * n) && nat_lt (index_of (4 * n)) n)) (apart n 2 (λ e. omega (arith, e)))
+        ∙ ap (λ b. b || 4 * n == 10 || (is_request_stream (4 * n) && nat_lt (index_of (4 * n)) n)) (apart n 6 (λ e. omega (arith, e)))
+        ∙ ap (λ b. b || (is_request_stream (4 * n) && nat_lt (index_of (4 * n)) n)) (apart n 10 (λ e. omega (arith, e)))
+        ∙ ap (λ b. is_request_stream (4 * n) && b) (not_below n ((4 * n) / 4) (omega (arith, div-add-mod (4 * n) 4))) ∙ last_false (is_request_stream (4 * n))
 
 module _ (laws : Laws) (setup : Setup) (k : KeepingWorld) (ends : Ends) (h : StandsKeeping setup k ends) where
   behind : Ends
@@ -108,7 +109,7 @@ module _ (laws : Laws) (setup : Setup) (k : KeepingWorld) (ends : Ends) (h : Sta
 
   -- an end that judges plainly says so in what it announced
   announces_plainly : (side : Side) → IsPlain (announced_at setup side) → (end_at h.behind side).announced.choices.strict_messages ≡ false
-  announces_plainly side plain = ap (λ (a : Announced). a.choices.strict_messages) (both_of setup k.world side h.behind h.stands).here.announced ∙ plain
+  announces_plainly side plain = ap (λ (a : Announced). a.choices.strict_messages) (both_of setup k.world side h.behind h.stands).here.announced ∙ plain.0
 
   -- **A head.**
   pub head_calls : (side : Side) → IsPlain (announced_at setup side) → (id : ℕ) (head : Fields) → Calls setup k ends h side (λ e. sender.send_head e id head)
@@ -195,7 +196,7 @@ module _ (laws : Laws) (setup : Setup) (k : KeepingWorld) (ends : Ends) (h : Sta
       absurd (refused (sym goes ∙ ap (λ s. sender.closed_or h.behind.server.closed (if not (is_client s) then Some refusal.NotClient else later)) h.stands.at_server.side_is ∙ ap (λ c. sender.closed_or c (Some refusal.NotClient)) h.stands.at_server.no_fault))
     where
       later : Option Refusal
-      later = sender.going_away (last_id h.behind.server.peer.goaways) (if nat_le (2 ^ 62) h.behind.server.next_id then Some refusal.IdsUsedUp else None)
+      later = refusals.going_away (last_id h.behind.server.peer.goaways) (if nat_le (2 ^ 62) h.behind.server.next_id then Some refusal.IdsUsedUp else None)
 
       refused : ◌≡◌ {A = Option Refusal} None (Some refusal.NotClient) → ⊥
       refused e = cc
@@ -220,9 +221,9 @@ module _ (laws : Laws) (setup : Setup) (k : KeepingWorld) (ends : Ends) (h : Sta
       }
 
   -- **What an end shows.** The world says what of the peer's streams was read.
-  pub show_answered : (side : Side) → IsSendable (event.Show side) → Answered setup k ends (event.Show side)
-  show_answered side sendable =
-      let on = show_on laws setup k.world h.behind side sendable h.stands in
+  pub show_answered : (side : Side) → IsMadeSetup setup → IsSendable (event.Show side) → Answered setup k ends (event.Show side)
+  show_answered side made sendable =
+      let on = show_on laws setup k.world h.behind side made sendable h.stands in
       let c = keeps_at setup k ends side h in
       let b = end_at h.behind side in
       let same : (answered ends (event.Show side)).0 ≡ (answered h.behind (event.Show side)).0 =

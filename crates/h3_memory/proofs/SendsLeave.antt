@@ -11,8 +11,8 @@ use Rattle.h3_proto.specs.declared.stream.Side.TheVariants.{Client, Server}
 use Rattle.h3_connection.specs.Outgoing.{takes_head, takes_body, takes_end, is_unsent, last_is_trailer}
 use Rattle.h3_connection.specs.OwnIds.{other}
 use Rattle.h3_connection.specs.Pulling.{is_for, is_interim}
-use Rattle.h3_connection.specs.Sections.{instructions_for}
-use Rattle.h3_connection.specs.Sending.{is_too_large}
+use Rattle.h3_connection.specs.Sections.{own_instructions}
+use Rattle.h3_connection.specs.Refusals.{is_too_large}
 use Rattle.h3_connection.specs.declared.event.Refusal.{Refusal}
 use Rattle.h3_connection.specs.declared.event.Refusal.TheVariants as refusal
 use Rattle.h3_connection.specs.declared.event.StreamFault.{StreamFault}
@@ -34,7 +34,7 @@ use Rattle.h3_headline.specs.OpeningLaws.{flow_opened, one_more}
 use Rattle.h3_headline.specs.SendingLaws.{not_refused_open, not_refused}
 use Rattle.h3_headline.specs.Steps.{IsThere}
 use Rattle.h3_memory.specs.Writing.{LeavesKept}
-use Rattle.h3_memory.proofs.Written.{OwnGrows, FlowGrows, SameMarks, Grown, Marked, nothing_written, same_taken, nothing_sent, same_marks, grown_on, unchanged, leaves_then}
+use Rattle.h3_memory.proofs.Written.{OwnGrows, FlowGrows, SameMarks, nothing_written, same_taken, nothing_sent, same_marks, grown_on, unchanged, leaves_then}
 use Rattle.h3_memory.proofs.WorldsWritten.{party_leaves, flow_leaves}
 
 -- A call that is refused changes nothing.
@@ -92,7 +92,7 @@ encoded_grows p id fields =
     record {
       goaways = [];
       goaways_are = sym (append-nil p.own.goaways);
-      instructions = instructions_for p.encoder id fields;
+      instructions = own_instructions p.encoder id fields;
       instructions_are = refl;
       replies = [];
       replies_are = sym (append-nil p.own.replies);
@@ -215,7 +215,7 @@ given_leaves setup w receiver id fault there =
           reset = λ e. reset ∙ e;
         }
 
-not_critical : (critical there : Bool) (rules : List (Bool × Refusal)) → Rattle.h3_connection.specs.Sending.first_of ((critical, refusal.Critical) ∷ (not there, refusal.NotOpen) ∷ rules) ≡ None → there ≡ true
+not_critical : (critical there : Bool) (rules : List (Bool × Refusal)) → Rattle.h3_connection.specs.Refusals.first_of ((critical, refusal.Critical) ∷ (not there, refusal.NotOpen) ∷ rules) ≡ None → there ≡ true
 not_critical true there rules e = cc
 not_critical false true rules e = refl
 not_critical false false rules e = cc

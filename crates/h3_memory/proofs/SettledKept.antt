@@ -2,7 +2,7 @@
 use Rattle.std.proofs.Common.{◌≡◌, ◌⊎◌, inl, inr, ℕ, ◌+◌, Bool, true, false, not, ◌||◌, List, [], ◌∷◌, ◌++◌, refl, sym, ap, ◌∙◌, subst, if◌then◌else◌, Option, Some, None}
 use Rattle.std.specs.Prelude.{◌%◌, ◌==◌, is_some}
 use Rattle.h3_field.specs.Instruction.DecoderInstruction.{CancelStream}
-use Rattle.h3_proto.specs.StreamIds.{is_request}
+use Rattle.h3_proto.specs.StreamIds.{is_request_stream}
 use Rattle.h3_proto.specs.declared.stream.Side.{Side}
 use Rattle.h3_connection.specs.OwnIds.{other, is_own, control_id}
 use Rattle.h3_connection.specs.declared.event.Item.TheVariants as item
@@ -105,7 +105,7 @@ record LooksOn (f : Flow) : Type 0 where
   more : is_over f ≡ false
 
 unsettled : (w : World) (side : Side) (id : ℕ) → settled w side id ≡ None → LooksOn (flow w (other side) id)
-unsettled w side id e = by_tests (id % 4 == control_id (other side)) (is_request id) (is_open w side id) (flow w (other side) id).fault refl (is_over (flow w (other side) id)) refl e
+unsettled w side id e = by_tests (id % 4 == control_id (other side)) (is_request_stream id) (is_open w side id) (flow w (other side) id).fault refl (is_over (flow w (other side) id)) refl e
   where
     by_tests : (a b c : Bool) (o : Option StreamFault) → (flow w (other side) id).fault ≡ o → (d : Bool) → is_over (flow w (other side) id) ≡ d
         → (if a then Some (pull_unidirectional w (other side) id) else (if not b then Some pull.NoMessages else (if not c then Some (pull_unopened side) else fault_or o (if d then Some (pull.Item item.End) else None)))) ≡ None → LooksOn (flow w (other side) id)

@@ -3,7 +3,7 @@ use Rattle.std.proofs.Common.{◌≡◌, ℕ, zero, suc, ◌+◌, ◌≤◌, ◌
 use Rattle.std.specs.Prelude.{not, ◌%◌, ◌||◌, ◌==◌, is_some, slice_get, unwrap_or}
 use Rattle.std.proofs.lemmas.Grind.{common_steps}
 use Rattle.h3_field.specs.Instruction.DecoderInstruction.{CancelStream}
-use Rattle.h3_proto.specs.StreamIds.{is_request, index_of}
+use Rattle.h3_proto.specs.StreamIds.{is_request_stream, index_of}
 use Rattle.h3_proto.specs.declared.stream.Side.{Side}
 use Rattle.h3_proto.specs.declared.stream.Side.TheVariants.{Client, Server}
 use Rattle.h3_connection.specs.Endpoint.{EndpointHistory, kind_of}
@@ -47,7 +47,7 @@ none_flow : (w : World) (s : Side) (id : ℕ) → exchange w id ≡ no_exchange 
 none_flow w Client id e = ap (λ x. settled_flow x.request) e
 none_flow w Server id e = ap (λ x. settled_flow x.response) e
 
-no_request : (w : World) (id : ℕ) → is_request id ≡ false → exchange w id ≡ no_exchange
+no_request : (w : World) (id : ℕ) → is_request_stream id ≡ false → exchange w id ≡ no_exchange
 no_request w id off = ap (λ b. if b then unwrap_or (slice_get w.exchanges (index_of id)) no_exchange else no_exchange) off
 
 beyond : (es : List Exchange) (n : ℕ) → length es ≤ n → unwrap_or (slice_get es n) no_exchange ≡ no_exchange
@@ -56,7 +56,7 @@ beyond (e ∷ es) zero h = absurd (omega (arith, h))
 beyond (e ∷ es) (suc n) h = beyond es n (omega (arith, h))
 
 not_there : (w : World) (id : ℕ) → length w.exchanges ≤ index_of id → exchange w id ≡ no_exchange
-not_there w id far = by_request (is_request id)
+not_there w id far = by_request (is_request_stream id)
   where
     by_request : (b : Bool) → (if b then unwrap_or (slice_get w.exchanges (index_of id)) no_exchange else no_exchange) ≡ no_exchange
     by_request true = beyond w.exchanges (index_of id) far
@@ -90,18 +90,18 @@ no_peer_settled setup w side id e h = by_own (is_own (other side) id) refl
 
 -- **It is settled at an endpoint where it is in the world in which that one stands.**
 pub settles_there : (setup : Setup) (w : World) (side : Side) (id : ℕ) (e : EndpointHistory) → StandsAt setup w side e → IsSoundWorld setup w → settles e id ≡ is_settled w side id
-settles_there setup w side id e h sound = by_request (is_request id) refl
+settles_there setup w side id e h sound = by_request (is_request_stream id) refl
   where
     f : Flow
     f = flow w (other side) id
 
-    unseen : (b : Bool) → nat_lt (index_of id) (length w.exchanges) ≡ b → is_request id ≡ true → is_open w side id ≡ false → settled_flow (flow w (other side) id) ≡ false
+    unseen : (b : Bool) → nat_lt (index_of id) (length w.exchanges) ≡ b → is_request_stream id ≡ true → is_open w side id ≡ false → settled_flow (flow w (other side) id) ≡ false
     unseen true e request closed =
         let k = (is_unseen setup w side id sound (record { request = request; place = below_of _ _ e }) closed).kept in
         ap (λ b. is_some b || is_over (flow w (other side) id)) (sym k.fault) ∙ sym k.is_over
     unseen false e request closed = none_flow w (other side) id (not_there w id (above_of _ _ e))
 
-    by_open : (b : Bool) → is_open w side id ≡ b → is_request id ≡ true → is_settled_request (stream_at e.incoming id) ≡ settled_flow (flow w (other side) id)
+    by_open : (b : Bool) → is_open w side id ≡ b → is_request_stream id ≡ true → is_settled_request (stream_at e.incoming id) ≡ settled_flow (flow w (other side) id)
     by_open true opened request =
         let i = incoming_there setup w side id e h opened in
         ap is_settled_request i.1 ∙ ap (λ x. is_some x || i.0.is_over) i.2.fault ∙ ap (λ b. is_some (flow w (other side) id).fault || b) i.2.is_over
@@ -112,7 +112,7 @@ settles_there setup w side id e h sound = by_request (is_request id) refl
     other_kinds false true = refl
     other_kinds false false = no_peer_settled setup w side id e h
 
-    by_request : (b : Bool) → is_request id ≡ b → settles_at e id (kind_of e.side id) ≡ settled_flow (flow w (other side) id)
+    by_request : (b : Bool) → is_request_stream id ≡ b → settles_at e id (kind_of e.side id) ≡ settled_flow (flow w (other side) id)
     by_request true request = ap (settles_at e id) (kind_is e.side id request) ∙ by_open (is_open w side id) refl request
     by_request false off =
         ap (λ t. settles_at e id (if t then Request else (if id % 4 == 1 then ServerOpened else (if id % 4 == control_id e.side then OwnUnidirectional else PeerUnidirectional)))) off
@@ -182,7 +182,7 @@ settled_later setup k side id may e = all_settled setup k.world (other side) (ke
 
 -- then nothing is said of its pause
 pub settled_some : (w : World) (side : Side) (id : ℕ) → is_settled w side id ≡ true → is_some (settled w side id) ≡ true
-settled_some w side id e = by_tests (id % 4 == control_id (other side)) (is_request id) (is_open w side id) (flow w (other side) id).fault (is_over (flow w (other side) id)) e
+settled_some w side id e = by_tests (id % 4 == control_id (other side)) (is_request_stream id) (is_open w side id) (flow w (other side) id).fault (is_over (flow w (other side) id)) e
   where
     by_tests : (a b c : Bool) (fault : Option StreamFault) (over : Bool) → (is_some fault || over) ≡ true
         → is_some (if a then Some (pull_unidirectional w (other side) id) else (if not b then Some pull.NoMessages else (if not c then Some (pull_unopened side) else fault_or fault (if over then Some (pull.Item item.End) else None)))) ≡ true

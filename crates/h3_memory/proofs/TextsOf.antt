@@ -1,7 +1,7 @@
 -- The text of a stream and how much of it came, by what kind of stream it is.
 use Rattle.std.proofs.Common.{◌≡◌, ℕ, ◌||◌, ◌&&◌, Bool, true, false, not, refl, ap, arith, if◌then◌else◌, sym, ◌∙◌}
 use Rattle.std.specs.Prelude.{◌==◌, drop}
-use Rattle.h3_proto.specs.StreamIds.{is_request}
+use Rattle.h3_proto.specs.StreamIds.{is_request_stream}
 use Rattle.h3_proto.specs.declared.stream.Side.{Side}
 use Rattle.h3_proto.specs.declared.stream.Side.TheVariants.{Client, Server}
 use Rattle.h3_connection.specs.OwnIds.{is_own, control_id, encoder_id, decoder_id}
@@ -64,15 +64,15 @@ open_apart w writer id opened = by_truth (is_own writer id) (λ own. absurd (cla
     clash a b = grind (arith, a, b)
 
 -- nor is a request stream
-pub request_apart : (side : Side) (id : ℕ) → is_request id ≡ true → is_own side id ≡ false
+pub request_apart : (side : Side) (id : ℕ) → is_request_stream id ≡ true → is_own side id ≡ false
 request_apart side id request = by_truth (is_own side id) (λ own. absurd (clash (none_requested side own) request)) (λ off. off)
   where
-    clash : is_request id ≡ false → is_request id ≡ true → ⊥
+    clash : is_request_stream id ≡ false → is_request_stream id ≡ true → ⊥
     clash a b = grind (arith, a, b)
 
-    none_requested : (side : Side) → is_own side id ≡ true → is_request id ≡ false
-    none_requested Client own = each_own (λ i. is_request i ≡ false) Client id own refl refl refl
-    none_requested Server own = each_own (λ i. is_request i ≡ false) Server id own refl refl refl
+    none_requested : (side : Side) → is_own side id ≡ true → is_request_stream id ≡ false
+    none_requested Client own = each_own (λ i. is_request_stream i ≡ false) Client id own refl refl refl
+    none_requested Server own = each_own (λ i. is_request_stream i ≡ false) Server id own refl refl refl
 
 -- a test the other way round
 pub flipped : (a b : ℕ) → (a == b) ≡ (b == a)

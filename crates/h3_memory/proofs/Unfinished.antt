@@ -15,7 +15,7 @@ use Rattle.h3_qpack.specs.Encodings.{IsWrittenInstruction}
 use Rattle.h3_qpack.specs.Hearing.{heard, hear, listened, listen}
 use Rattle.h3_qpack.specs.Instructions.{AreAccepted}
 use Rattle.h3_qpack.specs.WholeInstructions.{whole_in, rest_in, decoder_instructions_in}
-use Rattle.h3_wire.specs.UnfinishedLaws.{IsUnfinishedFront}
+use Rattle.h3_wire.specs.Fronts.{IsUnfinishedFront}
 use Rattle.h3_connection.specs.Endpoint.{goaway_encoding}
 use Rattle.h3_connection.specs.declared.setup.Announced.{Announced}
 use Rattle.h3_world.specs.declared.setup.Setup.{Setup}

@@ -2,7 +2,7 @@
 use Rattle.std.specs.Prelude.{◌≡◌, ◌≢◌, ℕ, ◌≤◌, Bool, true, false, List, [], ◌∷◌, ◌++◌, length, take, Option, Some, None}
 use Rattle.h3_field.specs.Field.{Field}
 use Rattle.h3_header.specs.Head.{head_fields}
-use Rattle.h3_proto.specs.StreamIds.{is_request}
+use Rattle.h3_proto.specs.StreamIds.{is_request_stream}
 use Rattle.h3_proto.specs.declared.stream.Side.{Side}
 use Rattle.h3_connection.specs.OwnIds.{other}
 use Rattle.h3_connection.specs.declared.event.Refusal.{Refusal}
@@ -73,7 +73,7 @@ pub record Keeps (setup : Setup) (k : KeepingWorld) (writer : Side) (d : Deliver
   pub same : new ≡ with_kept k (other writer) (noticed_all mid writer (kept_at new (other writer))) (kept_at new (other writer))
   pub some : kept_at new (other writer) ≢ []
   -- bytes, the end and the reset of a request stream are kept only behind what is kept
-  pub behind : is_request (stream_of d) ≡ true → kept_at k (other writer) ≢ []
+  pub behind : is_request_stream (stream_of d) ≡ true → kept_at k (other writer) ≢ []
 
 -- Nothing was handed out, and a part of what is kept was read.
 pub record HandsNothingOut (setup : Setup) (k : KeepingWorld) (side : Side) (id : ℕ) (new : KeepingWorld) : Type 0 where

@@ -1,42 +1,35 @@
 -- What a survey says behind one field more.
-use Rattle.std.proofs.Common.{◌≡◌, ◌≢◌, ℕ, ◌+◌, ◌<◌, Bool, true, false, not, ◌&&◌, ◌||◌, cond, eqb, List, [], ◌∷◌, ◌++◌, take, length, get_or, codes, is_some, Some, None, ap, sym, refl, ◌∙◌, subst, arith}
+use Rattle.std.proofs.Common.{◌≡◌, ◌≢◌, ℕ, ◌+◌, ◌*◌, ◌%◌, ◌^◌, ◌<◌, Bool, true, false, not, ◌&&◌, ◌||◌, cond, eqb, List, [], ◌∷◌, ◌++◌, take, length, get_or, bit_or, codes, is_some, Some, None, ap, sym, refl, ◌∙◌, subst, arith}
 use Rattle.std.specs.List.{list_any, list_all}
 use Rattle.std.proofs.lemmas.Bool.{eqb-true, false≢true}
 use Rattle.std.proofs.lemmas.Bool.Decides.{nat_tests}
-use Rattle.std.proofs.lemmas.Grind.{get_or-set_at}
-use Rattle.std.proofs.Math.ListN.{set}
-use Rattle.std.proofs.lemmas.List.{take_more, get_or_default, get_or-set_other}
+use Rattle.std.proofs.lemmas.Nat.Bits.{bit_at_set_same, bit_at_set_other}
+use Rattle.std.specs.Int.{bit_at, w32}
+use Rattle.std.proofs.lemmas.List.{take_more}
 use Rattle.h3_field.specs.Field.{Field}
 use Rattle.h3_messages.proofs.Names.{is_at, is_named, none_named}
 use Rattle.h3_messages.proofs.Pushes.{value_push, value_none, any_push, all_push, repeats_push, order_push}
 use Rattle.h3_messages.specs.Known.{text, place, known_of}
 use Rattle.h3_messages.specs.Messages.{has_name, holds, value_of, is_pseudo, pseudo_first, is_word, has_space_around}
-use Rattle.h3_messages.specs.Survey.{IsSlot, IsSeen, TakesValue, TakesField, is_unknown_pseudo, is_wrong_te}
+use Rattle.h3_messages.specs.Survey.{has, IsSeen, TakesName, TakesField, is_unknown_pseudo, is_wrong_te}
 use Rattle.h3_messages.specs.declared.known.Known.{Known}
 use Rattle.h3_messages.specs.declared.known.Known.TheVariants.{Method, Scheme, Authority, Path, Protocol, Status, Host, ContentLength, Te, Connection, KeepAlive, ProxyConnection, TransferEncoding, Upgrade}
+use Rattle.h3_messages.specs.declared.name_set.NameSet.{NameSet}
 use Rattle.h3_messages.specs.declared.slot.Slot.{Slot}
 use Rattle.h3_messages.specs.declared.seen.Seen.{Seen}
 
--- a slot
-keeps_first : (there : Bool) (v now more : List ℕ) (is : Bool) → (there ≡ false → v ≡ []) → cond there v (cond is more v) ≡ cond there v (cond is more [])
-keeps_first true v now more is none = refl
-keeps_first false v now more is none = ap (cond is more) (none refl)
+-- the value of a name
+keeps_first : (there : Bool) (v more : List ℕ) (is : Bool) → (there ≡ false → v ≡ []) → cond there v (cond is more v) ≡ cond there v (cond is more [])
+keeps_first true v more is none = refl
+keeps_first false v more is none = ap (cond is more) (none refl)
 
-pub slot_step : (name : List ℕ) (fields : List Field) (f : Field) (a b : Slot) → IsSlot name fields a → TakesValue (has_name name f) f.value a b → IsSlot name (fields ++ f ∷ []) b
-slot_step name fields f a b is takes = record {
-  value =
-      takes.value
-      ∙ (ap (λ there. cond there a.value.now (cond (has_name name f) f.value a.value.now)) is.is_there
-      ∙ (ap (λ v. cond (holds name fields) v (cond (has_name name f) f.value v)) is.value
-      ∙ (keeps_first (holds name fields) (value_of name fields) [] f.value (has_name name f) (value_none name fields)
-      ∙ sym (value_push name fields f))));
-  is_there = takes.is_there ∙ (ap (λ there. there || has_name name f) is.is_there ∙ sym (any_push (has_name name) fields f));
-  repeats =
-      takes.repeats
-      ∙ (ap (λ there. a.repeats || (there && has_name name f)) is.is_there
-      ∙ (ap (λ twice. twice || (holds name fields && has_name name f)) is.repeats
-      ∙ sym (repeats_push name fields f)));
-}
+value_step : (name : List ℕ) (fields : List Field) (f : Field) (there : Bool) (v w : List ℕ) → v ≡ value_of name fields → there ≡ holds name fields → w ≡ cond there v (cond (has_name name f) f.value v) → w ≡ value_of name (fields ++ f ∷ [])
+value_step name fields f there v w is has takes =
+    takes
+    ∙ (ap (λ t. cond t v (cond (has_name name f) f.value v)) has
+    ∙ (ap (λ x. cond (holds name fields) x (cond (has_name name f) f.value x)) is
+    ∙ (keeps_first (holds name fields) (value_of name fields) f.value (has_name name f) (value_none name fields)
+    ∙ sym (value_push name fields f))))
 
 -- the flags
 out_of_order : (before f any : Bool) → (not before || (f && any)) ≡ not (before && not (f && any))
@@ -53,7 +46,13 @@ wrong_te true true true = refl
 
 pub seen_step : (fields : List Field) (f : Field) (a b : Seen) → IsSeen fields a → TakesField f a b → IsSeen (fields ++ f ∷ []) b
 seen_step fields f a b is takes = record {
-  slots = λ k d. slot_step (text k) fields f _ _ (is.slots k d) (takes.slots k d);
+  values = λ k d. value_step (text k) fields f _ _ _ (is.values k d) (is.there k) ((takes.names k).value d);
+  there = λ k. (takes.names k).there ∙ (ap (λ there. there || has_name (text k) f) (is.there k) ∙ sym (any_push (has_name (text k)) fields f));
+  repeated = λ k.
+      (takes.names k).repeated
+      ∙ (ap (λ there. has k a.repeated || (there && has_name (text k) f)) (is.there k)
+      ∙ (ap (λ twice. twice || (holds (text k) fields && has_name (text k) f)) (is.repeated k)
+      ∙ sym (repeats_push (text k) fields f)));
   has_regular = takes.has_regular ∙ (ap (λ r. r || not (is_pseudo f)) is.has_regular ∙ sym (any_push (λ x. not (is_pseudo x)) fields f));
   is_out_of_order =
       takes.is_out_of_order
@@ -83,15 +82,19 @@ no_more : (b : Bool) → b ≡ (b || false)
 no_more true = refl
 no_more false = refl
 
+or_true : (b : Bool) → true ≡ (b || true)
+or_true true = refl
+or_true false = refl
+
 no_second : (a b : Bool) → a ≡ (a || (b && false))
 no_second true b = refl
 no_second false true = refl
 no_second false false = refl
 
--- a slot where the field's name was found
-pub takes_named : (f : Field) (its : List ℕ) (known k : Known) (a b : Slot) → Some known ≡ known_of f.name → its ≡ f.value → TakesValue (eqb (place k) (place known)) its a b → TakesValue (has_name (text k) f) f.value a b
+-- what is seen of a name where the field's name was found
+pub takes_named : (f : Field) (its : List ℕ) (known k : Known) (a b : Seen) → Some known ≡ known_of f.name → its ≡ f.value → TakesName (eqb (place k) (place known)) its k a b → TakesName (has_name (text k) f) f.value k a b
 takes_named f its known k a b e v takes =
-    subst (λ is. TakesValue is f.value a b) (ap (is_at (place k)) e ∙ sym (is_named f.name k)) (subst (λ x. TakesValue (eqb (place k) (place known)) x a b) v takes)
+    subst (λ is. TakesName is f.value k a b) (ap (is_at (place k)) e ∙ sym (is_named f.name k)) (subst (λ x. TakesName (eqb (place k) (place known)) x k a b) v takes)
 
 pub te_named : (f : Field) (its : List ℕ) (known : Known) (old new : Bool) → Some known ≡ known_of f.name → its ≡ f.value → new ≡ (old || (eqb 8 (place known) && not (is_word (codes "trailers") its))) → new ≡ (old || is_wrong_te f)
 te_named f its known old new e v is =
@@ -126,12 +129,12 @@ no_te Upgrade h = refl
 pub te_kept : (known : Known) (old word : Bool) → (known ≢ Te) → old ≡ (old || (eqb 8 (place known) && not word))
 te_kept known old word h = no_more old ∙ ap (λ b. old || (b && not word)) (sym (no_te known h))
 
-keeps : (its : List ℕ) (a : Slot) → TakesValue false its a a
-keeps its a = record { value = same_value a.is_there a.value.now; is_there = no_more a.is_there; repeats = no_second a.repeats a.is_there }
+keeps : (its : List ℕ) (k : Known) (a : Seen) → TakesName false its k a a
+keeps its k a = record { value = λ d. same_value (has k a.there) _; there = no_more (has k a.there); repeated = no_second (has k a.repeated) (has k a.there) }
 
 -- and where none was
-pub takes_none : (f : Field) (k : Known) (a : Slot) → None ≡ known_of f.name → TakesValue (has_name (text k) f) f.value a a
-takes_none f k a e = subst (λ is. TakesValue is f.value a a) (sym (none_named f.name (sym e) k)) (keeps f.value a)
+pub takes_none : (f : Field) (k : Known) (a : Seen) → None ≡ known_of f.name → TakesName (has_name (text k) f) f.value k a a
+takes_none f k a e = subst (λ is. TakesName is f.value k a a) (sym (none_named f.name (sym e) k)) (keeps f.value k a)
 
 pub te_none : (f : Field) (old : Bool) → None ≡ known_of f.name → old ≡ (old || is_wrong_te f)
 te_none f old e = no_more old ∙ ap (λ has. old || (has && not (is_word (codes "trailers") f.value))) (sym (none_named f.name (sym e) Te))
@@ -163,9 +166,11 @@ at_fourteen s ProxyConnection d = refl
 at_fourteen s TransferEncoding d = refl
 at_fourteen s Upgrade d = refl
 
-pub none_seen : (s : Slot) → s.value.now ≡ [] → s.is_there ≡ false → s.repeats ≡ false → IsSeen [] record { slots = fourteen s; has_regular = false; is_out_of_order = false; has_unknown_pseudo = false; has_wrong_te = false; has_spaced_value = false }
-none_seen s v t r = record {
-  slots = λ k d. subst (IsSlot (text k) []) (sym (at_fourteen s k d)) (record { value = v; is_there = t; repeats = r });
+pub none_seen : (s : Slot) (there repeated : NameSet) → s.value.now ≡ [] → ((k : Known) → has k there ≡ false) → ((k : Known) → has k repeated ≡ false) → IsSeen [] record { slots = fourteen s; there = there; repeated = repeated; has_regular = false; is_out_of_order = false; has_unknown_pseudo = false; has_wrong_te = false; has_spaced_value = false }
+none_seen s there repeated v t r = record {
+  values = λ k d. ap (λ x. x.value.now) (at_fourteen s k d) ∙ v;
+  there = t;
+  repeated = r;
   has_regular = refl;
   is_out_of_order = refl;
   has_unknown_pseudo = refl;
@@ -176,19 +181,37 @@ none_seen s v t r = record {
 itself : (i : ℕ) → eqb i i ≡ true
 itself i = grind (arith, nat_tests)
 
--- a slot that is written
-written : (slots : List Slot) (i j : ℕ) (its : List ℕ) (new x : Slot) (b : Bool) → eqb j i ≡ b → i < length slots → TakesValue true its (get_or slots i x) new → (d : Slot) → TakesValue b its (get_or slots j d) (get_or (set slots i new) j d)
-written slots i j its new x true e within takes d =
+-- a set with one name more
+set_by : (n i j : ℕ) (b : Bool) → i < 32 → eqb j i ≡ b → eqb (bit_at (bit_or n (1 * 2 ^ i % 2 ^ 32)) j) 1 ≡ (eqb (bit_at n j) 1 || b)
+set_by n i j true within e =
     let same : j ≡ i = eqb-true j i e in
-    let at : get_or (set slots i new) j d ≡ new = get_or-set_at slots i j new d same within in
-    let was : get_or slots i x ≡ get_or slots j d = get_or_default slots i x d within ∙ ap (λ n. get_or slots n d) (sym same) in
-    subst (λ s. TakesValue true its (get_or slots j d) s) (sym at) (subst (λ s. TakesValue true its s new) was takes)
-written slots i j its new x false e within takes d =
-    let other : j ≢ i = λ same. false≢true (sym e ∙ (ap (λ n. eqb n i) same ∙ itself i)) in
-    subst (λ s. TakesValue false its (get_or slots j d) s) (sym (get_or-set_other slots i j new d other)) (keeps its (get_or slots j d))
+    ap (λ x. eqb (bit_at (bit_or n (1 * 2 ^ i % 2 ^ 32)) x) 1) same ∙ (ap (λ x. eqb x 1) (bit_at_set_same w32 n i within) ∙ or_true (eqb (bit_at n j) 1))
+set_by n i j false within e =
+    let other : j ≢ i = λ same. false≢true (sym e ∙ (ap (λ x. eqb x i) same ∙ itself i)) in
+    ap (λ x. eqb x 1) (bit_at_set_other w32 n i within j other) ∙ no_more (eqb (bit_at n j) 1)
 
-pub takes_written : (slots : List Slot) (known : Known) (i : ℕ) (its : List ℕ) (new x : Slot) → i ≡ place known → place known < length slots → x ≡ get_or slots (place known) x → TakesValue true its x new → (k : Known) (d : Slot) → TakesValue (eqb (place k) (place known)) its (get_or slots (place k) d) (get_or (set slots i new) (place k) d)
-takes_written slots known i its new x is within at takes k d =
-    let here : get_or slots i x ≡ x = ap (λ n. get_or slots n x) is ∙ sym at in
-    let inside : i < length slots = omega arith in
-    written slots i (place k) its new x (eqb (place k) (place known)) (ap (eqb (place k)) is) inside (subst (λ s. TakesValue true its s new) (sym here) takes) d
+pub set_has : (names : NameSet) (known k : Known) (i : ℕ) → i ≡ place known → i < 32 → eqb (bit_at (bit_or names.bits (1 * 2 ^ i % 2 ^ 32)) (place k)) 1 ≡ (has k names || eqb (place k) (place known))
+set_has names known k i is within = set_by names.bits i (place k) (eqb (place k) (place known)) within (ap (eqb (place k)) is)
+
+-- the flags of a name with a colon ahead, and of one without
+pub colon_regular : (b old new : Bool) → b ≡ true → new ≡ old → new ≡ (old || not b)
+colon_regular true old new p e = e ∙ no_more old
+colon_regular false old new p e = absurd (false≢true p)
+
+pub colon_late : (b old regular new : Bool) → b ≡ true → new ≡ (old || regular) → new ≡ (old || (b && regular))
+colon_late true old regular new p e = e
+colon_late false old regular new p e = absurd (false≢true p)
+
+pub colon_unknown : (f : Field) (old : Bool) → is_pseudo f ≡ true → None ≡ known_of f.name → true ≡ (old || is_unknown_pseudo f)
+colon_unknown f old p e = unknown_none f old true e (or_true old ∙ ap (λ b. old || b) (sym p))
+
+pub plain_regular : (b old new : Bool) → b ≡ false → new ≡ true → new ≡ (old || not b)
+plain_regular false old new p e = e ∙ or_true old
+plain_regular true old new p e = absurd (false≢true (sym p))
+
+pub plain_late : (b old regular new : Bool) → b ≡ false → new ≡ old → new ≡ (old || (b && regular))
+plain_late false old regular new p e = e ∙ no_more old
+plain_late true old regular new p e = absurd (false≢true (sym p))
+
+pub plain_unknown : (f : Field) (old new : Bool) → is_pseudo f ≡ false → new ≡ old → new ≡ (old || is_unknown_pseudo f)
+plain_unknown f old new p e = e ∙ (no_more old ∙ ap (λ b. old || (b && not (is_some (known_of f.name)))) (sym p))

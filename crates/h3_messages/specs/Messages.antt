@@ -4,6 +4,7 @@ use Rattle.std.specs.Prelude.{ℕ, ◌+◌, ◌-◌, ◌*◌, ◌^◌, Bool, tru
 use Rattle.std.specs.Char.{to_ascii_lowercase, is_ascii_digit, is_ascii_alphabetic}
 use Rattle.std.specs.List.{list_all, list_any, count_by}
 use Rattle.h3_field.specs.Field.{Field}
+use Rattle.h3_header.specs.Connect.{is_plain_host}
 use Rattle.h3_header.specs.HeadTests.{is_authority}
 use Rattle.h3_messages.specs.declared.violation.Violation.{Violation}
 use Rattle.h3_messages.specs.declared.violation.Violation.TheVariants.{PseudoOrder, RepeatedPseudo, WrongPseudo, MissingPseudo, ConnectionField, Protocol, Connect, Scheme, Authority, Path, Status, ContentLength, TrailerField, Value}
@@ -126,11 +127,7 @@ is_connect_wrong fields =
 abbrev pub is_scheme_wrong : List Field → Bool
 is_scheme_wrong fields = holds (codes ":scheme") fields && not (is_ascii_alphabetic (slice_index (value_of (codes ":scheme") fields) 0))
 
--- no userinfo (4.3.1), and a host that is not empty (RFC 9110, 4.2.1)
-abbrev pub is_plain_host : List ℕ → Bool
-is_plain_host text = not (list_any (λ b. b == 64) text || (slice_index text 0 == 58))
-
--- Host = uri-host [ ":" port ] (RFC 9110, 7.2)
+-- Host = uri-host [ ":" port ] (RFC 9110, 7.2), with no userinfo (4.3.1) and a host that is not empty (RFC 9110, 4.2.1)
 abbrev pub is_host : List ℕ → Bool
 is_host text = is_authority text && is_plain_host text
 

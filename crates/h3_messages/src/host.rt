@@ -1,6 +1,7 @@
 //! The authority of a request: `:authority` and `host` (RFC 9114, 4.3.1; RFC 9110, 7.2).
 ghost use Rattle.std.specs.Prelude.{◌≡◌};
-ghost use Rattle.h3_messages.specs.Messages.{is_plain_host, is_host, is_host_wrong, are_alike};
+ghost use Rattle.h3_header.specs.Connect.{is_plain_host};
+ghost use Rattle.h3_messages.specs.Messages.{is_host, is_host_wrong, are_alike};
 
 use crate::known::Known;
 use crate::survey::Survey;

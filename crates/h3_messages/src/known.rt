@@ -1,8 +1,8 @@
 //! The names that the rules speak of.
-ghost use Rattle.std.specs.Prelude.{◌≡◌, ◌<◌, bytes_eq};
-ghost use Rattle.h3_messages.specs.Known.{text, place, candidate, of_seven, of_ten, if_third, known_of};
+ghost use Rattle.std.specs.Prelude.{◌≡◌, ◌≢◌, ◌<◌, bytes_eq, length, slice_index, if◌then◌else◌, Some, None};
+ghost use Rattle.h3_messages.specs.Known.{place, known_of};
 
-use crate::text::{byte_at, is_same};
+use crate::text::is_same;
 
 /// A field name that a rule speaks of.
 #[derive(Clone, Copy)]
@@ -27,12 +27,34 @@ impl Known {
     /// How many there are.
     pub(crate) const COUNT: usize = 14;
 
-    /// Which of them the name is. No two have both one length and one third byte, so that a name is compared with at most one of them.
-    pub(crate) fn of(name: &[u8]) -> Option<Known>
+    /// Which of them a name with a colon ahead is. No two of them have both one length and one third byte, so that a name is compared with
+    /// at most one of them, here and below.
+    pub(crate) fn of_pseudo(name: &[u8]) -> Option<Known>
+        requires { slice_index name.now 0 ≡ 58 }
         ensures { result ≡ known_of name.now }
     {
-        match candidate(name.len(), byte_at(name, 2)) {
-            Some(known) if known.is_named(name) => Some(known),
+        match name.len() {
+            5 => if_same(name, b":path", Known::Path),
+            7 => pseudo_of_seven(name),
+            9 => if_same(name, b":protocol", Known::Protocol),
+            10 => if_same(name, b":authority", Known::Authority),
+            _ => None,
+        }
+    }
+
+    /// Which of them a name with no colon ahead is.
+    pub(crate) fn of_regular(name: &[u8]) -> Option<Known>
+        requires { slice_index name.now 0 ≢ 58 }
+        ensures { result ≡ known_of name.now }
+    {
+        match name.len() {
+            2 => if_same(name, b"te", Known::Te),
+            4 => if_same(name, b"host", Known::Host),
+            7 => if_same(name, b"upgrade", Known::Upgrade),
+            10 => regular_of_ten(name),
+            14 => if_same(name, b"content-length", Known::ContentLength),
+            16 => if_same(name, b"proxy-connection", Known::ProxyConnection),
+            17 => if_same(name, b"transfer-encoding", Known::TransferEncoding),
             _ => None,
         }
     }
@@ -59,74 +81,42 @@ impl Known {
             Known::Upgrade => 13,
         }
     }
-
-    // Whether it is this name. Each arm compares with bytes that are known when it is compiled.
-    fn is_named(self, name: &[u8]) -> bool
-        ensures { result ≡ bytes_eq name.now (text self) }
-    {
-        match self {
-            Known::Method => is_same(name, b":method"),
-            Known::Scheme => is_same(name, b":scheme"),
-            Known::Authority => is_same(name, b":authority"),
-            Known::Path => is_same(name, b":path"),
-            Known::Protocol => is_same(name, b":protocol"),
-            Known::Status => is_same(name, b":status"),
-            Known::Host => is_same(name, b"host"),
-            Known::ContentLength => is_same(name, b"content-length"),
-            Known::Te => is_same(name, b"te"),
-            Known::Connection => is_same(name, b"connection"),
-            Known::KeepAlive => is_same(name, b"keep-alive"),
-            Known::ProxyConnection => is_same(name, b"proxy-connection"),
-            Known::TransferEncoding => is_same(name, b"transfer-encoding"),
-            Known::Upgrade => is_same(name, b"upgrade"),
-        }
-    }
 }
 
-// The only one that a name of this length and with this third byte may be.
-#[tactic(auto, unfolding(crate::specs::Known::candidate))]
-fn candidate(length: usize, third: u8) -> Option<Known>
-    ensures { result ≡ candidate length third }
+// Which of them a name of seven bytes with a colon ahead is.
+fn pseudo_of_seven(name: &[u8]) -> Option<Known>
+    requires first { slice_index name.now 0 ≡ 58 }
+    requires size { length name.now ≡ 7 }
+    ensures { result ≡ known_of name.now }
 {
-    match length {
-        2 => Some(Known::Te),
-        4 => if_third(third, b's', Known::Host),
-        5 => if_third(third, b'a', Known::Path),
-        7 => of_seven(third),
-        9 => if_third(third, b'r', Known::Protocol),
-        10 => of_ten(third),
-        14 => if_third(third, b'n', Known::ContentLength),
-        16 => if_third(third, b'o', Known::ProxyConnection),
-        17 => if_third(third, b'a', Known::TransferEncoding),
+    match name[2] {
+        b'e' => if_same(name, b":method", Known::Method),
+        b'c' => if_same(name, b":scheme", Known::Scheme),
+        b't' => if_same(name, b":status", Known::Status),
         _ => None,
     }
 }
 
-fn if_third(third: u8, wanted: u8, known: Known) -> Option<Known>
-    ensures { result ≡ if_third third wanted known }
+// Which of them a name of ten bytes with no colon ahead is.
+fn regular_of_ten(name: &[u8]) -> Option<Known>
+    requires first { slice_index name.now 0 ≢ 58 }
+    requires size { length name.now ≡ 10 }
+    ensures { result ≡ known_of name.now }
 {
-    if third == wanted { Some(known) } else { None }
-}
-
-fn of_seven(third: u8) -> Option<Known>
-    ensures { result ≡ of_seven third }
-{
-    match third {
-        b'e' => Some(Known::Method),
-        b'c' => Some(Known::Scheme),
-        b't' => Some(Known::Status),
-        b'g' => Some(Known::Upgrade),
+    match name[2] {
+        b'n' => if_same(name, b"connection", Known::Connection),
+        b'e' => if_same(name, b"keep-alive", Known::KeepAlive),
         _ => None,
     }
 }
 
-fn of_ten(third: u8) -> Option<Known>
-    ensures { result ≡ of_ten third }
+// The name, where it is this text.
+fn if_same(name: &[u8], text: &[u8], known: Known) -> Option<Known>
+    ensures { result ≡ (if bytes_eq name.now text.now then Some known else None) }
 {
-    match third {
-        b'u' => Some(Known::Authority),
-        b'n' => Some(Known::Connection),
-        b'e' => Some(Known::KeepAlive),
-        _ => None,
+    if is_same(name, text) {
+        Some(known)
+    } else {
+        None
     }
 }

@@ -9,6 +9,7 @@ pub mod content;
 mod fields;
 mod host;
 mod known;
+mod name_set;
 mod pseudo;
 mod regular;
 mod request;

@@ -1,9 +1,10 @@
 //! What the fields that came so far hold of all that the rules ask.
-ghost use Rattle.std.specs.Prelude.{◌≡◌, ◌<◌, ◌==◌, ◌||◌, ◌&&◌, not, codes, [], length, slice_index_or};
+ghost use Rattle.std.specs.Prelude.{◌≡◌, ◌<◌, ◌==◌, ◌||◌, ◌&&◌, not, codes, [], length, slice_index_or, if◌then◌else◌};
 ghost use Rattle.h3_messages.specs.Known.{place};
 ghost use Rattle.h3_messages.specs.Messages.{is_word};
 
 use crate::known::Known;
+use crate::name_set::NameSet;
 use crate::slot::Slot;
 use crate::text::{byte_at, has_space_around, is_word};
 use h3_field::HeaderField;
@@ -12,6 +13,10 @@ use h3_field::HeaderField;
 #[derive(Drop)]
 pub(crate) struct Seen<'a> {
     pub(crate) slots: [Slot<'a>; Known::COUNT],
+    /// The names that a field has.
+    pub(crate) there: NameSet,
+    /// Those that two fields or more have.
+    pub(crate) repeated: NameSet,
     pub(crate) has_regular: bool,
     pub(crate) is_out_of_order: bool,
     pub(crate) has_unknown_pseudo: bool,
@@ -20,7 +25,7 @@ pub(crate) struct Seen<'a> {
 }
 
 impl<'a> Seen<'a> {
-    ghost use Rattle.h3_messages.specs.Survey.{IsSeen, TakesField, TakesValue};
+    ghost use Rattle.h3_messages.specs.Survey.{IsSeen, TakesField, TakesKnown};
     ghost use Rattle.h3_messages.specs.declared.known.Known.{Known};
     ghost use Rattle.h3_messages.specs.declared.slot.Slot.{Slot};
 
@@ -30,6 +35,8 @@ impl<'a> Seen<'a> {
     {
         Seen {
             slots: [Slot::EMPTY; Known::COUNT],
+            there: NameSet::none(),
+            repeated: NameSet::none(),
             has_regular: false,
             is_out_of_order: false,
             has_unknown_pseudo: false,
@@ -48,47 +55,53 @@ impl<'a> Seen<'a> {
         }
     }
 
-    // One field more.
+    // One field more. The colon is looked at before the name is told, which leaves few names to compare with.
     fn take_in(&mut self, field: &'a HeaderField)
         ensures { TakesField field.now self.old self.new }
     {
         let name = field.name();
         let value = field.value();
-        let is_pseudo = byte_at(name, 0) == b':';
-        let is_late = is_pseudo && self.has_regular;
         note(&mut self.has_spaced_value, has_space_around(value));
-        note(&mut self.is_out_of_order, is_late);
-        note(&mut self.has_regular, !is_pseudo);
-        match Known::of(name) {
-            Some(known) => self.take_known(known, value),
-            None => note(&mut self.has_unknown_pseudo, is_pseudo),
+        if byte_at(name, 0) == b':' {
+            let is_late = self.has_regular;
+            note(&mut self.is_out_of_order, is_late);
+            match Known::of_pseudo(name) {
+                Some(known) => self.take_known(known, value),
+                None => self.has_unknown_pseudo = true,
+            }
+        } else {
+            self.has_regular = true;
+            match Known::of_regular(name) {
+                Some(known) => self.take_known(known, value),
+                None => {}
+            }
         }
     }
 
     // One field more with this name.
     fn take_known(&mut self, known: Known, value: &'a [u8])
-        ensures slots { (k : Known) (d : Slot) → TakesValue (place k == place known) value.now (slice_index_or self.old.slots (place k) d) (slice_index_or self.new.slots (place k) d) }
-        ensures has_regular { self.new.has_regular ≡ self.old.has_regular }
-        ensures is_out_of_order { self.new.is_out_of_order ≡ self.old.is_out_of_order }
-        ensures has_unknown_pseudo { self.new.has_unknown_pseudo ≡ self.old.has_unknown_pseudo }
-        ensures has_wrong_te { self.new.has_wrong_te ≡ (self.old.has_wrong_te || ((8 == place known) && not (is_word (codes "trailers") value.now))) }
-        ensures has_spaced_value { self.new.has_spaced_value ≡ self.old.has_spaced_value }
+        ensures { TakesKnown known value.now self.old self.new }
     {
-        let slot = slot_at(&self.slots, known);
-        self.slots[known.place()] = slot.with(value);
+        if self.there.has(known) {
+            self.repeated = self.repeated.with(known);
+        } else {
+            let place = place_in(&self.slots, known);
+            self.slots[place] = Slot { value };
+            self.there = self.there.with(known);
+        }
         if let Known::Te = known {
             note(&mut self.has_wrong_te, !is_word(b"trailers", value));
         }
     }
 }
 
-// The slot of a name.
-fn slot_at<'a>(slots: &[Slot<'a>], known: Known) -> Slot<'a>
+// Where the slots have what is known of a name.
+fn place_in(slots: &[Slot<'_>], known: Known) -> usize
     requires { length slots.now ≡ 14 }
-    ensures slot { result ≡ slice_index_or slots.now (place known) result }
-    ensures within { place known < length slots.now }
+    ensures place { result ≡ place known }
+    ensures within { result < length slots.now }
 {
-    slots[known.place()]
+    known.place()
 }
 
 // Sets the flag where this was found.

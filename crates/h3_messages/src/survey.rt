@@ -30,14 +30,14 @@ impl<'a> Survey<'a> {
     pub(crate) fn holds(&self, name: Known) -> bool
         ensures { result ≡ holds (text name) self.now.fields.now }
     {
-        self.seen.slots[name.place()].is_there
+        self.seen.there.has(name)
     }
 
     /// Whether two fields or more have the name.
     pub(crate) fn repeats(&self, name: Known) -> bool
         ensures { result ≡ repeats (text name) self.now.fields.now }
     {
-        self.seen.slots[name.place()].repeats
+        self.seen.repeated.has(name)
     }
 
     /// The value of the first field with the name, or no bytes.

@@ -1,3 +1,3 @@
-pub mod Waiting
-mod Copying
+mod Headers
+mod Queues
 mod Filling

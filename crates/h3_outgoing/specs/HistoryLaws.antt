@@ -1,23 +1,17 @@
 -- What the calls do to what is kept of a request stream is what they do to its history.
-use Rattle.std.proofs.Common.{arith, ◌≡◌, ◌≢◌, ◌≤◌, ℕ, ◌+◌, ◌-◌, Bool, true, false, List, [], ◌∷◌, ◌++◌, length, drop, refl, sym, ap, ◌∙◌, subst, length-append}
+use Rattle.std.proofs.Common.{arith, ◌≡◌, ◌≤◌, ℕ, ◌+◌, ◌-◌, Bool, true, false, List, [], ◌∷◌, ◌++◌, length, drop, refl, sym, ap, ◌∙◌, subst, length-append}
 use Rattle.std.specs.Prelude.{not, ◌&&◌, ◌||◌, map, flat_map, if◌then◌else◌, ◌==◌}
 use Rattle.std.proofs.lemmas.Grind.{flat_map-append}
 use Rattle.std.proofs.lemmas.List.{length-drop}
-use Rattle.h3_wire.specs.Outgoing.{Outgoing as Piece, all_of}
 use Rattle.h3_connection.specs.Outgoing as history
-use Rattle.h3_connection.specs.Outgoing.{Outgoing, OwnPart, OwnInterim, OwnHead, OwnBody, OwnTrailer, part_bytes, part_bytes_waiting, is_unsent, last_is_trailer, with_body, with_finish, with_reset, with_said}
+use Rattle.h3_connection.specs.Outgoing.{Outgoing, OwnPart, OwnInterim, OwnHead, OwnBody, OwnTrailer, written_part, part_bytes_waiting, is_unsent, last_is_trailer, with_body, with_finish, with_reset, with_said}
 use Rattle.h3_messages.specs.Content.{left_behind}
 use Rattle.h3_messages.specs.declared.content.Content.{Content}
 use Rattle.h3_connection.specs.State.{OutgoingState, IsOfOutgoing, place_of}
-use Rattle.h3_connection.specs.WaitingPieces.{piece_of, bytes_of, pieces_waiting, without_front}
+use Rattle.h3_connection.specs.WaitingPieces.{piece_of, bytes_of, without_front}
 use Rattle.h3_connection.specs.WaitingPieceLaws.{bytes-without, without-append, without-without}
 use Rattle.h3_connection.specs.declared.place.SendPlace.{SendPlace}
-use Rattle.h3_connection.specs.declared.place.SendPlace.TheVariants.{NothingSent, HeadSent, TrailerSent}
-use Rattle.h3_outgoing.specs.Sent.{is_open, is_before_head, is_in_body, takes_head, takes_body, takes_end, is_sent_off, has_ended, was_cut_off, taken_from, end_waits, is_end_next, is_to_have, has_end_taken}
-
--- the place of a message by its parts
-abbrev place : Bool → Bool → SendPlace
-place unsent trailer = if unsent then NothingSent else (if trailer then TrailerSent else HeadSent)
+use Rattle.h3_outgoing.specs.Sent.{is_open, is_before_head, is_in_body, takes_head, takes_body, takes_end, is_sent_off, has_ended, was_cut_off, taken_from, end_waits, is_end_next, is_to_have, has_end_taken, place}
 
 before : (unsent trailer : Bool) → is_before_head (place unsent trailer) ≡ unsent
 before true trailer = refl
@@ -30,35 +24,35 @@ inside true true trailer = refl
 inside true false true = refl
 inside true false false = refl
 
-opened : (o : Outgoing) (w : OutgoingState) → IsOfOutgoing o w → is_open w ≡ history.is_open o
+opened : (o : Outgoing) (w : OutgoingState) → IsOfOutgoing o w → is_open w ≡ history.is_unended o
 opened o w h = ap (λ b. not b && not w.is_reset) h.is_finished ∙ ap (λ b. not o.is_finished && not b) h.is_reset
 
 -- Whether a part may be sent is told by what is kept.
 pub head_taken : (o : Outgoing) (w : OutgoingState) → IsOfOutgoing o w → takes_head w ≡ history.takes_head o
 head_taken o w h =
     ap (λ b. b && is_before_head w.place) (opened o w h)
-    ∙ ap (λ p. history.is_open o && is_before_head p) h.place ∙ ap (λ b. history.is_open o && b) (before (is_unsent o.parts) (last_is_trailer o.parts))
+    ∙ ap (λ p. history.is_unended o && is_before_head p) h.place ∙ ap (λ b. history.is_unended o && b) (before (is_unsent o.parts) (last_is_trailer o.parts))
 
 pub body_taken : (o : Outgoing) (w : OutgoingState) → IsOfOutgoing o w → takes_body w ≡ history.takes_body o
 body_taken o w h =
     ap (λ b. b && is_in_body w.place) (opened o w h)
-    ∙ ap (λ p. history.is_open o && is_in_body p) h.place ∙ inside (history.is_open o) (is_unsent o.parts) (last_is_trailer o.parts)
+    ∙ ap (λ p. history.is_unended o && is_in_body p) h.place ∙ inside (history.is_unended o) (is_unsent o.parts) (last_is_trailer o.parts)
 
 pub end_taken : (o : Outgoing) (w : OutgoingState) → IsOfOutgoing o w → takes_end w ≡ history.takes_end o
 end_taken o w h =
     ap (λ b. b && not (is_before_head w.place)) (opened o w h)
-    ∙ ap (λ p. history.is_open o && not (is_before_head p)) h.place ∙ ap (λ b. history.is_open o && not b) (before (is_unsent o.parts) (last_is_trailer o.parts))
+    ∙ ap (λ p. history.is_unended o && not (is_before_head p)) h.place ∙ ap (λ b. history.is_unended o && not b) (before (is_unsent o.parts) (last_is_trailer o.parts))
 
 -- the bytes of parts
-pub bytes_of_parts : (parts : List OwnPart) → bytes_of (map piece_of parts) ≡ flat_map part_bytes parts
+pub bytes_of_parts : (parts : List OwnPart) → bytes_of (map piece_of parts) ≡ flat_map written_part parts
 bytes_of_parts [] = refl
-bytes_of_parts (OwnInterim section ∷ parts) = ap (λ l. part_bytes (OwnInterim section) ++ l) (bytes_of_parts parts)
-bytes_of_parts (OwnHead section ∷ parts) = ap (λ l. part_bytes (OwnHead section) ++ l) (bytes_of_parts parts)
-bytes_of_parts (OwnBody bytes ∷ parts) = ap (λ l. part_bytes (OwnBody bytes) ++ l) (bytes_of_parts parts)
-bytes_of_parts (OwnTrailer section ∷ parts) = ap (λ l. part_bytes (OwnTrailer section) ++ l) (bytes_of_parts parts)
+bytes_of_parts (OwnInterim section ∷ parts) = ap (λ l. written_part (OwnInterim section) ++ l) (bytes_of_parts parts)
+bytes_of_parts (OwnHead section ∷ parts) = ap (λ l. written_part (OwnHead section) ++ l) (bytes_of_parts parts)
+bytes_of_parts (OwnBody bytes ∷ parts) = ap (λ l. written_part (OwnBody bytes) ++ l) (bytes_of_parts parts)
+bytes_of_parts (OwnTrailer section ∷ parts) = ap (λ l. written_part (OwnTrailer section) ++ l) (bytes_of_parts parts)
 
 -- what waits
-waits_by : (reset : Bool) (taken : ℕ) (parts : List OwnPart) → bytes_of (if reset then [] else without_front taken (map piece_of parts)) ≡ (if reset then [] else drop taken (flat_map part_bytes parts))
+waits_by : (reset : Bool) (taken : ℕ) (parts : List OwnPart) → bytes_of (if reset then [] else without_front taken (map piece_of parts)) ≡ (if reset then [] else drop taken (flat_map written_part parts))
 waits_by true taken parts = refl
 waits_by false taken parts = bytes-without taken (map piece_of parts) ∙ ap (drop taken) (bytes_of_parts parts)
 
@@ -95,10 +89,10 @@ taken_by : (reset : Bool) (taken count : ℕ) (parts : List OwnPart) → without
 taken_by true taken count parts = refl
 taken_by false taken count parts = without-without count taken (map piece_of parts)
 
-few_by : (reset : Bool) (taken count : ℕ) (parts : List OwnPart) → reset ≡ false → taken ≤ length (flat_map part_bytes parts)
-    → count ≤ length (if reset then [] else drop taken (flat_map part_bytes parts)) → taken + count ≤ length (flat_map part_bytes parts)
+few_by : (reset : Bool) (taken count : ℕ) (parts : List OwnPart) → reset ≡ false → taken ≤ length (flat_map written_part parts)
+    → count ≤ length (if reset then [] else drop taken (flat_map written_part parts)) → taken + count ≤ length (flat_map written_part parts)
 few_by true taken count parts never few more = absurd (cc)
-few_by false taken count parts here few more = omega (arith, few, more, length-drop taken (flat_map part_bytes parts))
+few_by false taken count parts here few more = omega (arith, few, more, length-drop taken (flat_map written_part parts))
 
 pub advanced : (o : Outgoing) (w : OutgoingState) (count : ℕ) → IsOfOutgoing o w → count ≤ length (part_bytes_waiting o) → IsOfOutgoing (record o { taken = o.taken + count }) (taken_from w count)
 advanced o w count h few =
@@ -117,7 +111,7 @@ map_push : (parts : List OwnPart) (part : OwnPart) → map piece_of (parts ++ pa
 map_push [] part = refl
 map_push (p ∷ parts) part = ap (λ l. piece_of p ∷ l) (map_push parts part)
 
-pushed_by : (reset : Bool) (taken : ℕ) (parts : List OwnPart) (part : OwnPart) → reset ≡ false → taken ≤ length (flat_map part_bytes parts)
+pushed_by : (reset : Bool) (taken : ℕ) (parts : List OwnPart) (part : OwnPart) → reset ≡ false → taken ≤ length (flat_map written_part parts)
     → (if reset then [] else without_front taken (map piece_of parts)) ++ piece_of part ∷ [] ≡ (if reset then [] else without_front taken (map piece_of (parts ++ part ∷ [])))
 pushed_by true taken parts part never few = absurd (cc)
 pushed_by false taken parts part here few =
@@ -134,8 +128,8 @@ appended o w part at h here is =
       is_finished = h.is_finished;
       is_reset = h.is_reset;
       end_taken = h.end_taken;
-      taken = λ again. let all = flat_map-append part_bytes o.parts (part ∷ []) in
-          omega (arith, h.taken again, ap length all, length-append (flat_map part_bytes o.parts) (flat_map part_bytes (part ∷ [])));
+      taken = λ again. let all = flat_map-append written_part o.parts (part ∷ []) in
+          omega (arith, h.taken again, ap length all, length-append (flat_map written_part o.parts) (flat_map written_part (part ∷ [])));
     }
 
 -- So much content is to be sent.
@@ -143,7 +137,7 @@ pub said : (o : Outgoing) (w : OutgoingState) (k : Content) → IsOfOutgoing o w
 said o w k h = record {
   pieces = h.pieces;
   place = h.place;
-  content = ap (λ b. if b then k else w.content) (opened o w h) ∙ ap (λ c. if history.is_open o then k else c) h.content;
+  content = ap (λ b. if b then k else w.content) (opened o w h) ∙ ap (λ c. if history.is_unended o then k else c) h.content;
   is_finished = h.is_finished;
   is_reset = h.is_reset;
   end_taken = h.end_taken;

@@ -6,7 +6,7 @@ use Rattle.h3_messages.specs.declared.content.Content.TheVariants.{Unsaid}
 use Rattle.h3_connection.specs.State.{OutgoingState}
 use Rattle.h3_connection.specs.WaitingPieces.{bytes_of, frame_piece, without_front}
 use Rattle.h3_connection.specs.declared.place.SendPlace.{SendPlace}
-use Rattle.h3_connection.specs.declared.place.SendPlace.TheVariants.{NothingSent, HeadSent}
+use Rattle.h3_connection.specs.declared.place.SendPlace.TheVariants.{NothingSent, HeadSent, TrailerSent}
 
 -- it was neither finished nor reset
 abbrev pub is_open : OutgoingState → Bool
@@ -64,3 +64,7 @@ is_end_next s = end_waits s && (length (bytes_of s.pieces) == 0)
 
 abbrev pub has_end_taken : OutgoingState → OutgoingState
 has_end_taken s = record s { end_taken = true }
+
+-- the place of a message by its parts
+abbrev pub place : Bool → Bool → SendPlace
+place unsent trailer = if unsent then NothingSent else (if trailer then TrailerSent else HeadSent)

@@ -1,32 +1,28 @@
 //! What is sent on a request stream: where its message is, and the frames that wait.
-ghost use Rattle.std.specs.Prelude.{◌≡◌, ◌≢◌, ◌==◌, ◌+◌, ◌-◌, ◌*◌, ◌<◌, ◌≤◌, ◌^◌, ◌++◌, [], length, take, drop, min, max, true, false, OnOk, OnErr, IfErr, IsTrue};
-ghost use Rattle.std.specs.VecDeque.{deque_len, deque_capacity};
-ghost use Rattle.h3_wire.specs.Outgoing.{all_of};
-ghost use Rattle.h3_connection.specs.WaitingPieces.{bytes_of, lent, without_front};
+ghost use Rattle.std.specs.Prelude.{◌≡◌, ◌==◌, ◌+◌, ◌<◌, ◌≤◌, ◌^◌, ◌++◌, length, take, min, true, false, OnOk, OnErr, IfErr, IsTrue};
+ghost use Rattle.h3_connection.specs.WaitingPieces.{bytes_of, lent};
 ghost use Rattle.h3_connection.specs.State.{nothing_waits};
 ghost use Rattle.h3_connection.specs.StrictSending.{early_trailer, passes_content};
 ghost use Rattle.h3_outgoing.specs.Copied.{put};
 ghost use Rattle.h3_outgoing.specs.Sent.{has_section, has_body, is_to_have, has_ended, was_cut_off, taken_from, takes_head, takes_body, takes_end, is_sent_off, end_waits, is_end_next, has_end_taken};
 
+pub use crate::copying::put_front;
+use crate::frame::Frame;
+use crate::frames::WaitingFrames;
 use crate::room::FrameRoom;
+use crate::section::EncodedSection;
 use bytes::{Buf, Bytes};
 use h3_connection::event::Malformation;
 use h3_connection::place::SendPlace;
 use h3_messages::Content;
-use h3_wire::stream::MessageBuf;
 use std::alloc::{AllocError, Global};
-use std::collections::VecDeque;
 use std::marker::Model;
 
-/// How many frames a queue has memory for at first.
-const FIRST_PLACES: usize = 4;
-
-/// A request stream at its sender. Its frames wait in a queue: a body that was handed over is the payload itself, and is not
-/// copied. A contract sees the pieces that wait.
+/// A request stream at its sender. Its frames wait one behind the other: a section in the block in which it was written, and a body that was
+/// handed over as the payload itself. Neither is copied. A contract sees the pieces that wait.
 #[derive(Drop)]
 pub struct OutgoingStream {
-    pieces: VecDeque<MessageBuf<Bytes>>,
-    waiting: usize,
+    frames: WaitingFrames,
     place: SendPlace,
     // how much content is still to be sent, where the endpoint holds that against what the head said
     content: Content,
@@ -36,23 +32,18 @@ pub struct OutgoingStream {
 }
 
 impl Model for OutgoingStream {
-    ghost use Rattle.std.specs.Prelude.{◌≡◌, ◌<◌, length, All};
-    ghost use Rattle.h3_wire.specs.Outgoing.{all_of};
-    ghost use Rattle.h3_connection.specs.WaitingPieces.{bytes_of};
     ghost use Rattle.h3_connection.specs.State.{OutgoingState};
 
     ghost Value = { OutgoingState };
 
     ghost view = { λ s. record {
-      pieces = s.pieces.items;
+      pieces = s.frames.frames;
       place = s.place;
       content = s.content;
       is_finished = s.is_finished;
       is_reset = s.is_reset;
       end_taken = s.end_taken;
     } };
-
-    ghost invariant = { λ s. (s.waiting ≡ length (bytes_of s.pieces.items)) × All (λ p. 0 < length (all_of p)) s.pieces.items };
 }
 
 impl OutgoingStream {
@@ -61,8 +52,7 @@ impl OutgoingStream {
         ensures { result ≡ nothing_waits }
     {
         OutgoingStream {
-            pieces: VecDeque::new(alloc),
-            waiting: 0,
+            frames: WaitingFrames::new(alloc),
             place: SendPlace::NothingSent,
             content: Content::Unsaid,
             is_finished: false,
@@ -92,14 +82,14 @@ impl OutgoingStream {
         !self.is_finished && !self.is_reset && !matches!(self.place, SendPlace::NothingSent)
     }
 
-    /// Room for one more frame, so that sending it needs no memory (`take_place`).
+    /// Room for one more frame, so that sending it needs no memory.
     pub fn reserve(&mut self) -> Result<FrameRoom, AllocError>
         ensures { self.new ≡ self.old }
     {
-        let Ok(()) = take_place(&mut self.pieces) else {
+        let Ok(()) = self.frames.reserve() else {
             return Err(AllocError);
         };
-        Ok(FrameRoom::of(&self.pieces))
+        Ok(FrameRoom::of(&self.frames))
     }
 
     // No queue of 2^62 bytes fits into memory: a longer one is refused as such, and no other.
@@ -107,31 +97,28 @@ impl OutgoingStream {
         ensures room { IsTrue result → (payload < 2 ^ 61) × (length (bytes_of self.now.pieces) < 2 ^ 61) }
         ensures none { result ≡ false → 2 ^ 61 ≤ length (bytes_of self.now.pieces) + payload }
     {
-        payload < 1 << 61 && self.waiting < 1 << 61
+        payload < 1 << 61 && self.frames.waiting() < 1 << 61
     }
 
     /// The HEADERS frame of an encoded field section goes out, for which room was taken, and the message is at that place then. An `Err`
     /// changes nothing, and hands the section back.
-    #[tactic(auto, using(crate::proofs::Waiting::headers_some))]
     pub fn send_section(
         &mut self,
         _room: FrameRoom,
-        section: Bytes,
+        section: EncodedSection,
         place: SendPlace,
-    ) -> Result<(), Bytes>
+    ) -> Result<(), EncodedSection>
         ensures ok { OnOk result (self.new ≡ has_section self.old section place) }
         ensures err { IfErr result (λ b. (b ≡ section) × (self.new ≡ self.old)) }
     {
         if !self.has_room_for(section.len()) {
             return Err(section);
         }
-        let Ok(()) = take_place(&mut self.pieces) else {
+        let Ok(()) = self.frames.reserve() else {
             return Err(section);
         };
         self.place = place;
-        let piece = MessageBuf::headers(section);
-        self.waiting += piece.remaining();
-        self.pieces.push_back_reserved(piece);
+        self.frames.push(Frame::headers(section));
         Ok(())
     }
 
@@ -183,13 +170,11 @@ impl OutgoingStream {
         if !self.has_room_for(body.len()) {
             return Err(body);
         }
-        let Ok(()) = take_place(&mut self.pieces) else {
+        let Ok(()) = self.frames.reserve() else {
             return Err(body);
         };
         self.content = self.content.left_behind(body.len() as u64);
-        let piece = MessageBuf::data(body);
-        self.waiting += piece.remaining();
-        self.pieces.push_back_reserved(piece);
+        self.frames.push(Frame::data(body));
         Ok(())
     }
 
@@ -222,7 +207,7 @@ impl OutgoingStream {
         ensures taken { result ≡ true → self.new ≡ has_end_taken self.old }
         ensures same { result ≡ false → self.new ≡ self.old }
     {
-        if !self.end_waits() || self.waiting > 0 {
+        if !self.end_waits() || self.frames.waiting() > 0 {
             return false;
         }
         self.end_taken = true;
@@ -233,21 +218,18 @@ impl OutgoingStream {
     pub fn reset(&mut self)
         ensures { self.new ≡ was_cut_off self.old }
     {
-        self.pieces.clear();
-        self.waiting = 0;
+        self.frames.clear();
         self.is_reset = true;
         self.is_finished = false;
         self.content = Content::Unsaid;
-        self.release();
     }
 
-    // The queue keeps no memory once nothing of the stream is left to be sent.
+    // No memory is kept for a queue once nothing of the stream is left to be sent.
     fn release(&mut self)
         ensures { self.new ≡ self.old }
     {
-        if self.is_sent_off() && self.pieces.is_empty() {
-            let alloc = *self.pieces.allocator();
-            self.pieces = VecDeque::new(alloc);
+        if self.is_sent_off() {
+            self.frames.release();
         }
     }
 
@@ -255,10 +237,7 @@ impl OutgoingStream {
     pub fn outgoing(&self) -> &[u8]
         ensures { result.now ≡ lent self.now.pieces }
     {
-        match self.pieces.front() {
-            Some(piece) => piece.first_part(),
-            None => &[],
-        }
+        self.frames.first_part()
     }
 
     /// Appends the first `count` bytes that wait, at most all, over frames too. They keep waiting. A refusal appends nothing.
@@ -267,15 +246,10 @@ impl OutgoingStream {
         ensures err { OnErr result (out.new.items ≡ out.old.items) }
     {
         let start = out.len();
-        let mut left = count;
-        for index in 0..self.pieces.len() {
-            let piece = &self.pieces[index];
-            let Ok(()) = copy_piece(piece, left, out) else {
-                out.truncate(start);
-                return Err(AllocError);
-            };
-            left = left.saturating_sub(piece.remaining());
-        }
+        let count = count.min(self.waiting());
+        out.reserve(count)?;
+        out.resize(start + count, 0)?;
+        self.copy_to(&mut out[start..]);
         Ok(())
     }
 
@@ -285,23 +259,14 @@ impl OutgoingStream {
         ensures count { result ≡ min (length (bytes_of self.now.pieces)) (length out.old) }
         ensures front { out.new ≡ put (bytes_of self.now.pieces) out.old }
     {
-        let mut at = 0;
-        for index in 0..self.pieces.len() {
-            if at == out.len() {
-                return at;
-            }
-            let piece = &self.pieces[index];
-            at = put_at(piece.head(), at, out);
-            at = put_at(piece.payload(), at, out);
-        }
-        at
+        self.frames.copy_to(out)
     }
 
     /// How many bytes wait.
     pub fn waiting(&self) -> usize
         ensures { result ≡ length (bytes_of self.now.pieces) }
     {
-        self.waiting
+        self.frames.waiting()
     }
 
     /// Takes the first bytes of what waits, at most all. It may cross frames; one that is wholly taken is dropped.
@@ -309,40 +274,15 @@ impl OutgoingStream {
         requires { count ≤ length (bytes_of self.old.pieces) }
         ensures { self.new ≡ taken_from self.old count }
     {
-        let mut left = count;
-        while left > 0 {
-            left -= self.advance_first(left);
-        }
+        self.frames.advance(count);
         self.release();
-    }
-
-    // Takes up to `count` bytes of the first piece, and answers how many.
-    fn advance_first(&mut self, count: usize) -> usize
-        requires { (0 < count) × (count ≤ length (bytes_of self.old.pieces)) }
-        ensures taken { (0 < result) × (result ≤ count) }
-        ensures rest { without_front (count - result) self.new.pieces ≡ without_front count self.old.pieces }
-        ensures fewer { length (bytes_of self.new.pieces) + result ≡ length (bytes_of self.old.pieces) }
-        ensures same { self.new ≡ record self.old { pieces = self.new.pieces } }
-    {
-        let Some(piece) = self.pieces.front_mut() else {
-            return count;
-        };
-        let len = piece.remaining();
-        if count < len {
-            piece.advance(count);
-            self.waiting -= count;
-            return count;
-        }
-        self.pieces.pop_front();
-        self.waiting -= len;
-        len
     }
 
     /// Whether no frame waits.
     pub fn is_empty(&self) -> bool
         ensures { result ≡ (length self.now.pieces == 0) }
     {
-        self.pieces.is_empty()
+        self.frames.is_empty()
     }
 
     /// One like this, on which no frame waits. It takes no memory.
@@ -351,8 +291,7 @@ impl OutgoingStream {
         ensures { result ≡ self.now }
     {
         OutgoingStream {
-            pieces: VecDeque::new(alloc),
-            waiting: 0,
+            frames: WaitingFrames::new(alloc),
             place: self.place,
             content: self.content,
             is_finished: self.is_finished,
@@ -396,67 +335,6 @@ impl OutgoingStream {
     pub fn is_sent_off(&self) -> bool
         ensures { result ≡ is_sent_off self.now }
     {
-        self.is_reset || (self.is_finished && self.waiting == 0)
+        self.is_reset || (self.is_finished && self.frames.waiting() == 0)
     }
-}
-
-/// Takes memory for one more frame in a queue, where it has none: for as many more as there are, or for four. A place that is taken stays
-/// until a frame is put in, so that this needs no memory then.
-fn take_place(pieces: &mut VecDeque<MessageBuf<Bytes>>) -> Result<(), AllocError>
-    ensures same { pieces.new.items ≡ pieces.old.items }
-    ensures len { deque_len pieces.new ≡ deque_len pieces.old }
-    ensures room { OnOk result (deque_len pieces.new < deque_capacity pieces.new) }
-    ensures full { OnErr result (deque_capacity pieces.old ≤ deque_len pieces.old) }
-    ensures few { deque_capacity pieces.new ≤ max (deque_capacity pieces.old) (2 * deque_len pieces.old + 4) }
-{
-    let len = pieces.len();
-    if len < pieces.capacity() {
-        return Ok(());
-    }
-    pieces.reserve_exact(len.max(FIRST_PLACES))
-}
-
-/// The first `count` bytes, at most all.
-fn front(bytes: &[u8], count: usize) -> &[u8]
-    ensures { result.now ≡ take count bytes.now }
-{
-    if count < bytes.len() {
-        return &bytes[..count];
-    }
-    bytes
-}
-
-/// Copies bytes into a buffer from a place on, as many as fit, and answers the place behind them.
-fn put_at(bytes: &[u8], at: usize, out: &mut [u8]) -> usize
-    requires { at ≤ length out.old }
-    ensures place { result ≡ at + min (length bytes.now) (length out.old - at) }
-    ensures front { out.new ≡ take at out.old ++ put bytes.now (drop at out.old) }
-{
-    at + put_front(bytes, &mut out[at..])
-}
-
-/// Copies bytes to the front of a buffer, as many as fit, and says how many. The rest of the buffer stays.
-pub fn put_front(bytes: &[u8], out: &mut [u8]) -> usize
-    ensures count { result ≡ min (length bytes.now) (length out.old) }
-    ensures front { out.new ≡ put bytes.now out.old }
-{
-    let count = bytes.len().min(out.len());
-    out[..count].copy_from_slice(&bytes[..count]);
-    count
-}
-
-/// Appends the first `count` bytes of a frame, at most all. A refusal appends nothing.
-fn copy_piece(piece: &MessageBuf<Bytes>, count: usize, out: &mut Vec<u8>) -> Result<(), AllocError>
-    ensures ok { OnOk result (out.new.items ≡ out.old.items ++ take count (all_of piece.now)) }
-    ensures err { OnErr result (out.new.items ≡ out.old.items) }
-{
-    let start = out.len();
-    let head = piece.head();
-    out.extend_from_slice(front(head, count))?;
-    let of_payload = count.saturating_sub(head.len());
-    let Ok(()) = out.extend_from_slice(front(piece.payload(), of_payload)) else {
-        out.truncate(start);
-        return Err(AllocError);
-    };
-    Ok(())
 }

@@ -1,21 +1,18 @@
-//! Room in the queue of a stream.
+//! Room for a frame on a stream.
 ghost use Rattle.std.specs.Prelude.{◌<◌};
-ghost use Rattle.std.specs.VecDeque.{deque_len, deque_capacity};
 
-use bytes::Bytes;
-use h3_wire::stream::MessageBuf;
-use std::collections::VecDeque;
+use crate::frames::WaitingFrames;
 
-/// Room for one more frame in the queue of a stream. None is made but of a queue that has it.
+/// Room for one more frame on a stream. None is made but of frames that have it.
 #[derive(Drop)]
 pub struct FrameRoom {
     _private: (),
 }
 
 impl FrameRoom {
-    // The room of a queue that has a place more than frames.
-    pub(crate) fn of(_pieces: &VecDeque<MessageBuf<Bytes>>) -> FrameRoom
-        requires { deque_len _pieces.now < deque_capacity _pieces.now }
+    // The room of frames that have a place for one more.
+    pub(crate) fn of(_frames: &WaitingFrames) -> FrameRoom
+        requires { 0 < _frames.now.room }
     {
         FrameRoom { _private: () }
     }

@@ -61,6 +61,9 @@ frame_unexpected = 0x105
 abbrev pub frame_error : ℕ
 frame_error = 0x106
 
+abbrev pub excessive_load : ℕ
+excessive_load = 0x107
+
 abbrev pub id_error : ℕ
 id_error = 0x108
 

@@ -1,5 +1,5 @@
 -- What an end announces of itself, and what it takes from its peer's settings (RFC 9114, section 7.2.4.1).
-use Rattle.std.specs.Prelude.{ℕ, ◌-◌, ◌^◌, Bool, false, not, ◌==◌, nat_le, List, [], ◌∷◌, ◌++◌, Result, Ok, Err, if◌then◌else◌, unwrap_or}
+use Rattle.std.specs.Prelude.{ℕ, ◌-◌, ◌^◌, Bool, false, not, ◌==◌, nat_lt, nat_le, List, [], ◌∷◌, ◌++◌, Result, Ok, Err, if◌then◌else◌, unwrap_or}
 use Rattle.h3_proto.specs.Ids.{reserved}
 use Rattle.h3_proto.specs.Settings.{value_of}
 use Rattle.h3_proto.specs.declared.config.Settings.{Settings}
@@ -20,7 +20,11 @@ default_settings = record {
 
 -- what an end chooses that chooses nothing
 abbrev pub no_choices : Choices
-no_choices = record { strict_messages = false; acknowledgments_counted = false; encoder_table = 2 ^ 30 - 1; economical_table = false }
+no_choices = record { strict_messages = false; acknowledgments_counted = false; encoder_table = 2 ^ 30 - 1; economical_table = false; unfinished_limit = 2 ^ 62 - 1 }
+
+-- a length that a frame can say exceeds it: lengths are below 2^62 (RFC 9000, section 16)
+abbrev pub is_limit : ℕ → Bool
+is_limit most = nat_lt most (2 ^ 62 - 1)
 
 -- the setting is there with a value other than 0
 abbrev pub is_enabled : ℕ → List (ℕ × ℕ) → Bool

@@ -8,15 +8,7 @@ use Rattle.h3_proto.specs.Pairs.{pairs_in, split_of}
 use Rattle.h3_proto.specs.Settings.{known_ids, is_forbidden, is_known, has_id, inserted, received, received_all, received_then, at_rest, settings_of}
 use Rattle.h3_proto.specs.declared.frame.SettingsError.{SettingsError}
 use Rattle.h3_proto.specs.declared.frame.SettingsError.TheVariants.{Exceeded, Malformed, Repeated, InvalidSettingId, InvalidSettingValue}
-
-abbrev pub one_if : Bool → ℕ
-one_if true = 1
-one_if false = 0
-
--- how many of the ids are among the pairs
-abbrev pub present : List ℕ → List (ℕ × ℕ) → ℕ
-present [] kept = 0
-present (id ∷ ids) kept = one_if (has_id id kept) + present ids kept
+use Rattle.h3_proto.specs.Kept.{one_if, present, IsKept, insert_by}
 
 at_most_one : (b : Bool) → one_if b ≤ 1
 at_most_one true = omega arith
@@ -74,19 +66,6 @@ same_ok x y e = cc
 
 same_err : {T E : Type 0} (x y : E) → ◌≡◌ {A = Result T E} (Err x) (Err y) → x ≡ y
 same_err x y e = cc
-
--- the pairs have known ids, no two the same
-abbrev pub IsKept : List (ℕ × ℕ) → Type 0
-IsKept kept = length kept ≤ present known_ids kept
-
--- an insertion by its four tests
-abbrev pub insert_by : Bool → Bool → Bool → Bool → List (ℕ × ℕ) → ℕ → ℕ → Result (List (ℕ × ℕ)) SettingsError
-insert_by full repeated wide_id wide_value kept id value =
-    if full then Err Exceeded
-    else (if repeated then Err (Repeated id)
-    else (if wide_id then Err (InvalidSettingId id)
-    else (if wide_value then Err (InvalidSettingValue id value)
-    else Ok (kept ++ (id, value) ∷ []))))
 
 inserted_is : (full repeated wide_id wide_value : Bool) (kept more : List (ℕ × ℕ)) (id value : ℕ) → insert_by full repeated wide_id wide_value kept id value ≡ Ok more → (repeated ≡ false) × (kept ++ (id, value) ∷ [] ≡ more)
 inserted_is true b c d kept more id value h = absurd (cc)

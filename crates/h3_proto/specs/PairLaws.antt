@@ -5,7 +5,7 @@ use Rattle.h3_coding.specs.Varint.{varint_at}
 use Rattle.h3_coding.specs.VarintLaws.{shorter, cases_number}
 use Rattle.std.specs.Cmp.{IsPartialEquivalence, and_per, on_per, nat_eq_equiv, partial_equiv_from_equiv}
 use Rattle.std.specs.Cmp.Lexicographic.{pointwise, lists_per}
-use Rattle.h3_proto.specs.Pairs.{same_pair, pair_at, with_value, with_id, behind, Split, split_within, split_of}
+use Rattle.h3_proto.specs.Pairs.{same_pair, pair_at, with_value, with_id, behind, Split, split_within, split_of, BothAt}
 
 equal_numbers : IsPartialEquivalence nat_eq
 equal_numbers = partial_equiv_from_equiv nat_eq_equiv
@@ -21,12 +21,6 @@ no_value id bytes rest e k = ap with_value e ∙ ap (with_id id) k
 
 pub both : (id value : ℕ) (bytes mid rest : List ℕ) → varint_at bytes ≡ Some (id, mid) → varint_at mid ≡ Some (value, rest) → pair_at bytes ≡ Some ((id, value), rest)
 both id value bytes mid rest e k = ap with_value e ∙ ap (with_id id) k
-
--- The two numbers of a pair at the front.
-pub record BothAt (p : ℕ × ℕ) (bytes rest : List ℕ) : Type 0 where
-  pub mid : List ℕ
-  pub id : varint_at bytes ≡ Some (p.0, mid)
-  pub value : varint_at mid ≡ Some (p.1, rest)
 
 pub both_at : (p : ℕ × ℕ) (bytes rest : List ℕ) → pair_at bytes ≡ Some (p, rest) → BothAt p bytes rest
 both_at p bytes rest e = elim (cases_number bytes) [

@@ -1,5 +1,5 @@
 -- The payload of a SETTINGS frame as bytes: pairs of two variable-length integers (RFC 9114, section 7.2.4).
-use Rattle.std.specs.Prelude.{ℕ, zero, suc, ◌^◌, ◌<◌, Bool, ◌==◌, ◌&&◌, List, [], ◌∷◌, ◌++◌, length, map, Option, Some, None}
+use Rattle.std.specs.Prelude.{ℕ, zero, suc, ◌^◌, ◌<◌, Bool, ◌==◌, ◌&&◌, List, [], ◌∷◌, ◌++◌, length, map, Option, Some, None, ◌≡◌}
 use Rattle.std.specs.List.{flat_map}
 use Rattle.h3_coding.specs.Encodings.{encoding}
 use Rattle.h3_coding.specs.Varint.{varint_at}
@@ -51,3 +51,14 @@ split_within (suc n) bytes = behind bytes (pair_at bytes) (split_within n)
 -- all pairs at the front of a payload, which has fewer pairs than bytes, and the rest, which begins no pair
 unfoldable pub split_of : List ℕ → Split
 split_of payload = split_within (length payload) payload
+
+-- The two numbers of a pair at the front.
+pub record BothAt (p : ℕ × ℕ) (bytes rest : List ℕ) : Type 0 where
+  pub mid : List ℕ
+  pub id : varint_at bytes ≡ Some (p.0, mid)
+  pub value : varint_at mid ≡ Some (p.1, rest)
+
+-- A payload is split into its pairs, and nothing is left.
+pub record IsSplit (pairs : List (ℕ × ℕ)) (split : Split) : Type 0 where
+  pub pairs_are : pairs_in split ≡ pairs
+  pub whole : split.rest ≡ []

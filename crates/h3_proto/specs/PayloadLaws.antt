@@ -6,16 +6,11 @@ use Rattle.std.proofs.lemmas.List.Elements.{All-head, All-rest}
 use Rattle.h3_coding.specs.Encodings.{IsByte, encoding}
 use Rattle.h3_coding.specs.EncodingLaws.{encoding_is_valid}
 use Rattle.h3_coding.specs.VarintLaws.{reads_encoding, is_read, none_at_end}
-use Rattle.h3_proto.specs.Pairs.{IsPair, payload_of, Split, pairs_in, split_of}
+use Rattle.h3_proto.specs.Pairs.{IsPair, payload_of, Split, pairs_in, split_of, IsSplit}
 use Rattle.h3_proto.specs.PairLaws.{no_id, both, both_at, pair_shorter, cases_pair, split_none, split_pair}
 use Rattle.h3_proto.specs.Payloads.{IsPayload, none, more, StandsFor}
 use Rattle.h3_proto.specs.Settings.{received_all, received_then, at_rest, settings_of}
 use Rattle.h3_proto.specs.declared.frame.SettingsError.{SettingsError}
-
--- A payload is split into its pairs, and nothing is left.
-pub record IsSplit (pairs : List (ℕ × ℕ)) (split : Split) : Type 0 where
-  pub pairs_are : pairs_in split ≡ pairs
-  pub whole : split.rest ≡ []
 
 none_split : IsSplit [] (split_of [])
 none_split = subst (IsSplit []) (sym (split_none [] (no_id [] none_at_end))) (record { pairs_are = refl; whole = refl })

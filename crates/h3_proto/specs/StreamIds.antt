@@ -17,8 +17,8 @@ abbrev pub index_of : ℕ → ℕ
 index_of id = id / 4
 
 -- a stream of the client, in both directions (RFC 9114, section 6.1)
-abbrev pub is_request : ℕ → Bool
-is_request id = id % 4 == 0
+abbrev pub is_request_stream : ℕ → Bool
+is_request_stream id = id % 4 == 0
 
 -- a one-way stream of the server, as pushes are
 abbrev pub is_push : ℕ → Bool

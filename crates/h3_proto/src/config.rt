@@ -75,8 +75,12 @@ impl From<&frame::Settings> for Settings {
     }
 }
 
-/// The greatest capacity of a table, in bytes.
-const MAX_TABLE_CAPACITY: u64 = (1 << 30) - 1;
+/// The greatest capacity of a dynamic table that an end announces or takes (RFC 9204, section 3.2.3), in bytes: that of the tables here
+/// (`h3_table::entries::MAX_CAPACITY`).
+pub const MAX_TABLE_CAPACITY: u64 = (1 << 30) - 1;
+
+/// The most streams that an end announces as blocked at its decoder (RFC 9204, section 2.1.2).
+pub const MAX_BLOCKED_STREAMS: u64 = 65535;
 
 /// What an end chooses for itself beyond what it announces. None of it is sent to the peer, and by default nothing is asked for.
 #[derive(Clone, Copy, Debug)]
@@ -90,6 +94,8 @@ pub struct Choices {
     /// The own encoder keeps out of its table what never comes again, and does not name what is soon to go. Where its peer lets no section
     /// wait, it inserts for later sections what it may not name yet.
     pub economical_table: bool,
+    /// The greatest length that a frame may say whose payload is kept until it is whole (RFC 9114, section 10.5). 2^62 - 1 or more: none.
+    pub unfinished_limit: u64,
 }
 
 impl Default for Choices {
@@ -101,6 +107,7 @@ impl Default for Choices {
             acknowledgments_counted: false,
             encoder_table: MAX_TABLE_CAPACITY,
             economical_table: false,
+            unfinished_limit: VarInt::MAX.into_inner(),
         }
     }
 }
@@ -220,6 +227,16 @@ impl Config {
         ensures { result ≡ record self { choices = record self.choices { economical_table = economical } } }
     {
         self.choices.economical_table = economical;
+        self
+    }
+
+    /// The greatest length, in bytes, that a frame of the peer may say whose payload is kept until it is whole: one of a known type other than
+    /// DATA (RFC 9114, section 7.2). One that says more is a fault of the connection, H3_EXCESSIVE_LOAD (sections 8.1 and 10.5), as soon as its
+    /// type and length came. 2^62 - 1 by default, which no length exceeds: there is no limit then; a greater value is the same.
+    pub fn with_unfinished_limit(mut self, max: u64) -> Self
+        ensures { result ≡ record self { choices = record self.choices { unfinished_limit = max } } }
+    {
+        self.choices.unfinished_limit = max;
         self
     }
 

@@ -1,5 +1,5 @@
 //! The settings that the payload of a SETTINGS frame carries (RFC 9114, section 7.2.4).
-ghost use Rattle.std.specs.Prelude.{◌≡◌, ◌≢◌, ℕ, ◌+◌, ◌^◌, ◌<◌, ◌≤◌, ◌==◌, List, [], ◌∷◌, ◌++◌, length, take, drop, true, All, IfOk, IfErr, IfSome, IsNone, Ok, Err, Some, None, OnOk, OnErr};
+ghost use Rattle.std.specs.Prelude.{◌≡◌, ℕ, ◌+◌, ◌^◌, ◌<◌, ◌≤◌, ◌==◌, List, [], ◌++◌, length, take, drop, true, All, IfErr, IfSome, IsNone, Ok, Err, Some, None, OnOk, OnErr};
 ghost use Rattle.std.specs.Cmp.Lexicographic.{pointwise};
 ghost use Rattle.h3_coding.specs.Writing.{AppendsFront, UsesRoom};
 ghost use Rattle.h3_proto.specs.Codes.{settings_code};
@@ -77,6 +77,10 @@ impl SettingId {
         matches!(self.0, 1 | 6 | 7 | 8 | 0x33 | 0x2b603742 | 0x2b603743)
     }
 }
+
+/// The numbers n of reserved values `0x1f n + 0x21` (RFC 9114, section 7.2.8) that are taken here are below this one, so the values are
+/// below 2^62.
+pub const RESERVED_NUMBERS: u64 = 0x210842108421083;
 
 /// What is wrong with settings.
 #[derive(Debug, PartialEq, Drop)]
@@ -217,7 +221,7 @@ impl Settings {
         self.entries[..self.len].iter().any(|pair| pair.0 == id.0)
     }
 
-    // A caller learns what holds of all settings. It does nothing.
+    // What holds of all settings. It does nothing: a proof that needs the fact calls it.
     pub(crate) fn known(&self)
         ensures few { length self.now ≤ 8 }
         ensures pairs { All IsPair self.now }

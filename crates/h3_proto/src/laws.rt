@@ -49,6 +49,7 @@ pub fn settings_differ(settings: &frame::Settings)
     ensures pairs { All IsPair settings.now }
     ensures differ { ids_differ settings.now ≡ true }
 {
+    // (for the proof: at most eight settings, no id twice)
     settings.known();
 }
 

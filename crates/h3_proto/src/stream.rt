@@ -4,7 +4,7 @@ ghost use Rattle.std.specs.Fmt.{digits};
 ghost use Rattle.h3_coding.specs.Encodings.{IsEncoding, IsUnfinished, encoding};
 ghost use Rattle.h3_coding.specs.EncodingLaws.{one_encoding, finished, encoding_is_valid};
 ghost use Rattle.h3_proto.specs.Ids.{Converts, reserved};
-ghost use Rattle.h3_proto.specs.StreamIds.{index_of, initiator_of, is_unidirectional, is_request, is_push, after, stream_text, type_text};
+ghost use Rattle.h3_proto.specs.StreamIds.{index_of, initiator_of, is_unidirectional, is_request_stream, is_push, after, stream_text, type_text};
 
 use crate::webtransport::SessionId;
 use bytes::{Buf, BufMut};
@@ -45,7 +45,7 @@ impl StreamId {
 
     /// Whether it is a request stream: opened by the client, in both directions.
     pub fn is_request(&self) -> bool
-        ensures { result ≡ is_request self.now }
+        ensures { result ≡ is_request_stream self.now }
     {
         self.0 % 4 == 0
     }

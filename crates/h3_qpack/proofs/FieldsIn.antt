@@ -8,7 +8,7 @@ use Rattle.h3_field.specs.Section.{AreLines, NoLine, NextLine}
 use Rattle.h3_table.specs.TableState.{TableState}
 use Rattle.h3_qpack.specs.Meaning.{HaveFields}
 use Rattle.h3_qpack.specs.SectionAnswers.{BeginsWith, BeginsWithNone, LinesAskMemory, IsReasonWith}
-use Rattle.h3_qpack.specs.ReasonLaws.{asks_memory}
+use Rattle.h3_qpack.proofs.Hearings.{asks_memory}
 use Rattle.h3_field.specs.Values.{line_of}
 use Rattle.h3_field.specs.SectionAnswer.{BeginsWithString}
 use Rattle.h3_field.specs.declared.decoder_error.DecoderError.{DecoderError}

@@ -1,11 +1,11 @@
 -- An encoder that is not economical: nothing drains, and every field is worth an entry.
-use Rattle.std.proofs.Common.{◌≡◌, ℕ, ◌<◌, List, fold, Bool, true, false, not, ◌&&◌, ◌||◌, refl, ◌∙◌, ap, arith, nat_lt, Option, Some, None, is_none, if◌then◌else◌}
+use Rattle.std.proofs.Common.{◌≡◌, ℕ, ◌<◌, List, fold, Bool, true, false, ◌&&◌, refl, ◌∙◌, ap, arith, nat_lt, Option, Some, None, if◌then◌else◌}
 use Rattle.std.proofs.lemmas.Grind.{common_steps}
 use Rattle.h3_field.specs.Field.{Field}
 use Rattle.h3_field.specs.Line.{FieldLine}
 use Rattle.h3_table.specs.Table.{evictions}
 use Rattle.h3_qpack.specs.EncoderHistory.{EncoderHistory, blocks_out}
-use Rattle.h3_qpack.specs.SectionEncoding.{Draft, draining, held, found, finds_room, is_insertable, lasting_capacity, marked, marks_after}
+use Rattle.h3_qpack.specs.SectionEncoding.{Draft, held, found, finds_room, is_insertable, lasting_capacity, marked, marks_after}
 use Rattle.h3_qpack.proofs.Newest.{above_only, newest_from-passes}
 use Rattle.h3_qpack.proofs.Choices.{found_above}
 use Rattle.h3_qpack.proofs.Canceled.{plain_lines}

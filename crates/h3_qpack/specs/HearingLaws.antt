@@ -1,5 +1,5 @@
 -- What the bytes of an encoder or a decoder come to is the value of those bytes, and the value says it.
-use Rattle.std.proofs.Common.{◌≡◌, ◌≢◌, inl, inr, ℕ, zero, suc, ◌≤◌, Bool, true, false, List, [], ◌∷◌, length, Option, Some, None, refl, ap, sym, ◌∙◌, arith}
+use Rattle.std.proofs.Common.{◌≡◌, inl, inr, ℕ, zero, suc, ◌≤◌, Bool, true, false, List, [], ◌∷◌, length, Option, Some, None, refl, ap, sym, ◌∙◌, arith}
 use Rattle.h3_field.specs.Reading.{Reading, Whole, Unfinished, Bad}
 use Rattle.h3_field.specs.Instruction.{EncoderInstruction, DecoderInstruction}
 use Rattle.h3_field.specs.InstructionReading.{InstructionForm, Says, instruction, decoder_instruction}
@@ -7,12 +7,8 @@ use Rattle.h3_field.specs.Values.{instruction_of}
 use Rattle.h3_field.specs.ValueLaws.{instruction_some, instruction_is}
 use Rattle.h3_qpack.specs.DecoderState.{DecoderState, decoder_after, decoder_after_all}
 use Rattle.h3_qpack.specs.EncoderHistory.{EncoderHistory, encoder_after, encoder_after_all, is_refused}
-use Rattle.h3_qpack.specs.EncoderState.{EncoderState, encoder_state}
-use Rattle.h3_field.specs.declared.encoder_error.EncoderError.{EncoderError}
-use Rattle.h3_field.specs.declared.encoder_error.EncoderError.TheVariants.{OutOfMemory}
-use Rattle.h3_qpack.specs.EncoderAnswers.{HasReadDecoderInstructions, IsLeft}
 use Rattle.h3_qpack.specs.Instructions.{AreInstructions, NoInstruction, NextInstruction, BeginsBad, AreDecoderInstructions, NoDecoderInstruction, NextDecoderInstruction, AreAccepted, BeginsRefused}
-use Rattle.h3_qpack.specs.Hearing.{Heard, heard, decoder_after_form, hear_next, hear_form, hear_within, hear, StopsAt, IsHeardAs, Listened, listened, listen_next, listen_form, listen_within, listen, StopsBefore, IsListenedAs, HasListened}
+use Rattle.h3_qpack.specs.Hearing.{Heard, heard, decoder_after_form, hear_next, hear_form, hear_within, hear, StopsAt, IsHeardAs, Listened, listened, listen_next, listen_form, listen_within, listen, StopsBefore, IsListenedAs}
 use Rattle.h3_field.specs.ShorterLaws.{instruction_less, decoder_instruction_less}
 
 some_same : {X : Type 0} (x y : X) → Some x ≡ Some y → x ≡ y
@@ -191,30 +187,3 @@ listened_within (suc most) s bytes fits =
 pub listened_as_value : (s : EncoderHistory) (bytes : List ℕ) → IsListenedAs s bytes (listen s bytes)
 unfolding listen
 listened_as_value s bytes = listened_within (length bytes) s bytes (omega arith)
-
--- what an encoder keeps of it
-pub has_listened : (s : EncoderHistory) (old new : EncoderState) (bytes left : List ℕ) (is_bad : Bool) → old ≡ encoder_state s → HasReadDecoderInstructions old new bytes left
-    → ((t : EncoderHistory) → new ≡ encoder_state t → StopsBefore t left is_bad) → HasListened s new bytes left is_bad
-has_listened s old new bytes left is_bad is h stops =
-    let end = encoder_after_all s h.instructions in
-    let value : listen s bytes ≡ listened end left is_bad = listened_is s bytes (listened end left is_bad) (record {
-      instructions = h.instructions;
-      split = h.split;
-      accepted = h.accepted s is;
-      after = refl;
-      stops = stops end (h.after s is);
-    }) in
-    record {
-      state = h.after s is ∙ ap (λ (x : Listened). encoder_state x.encoder) (sym value);
-      rest = ap (λ (x : Listened). x.left) (sym value);
-      bad = ap (λ (x : Listened). x.is_bad) (sym value);
-    }
-
-pub nothing_left : (bytes : List ℕ) → length bytes ≤ 0 → decoder_instruction bytes ≡ Unfinished
-nothing_left [] none = refl
-nothing_left (byte ∷ bytes) none = absurd (omega (arith, none))
-
--- an instruction that is left unread and not for want of memory is refused
-pub refused_here : (s : EncoderHistory) (bytes : List ℕ) (e : EncoderError) → e ≢ OutOfMemory → IsLeft s bytes e → BeginsRefused s bytes
-refused_here s bytes e other (inl refused) = refused
-refused_here s bytes e other (inr lacks) = absurd (other lacks.memory)

@@ -30,6 +30,7 @@ pub mod DecodedSection
 pub mod LineFields
 pub mod Sizes
 pub mod Hearing
+pub mod ShortRows
 pub mod ShortLaws
 pub mod ReasonLaws
 pub mod InstructionLaws

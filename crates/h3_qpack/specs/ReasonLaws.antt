@@ -1,5 +1,4 @@
 -- A reason for a refusal, by what it rests on.
-use Rattle.std.proofs.Common.{◌≡◌, subst}
 use Rattle.h3_field.specs.declared.decoder_error.DecoderError.{DecoderError}
 use Rattle.h3_field.specs.declared.decoder_error.DecoderError.TheVariants as error
 use Rattle.h3_qpack.specs.SectionAnswers.{IsReasonFor, IsReasonWith}
@@ -20,7 +19,3 @@ reason_with_map memory other a b error.BufSize m f n = f n
 
 pub reason_map : (a b : Type 0) (e : DecoderError) → (a → b) → IsReasonFor a (λ count. ⊥) e → IsReasonFor b (λ count. ⊥) e
 reason_map a b e f n = reason_with_map (Unit {0}) (Unit {0}) a b e (λ m. m) f n
-
--- a refusal for want of memory
-pub asks_memory : (memory bad : Type 0) (e : DecoderError) → IsReasonWith memory bad (λ count. ⊥) e → e ≡ error.OutOfMemory → memory
-asks_memory memory bad e n same = subst (λ x. IsReasonWith memory bad (λ count. ⊥) x) same n

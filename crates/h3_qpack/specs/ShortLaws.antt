@@ -1,10 +1,10 @@
 -- How long strings and integers are as they are written.
 use Rattle.std.proofs.Common.{ℕ, zero, suc, ◌+◌, ◌*◌, ◌-◌, ◌/◌, ◌%◌, ◌^◌, ◌≤◌, Bool, true, false, List, [], ◌∷◌, length, refl, arith, length-append, nat_lt, if◌then◌else◌, Option, Some, None, option_map, unwrap_or, ◌≡◌}
 use Rattle.std.specs.Prelude.{flat_map, position, nat_eq}
-use Rattle.std.specs.List.{AllByRecursion}
 use Rattle.h3_huffman.specs.Huffman.{huffman, octets, code_word, bits, word_from, symbols_by_length}
 use Rattle.h3_field.specs.Integer.{groups, ones, prefixed}
 use Rattle.h3_field.specs.StringLiteral.{string_literal}
+use Rattle.h3_qpack.specs.ShortRows.{RowsWithin}
 
 groups_few : (most n : ℕ) → length (groups most n) ≤ most
 groups_few zero n = omega arith
@@ -31,10 +31,6 @@ bits_count : (count n : ℕ) → length (bits count n) ≡ count
 unfolding bits
 bits_count zero n = refl
 bits_count (suc count) n = omega (arith, length-append (bits count (n / 2)) ((n % 2) ∷ []), bits_count count (n / 2))
-
--- no row is of longer words
-abbrev RowsWithin : ℕ → List (ℕ × List ℕ) → Type 0
-RowsWithin most rows = AllByRecursion (λ row. row.0 ≤ most) rows
 
 word_within : (most next before : ℕ) (rows : List (ℕ × List ℕ)) (symbol : ℕ) → RowsWithin most rows → length (word_from next before rows symbol) ≤ most
 word_within most next before [] symbol within = omega arith

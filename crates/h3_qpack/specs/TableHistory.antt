@@ -17,11 +17,6 @@ pub record TableHistory : Type 0 where
 abbrev pub table_state : TableHistory → TableState
 table_state h = record { capacity = h.capacity; entries = drop h.evicted h.inserted; inserted = length h.inserted }
 
--- What is evicted was inserted, and what is there fits.
-pub record IsTableHistory (h : TableHistory) : Type 0 where
-  pub made : h.evicted ≤ length h.inserted
-  pub fits : evictions h.capacity h.inserted ≤ h.evicted
-
 abbrev pub entry_still_at : TableHistory → ℕ → Option Field
 entry_still_at h number = if nat_lt h.evicted number then insertion_at h.inserted number else None
 

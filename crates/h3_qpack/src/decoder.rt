@@ -8,7 +8,7 @@ ghost use Rattle.h3_qpack.specs.Increments.{increment_for};
 ghost use Rattle.h3_field.specs.Field.{Field, section_size};
 ghost use Rattle.h3_field.specs.declared.decoder_error.DecoderError.TheVariants.{OutOfMemory};
 ghost use Rattle.h3_field.specs.Shapes.{begins};
-ghost use Rattle.h3_qpack.specs.DecoderState.{DecoderState, announcing, greatest_capacity, count_capacity};
+ghost use Rattle.h3_qpack.specs.DecoderState.{DecoderState, announcing, greatest_capacity};
 ghost use Rattle.h3_qpack.specs.Meaning.{HasPrefix, MeansFields};
 ghost use Rattle.h3_qpack.specs.DecodedSection.{decode_section, fields_in, with_fields, IsRefusalOf, Fields};
 ghost use Rattle.h3_qpack.specs.Sizes.{IsWithin};

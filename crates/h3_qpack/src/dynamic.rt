@@ -1,8 +1,8 @@
 //! The dynamic table with what its encoder goes by (RFC 9204, sections 2.1 and 3.2).
-ghost use Rattle.std.specs.Prelude.{◌≡◌, ℕ, ◌+◌, ◌-◌, ◌^◌, ◌<◌, ◌≤◌, List, [], ◌∷◌, ◌++◌, length, min, max, true, false, None, filter, nat_lt, IfSome, IfNone, ◌==◌, IfOk, IfErr, OnErr, OnOk};
+ghost use Rattle.std.specs.Prelude.{◌≡◌, ℕ, ◌+◌, ◌-◌, ◌^◌, ◌<◌, ◌≤◌, List, [], length, min, max, true, false, None, IfSome, IfNone, ◌==◌, IfOk, IfErr, OnErr, OnOk};
 ghost use Rattle.std.specs.List.{list_any};
 ghost use Rattle.h3_field.specs.Field.{Field, field_size, section_size};
-ghost use Rattle.h3_table.specs.TableState.{TableState, no_entries, evicted, entry_at, newest_in, with_entry, with_capacity};
+ghost use Rattle.h3_table.specs.TableState.{no_entries, evicted, entry_at, newest_in, with_entry, with_capacity};
 ghost use Rattle.h3_table.specs.Matches.{matches};
 ghost use Rattle.h3_table.specs.Index.{IsIndexed, HasRoom};
 ghost use Rattle.h3_table.specs.Tracking.{is_of, is_free_to};
@@ -10,7 +10,7 @@ ghost use Rattle.h3_field.specs.Instruction.DecoderInstruction.{Acknowledge, Can
 ghost use Rattle.h3_qpack.specs.EncoderState.{EncoderState, MayInsertInto, MayHaveCapacity, IsCapacityRefusal, raised, refuses_increment, encoder_state_sent, encoder_state_after, encoder_state_withdrawn};
 ghost use Rattle.h3_qpack.specs.Marks.{no_marks};
 ghost use Rattle.h3_qpack.specs.Missed.{IsMissed};
-ghost use Rattle.h3_qpack.specs.Drafting.{begun, draining_in, is_worth_in, equal_in, noted, IsSmall, MayInsertAhead};
+ghost use Rattle.h3_qpack.specs.Drafting.{begun, draining_in, is_worth_in, noted, IsSmall, MayInsertAhead};
 ghost use Rattle.h3_field.specs.declared.dynamic.Error.TheVariants.{MaxBlockedStreamsTooLarge};
 
 use crate::encoder_view::DynamicTableEncoder;
@@ -201,10 +201,11 @@ impl DynamicTable {
         DynamicTableEncoder::new(self, stream)
     }
 
-    /// It does nothing: a proof that needs the fact calls it.
+    /// The numbers that the table keeps are small. It does nothing: a proof that needs the fact calls it.
     pub(crate) fn is_small(&self)
         ensures { IsSmall self.now }
     {
+        // (for the proof: what each of these says of its answer)
         self.tracking.names_entries();
         self.entries.inserted();
         self.entries.size();

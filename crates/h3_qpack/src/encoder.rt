@@ -1,5 +1,5 @@
 //! An encoder with its dynamic table: what it writes, and what it reads of its decoder (RFC 9204, sections 2.1 and 4).
-ghost use Rattle.std.specs.Prelude.{◌≡◌, ◌≢◌, ◌==◌, ◌<◌, ◌≤◌, ◌^◌, ◌++◌, ◌-◌, ℕ, true, false, length, drop, min, IfOk, IfErr, OnOk, OnErr};
+ghost use Rattle.std.specs.Prelude.{◌≡◌, ◌≢◌, ◌==◌, ◌<◌, ◌≤◌, ◌^◌, ◌++◌, ◌-◌, true, false, length, drop, min, IfOk, IfErr, OnOk, OnErr};
 ghost use Rattle.std.specs.List.{list_any};
 ghost use Rattle.std.specs.Result.{IsOkUnless};
 ghost use Rattle.h3_field.specs.Field.{section_size};
@@ -313,6 +313,7 @@ impl Encoder {
             &mut self.lines,
             encoder_buf,
         )?;
+        // (for the proof: its numbers are small)
         self.table.is_small();
         let start = block.len();
         put_section(&self.table, &section, &self.lines, block)?;

@@ -2,7 +2,7 @@
 ghost use Rattle.std.specs.Prelude.{◌≡◌, ◌≤◌, IfOk, IfErr};
 ghost use Rattle.h3_field.specs.StaticTable.{static_name};
 ghost use Rattle.h3_field.specs.declared.dynamic.Error.TheVariants.{OutOfMemory};
-ghost use Rattle.h3_table.specs.TableState.{evicted, with_entry};
+ghost use Rattle.h3_table.specs.TableState.{evicted};
 ghost use Rattle.h3_qpack.specs.Drafting.{begun, IsOver};
 ghost use Rattle.h3_qpack.specs.EncoderView.{AnswersField, AnswersName, section_found, IsInsertion, AnswersInsertion, committed};
 

@@ -1,6 +1,5 @@
 //! What the definitions give at values worked out by hand. These functions do nothing: the check computes their contracts.
-ghost use Rattle.std.specs.Prelude.{◌≡◌, ℕ, ◌∷◌, ◌++◌, [], List, replicate, codes, flat_map};
-ghost use Rattle.h3_field.specs.Field.{Field};
+ghost use Rattle.std.specs.Prelude.{◌≡◌, ◌∷◌, ◌++◌, [], replicate, codes, flat_map};
 ghost use Rattle.h3_field.specs.Instruction.{encoder_bytes};
 ghost use Rattle.h3_field.specs.Instruction.DecoderInstruction.{CancelStream, Increment};
 ghost use Rattle.h3_qpack.specs.EncoderHistory.{blocks_out, encoder_after, writing_on};
@@ -12,7 +11,7 @@ ghost use Rattle.h3_field.specs.Line.FieldLine.{RelativeField, PostBaseField, Li
 ghost use Rattle.h3_field.specs.Instruction.EncoderInstruction.{SetCapacity, InsertWithEntryName, InsertLiteral, Duplicate};
 ghost use Rattle.h3_qpack.specs.EncoderHistory.{is_refused, encoder_after_front, withdrawn};
 ghost use Rattle.h3_table.specs.Table.{table};
-ghost use Rattle.h3_qpack.specs.DecoderState.{announcing, decoder_after, decoder_after_all};
+ghost use Rattle.h3_qpack.specs.DecoderState.{announcing, decoder_after_all};
 ghost use Rattle.h3_qpack.specs.Worked.{three, fresh, sample, host_text, path_text, with_header, x_a, x_b, x_a_of, older_known, three_canceled, canceled_first, one_waits, one_acknowledged, two_on_a_stream, no_waiting, inserted_ahead, capped, twice_inserted, empty_b, x_long, two_drain, a_of_two};
 
 /// Three requests for the same page: the first inserts two fields, the second names them, and the third may not.

@@ -53,6 +53,7 @@ impl<'t> Lines<'t> {
     {
         let mut ahead = SliceCursor::new(buf.chunk());
         let mut mem_size: u64 = 0;
+        // (the label names the loop in its proof)
         'lines: while ahead.remaining() > 0 {
             let line = match self.take(&mut ahead) {
                 Ok(line) => line,

@@ -1,5 +1,5 @@
 //! What an economical encoder keeps of the values that it wrote as literals.
-ghost use Rattle.std.specs.Prelude.{◌≡◌, ◌<◌, ◌^◌, ℕ, List};
+ghost use Rattle.std.specs.Prelude.{◌≡◌, ℕ, List};
 ghost use Rattle.h3_qpack.specs.Marks.{value_mark, no_marks, with_mark, is_marked};
 
 use std::marker::Model;
@@ -17,6 +17,7 @@ fn value_mark(value: &[u8]) -> u32
     let len = value.len();
     let last = &value[len.saturating_sub(MARKED_BYTES)..];
     let mut mark = (len as u64) % 4294967296;
+    // (the label names the loop in its proof)
     'bytes: for byte in last {
         mark = (31 * mark + *byte as u64) % 4294967296;
     }

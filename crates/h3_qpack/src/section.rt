@@ -1,6 +1,5 @@
 //! A field section under way, and the choice of how each field is written (RFC 9204, section 2.1).
-ghost use Rattle.std.specs.Prelude.{◌≡◌, ◌+◌, ◌<◌, ◌≤◌};
-ghost use Rattle.h3_qpack.specs.EncoderState.{EncoderState};
+ghost use Rattle.std.specs.Prelude.{◌≡◌, ◌<◌, ◌≤◌};
 ghost use Rattle.h3_qpack.specs.Drafting.{begun, naming, most_usable, IsOver, IsLiteral, IsChosen, IsPossible, is_literal};
 ghost use Rattle.h3_qpack.specs.Missed.{IsMissedFor};
 

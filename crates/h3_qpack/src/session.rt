@@ -1,5 +1,5 @@
 //! A run of one encoder and one decoder, with a stream of bytes each way (RFC 9204, section 4.2).
-ghost use Rattle.std.specs.Prelude.{◌≡◌, ◌<◌, ◌≤◌, ◌^◌, ℕ, List, false, length, Some, None, IfSome, IfNone, IfOk, IfErr, OnOk, OnErr, nat_lt, ◌++◌, [], if◌then◌else◌};
+ghost use Rattle.std.specs.Prelude.{◌≡◌, ◌<◌, ◌≤◌, ◌^◌, ℕ, false, Some, None, IfSome, IfNone, IfOk, IfErr, OnOk, OnErr, nat_lt, ◌++◌, [], if◌then◌else◌};
 ghost use Rattle.h3_field.specs.Instruction.{decoder_bytes};
 ghost use Rattle.h3_field.specs.Instruction.DecoderInstruction.{Acknowledge};
 ghost use Rattle.std.specs.List.{AllByRecursion, list_any};
@@ -323,6 +323,7 @@ pub fn run(
     let Ok(mut answers) = Vec::with_capacity(alloc, events.len()) else {
         return Err(Error::Encoder(EncoderError::OutOfMemory));
     };
+    // (the label names the loop in its proof)
     'events: for event in events {
         let answer = session.step(event);
         answers.push_reserved(answer);

@@ -1,5 +1,5 @@
 //! Field sections whose fields are kept up to a limit on the sum of their sizes, and only counted past it.
-ghost use Rattle.std.specs.Prelude.{◌≡◌, ◌<◌, ℕ, [], List, IfOk, OnOk, IfErr, Some, None};
+ghost use Rattle.std.specs.Prelude.{◌≡◌, ◌<◌, [], List, IfOk, OnOk, IfErr, Some, None};
 ghost use Rattle.h3_field.specs.Field.{Field};
 ghost use Rattle.h3_field.specs.declared.decoder_error.DecoderError.TheVariants.{OutOfMemory};
 ghost use Rattle.h3_qpack.specs.DecodedSection.{fields_in};
@@ -71,6 +71,7 @@ impl<'t> Lines<'t> {
         ensures memory { IfErr result (λ e. e ≡ OutOfMemory → LinesAskMemory self.now.table self.now.base buf.old) }
     {
         let mut count = Count { sum: 0, last: None };
+        // (the label names the loop in its proof)
         'lines: while buf.remaining() > 0 {
             let line = match self.take(buf) {
                 Ok(line) => line,

@@ -1,5 +1,5 @@
 //! A field section in the midst of its writing: lines and instructions, field by field (RFC 9204, sections 4.3 and 4.5).
-ghost use Rattle.std.specs.Prelude.{◌≡◌, ◌<◌, ◌≤◌, ◌^◌, ◌+◌, ◌-◌, ◌++◌, ◌∷◌, [], List, ℕ, flat_map, length, IfSome, IfOk, OnOk, OnErr};
+ghost use Rattle.std.specs.Prelude.{◌≡◌, ◌<◌, ◌≤◌, ◌^◌, ◌+◌, ◌-◌, ◌++◌, [], List, ℕ, flat_map, length, IfSome, OnOk, OnErr};
 ghost use Rattle.std.specs.List.{AllByRecursion};
 ghost use Rattle.std.specs.Result.{IsOkUnless};
 ghost use Rattle.h3_field.specs.ReadBack.{IsFieldOfBytes};
@@ -15,7 +15,7 @@ ghost use Rattle.h3_qpack.specs.EncoderState.{MayInsertInto};
 ghost use Rattle.h3_qpack.specs.EncoderHistory.{EncoderHistory};
 ghost use Rattle.h3_qpack.specs.SectionEncoding.{Draft, add_field, draft_of, entry_name_line};
 ghost use Rattle.h3_qpack.specs.Missed.{IsMissed, IsMissedFor};
-ghost use Rattle.h3_qpack.specs.Drafting.{naming, IsOver, IsPossible, line_for, section_after, encoder_state_with, instructions_after, insertion_for, IsDrafted, IsCutOff, IsPutAhead};
+ghost use Rattle.h3_qpack.specs.Drafting.{IsOver, IsPossible, line_for, section_after, encoder_state_with, instructions_after, insertion_for, IsDrafted, IsCutOff, IsPutAhead};
 
 use crate::dynamic::DynamicTable;
 use crate::section::{Choice, Section};
@@ -233,6 +233,7 @@ fn put_field(
         IsDrafted s (add_field s d field.now) table.new section.new lines.new.items start encoder_buf.new.items) }
     ensures err { OnErr result ((table.new ≡ table.old) × (encoder_buf.new.items ≡ encoder_buf.old.items)) }
 {
+    // (for the proof: its numbers are small)
     table.is_small();
     let choice = section.choose(table, field);
     put_chosen(table, section, field, choice, lines, encoder_buf)?;
@@ -263,7 +264,9 @@ pub(crate) fn put_fields(
     ensures err { OnErr result ((s : EncoderHistory) (start : List ℕ) → IsDrafted s (draft_of s []) table.old section.old lines.old.items start encoder_buf.old.items →
         IsCutOff s s fields.now table.new start encoder_buf.new.items) }
 {
+    // (the label names the loop in its proof)
     'fields: for field in fields {
+        // (for the proof: name and value are bytes)
         field.are_bytes();
         put_field(table, section, field, lines, encoder_buf)?;
     }
@@ -281,6 +284,7 @@ pub(crate) fn put_section(
     ensures ok { OnOk result (block.new.items ≡ block.old.items ++ (prefix_bytes table.now.announced section.now.newest section.now.base ++ lines.now)) }
     ensures err { OnErr result (block.new.items ≡ block.old.items) }
 {
+    // (for the proof: its numbers are small)
     table.is_small();
     let inserted = table.inserted();
     let prefix = HeaderPrefix::new(section.newest, section.base, inserted, table.announced());

@@ -1,5 +1,6 @@
 -- What a stream has is what one has that is like it but for the code of a reset.
-use Rattle.std.proofs.Common.{◌≡◌, ℕ, Bool, false, refl, sym, ◌∙◌, ap}
+use Rattle.std.proofs.Common.{◌≡◌, ℕ, ◌+◌, Bool, true, false, [], refl, sym, ◌∙◌, ap, if◌then◌else◌}
+use Rattle.h3_wire.specs.UnknownSize.{is_under_way}
 use Rattle.std.specs.Prelude.{Option, Some, None, is_some, option_map, unwrap_or, ◌||◌}
 use Rattle.h3_proto.specs.declared.stream.Side.{Side}
 use Rattle.h3_proto.specs.declared.stream.Side.TheVariants.{Client, Server}
@@ -71,8 +72,16 @@ refusal_of Server (Some r) = refl
 pub refusal_is : (side : Side) (streams model : Streams RequestState) (id : ℕ) (a : Option RequestState) → streams ≡ model → AreAlike a (kept_at streams id) → receiver_refusal side a ≡ receiver_refusal side (kept_at model id)
 refusal_is side streams model id a view alike = refusal_of side a ∙ ap (refused_by side) (part_is has_ended (λ r. refl) streams model id a view alike) ∙ sym (refusal_of side (kept_at model id))
 
+-- of nothing nothing is held
+none_held : counted (held_of_request nothing_came) ≡ 0
+none_held = by_test (is_under_way [])
+  where
+    by_test : (b : Bool) → counted ((if b then 0 else 0) + 0) ≡ 0
+    by_test true = refl
+    by_test false = refl
+
 held_of : (o : Option RequestState) → counted (held_of_request (unwrap_or (option_map (λ r. r.incoming) o) nothing_came)) ≡ unwrap_or (option_map (λ r. counted (held_of_request r.incoming)) o) 0
-held_of None = refl
+held_of None = none_held
 held_of (Some r) = refl
 
 -- how much of it is held

@@ -3,7 +3,8 @@ use Rattle.std.proofs.Common.{arith, ◌≡◌, ℕ, sym, ◌∙◌, ap, subst, 
 use Rattle.std.specs.Prelude.{Option, Some, None, option_map, count_by, nat_lt, is_some}
 use Rattle.h3_blocked.specs.Counting.{above, HasCount, IsSound, Replaces, SameCounts, one_if, waits_at}
 use Rattle.h3_blocked.specs.CountingLaws.{agrees_set, agrees_set_same, agrees_takes_out, has_count, waiting_list}
-use Rattle.h3_blocked.specs.Sums.{TakesOut, part_of, total-set}
+use Rattle.h3_blocked.specs.Sums.{TakesOut, part_of}
+use Rattle.h3_blocked.specs.SumLaws.{total-set}
 use Rattle.h3_blocked.specs.declared.counts.Blocked.{Blocked}
 use Rattle.h3_connection.specs.Calls.{Sets}
 use Rattle.h3_connection.specs.Incoming.{Incoming}

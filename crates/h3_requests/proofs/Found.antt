@@ -7,7 +7,8 @@ use Rattle.std.specs.Map.{set_value}
 use Rattle.std.specs.Ordering.{nat_cmp}
 use Rattle.std.proofs.lemmas.Bool.{cases_eq}
 use Rattle.std.proofs.lemmas.Map.Steps.{set_value_same}
-use Rattle.h3_blocked.specs.Sums.{TakesOut, kept_is_at}
+use Rattle.h3_blocked.specs.Sums.{TakesOut}
+use Rattle.h3_blocked.specs.SumLaws.{kept_is_at}
 use Rattle.h3_connection.specs.Calls.{AllSame, Sets}
 use Rattle.h3_connection.specs.State.{RequestState, kept_at}
 use Rattle.h3_connection.specs.StreamSets.{Streams, HaveDistinctIds}

@@ -31,9 +31,9 @@ pub record PullsWithin (side : Side) (own : Announced) (id : ℕ) (r : DecoderSt
   pub gives : (receivers : Streams Incoming) → AreReceivers receivers old → Gives (limited own id r receivers (pull_stream side own id r before.incoming)) answer after.incoming replies written
 
 -- The stream goes on as if it had not been pulled, and the other streams stay.
-pub record ResumesThere (old new : Streams RequestState) (id : ℕ) (before after : RequestState) : Type 0 where
+pub record ResumesThere (own : Announced) (old new : Streams RequestState) (id : ℕ) (before after : RequestState) : Type 0 where
   pub sets : Sets old new id (record before { incoming = after.incoming })
-  pub resumes : Resumes before.incoming after.incoming
+  pub resumes : Resumes own before.incoming after.incoming
 
 -- The pull of a stream that is over changes nothing of it: it answers what is settled, or the fault where too many streams wait.
 pub record AnswersOver (i : Incoming) (are_too_many : Bool) (answer : Pull) : Type 0 where

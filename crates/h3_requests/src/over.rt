@@ -1,5 +1,5 @@
 //! The request streams that are over, in a few bytes each.
-ghost use Rattle.std.specs.Prelude.{◌≡◌, ◌<◌, ◌≤◌, ◌^◌, ℕ, [], Some, true, false, length, is_some, option_copied, IfSome};
+ghost use Rattle.std.specs.Prelude.{◌≡◌, ◌<◌, ◌≤◌, ◌^◌, [], Some, true, false, length, is_some, option_copied, IfSome};
 ghost use Rattle.h3_blocked.specs.Sums.{TakesOut};
 ghost use Rattle.h3_connection.specs.Calls.{Sets};
 ghost use Rattle.h3_connection.specs.State.{kept_at};
@@ -257,10 +257,11 @@ fn add_way(ways: &mut Vec<Way>, stream: &RequestStream, has_code: bool, most: us
         return 0;
     }
     let alloc = *ways.allocator();
-    let stream = stream.like(alloc);
-    let Ok(()) = ways.push(Way { stream, has_code }) else {
+    let Ok(()) = ways.reserve(1) else {
         return 0;
     };
+    let stream = stream.like(alloc);
+    ways.push_reserved(Way { stream, has_code });
     (count + 1) as u8
 }
 

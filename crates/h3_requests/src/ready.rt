@@ -1,5 +1,5 @@
 //! The request streams on which bytes or an end wait, in the order of their ids.
-ghost use Rattle.std.specs.Prelude.{◌≡◌, ◌≢◌, ◌+◌, ℕ, true, false, OnOk};
+ghost use Rattle.std.specs.Prelude.{◌≡◌, ◌≢◌, ℕ, true, false, OnOk};
 ghost use Rattle.h3_connection.specs.NextWaiting.{IsLeast};
 ghost use Rattle.h3_requests.specs.Waiting.{has_place, is_waiting};
 ghost use Rattle.h3_requests.specs.Ready.{is_listed, is_ready, IsOneTest};

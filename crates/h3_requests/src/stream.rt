@@ -7,14 +7,12 @@ ghost use Rattle.h3_connection.specs.declared.event.StreamFault.TheVariants.{Res
 ghost use Rattle.h3_requests.specs.Over.{reset_with, with_end_taken, IsOver, ReceivesAlike, SendsAlike};
 
 use bytes::Bytes;
+use h3_connection::arrival::MOST_HELD;
 use h3_connection::event::StreamFault;
 use h3_incoming::IncomingStream;
 use h3_outgoing::OutgoingStream;
 use std::alloc::Global;
 use std::marker::Model;
-
-// The bytes of a stream that were not read stay below twice this, which no memory has room for.
-const MOST_HELD: usize = 1 << 61;
 
 /// A request stream: what came on it, and what is sent on it. A contract sees it as the definitions' `RequestState`.
 #[derive(Drop)]

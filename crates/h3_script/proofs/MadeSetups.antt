@@ -1,7 +1,7 @@
 -- The setup of a script is one that `Setup::new` makes, and judges messages as its first line says.
 use Rattle.std.proofs.Common.{◌≡◌, ◌⊎◌, inl, inr, ℕ, Bool, true, false, List, [], ◌∷◌, drop, codes, bytes_eq, nat_le, nat_lt, ◌^◌, Option, Some, None, unwrap_or, Result, Ok, Err, refl, sym, ◌∙◌, ap, subst, arith, if◌then◌else◌}
 use Rattle.std.specs.Result.{result_ok}
-use Rattle.h3_proto.specs.Config.{announced}
+use Rattle.h3_proto.specs.Config.{announced, is_limit}
 use Rattle.h3_proto.specs.declared.config.Choices.{Choices}
 use Rattle.h3_proto.specs.declared.frame.SettingsError.{SettingsError}
 use Rattle.h3_proto.specs.declared.stream.Side.{Side}
@@ -11,7 +11,7 @@ use Rattle.h3_connection.specs.declared.setup.Announced.{Announced}
 use Rattle.h3_connection.specs.declared.setup.Limits.{Limits}
 use Rattle.h3_connection.specs.declared.setup.NewError.{NewError}
 use Rattle.h3_connection.specs.declared.setup.NewError.TheVariants.{TableLimit, BlockedLimit}
-use Rattle.h3_world.specs.Setup.{both, announced_at, IsMade, IsMadeSetup, IsPlain, JudgesPlainly}
+use Rattle.h3_world.specs.Setup.{both, announced_at, IsMade, IsMadeSetup, JudgesPlainly, TakesAnyLength}
 use Rattle.h3_world.specs.declared.setup.Setup.{Setup}
 use Rattle.h3_world.specs.declared.event.Event.{Event}
 use Rattle.h3_script.specs.Words.{words_of, number_of}
@@ -32,9 +32,9 @@ choices_of false true r limits choices a h = cc
 choices_of false false (Err e) limits choices a h = cc
 choices_of false false (Ok pairs) limits choices a h = cc
 
--- a side of a script: some configuration announces it, and it judges as it was told
+-- a side of a script: some configuration announces it, it judges as it was told, and has no limit on what is unfinished
 abbrev IsSide : Bool → Announced → Type 0
-IsSide strict a = IsMade a × (a.choices.strict_messages ≡ strict)
+IsSide strict a = IsMade a × (a.choices.strict_messages ≡ strict) × TakesAnyLength a
 
 side_by : (section : ℕ) (strict : Bool) (limits : Limits) (a : Announced) → announced_by (announced (config_of section strict) 0) limits (told_choices strict) ≡ Ok a → IsSide strict a
 side_by section strict limits a h =
@@ -47,6 +47,7 @@ side_by section strict limits a h =
         made = subst (λ l. announced_by (announced (config_of section strict) 0) l (told_choices strict) ≡ Ok a) (sym same) h;
       },
       ap (λ (c : Choices). c.strict_messages) chosen,
+      ap (λ (c : Choices). is_limit c.unfinished_limit) chosen,
     )
 
 both_made : (x y : Result Announced NewError) (setup : Setup) → result_ok (both x y) ≡ Some setup → (x ≡ Ok setup.client) × (y ≡ Ok setup.server)
@@ -120,10 +121,15 @@ plain_words : (words : List (List ℕ)) → (words ≡ []) ⊎ (words ≡ codes 
 plain_words words (inl h) = rw h refl
 plain_words words (inr h) = rw h refl
 
+any_length : (setup : Setup) (asked : Option (Bool × Bool)) (side : Side) → AreSides setup asked → TakesAnyLength (announced_at setup side)
+any_length setup asked Client made = made.client.2
+any_length setup asked Server made = made.server.2
+
 plain_at : (setup : Setup) (side : Side) → ◌≡◌ {A = Option (Bool × Bool)} (Some (setup.client.choices.strict_messages, setup.server.choices.strict_messages)) (Some (false, false))
-    → IsPlain (announced_at setup side)
+    → (announced_at setup side).choices.strict_messages ≡ false
 plain_at setup Client h = ap (λ (found : Option (Bool × Bool)). (unwrap_or found (false, false)).0) h
 plain_at setup Server h = ap (λ (found : Option (Bool × Bool)). (unwrap_or found (false, false)).1) h
 
 pub script_plain : (most : ℕ) (text : List ℕ) (setup : Setup) (events : List Event) → IsScript most text setup events → AsksPlainly text → JudgesPlainly setup
-script_plain most text setup events h plain = λ side. plain_at setup side (sym (script_judges most text setup events h) ∙ plain_words (judging_words text) plain)
+script_plain most text setup events h plain =
+    λ side. (plain_at setup side (sym (script_judges most text setup events h) ∙ plain_words (judging_words text) plain), any_length setup (judging_of (judging_words text)) side (sides most text setup events h))

@@ -4,7 +4,7 @@ ghost use Rattle.http_header.specs.HeaderMap.{Entries};
 ghost use Rattle.http_header.specs.FieldValue.{FieldValue};
 ghost use Rattle.h3_header.specs.Head.{Head};
 ghost use Rattle.h3_script.specs.Pieces.{texts};
-ghost use Rattle.h3_script.specs.HeadText.{AddsField, AddsFields, is_status, IsResponse, IsRequest, IsRequestHead, IsHeadText, IsTrailerText};
+ghost use Rattle.h3_script.specs.HeadText.{AddsField, AddsFields, is_status, IsResponse, IsRequest, IsHeadText, IsTrailerText};
 ghost use Rattle.h3_script.specs.ScriptLine.{Denies};
 
 use crate::error::LineError;

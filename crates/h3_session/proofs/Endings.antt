@@ -1,9 +1,9 @@
 -- The ends of streams, by what is stored of them.
 use Rattle.std.proofs.Common.{◌≡◌, ℕ, Bool, true, false, ◌∙◌, refl, sym, ap, subst}
-use Rattle.std.specs.Prelude.{◌||◌, Option, Some, None, IfSome, option_map, unwrap_or}
+use Rattle.std.specs.Prelude.{Option, Some, None, IfSome, option_map, unwrap_or}
 use Rattle.h3_connection.specs.Calls.{AllSame, Sets}
 use Rattle.h3_connection.specs.Endpoint.{EndpointHistory}
-use Rattle.h3_connection.specs.EndsWaiting.{end_taken, end_taken_at, end_taken_if, has_end, has_to_send, ShowsNextToSend, TakesEnd}
+use Rattle.h3_connection.specs.EndsWaiting.{end_taken, end_taken_at, end_taken_if, has_end, ShowsNextToSend, TakesEnd}
 use Rattle.h3_connection.specs.NextWaiting.{IsLeast, ShowsNextWaiting, has_waiting}
 use Rattle.h3_connection.specs.NextWaitingLaws.{least_same}
 use Rattle.h3_connection.specs.Outgoing.{Outgoing, end_waits, is_end_next}
@@ -14,7 +14,7 @@ use Rattle.h3_outgoing.specs.HistoryLaws.{end_gone, end_next, end_waiting}
 use Rattle.h3_requests.specs.HasBytes as stored
 use Rattle.h3_requests.specs.Over.{with_end_taken}
 use Rattle.h3_session.specs.Next.{earlier_of}
-use Rattle.h3_session.specs.OpenedLaws.{stands_same}
+use Rattle.h3_session.proofs.Opened.{stands_same}
 use Rattle.h3_session.proofs.Next.{least_either}
 use Rattle.h3_session.proofs.Taking.{found, not_found}
 

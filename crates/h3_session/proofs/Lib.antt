@@ -51,3 +51,4 @@ pub mod MemorySends
 pub mod MemoryPulls
 pub mod MemoryDeliveries
 pub mod MemorySteps
+pub mod Opened

@@ -12,7 +12,7 @@ use Rattle.h3_connection.specs.Bounds.{IsBounded, OfStream, StandsBounded, Tries
 use Rattle.h3_connection.specs.Calls.{IsSame}
 use Rattle.h3_connection.specs.Endpoint.{EndpointHistory}
 use Rattle.h3_connection.specs.Incoming.{Incoming, awaiting}
-use Rattle.h3_connection.specs.Sections.{encoded_section}
+use Rattle.h3_connection.specs.Sections.{written_section}
 use Rattle.h3_connection.specs.Sending.{appended, asked, awaiting_at, counted, does, encoded, fields_cost, head_part, remembers}
 use Rattle.h3_connection.specs.SendingContracts.{CutsOff}
 use Rattle.h3_connection.specs.State.{EndpointState}
@@ -87,7 +87,7 @@ does_on None e f h k = k
 
 sends_head : (e : EndpointHistory) (id : ℕ) (fields : List Field) (read : HeadRead) → IsBounded e → IsBounded (send_read_head e id fields read).1
 sends_head e id fields (IsHead head) h =
-    let f = counted (appended (encoded e id fields) id (head_part head (encoded_section e.encoder id fields))) (fields_cost fields) in
+    let f = counted (appended (encoded e id fields) id (head_part head (written_section e.encoder id fields))) (fields_cost fields) in
     does_on (listed_head_refusal e id head fields) e (asked f id fields) h (asks f id fields (rests e f refl refl refl refl h))
 sends_head e id fields (IsNone why) h = h
 

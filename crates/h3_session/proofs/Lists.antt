@@ -11,7 +11,8 @@ use Rattle.h3_connection.specs.Endpoint.{EndpointHistory}
 use Rattle.h3_connection.specs.OwnIds.{other}
 use Rattle.h3_connection.specs.Pulling.{is_for, is_interim}
 use Rattle.h3_connection.specs.Outgoing.{takes_head, takes_body}
-use Rattle.h3_connection.specs.Sending.{does, closed_or, first_of, is_open, is_too_large, outgoing_at}
+use Rattle.h3_connection.specs.Refusals.{first_of, is_too_large}
+use Rattle.h3_connection.specs.Sending.{does, closed_or, is_open, outgoing_at}
 use Rattle.h3_connection.specs.SendingContracts.{MayLackMemory, SendsSection}
 use Rattle.h3_connection.specs.State.{EndpointState, RequestState, StandsFor, kept_at}
 use Rattle.h3_connection.specs.StrictSending.{broken_head, broken_trailer, early_trailer, unless_malformed}

@@ -16,6 +16,7 @@ use Rattle.h3_connection.specs.Lasts.{last_id}
 use Rattle.h3_connection.specs.Outgoing.{takes_head, takes_body, takes_end, is_sent_off}
 use Rattle.h3_connection.specs.OwnIds.{other}
 use Rattle.h3_connection.specs.Pulling.{is_client, is_for}
+use Rattle.h3_connection.specs.Refusals as refusals
 use Rattle.h3_connection.specs.Sending as sender
 use Rattle.h3_connection.specs.StreamSets.{stream_at}
 use Rattle.h3_connection.specs.StrictSending.{broken_head, broken_trailer, early_trailer, passes_content, unless_malformed}
@@ -87,11 +88,11 @@ if_tells : (b : Bool) (o p : Option Refusal) → TellsNoMemory o → TellsNoMemo
 if_tells true o p h k = h
 if_tells false o p h k = k
 
-going_tells : (g : Option ℕ) (o : Option Refusal) → TellsNoMemory o → TellsNoMemory (sender.going_away g o)
+going_tells : (g : Option ℕ) (o : Option Refusal) → TellsNoMemory o → TellsNoMemory (refusals.going_away g o)
 going_tells None o h = h
 going_tells (Some id) o h = refl
 
-raised_tells : (id : ℕ) (g : Option ℕ) → TellsNoMemory (sender.raised id g)
+raised_tells : (id : ℕ) (g : Option ℕ) → TellsNoMemory (refusals.raised id g)
 raised_tells id None = tt
 raised_tells id (Some earlier) = if_tells (nat_lt earlier id) (Some (refusal.Raised earlier)) None refl tt
 
@@ -108,7 +109,7 @@ unordered_tells b c later h = if_tells b (Some refusal.NotOpen) (if c then Some 
 
 -- what refuses a section by its list: a rule that it breaks, or its size
 abbrev by_list : Option Malformation → Bool → ℕ → Option Refusal
-by_list broken large size = sender.first_of (unless_malformed broken ((large, refusal.TooLarge size) ∷ []))
+by_list broken large size = refusals.first_of (unless_malformed broken ((large, refusal.TooLarge size) ∷ []))
 
 list_tells : (broken : Option Malformation) (large : Bool) (size : ℕ) → TellsNoMemory (by_list broken large size)
 list_tells (Some why) large size = refl
@@ -116,7 +117,7 @@ list_tells None large size = if_tells large (Some (refusal.TooLarge size)) None 
 
 -- or what was sent in front of it
 abbrev by_both : Option Malformation → Option Malformation → Bool → ℕ → Option Refusal
-by_both early broken large size = sender.first_of (unless_malformed early (unless_malformed broken ((large, refusal.TooLarge size) ∷ [])))
+by_both early broken large size = refusals.first_of (unless_malformed early (unless_malformed broken ((large, refusal.TooLarge size) ∷ [])))
 
 both_tell : (early broken : Option Malformation) (large : Bool) (size : ℕ) → TellsNoMemory (by_both early broken large size)
 both_tell (Some why) broken large size = refl
@@ -125,12 +126,12 @@ both_tell None broken large size = list_tells broken large size
 pub head_tells : (e : EndpointHistory) (id : ℕ) (head : Head) → TellsNoMemory (sender.send_head e id head).0
 head_tells e id head =
     let broken = broken_head e.side e.announced e.peer.settings (head_fields head) in
-    let listed = by_list broken (sender.is_too_large e.peer.settings (head_fields head)) (section_size (head_fields head)) in
+    let listed = by_list broken (refusals.is_too_large e.peer.settings (head_fields head)) (section_size (head_fields head)) in
     does_tells (sender.head_refusal e id head) e _
     (unless_closed_tells e.closed _
     (unordered_tells (not (sender.is_open e id)) (not (takes_head (sender.outgoing_at e id))) (if not (is_for (other e.side) head) then Some refusal.WrongSide else listed)
     (if_tells (not (is_for (other e.side) head)) (Some refusal.WrongSide) listed refl
-    (list_tells broken (sender.is_too_large e.peer.settings (head_fields head)) (section_size (head_fields head))))))
+    (list_tells broken (refusals.is_too_large e.peer.settings (head_fields head)) (section_size (head_fields head))))))
 
 -- more content than the head said, or less
 content_tells : (b : Bool) → TellsNoMemory (if b then Some (refusal.Malformed malformation.ContentLength) else None)
@@ -147,12 +148,12 @@ pub trailer_tells : (e : EndpointHistory) (id : ℕ) (head : Head) → TellsNoMe
 trailer_tells e id head =
     let broken = broken_trailer e.announced (head_fields head) in
     let early = early_trailer (sender.outgoing_at e id).content in
-    let listed = by_both early broken (sender.is_too_large e.peer.settings (head_fields head)) (section_size (head_fields head)) in
+    let listed = by_both early broken (refusals.is_too_large e.peer.settings (head_fields head)) (section_size (head_fields head)) in
     does_tells (sender.trailer_refusal e id head) e _
     (unless_closed_tells e.closed _
     (unordered_tells (not (sender.is_open e id)) (not (takes_body (sender.outgoing_at e id))) (if has_pseudo head then Some refusal.PseudoInTrailer else listed)
     (if_tells (has_pseudo head) (Some refusal.PseudoInTrailer) listed refl
-    (both_tell early broken (sender.is_too_large e.peer.settings (head_fields head)) (section_size (head_fields head))))))
+    (both_tell early broken (refusals.is_too_large e.peer.settings (head_fields head)) (section_size (head_fields head))))))
 
 pub finish_tells : (e : EndpointHistory) (id : ℕ) → TellsNoMemory (sender.finish e id).0
 finish_tells e id =

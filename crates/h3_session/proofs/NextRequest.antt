@@ -1,6 +1,6 @@
 -- The request that is opened next is known by what is stored.
-use Rattle.std.proofs.Common.{arith, ◌≡◌, ◌≤◌, ◌^◌, ◌∙◌, ℕ, Bool, true, false, if◌then◌else◌, refl, sym, ap}
-use Rattle.std.specs.Prelude.{nat_le, Option, Some, None, Result, Ok, Err}
+use Rattle.std.proofs.Common.{◌≡◌, ◌≤◌, ◌^◌, ◌∙◌, ℕ, Bool, true, false, if◌then◌else◌, ap}
+use Rattle.std.specs.Prelude.{nat_le, Option, Some, None, Ok, Err}
 use Rattle.std.proofs.lemmas.Bool.{le-leb}
 use Rattle.h3_connection.specs.Calls.{after_goaway, by_side, open_refused, unless_closed}
 use Rattle.h3_connection.specs.Lasts.{last_id}

@@ -15,7 +15,7 @@ use Rattle.h3_connection.specs.declared.arrival.Arrival.{Arrival}
 use Rattle.h3_connection.specs.declared.event.Pull.{Pull}
 use Rattle.h3_connection.specs.declared.event.Pull.TheVariants as answer
 use Rattle.h3_connection.specs.declared.event.Fault.TheVariants as fault
-use Rattle.h3_session.specs.OpenedLaws.{stands_closed, stands_keeping}
+use Rattle.h3_session.proofs.Opened.{stands_closed, stands_keeping}
 use Rattle.h3_session.specs.Pulling.{PullsItem, ReadsKept}
 use Rattle.h3_session.specs.Reading.{Finds, KeepsRest, ReadsEvery}
 use Rattle.h3_session.proofs.ReceivingArrives.{ReadsFrom, KeepsFrom}

@@ -43,8 +43,8 @@ more_is : (i : Incoming) (pieces : List (List ℕ)) (ends : Bool) → i.fault �
 more_is i pieces true none = ap (λ (j : Incoming). record j { ended = true }) (pieces_are i pieces none) ∙ ap (λ b. record i { unread = i.unread ++ some_pieces pieces; ended = b }) (or_true i.ended)
 more_is i pieces false none = pieces_are i pieces none ∙ ap (λ b. record i { unread = i.unread ++ some_pieces pieces; ended = b }) (or_false i.ended)
 
-same_but : (old new : Incoming) → Resumes old new → new ≡ record old { unread = new.unread; section = new.section; body_left = new.body_left; content = new.content }
-same_but old new h =
+same_but : (own : Announced) (old new : Incoming) → Resumes own old new → new ≡ record old { unread = new.unread; section = new.section; body_left = new.body_left; content = new.content }
+same_but own old new h =
     ap (λ x. record new { response = x }) h.response
     ∙ ap (λ x. record new { response = old.response; place = x }) h.place
     ∙ ap (λ x. record new { response = old.response; place = old.place; waits_for = x }) h.waits_for
@@ -54,10 +54,10 @@ same_but old new h =
     ∙ ap (λ x. record new { response = old.response; place = old.place; waits_for = old.waits_for; tries = old.tries; ended = old.ended; was_reset = old.was_reset; is_over = x }) h.is_over
     ∙ ap (λ x. record new { response = old.response; place = old.place; waits_for = old.waits_for; tries = old.tries; ended = old.ended; was_reset = old.was_reset; is_over = old.is_over; fault = x }) h.fault
 
-pub goes_on_as_before : (side : Side) (own : Announced) (id : ℕ) (old new : Incoming) → Resumes old new → old.fault ≡ None → GoesOnAsBefore side own id old new
+pub goes_on_as_before : (side : Side) (own : Announced) (id : ℕ) (old new : Incoming) → Resumes own old new → old.fault ≡ None → GoesOnAsBefore side own id old new
 goes_on_as_before side own id old new h none = record {
-  same = same_but old new h;
+  same = same_but own old new h;
   pulls = λ r pieces ends. ap (pull_stream side own id r) (more_is old pieces ends none)
-      ∙ sym (h.pulls side own id r (some_pieces pieces) ends)
+      ∙ sym (h.pulls side id r (some_pieces pieces) ends)
       ∙ sym (ap (pull_stream side own id r) (more_is new pieces ends (h.fault ∙ none)));
 }

@@ -27,8 +27,10 @@ use Rattle.h3_incoming.specs.Answering.{has_header}
 use Rattle.h3_incoming.specs.Gives.{Gives}
 use Rattle.h3_streams.specs.Placed.{StreamsState, placed, Answers}
 use Rattle.h3_requests.specs.Limited.{PullsWithin, ResumesThere, unopened_answer}
-use Rattle.h3_session.specs.OpenedLaws.{ChangesRequests, stands_replied, stands_closed, some_there, none_there}
+use Rattle.h3_session.proofs.Opened.{stands_replied, stands_closed, some_there, none_there}
+use Rattle.h3_session.specs.Changes.{ChangesRequests}
 use Rattle.h3_session.specs.Pulling.{PullsItem, fault_code, answer_code, closed_with, settled_in}
+use Rattle.h3_incoming.specs.Resuming.{Resumes}
 use Rattle.h3_session.proofs.PullingResumes.{goes_on_as_before}
 
 -- whether the answer is settled
@@ -101,12 +103,12 @@ not_settled true m is h = let wrong : m ≡ false = h refl in cc
 
 -- A pull that was refused memory.
 resumed : (s mid : EndpointState) (e : EndpointHistory) (id : ℕ) (before after : RequestState) → StandsFor s e → kept_at s.requests id ≡ Some before → is_settled_request (Some before.incoming) ≡ false
-    → ChangesRequests s mid → ResumesThere s.requests mid.requests id before after → mid.own.decoder ≡ s.own.decoder → StandsAsked mid e id
+    → ChangesRequests s mid → ResumesThere s.announced s.requests mid.requests id before after → mid.own.decoder ≡ s.own.decoder → StandsAsked mid e id
 resumed s mid e id before after h was goes rest r same = record {
   old = before.incoming;
   new = after.incoming;
   here = some_there s e id before h was;
-  resumes = goes_on_as_before e.side e.announced id before.incoming after.incoming r.resumes (no_fault before.incoming goes);
+  resumes = goes_on_as_before e.side e.announced id before.incoming after.incoming (subst (λ own. Resumes own before.incoming after.incoming) h.announced r.resumes) (no_fault before.incoming goes);
   stands =
       subst (λ n. StandsFor n (with_incoming e id after.incoming)) (sym rest)
       (subst (λ b. StandsFor (record s { requests = mid.requests; own = record s.own { decoder = b } }) (with_incoming e id after.incoming)) (sym same)
@@ -116,7 +118,7 @@ resumed s mid e id before after h was goes rest r same = record {
 -- A request stream that is there.
 pulls_there : (s mid : EndpointState) (id : ℕ) (before after : RequestState) (a : Pull) → kind_of s.side id ≡ Request → kept_at s.requests id ≡ Some before → ChangesRequests s mid
     → (is_memory a ≡ false → PullsWithin s.side s.announced id s.decoding.decoder s.requests mid.requests before after a s.own.decoder mid.own.decoder)
-    → (is_memory a ≡ true → ResumesThere s.requests mid.requests id before after × (mid.own.decoder ≡ s.own.decoder))
+    → (is_memory a ≡ true → ResumesThere s.announced s.requests mid.requests id before after × (mid.own.decoder ≡ s.own.decoder))
     → (is_settled_request (Some before.incoming) ≡ true → is_memory a ≡ false)
     → PullsItem s (closed_with (answer_code a) mid) id a
 pulls_there s mid id before after a kind was rest pulls stops settled = record {
@@ -166,7 +168,7 @@ pulls_found : (s mid : EndpointState) (id : ℕ) (at to : Option RequestState) (
     → ChangesRequests s mid
     → (at ≡ None → (a ≡ unopened_answer s.side) × (mid.requests ≡ s.requests) × (mid.own.decoder ≡ s.own.decoder))
     → (is_memory a ≡ false → IfSome at (λ before. IfSome to (λ after. PullsWithin s.side s.announced id s.decoding.decoder s.requests mid.requests before after a s.own.decoder mid.own.decoder)))
-    → (is_memory a ≡ true → IfSome at (λ before. IfSome to (λ after. ResumesThere s.requests mid.requests id before after)) × (mid.own.decoder ≡ s.own.decoder))
+    → (is_memory a ≡ true → IfSome at (λ before. IfSome to (λ after. ResumesThere s.announced s.requests mid.requests id before after)) × (mid.own.decoder ≡ s.own.decoder))
     → IfSome at (λ before. is_settled_request (Some before.incoming) ≡ true → is_memory a ≡ false)
     → PullsItem s (closed_with (answer_code a) mid) id a
 pulls_found s mid id None to a kind was now still rest absent pulls stops settled =
@@ -181,7 +183,7 @@ pulls_found s mid id (Some before) (Some after) a kind was now still rest absent
 pub pulls_request : (s mid : EndpointState) (id : ℕ) (a : Pull) → kind_of s.side id ≡ Request → is_some (kept_at mid.requests id) ≡ is_some (kept_at s.requests id) → ChangesRequests s mid
     → (kept_at s.requests id ≡ None → (a ≡ unopened_answer s.side) × (mid.requests ≡ s.requests) × (mid.own.decoder ≡ s.own.decoder))
     → (is_memory a ≡ false → IfSome (kept_at s.requests id) (λ before. IfSome (kept_at mid.requests id) (λ after. PullsWithin s.side s.announced id s.decoding.decoder s.requests mid.requests before after a s.own.decoder mid.own.decoder)))
-    → (is_memory a ≡ true → IfSome (kept_at s.requests id) (λ before. IfSome (kept_at mid.requests id) (λ after. ResumesThere s.requests mid.requests id before after)) × (mid.own.decoder ≡ s.own.decoder))
+    → (is_memory a ≡ true → IfSome (kept_at s.requests id) (λ before. IfSome (kept_at mid.requests id) (λ after. ResumesThere s.announced s.requests mid.requests id before after)) × (mid.own.decoder ≡ s.own.decoder))
     → IfSome (kept_at s.requests id) (λ before. is_settled_request (Some before.incoming) ≡ true → is_memory a ≡ false)
     → PullsItem s (closed_with (answer_code a) mid) id a
 pulls_request s mid id a kind still rest absent pulls stops settled = pulls_found s mid id (kept_at s.requests id) (kept_at mid.requests id) a kind refl refl still rest absent pulls stops settled

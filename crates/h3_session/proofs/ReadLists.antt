@@ -13,7 +13,8 @@ use Rattle.h3_connection.specs.Endpoint.{EndpointHistory}
 use Rattle.h3_connection.specs.Outgoing.{takes_head, takes_body}
 use Rattle.h3_connection.specs.OwnIds.{other}
 use Rattle.h3_connection.specs.Pulling.{is_for}
-use Rattle.h3_connection.specs.Sending.{does, first_of, unless_closed, is_open, is_too_large, outgoing_at, send_head, send_trailer}
+use Rattle.h3_connection.specs.Refusals.{first_of, is_too_large}
+use Rattle.h3_connection.specs.Sending.{does, unless_closed, is_open, outgoing_at, send_head, send_trailer}
 use Rattle.h3_connection.specs.StrictSending.{broken_head, broken_trailer, early_trailer, unless_malformed}
 use Rattle.h3_connection.specs.declared.event.Refusal.TheVariants as refusal
 use Rattle.h3_session.specs.SendingLists.{as_error, after_head, after_trailer, send_fields, send_trailer_fields, send_read_head, send_read_trailer}

@@ -16,7 +16,8 @@ use Rattle.h3_connection.specs.declared.event.DeliverError.TheVariants as delive
 use Rattle.h3_connection.specs.declared.event.Refusal.{Refusal}
 use Rattle.h3_connection.specs.declared.event.Refusal.TheVariants as refusal
 use Rattle.h3_session.specs.Arriving.{IsAccepted, IsReceived}
-use Rattle.h3_session.specs.OpenedLaws.{ChangesRequests, stands_keeping, stands_closed}
+use Rattle.h3_session.proofs.Opened.{stands_keeping, stands_closed}
+use Rattle.h3_session.specs.Changes.{ChangesRequests}
 use Rattle.h3_session.specs.Reading.{Finds, ReadsWholly, KeepsRest}
 use Rattle.h3_session.proofs.ReceivingCancel.{nothing_changed}
 use Rattle.h3_session.proofs.ReceivingRequests.{reads_request}

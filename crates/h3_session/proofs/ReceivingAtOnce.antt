@@ -16,7 +16,7 @@ use Rattle.h3_connection.specs.declared.event.DeliverError.TheVariants as delive
 use Rattle.h3_connection.specs.declared.event.Refusal.{Refusal}
 use Rattle.h3_requests.specs.Changing.{Receives as ReceivesHere, receiver_refusal, IsRefusedBy}
 use Rattle.h3_session.specs.Arriving.{delivery_refused, arrival_refused}
-use Rattle.h3_session.specs.OpenedLaws.{stands_same}
+use Rattle.h3_session.proofs.Opened.{stands_same}
 use Rattle.h3_session.proofs.ReceivingArrives.{refused_as, received_once, took_none}
 use Rattle.h3_session.proofs.ReceivingCancel.{requests_same}
 use Rattle.h3_session.proofs.ReceivingRefusals.{arrival_refusal_is}

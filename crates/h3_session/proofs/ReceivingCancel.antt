@@ -16,7 +16,8 @@ use Rattle.h3_connection.specs.declared.event.StreamFault.TheVariants as stream_
 use Rattle.h3_requests.specs.Refused.{or_later, refused_if, cancel_refused_at}
 use Rattle.h3_streams.specs.PlacedLaws.{critical_stands}
 use Rattle.h3_session.specs.Canceling.{cancel_refused, CancelsAt}
-use Rattle.h3_session.specs.OpenedLaws.{ChangesRequests, stands_same, stands_replied, some_there, none_there}
+use Rattle.h3_session.proofs.Opened.{stands_same, stands_replied, some_there, none_there}
+use Rattle.h3_session.specs.Changes.{ChangesRequests}
 use Rattle.h3_session.specs.Refused.{streams_of, is_critical_in, critical_refused}
 use Rattle.h3_session.proofs.SendingRefusals.{critical_first, critical_left}
 

@@ -30,7 +30,7 @@ use Rattle.h3_connection.specs.declared.event.DeliverError.{DeliverError}
 use Rattle.h3_connection.specs.declared.event.DeliverError.TheVariants as deliver_error
 use Rattle.h3_connection.specs.declared.event.Refusal.{Refusal}
 use Rattle.h3_session.specs.Arriving.{IsAccepted, ComesFirst, is_stored, arrival_refused, delivery_refused as delivery_refused_in}
-use Rattle.h3_session.specs.OpenedLaws.{stands_requests, stands_opened, none_there}
+use Rattle.h3_session.proofs.Opened.{stands_requests, stands_opened, none_there}
 use Rattle.h3_session.proofs.Opening.{OpenBeside, FindBoth, find_elsewhere, step, all_beside, ComesOn, IsOrComes, still_or_comes, open_after, absent_after, kept_after, fold_beside, fold_opens, leaves_others}
 use Rattle.h3_session.proofs.OpeningElsewhere.{with_requests, LooksElsewhere, held_elsewhere, frames_elsewhere}
 use Rattle.h3_session.proofs.ReceivingArrives.{arrives_is, took_none}

@@ -14,7 +14,7 @@ use Rattle.h3_connection.specs.PartReading.ReadsPart.{Stops, Goes}
 use Rattle.h3_connection.specs.State.{EndpointState, KeepsOpen}
 use Rattle.h3_connection.specs.StreamSets.{stream_at}
 use Rattle.h3_connection.specs.declared.arrival.Arrival.{Arrival}
-use Rattle.h3_session.specs.OpenedLaws.{stands_keeping}
+use Rattle.h3_session.proofs.Opened.{stands_keeping}
 use Rattle.h3_session.specs.Reading.{GoesOn, LeavesUnread, HasRead, KeepsRest}
 
 opened_there : (e : EndpointHistory) (id : ℕ) (at : Option Incoming) → IsSome at → opened_at e id at ≡ e

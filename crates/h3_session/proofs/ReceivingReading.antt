@@ -19,7 +19,8 @@ use Rattle.h3_streams.specs.ReadingOn.{IsDue, IsPeers, StopsAt, left_arrivals}
 use Rattle.h3_streams.specs.ReadingOnLaws.{part_of_some}
 use Rattle.h3_streams.specs.declared.left.Left.{Left}
 use Rattle.h3_session.specs.Arriving.{IsReceived}
-use Rattle.h3_session.specs.OpenedLaws.{ChangesRequests, stands_same}
+use Rattle.h3_session.proofs.Opened.{stands_same}
+use Rattle.h3_session.specs.Changes.{ChangesRequests}
 use Rattle.h3_session.specs.Reading.{read_at, GoesOn, Finds, LeavesUnread, ReadsWholly, ReadsFront, ReadsUpTo, KeepsRest, ReadsEach, SameRequests, unread_arrivals}
 use Rattle.h3_session.specs.declared.endpoint.reading.Unread.{Unread}
 use Rattle.h3_session.proofs.ReceivingKept.{has_read_none, has_read_one, finds_fault, keeps_rest}

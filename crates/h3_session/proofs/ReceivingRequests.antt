@@ -15,7 +15,8 @@ use Rattle.h3_connection.specs.declared.arrival.Arrival.{Arrival}
 use Rattle.h3_connection.specs.declared.arrival.Arrival.TheVariants.{BytesCame, EndCame, ResetCame}
 use Rattle.h3_requests.specs.Changing.{opened_at as request_at}
 use Rattle.h3_session.specs.Arriving.{received, replies_to, IsReceived}
-use Rattle.h3_session.specs.OpenedLaws.{ChangesRequests, received_at, incoming_of, stands_replied}
+use Rattle.h3_session.proofs.Opened.{received_at, incoming_of, stands_replied}
+use Rattle.h3_session.specs.Changes.{ChangesRequests}
 use Rattle.h3_session.specs.Reading.{GoesOn, ReadsWholly}
 
 -- the endpoint after it

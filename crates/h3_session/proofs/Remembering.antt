@@ -19,7 +19,7 @@ use Rattle.h3_connection.specs.State.{EndpointState, IsOfOutgoing, OutgoingState
 use Rattle.h3_connection.specs.StreamSets.{Streams, stream_at}
 use Rattle.h3_connection.specs.declared.event.Refusal.{Refusal}
 use Rattle.h3_connection.specs.declared.place.SendPlace.{SendPlace}
-use Rattle.h3_session.specs.OpenedLaws.{stands_same}
+use Rattle.h3_session.proofs.Opened.{stands_same}
 use Rattle.h3_session.specs.SendingFields.{Remembers, SendsFields, asking, counts_responses}
 
 received_at : (s : EndpointState) (e : EndpointHistory) (id : ℕ) (there : Option RequestState) → StandsFor s e → kept_at s.requests id ≡ there → stream_at e.incoming id ≡ option_map (λ r. r.incoming) there

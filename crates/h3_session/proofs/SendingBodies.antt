@@ -1,5 +1,5 @@
 -- What a body that is sent does to what is stored.
-use Rattle.std.proofs.Common.{◌≡◌, ℕ, ◌+◌, Bool, true, false, List, [], ◌∷◌, ◌++◌, length, Option, Some, None, Result, Ok, Err, refl, ap, sym, subst, ◌∙◌}
+use Rattle.std.proofs.Common.{◌≡◌, ℕ, ◌+◌, Bool, true, false, List, [], ◌∷◌, length, Option, Some, None, Result, Ok, Err, refl, ap, sym, subst, ◌∙◌}
 use Rattle.std.specs.Prelude.{not, IfSome, OnOk, OnErr, IfErr, unwrap_or}
 use Rattle.h3_outgoing.specs.HistoryLaws.{body_appended}
 use Rattle.h3_outgoing.specs.Sent as sent
@@ -13,7 +13,7 @@ use Rattle.h3_connection.specs.State.{EndpointState, RequestState, StandsFor, ke
 use Rattle.h3_connection.specs.StreamSets.{Streams}
 use Rattle.h3_connection.specs.declared.event.Refusal.{Refusal}
 use Rattle.h3_connection.specs.declared.event.Refusal.TheVariants as refusal
-use Rattle.h3_session.specs.OpenedLaws.{stands_same}
+use Rattle.h3_session.proofs.Opened.{stands_same}
 use Rattle.h3_requests.specs.Refused.{or_later, refused_if, body_refused_at, too_much_at}
 use Rattle.h3_session.specs.Refused.{body_refused}
 use Rattle.h3_session.proofs.Parts.{in_body, body_stays}

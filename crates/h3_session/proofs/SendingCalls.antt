@@ -18,7 +18,7 @@ use Rattle.h3_streams.specs.Placed.{StreamsState, placed}
 use Rattle.h3_connection.specs.declared.event.Refusal.{Refusal}
 use Rattle.h3_connection.specs.declared.event.Refusal.TheVariants as refusal
 use Rattle.h3_requests.specs.Refused.{or_later, refused_if, end_refused_at, reset_refused_at}
-use Rattle.h3_session.specs.OpenedLaws.{stands_same}
+use Rattle.h3_session.proofs.Opened.{stands_same}
 use Rattle.h3_session.specs.Refused.{streams_of, end_refused, is_critical_in, critical_refused, reset_refused, goaway_refused}
 use Rattle.h3_session.proofs.ReceivingCancel.{requests_same}
 use Rattle.h3_session.proofs.SendingRefusals.{open_refusal_is, end_refusal_is, reset_refusal_is, goaway_refusal_is, end_takes_none, reset_takes_none, goaway_takes_none, critical_first, critical_left}

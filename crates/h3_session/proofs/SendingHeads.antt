@@ -2,7 +2,7 @@
 use Rattle.std.proofs.Common.{◌≡◌, ℕ, Bool, true, false, if◌then◌else◌, List, [], ◌∷◌, ◌++◌, take, Option, Some, None, Result, Err, refl, ap, sym, subst, ◌∙◌}
 use Rattle.std.specs.Prelude.{◌≢◌, not, ◌&&◌, option_map, unwrap_or}
 use Rattle.h3_field.specs.Field.{Field, section_size}
-use Rattle.h3_header.specs.Head.{Head, has_pseudo}
+use Rattle.h3_header.specs.Head.{Head}
 use Rattle.h3_outgoing.specs.Sent as sent
 use Rattle.h3_connection.specs.Answers.{call_refused}
 use Rattle.h3_connection.specs.Calls.{IsSame, AllSame}
@@ -10,8 +10,9 @@ use Rattle.h3_connection.specs.Endpoint.{EndpointHistory}
 use Rattle.h3_connection.specs.Outgoing.{OwnPart, OwnInterim, OwnHead, OwnTrailer, is_unsent}
 use Rattle.h3_connection.specs.OwnIds.{other}
 use Rattle.h3_connection.specs.Pulling.{is_for, is_interim}
-use Rattle.h3_connection.specs.Sections.{encoded_section, with_insertions}
-use Rattle.h3_connection.specs.Sending.{does, closed_or, appended, encoded, outgoing_at, fields_cost, counted, head_part, is_too_large}
+use Rattle.h3_connection.specs.Sections.{written_section, with_insertions}
+use Rattle.h3_connection.specs.Refusals.{is_too_large}
+use Rattle.h3_connection.specs.Sending.{does, closed_or, appended, encoded, outgoing_at, fields_cost, counted, head_part}
 use Rattle.h3_connection.specs.SendingContracts.{CutsOff, MayLackMemory, SendsSection}
 use Rattle.h3_connection.specs.State.{EndpointState, RequestState, StandsFor, kept_at, place_of}
 use Rattle.h3_connection.specs.StreamSets.{Streams}
@@ -23,7 +24,7 @@ use Rattle.h3_connection.specs.declared.event.Refusal.TheVariants as refusal
 use Rattle.h3_connection.specs.declared.place.SendPlace.{SendPlace}
 use Rattle.h3_connection.specs.declared.place.SendPlace.TheVariants.{NothingSent, HeadSent, TrailerSent}
 use Rattle.h3_requests.specs.Refused.{or_later, refused_if, head_refused_at, body_refused_at, early_trailer_at}
-use Rattle.h3_session.specs.OpenedLaws.{stands_same}
+use Rattle.h3_session.proofs.Opened.{stands_same}
 use Rattle.h3_session.specs.SendingLists.{SendsListedHead, SendsListedTrailer, after_head, after_trailer, listed_head_refusal, listed_trailer_refusal, send_listed_head, send_listed_trailer}
 use Rattle.h3_session.specs.Refused.{list_refused, refused_behind, broken_behind, side_refused, pseudo_refused, head_refused, trailer_refused}
 use Rattle.h3_session.proofs.ReceivingCancel.{requests_same}
@@ -160,11 +161,11 @@ head_allowed b None None h = absurd (cc)
 head_allowed b None (Some r) h = not_first (sent.takes_head r.outgoing) refusal.OutOfOrder (refused_if b refusal.WrongSide) h
 
 head_is : (s : EndpointState) (e : EndpointHistory) (id : ℕ) (head : Head) (fields : List Field) (there : Option RequestState) → StandsFor s e → kept_at s.requests id ≡ there → TakesHead there
-    → IsPart e id fields (place_behind (is_interim head.status)) (head_part head (encoded_section e.encoder id fields))
+    → IsPart e id fields (place_behind (is_interim head.status)) (head_part head (written_section e.encoder id fields))
 head_is s e id head fields None h was takes = absurd takes
 head_is s e id head fields (Some r) h was takes =
     let o = before_head (outgoing_at e id) r.outgoing (sender_of s e id r h was) takes in
-    let section = encoded_section e.encoder id fields in
+    let section = written_section e.encoder id fields in
     record { sends_on = o.here; piece = head_piece (is_interim head.status) section; place_is = head_place (outgoing_at e id).parts (is_interim head.status) section o.unsent }
 
 head_rule : (s : EndpointState) (id : ℕ) (head : Head) (fields : List Field) → head_refused s id head ≡ None → (e : EndpointHistory) → StandsFor s e → listed_head_refusal e id head fields ≡ list_refused (broken_head s.side s.announced s.peer.settings fields) s.peer.settings fields
@@ -188,7 +189,7 @@ head_sends : (old new : EndpointState) (id : ℕ) (head : Head) (given fields : 
 head_sends old new id head given fields place result none are at h =
     let sent_here : SendsFields (asking id fields) old new id fields (place_behind (is_interim head.status)) (call_refused result)
     = subst (λ p. SendsFields (asking id fields) old new id fields p (call_refused result)) at (subst (λ fs. SendsFields (asking id fs) old new id fs place (call_refused result)) are h) in
-    section_sends (λ e. listed_head_refusal e id head fields) (λ e. after_head e id head fields) old id fields (broken_head old.side old.announced old.peer.settings fields) (asking id fields) new (place_behind (is_interim head.status)) (call_refused result) (λ e. head_part head (encoded_section e.encoder id fields))
+    section_sends (λ e. listed_head_refusal e id head fields) (λ e. after_head e id head fields) old id fields (broken_head old.side old.announced old.peer.settings fields) (asking id fields) new (place_behind (is_interim head.status)) (call_refused result) (λ e. head_part head (written_section e.encoder id fields))
     (head_rule old id head fields none) (λ e stands. head_is old e id head fields (kept_at old.requests id) stands refl (head_allowed (not (is_for (other old.side) head)) old.closed (kept_at old.requests id) none)) (λ e. refl)
     (behind_head (is_interim head.status) old fields) sent_here
 
@@ -239,11 +240,11 @@ abbrev behind_order : EndpointState → ℕ → Option Refusal → Option Refusa
 behind_order s id later = or_later later (early_trailer_at (kept_at s.requests id))
 
 trailer_is : (s : EndpointState) (e : EndpointHistory) (id : ℕ) (fields : List Field) (there : Option RequestState) → StandsFor s e → kept_at s.requests id ≡ there → TakesBody there
-    → IsPart e id fields TrailerSent (OwnTrailer (encoded_section e.encoder id fields))
+    → IsPart e id fields TrailerSent (OwnTrailer (written_section e.encoder id fields))
 trailer_is s e id fields None h was takes = absurd takes
 trailer_is s e id fields (Some r) h was takes =
     let o = in_body (outgoing_at e id) r.outgoing (sender_of s e id r h was) takes in
-    let section = encoded_section e.encoder id fields in
+    let section = written_section e.encoder id fields in
     record {
       sends_on = o.here;
       piece = refl;
@@ -264,7 +265,7 @@ trailer_lacks s id trailer fields none = section_lacks (λ e. listed_trailer_ref
 trailer_sends : (old new : EndpointState) (id : ℕ) (trailer : Head) (given fields : List Field) (result : Result Unit Refusal) → trailer_refused old id trailer ≡ None → given ≡ fields
     → SendsFields (λ e. e) old new id given TrailerSent (call_refused result) → SendsListedTrailer old new id trailer fields result
 trailer_sends old new id trailer given fields result none are h =
-    section_sends (λ e. listed_trailer_refusal e id trailer fields) (λ e. after_trailer e id fields) old id fields (broken_trailer old.announced fields) (λ e. e) new TrailerSent (call_refused result) (λ e. OwnTrailer (encoded_section e.encoder id fields))
+    section_sends (λ e. listed_trailer_refusal e id trailer fields) (λ e. after_trailer e id fields) old id fields (broken_trailer old.announced fields) (λ e. e) new TrailerSent (call_refused result) (λ e. OwnTrailer (written_section e.encoder id fields))
     (trailer_rule old id trailer fields none)
     (λ e stands. trailer_is old e id fields (kept_at old.requests id) stands refl (trailer_allowed (behind_order old id (pseudo_refused trailer)) old.closed (kept_at old.requests id) none)) (λ e. refl) refl
     (subst (λ fs. SendsFields (λ e. e) old new id fs TrailerSent (call_refused result)) are h)

@@ -14,7 +14,8 @@ use Rattle.h3_connection.specs.Lasts.{last_id}
 use Rattle.h3_connection.specs.Outgoing.{Outgoing, nothing_sent, takes_head, takes_body, takes_end, is_sent_off}
 use Rattle.h3_connection.specs.OwnIds.{other}
 use Rattle.h3_connection.specs.Pulling.{is_client, is_for}
-use Rattle.h3_connection.specs.Sending.{closed_or, first_of, going_away, outgoing_at, raised, open_refusal, body_refusal, finish_refusal, reset_refusal, goaway_refusal, is_too_large}
+use Rattle.h3_connection.specs.Refusals.{first_of, going_away, raised, is_too_large}
+use Rattle.h3_connection.specs.Sending.{closed_or, outgoing_at, open_refusal, body_refusal, finish_refusal, reset_refusal, goaway_refusal}
 use Rattle.h3_connection.specs.State.{EndpointState, RequestState, StandsFor, IsOfOutgoing, SameAt, kept_at}
 use Rattle.h3_connection.specs.StreamSets.{stream_at}
 use Rattle.h3_connection.specs.StrictSending.{broken_head, broken_trailer, early_trailer, passes_content, unless_malformed}

@@ -1,6 +1,7 @@
 -- What a field section that is sent does to what is stored.
-use Rattle.std.proofs.Common.{arith, ◌≡◌, ℕ, true, false, List, [], ◌∷◌, ◌++◌, length, take, flat_map, Option, Some, None, refl, ap, sym, subst, ◌∙◌, append-nil}
+use Rattle.std.proofs.Common.{arith, ◌≡◌, ℕ, true, false, List, [], ◌∷◌, ◌++◌, length, take, drop, flat_map, Option, Some, None, refl, ap, sym, subst, ◌∙◌, append-nil}
 use Rattle.std.specs.Prelude.{IfSome, IsSome}
+use Rattle.std.proofs.Math.Seq.{drop-append_seam}
 use Rattle.h3_field.specs.Field.{Field}
 use Rattle.h3_field.specs.Instruction.{EncoderInstruction, encoder_bytes}
 use Rattle.h3_qpack.specs.EncoderHistory.{EncoderHistory, withdrawn, writing_on}
@@ -13,7 +14,7 @@ use Rattle.h3_connection.specs.Calls.{Sets, AllSame}
 use Rattle.h3_connection.specs.Endpoint.{EndpointHistory}
 use Rattle.h3_connection.specs.Listeners.{Encoding}
 use Rattle.h3_connection.specs.Outgoing.{OwnPart}
-use Rattle.h3_connection.specs.Sections.{instructions_for, having_inserted, with_insertions}
+use Rattle.h3_connection.specs.Sections.{own_instructions, having_inserted, with_insertions}
 use Rattle.h3_connection.specs.Sending as sending
 use Rattle.h3_connection.specs.Sending.{encoded, outgoing_at}
 use Rattle.h3_connection.specs.SendingContracts.{CutsOff}
@@ -22,7 +23,7 @@ use Rattle.h3_connection.specs.State.{EndpointState, RequestState, StandsFor, Is
 use Rattle.h3_connection.specs.StreamSets.{Streams}
 use Rattle.h3_connection.specs.WaitingPieces.{piece_of, frame_piece}
 use Rattle.h3_connection.specs.declared.place.SendPlace.{SendPlace}
-use Rattle.h3_session.specs.OpenedLaws.{stands_same}
+use Rattle.h3_session.proofs.Opened.{stands_same}
 use Rattle.h3_session.specs.Refused.{streams_of}
 use Rattle.h3_session.specs.SendingFields.{Encodes, StopsEncoding, SameStreams, IsPart, Queues}
 use Rattle.h3_session.proofs.Inserting.{none_inserted, nothing_inserted}
@@ -48,7 +49,7 @@ withdrawn_stops s id fields section count before inside now encoding view law st
       within = omega arith;
       stores = stores (sent_section s id fields) (ap (λ (x : StreamsState). x.encoding.encoder) view ∙ h.stores)
           ∙ ap (λ n. encoder_state (withdrawn (sent_section s id fields) id n)) h.count_is ∙ ap encoder_state law ∙ ap (λ fs. encoder_state (having_inserted s id fs)) (sym all);
-      written = ap (λ (x : StreamsState). x.own.encoder) view ∙ h.written ∙ ap (λ fs. before.own.encoder ++ flat_map encoder_bytes (instructions_for s id fs)) (sym all);
+      written = ap (λ (x : StreamsState). x.own.encoder) view ∙ h.written ∙ ap (λ fs. before.own.encoder ++ flat_map encoder_bytes (own_instructions s id fs)) (sym all);
     }
 
 -- What is stored, with the encoder and its instructions.
@@ -70,6 +71,22 @@ unlearned_after : (e : EndpointHistory) (id : ℕ) (fields : List Field) → (e.
     → e.peer.settings ≡ None → (e.encoder.capacity ≡ 0) × ((draft_of (writing_on e.encoder id) fields).inserted ≡ [])
 unlearned_after e id fields h none = ((h none).0, nothing_inserted e.encoder id fields (h none).0 (h none).1)
 
+-- No field was encoded.
+pub nothing_encoded : (s : EncoderHistory) (id : ℕ) (fields : List Field) (x : StreamsState) → x.encoding.encoder ≡ encoder_state s → StopsEncoding s id fields x x
+nothing_encoded s id fields x is = record {
+  same = refl;
+  unread = refl;
+  front = 0;
+  within = omega arith;
+  stores = is ∙ ap encoder_state (sym (none_inserted s id));
+  written = sym (append-nil x.own.encoder);
+}
+
+-- A section stands behind the room for its frame's head.
+pub behind_room : (block before section : List ℕ) → block ≡ before ++ section → length before ≡ 9 → drop 9 block ≡ section
+behind_room block before section is room =
+    ap (drop 9) is ∙ ap (λ n. drop n (before ++ section)) (sym room) ∙ drop-append_seam before section
+
 -- Nothing was inserted.
 pub not_begun : (s : EndpointState) (e : EndpointHistory) (id : ℕ) (fields : List Field) → StandsFor s e → CutsOff e id fields s
 not_begun s e id fields h =
@@ -88,7 +105,7 @@ stops s now x id fields view cuts e stands_now =
     record {
       front = h.front;
       within = h.within;
-      stands = written_stands s e x (having_inserted e.encoder id (take h.front fields)) (instructions_for e.encoder id (take h.front fields)) stands h.same h.stores h.unread h.written
+      stands = written_stands s e x (having_inserted e.encoder id (take h.front fields)) (own_instructions e.encoder id (take h.front fields)) stands h.same h.stores h.unread h.written
           (unlearned_after e id (take h.front fields) stands.reached.unlearned);
     }
 
@@ -111,7 +128,7 @@ queued s e x new id fields section count place part (Some r) h encodes is was so
     let o = outgoing_at e id in
     let w = sender_of s e id r h was in
     let stands : StandsFor (placed s x) (encoded e id fields)
-    = written_stands s e x (sent_section e.encoder id fields) (instructions_for e.encoder id fields) h encodes.same encodes.stores encodes.unread encodes.written (unlearned_after e id fields h.reached.unlearned) in
+    = written_stands s e x (sent_section e.encoder id fields) (own_instructions e.encoder id fields) h encodes.same encodes.stores encodes.unread encodes.written (unlearned_after e id fields h.reached.unlearned) in
     let piece : piece_of part ≡ frame_piece 1 section = is.piece ∙ ap (frame_piece 1) (sym encodes.section_is) in
     let pushed = appended o r.outgoing part place w is.sends_on is.place_is in
     stands_sending (placed s x) (encoded e id fields) new id r (record r { outgoing = sent.has_section r.outgoing section place }) (record o { parts = o.parts ++ part ∷ [] }) stands was refl

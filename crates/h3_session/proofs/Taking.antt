@@ -4,7 +4,8 @@ use Rattle.std.specs.Prelude.{◌^◌, count_by, nat_lt, min, map, IfSome, is_so
 use Rattle.std.proofs.lemmas.List.{length-drop}
 use Rattle.std.proofs.lemmas.Bool.{cases_lt}
 use Rattle.h3_coding.specs.Encodings.{encoding}
-use Rattle.h3_coding.specs.EncodingLaws.{Opened, opened, encoding_is_valid}
+use Rattle.h3_coding.specs.EncodingLaws.{opened, encoding_is_valid}
+use Rattle.h3_coding.specs.Opened.{Opened}
 use Rattle.h3_wire.specs.Outgoing.{Outgoing as Piece, all_of, first_of_both}
 use Rattle.h3_outgoing.specs.HistoryLaws.{waits, advanced}
 use Rattle.h3_outgoing.specs.Sent as sent

@@ -8,7 +8,8 @@ use Rattle.h3_connection.specs.Endpoint.{EndpointHistory}
 use Rattle.h3_connection.specs.Outgoing.{takes_head, takes_body}
 use Rattle.h3_connection.specs.OwnIds.{other}
 use Rattle.h3_connection.specs.Pulling.{is_for}
-use Rattle.h3_connection.specs.Sending.{does, is_open, is_too_large, outgoing_at}
+use Rattle.h3_connection.specs.Refusals.{is_too_large}
+use Rattle.h3_connection.specs.Sending.{does, is_open, outgoing_at}
 use Rattle.h3_connection.specs.StrictMessages.{broken_rule}
 use Rattle.h3_connection.specs.StrictSending.{broken_head, broken_trailer, early_trailer, unless_malformed}
 use Rattle.h3_connection.specs.StrictSendingLaws.{head_taken, trailer_taken, not_closed, passed, not_early, not_malformed, was_allowed}

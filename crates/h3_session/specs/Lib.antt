@@ -1,4 +1,4 @@
-pub mod OpenedLaws
+pub mod Changes
 pub mod Refused
 pub mod Next
 pub mod NextRequest

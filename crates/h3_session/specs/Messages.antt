@@ -9,10 +9,10 @@ use Rattle.h3_world.specs.declared.event.Event.{Event}
 use Rattle.h3_world.specs.declared.setup.Setup.{Setup}
 use Rattle.h3_world.specs.Headline.{is_connection_fault}
 use Rattle.h3_world.specs.Setup.{announced_at}
-use Rattle.h3_headline.specs.Messages.{Content, IsFrontOf, at_reader, has_finished, has_pulled_end, pulled, sent}
+use Rattle.h3_headline.specs.Messages.{MessageContent, IsFrontOf, at_reader, has_finished, has_pulled_end, pulled, sent}
 
 -- what the other side sent on the stream, each field section above the side's limit as its size alone
-abbrev pub sent_to : Setup → Side → ℕ → List Event → List Answer → List Content
+abbrev pub sent_to : Setup → Side → ℕ → List Event → List Answer → List MessageContent
 sent_to setup side id events answers = map (at_reader (section_of (announced_at setup side))) (sent (other side) id events answers)
 
 -- Each side is handed of each stream what the other side sent on it.

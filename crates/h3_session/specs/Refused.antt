@@ -8,7 +8,8 @@ use Rattle.h3_proto.specs.declared.stream.Side.{Side}
 use Rattle.h3_connection.specs.Endpoint.{kind_of}
 use Rattle.h3_connection.specs.OwnIds.{other}
 use Rattle.h3_connection.specs.Pulling.{is_client, is_for}
-use Rattle.h3_connection.specs.Sending.{closed_or, raised, is_too_large}
+use Rattle.h3_connection.specs.Refusals.{raised, is_too_large}
+use Rattle.h3_connection.specs.Sending.{closed_or}
 use Rattle.h3_connection.specs.State.{EndpointState, OutgoingState, kept_at}
 use Rattle.h3_connection.specs.StrictMessages.{malformation_by}
 use Rattle.h3_connection.specs.StrictSending.{violation_of_own_head}

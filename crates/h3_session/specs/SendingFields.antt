@@ -11,7 +11,7 @@ use Rattle.h3_connection.specs.Endpoint.{EndpointHistory}
 use Rattle.h3_connection.specs.Pulling.{is_client}
 use Rattle.h3_connection.specs.declared.setup.Announced.{Announced}
 use Rattle.h3_connection.specs.Outgoing.{OwnPart}
-use Rattle.h3_connection.specs.Sections.{encoded_section, instructions_for, having_inserted}
+use Rattle.h3_connection.specs.Sections.{written_section, own_instructions, having_inserted}
 use Rattle.h3_connection.specs.Sending.{appended, asked, encoded, outgoing_at, fields_cost, counted}
 use Rattle.h3_connection.specs.SendingContracts.{CutsOff}
 use Rattle.h3_connection.specs.State.{EndpointState, StandsFor, place_of}
@@ -30,8 +30,8 @@ pub record Encodes (s : EncoderHistory) (id : ℕ) (fields : List Field) (sectio
   pub same : SameStreams old new
   pub unread : new.encoding.unread ≡ old.encoding.unread
   pub stores : new.encoding.encoder ≡ encoder_state (sent_section s id fields)
-  pub written : new.own.encoder ≡ old.own.encoder ++ flat_map encoder_bytes (instructions_for s id fields)
-  pub section_is : section ≡ encoded_section s id fields
+  pub written : new.own.encoder ≡ old.own.encoder ++ flat_map encoder_bytes (own_instructions s id fields)
+  pub section_is : section ≡ written_section s id fields
   pub count_is : count ≡ required_insert_count (draft_of (writing_on s id) fields)
 
 -- It was cut off behind some of its fields: their insertions stay, and the instructions for these were written.
@@ -41,12 +41,12 @@ pub record StopsEncoding (s : EncoderHistory) (id : ℕ) (fields : List Field) (
   pub front : ℕ
   pub within : front ≤ length fields
   pub stores : new.encoding.encoder ≡ encoder_state (having_inserted s id (take front fields))
-  pub written : new.own.encoder ≡ old.own.encoder ++ flat_map encoder_bytes (instructions_for s id (take front fields))
+  pub written : new.own.encoder ≡ old.own.encoder ++ flat_map encoder_bytes (own_instructions s id (take front fields))
 
 -- This part stands for the section at that place of the message.
 pub record IsPart (e : EndpointHistory) (id : ℕ) (fields : List Field) (place : SendPlace) (part : OwnPart) : Type 0 where
   pub sends_on : (outgoing_at e id).is_reset ≡ false
-  pub piece : piece_of part ≡ frame_piece 1 (encoded_section e.encoder id fields)
+  pub piece : piece_of part ≡ frame_piece 1 (written_section e.encoder id fields)
   pub place_is : place ≡ place_of ((outgoing_at e id).parts ++ part ∷ [])
 
 -- The section waits on its stream.

@@ -11,8 +11,9 @@ use Rattle.h3_connection.specs.Outgoing.{takes_head, takes_body}
 use Rattle.h3_connection.specs.Outgoing.OwnPart.{OwnTrailer}
 use Rattle.h3_connection.specs.OwnIds.{other}
 use Rattle.h3_connection.specs.Pulling.{is_for, malformation_of}
-use Rattle.h3_connection.specs.Sections.{encoded_section}
-use Rattle.h3_connection.specs.Sending.{does, unless_closed, first_of, is_open, is_too_large, outgoing_at, appended, asked, counted, encoded, fields_cost, head_part}
+use Rattle.h3_connection.specs.Sections.{written_section}
+use Rattle.h3_connection.specs.Refusals.{first_of, is_too_large}
+use Rattle.h3_connection.specs.Sending.{does, unless_closed, is_open, outgoing_at, appended, asked, counted, encoded, fields_cost, head_part}
 use Rattle.h3_connection.specs.SendingContracts.{CutsOff, MayLackMemory, SendsSection}
 use Rattle.h3_connection.specs.State.{EndpointState, StandsFor}
 use Rattle.h3_connection.specs.StrictSending.{broken_head, broken_trailer, early_trailer, unless_malformed}
@@ -31,7 +32,7 @@ listed_head_refusal e id head fields = unless_closed e (first_of (
     (is_too_large e.peer.settings fields, refusal.TooLarge (section_size fields)) ∷ [])))
 
 abbrev pub after_head : EndpointHistory → ℕ → Head → List Field → EndpointHistory
-after_head e id head fields = asked (counted (appended (encoded e id fields) id (head_part head (encoded_section e.encoder id fields))) (fields_cost fields)) id fields
+after_head e id head fields = asked (counted (appended (encoded e id fields) id (head_part head (written_section e.encoder id fields))) (fields_cost fields)) id fields
 
 abbrev pub send_listed_head : EndpointHistory → ℕ → Head → List Field → Option Refusal × EndpointHistory
 send_listed_head e id head fields = does (listed_head_refusal e id head fields) e (after_head e id head fields)
@@ -46,7 +47,7 @@ listed_trailer_refusal e id trailer fields = unless_closed e (first_of (
     (is_too_large e.peer.settings fields, refusal.TooLarge (section_size fields)) ∷ []))))
 
 abbrev pub after_trailer : EndpointHistory → ℕ → List Field → EndpointHistory
-after_trailer e id fields = counted (appended (encoded e id fields) id (OwnTrailer (encoded_section e.encoder id fields))) (fields_cost fields)
+after_trailer e id fields = counted (appended (encoded e id fields) id (OwnTrailer (written_section e.encoder id fields))) (fields_cost fields)
 
 abbrev pub send_listed_trailer : EndpointHistory → ℕ → Head → List Field → Option Refusal × EndpointHistory
 send_listed_trailer e id trailer fields = does (listed_trailer_refusal e id trailer fields) e (after_trailer e id fields)

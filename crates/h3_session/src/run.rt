@@ -1,5 +1,5 @@
 //! A client and a server over a schedule: two endpoints, and the bytes carried between them.
-ghost use Rattle.std.specs.Prelude.{◌≡◌, ◌<◌, ◌^◌, false, Ok, IfOk};
+ghost use Rattle.std.specs.Prelude.{◌≡◌, ◌<◌, false, Ok, IfOk};
 ghost use Rattle.std.specs.List.{list_any};
 ghost use Rattle.h3_world.specs.Ends.{new_ends};
 ghost use Rattle.h3_world.specs.Few.{AreFew};

@@ -9,7 +9,7 @@ use Rattle.h3_qpack.specs.EncoderHistory.{using_table}
 use Rattle.h3_qpack.specs.EncoderState.{EncoderState, encoder_state}
 use Rattle.h3_connection.specs.declared.arrival.Arrival.{Arrival}
 use Rattle.h3_connection.specs.declared.arrival.Arrival.TheVariants.{BytesCame}
-use Rattle.h3_connection.specs.Control.{after_peer, if_learned, then_decoder, is_usable, with_table}
+use Rattle.h3_connection.specs.Control.{after_peer, if_learned, then_decoder, is_table_usable, with_table}
 use Rattle.h3_connection.specs.Delivering.{unidirectional_at}
 use Rattle.h3_connection.specs.Endpoint.{EndpointHistory, kind_of}
 use Rattle.h3_connection.specs.Endpoint.Kind.{PeerUnidirectional}
@@ -36,7 +36,7 @@ used_is false e capacity blocked = refl
 
 learned_is : (q : Option (List (ℕ × ℕ))) (e : EndpointHistory) → if_learned None q e ≡ record e { encoder = (if_learned None q e).encoder; own = (if_learned None q e).own }
 learned_is None e = refl
-learned_is (Some pairs) e = used_is (is_usable e.encoder.most_capacity (capacity_of pairs) (blocked_of pairs)) e (capacity_of pairs) (blocked_of pairs)
+learned_is (Some pairs) e = used_is (is_table_usable e.encoder.most_capacity (capacity_of pairs) (blocked_of pairs)) e (capacity_of pairs) (blocked_of pairs)
 
 some_not_none : (o : Option (List (ℕ × ℕ))) (pairs : List (ℕ × ℕ)) → o ≡ Some pairs → o ≡ None → ⊥
 some_not_none None pairs e h = cc
@@ -67,7 +67,7 @@ learned_stands : (q : Option (List (ℕ × ℕ))) (s : EndpointState) (x : Strea
     → StandsFor (placed s (record x { encoding = n; own = record x.own { encoder = out } })) (if_learned None q e)
 learned_stands None s x e n out h is state unread wrote = unused s x e n out h state unread wrote
 learned_stands (Some pairs) s x e n out h is state unread wrote =
-    used_by (is_usable e.encoder.most_capacity (capacity_of pairs) (blocked_of pairs)) s x e n out (capacity_of pairs) (blocked_of pairs) h (λ unknown. some_not_none e.peer.settings pairs is unknown) state unread wrote
+    used_by (is_table_usable e.encoder.most_capacity (capacity_of pairs) (blocked_of pairs)) s x e n out (capacity_of pairs) (blocked_of pairs) h (λ unknown. some_not_none e.peer.settings pairs is unknown) state unread wrote
 
 -- the endpoint after the frames
 first_stands : (s : EndpointState) (x : StreamsState) (e : EndpointHistory) (id : ℕ) (p : Peer) (n : Encoding) (out : List ℕ) → StandsFor (placed s x) e → e.control_on ≡ Some id → x.peer.settings ≡ None

@@ -4,7 +4,8 @@ use Rattle.h3_proto.specs.declared.stream.Side.{Side}
 use Rattle.h3_proto.specs.declared.stream.Side.TheVariants.{Client, Server}
 use Rattle.h3_wire.specs.Frames.{Front, Whole, Unknown, Refused, Unfinished, frame_at}
 use Rattle.h3_wire.specs.Known.{known, IsWaiting}
-use Rattle.h3_wire.specs.KnownLaws.{IsKnown, known_is, known_known}
+use Rattle.h3_wire.specs.KnownLaws.{known_is, known_known}
+use Rattle.h3_wire.specs.Fronts.{IsKnown}
 use Rattle.h3_wire.specs.declared.proto.frame.PayloadLen.{PayloadLen}
 use Rattle.h3_wire.specs.declared.proto.frame.Frame.{Frame}
 use Rattle.h3_wire.specs.declared.proto.frame.Frame.TheVariants as frame

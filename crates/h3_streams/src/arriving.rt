@@ -10,9 +10,9 @@ ghost use Rattle.h3_streams.specs.Placed.{placed, stream_of_peer, Reads, KeepsAl
 ghost use Rattle.h3_streams.specs.ReadingOn.{HasRoom, IsDue, StopsAt, left_arrivals};
 
 use crate::left::Left;
-use crate::readers::MOST_HELD;
 use crate::streams::ConnectionStreams;
 use bytes::Bytes;
+use h3_connection::arrival::MOST_HELD;
 use h3_proto::error::Code;
 use h3_proto::stream::{Side, StreamId};
 use h3_unidirectional::stream::Received;

@@ -3,11 +3,8 @@ ghost use Rattle.std.specs.Prelude.{◌≡◌, ◌+◌, ◌≤◌, ◌<◌, ◌^
 ghost use Rattle.std.specs.Vec.{vec_capacity};
 ghost use Rattle.h3_field.specs.Instruction.{encoder_bytes};
 ghost use Rattle.h3_field.specs.Instruction.EncoderInstruction.{SetCapacity};
-ghost use Rattle.h3_qpack.specs.EncoderHistory.{EncoderHistory};
-ghost use Rattle.h3_qpack.specs.EncoderState.{encoder_state};
 ghost use Rattle.h3_connection.specs.PartReading.{PeerReadsPart};
 ghost use Rattle.h3_connection.specs.PeerReading.{read_peer};
-ghost use Rattle.h3_unidirectional.specs.Learned.{capacity_bytes};
 ghost use Rattle.h3_streams.specs.Stopping.{Learns};
 
 use h3_proto::error::Code;
@@ -70,7 +67,7 @@ pub(crate) fn read_first(
     ensures err { OnErr result (PeerReadsPart side peer.old peer.new) }
     ensures learns { Learns encoding.old encoding.new out.old.items out.new.items peer.new.settings }
 {
-    // Before the settings came nothing was inserted.
+    // (not reached: before the settings came nothing was inserted)
     if encoding.encoder().inserted() != 0 {
         return Err(AllocError);
     }

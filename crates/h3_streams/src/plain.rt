@@ -1,5 +1,5 @@
 //! The peer's streams of which nothing is kept but their role and whether they ended, in two bytes each.
-ghost use Rattle.std.specs.Prelude.{◌≡◌, ◌≤◌, ◌+◌, ◌*◌, ℕ, true, false, [], length, max, slice_index_or, ◌/◌, ◌%◌, Some, None, IsSome, IfSome, IfNone, unwrap_or, option_map, OnOk, OnErr, IfOk, IfErr};
+ghost use Rattle.std.specs.Prelude.{◌≡◌, ◌≤◌, ◌+◌, ◌*◌, ℕ, true, false, [], length, max, ◌/◌, ◌%◌, Some, None, IsSome, IfSome, IfNone, unwrap_or, option_map, OnOk, OnErr, IfOk, IfErr};
 ghost use Rattle.h3_connection.specs.Calls.{Sets, AllSame};
 ghost use Rattle.h3_connection.specs.State.{kept_at};
 ghost use Rattle.h3_connection.specs.Unidirectional.{untold, is_closed};

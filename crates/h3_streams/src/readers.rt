@@ -1,20 +1,18 @@
 //! What the readers of the peer's control, encoder and decoder streams make of further bytes, each by itself.
-ghost use Rattle.std.specs.Prelude.{◌≡◌, ◌+◌, ◌<◌, ◌≤◌, ◌^◌, ◌++◌, true, false, [], length, IfOk, IfErr, OnOk, OnErr};
+ghost use Rattle.std.specs.Prelude.{◌≡◌, ◌+◌, ◌<◌, ◌≤◌, ◌^◌, ◌++◌, true, false, length, IfOk, IfErr, OnOk};
 ghost use Rattle.h3_connection.specs.Listeners.{Hears};
 ghost use Rattle.h3_connection.specs.PeerReading.{with_unread};
 ghost use Rattle.h3_streams.specs.Stopping.{HeardPart, ListensIf, ListenedPart, left_by};
 
 use crate::left::Left;
 use bytes::Bytes;
+use h3_connection::arrival::MOST_HELD;
 use h3_proto::error::Code;
 use h3_proto::stream::StreamId;
 use h3_unidirectional::control::PeerControl;
 use h3_unidirectional::decoding::Decoding;
 use h3_unidirectional::encoding::Encoding;
 use h3_unidirectional::waiting::WaitingBytes;
-
-/// The bytes of a stream that are held stay below twice this, which no memory has room for.
-pub(crate) const MOST_HELD: usize = 1 << 61;
 
 /// How far a reading came that was refused memory.
 #[derive(Drop)]

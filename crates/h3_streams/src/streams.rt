@@ -1,9 +1,9 @@
 //! The unidirectional streams of an endpoint.
-ghost use Rattle.std.specs.Prelude.{◌≡◌, ◌<◌, ◌^◌, IfOk, IfSome, is_some, unwrap_or};
+ghost use Rattle.std.specs.Prelude.{◌≡◌, ◌<◌, ◌^◌, IfOk, IfSome, is_some};
 ghost use Rattle.std.specs.List.{concat};
 ghost use Rattle.h3_connection.specs.Endpoint.{EndpointHistory, is_critical_id};
 ghost use Rattle.h3_connection.specs.Sending.{pull_peer};
-ghost use Rattle.h3_connection.specs.State.{EndpointState, StandsFor, kept_at};
+ghost use Rattle.h3_connection.specs.State.{EndpointState, StandsFor};
 ghost use Rattle.h3_connection.specs.StreamSets.{stream_at};
 ghost use Rattle.h3_connection.specs.Unidirectional.{is_closed};
 ghost use Rattle.h3_streams.specs.Placed.{placed, first_streams, stream_of_peer, is_critical_at, Answers};

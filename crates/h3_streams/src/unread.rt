@@ -22,7 +22,7 @@ impl ConnectionStreams {
     pub fn held(&self, id: StreamId) -> usize
         ensures { (s : EndpointState) (e : EndpointHistory) → StandsFor (placed s self.now) e → result ≡ counted (held_of_peer e id) }
     {
-        let control = held_by(self.control_on, id, self.peer.unread_len());
+        let control = held_by(self.control_on, id, self.peer.held());
         let encoder = held_by(self.encoder_on, id, self.decoding.unread_len());
         let decoder = held_by(self.decoder_on, id, self.encoding.unread_len());
         self.held_by_stream(id)

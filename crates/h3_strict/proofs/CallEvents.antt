@@ -14,9 +14,10 @@ use Rattle.h3_connection.specs.Outgoing.{Outgoing, nothing_sent, takes_body, tak
 use Rattle.h3_connection.specs.Outgoing.OwnPart.{OwnTrailer}
 use Rattle.h3_connection.specs.OwnIds.{other}
 use Rattle.h3_connection.specs.Pulling.{is_for, is_interim}
-use Rattle.h3_connection.specs.Sections.{encoded_section}
+use Rattle.h3_connection.specs.Sections.{written_section}
 use Rattle.h3_connection.specs.Sending as sender
-use Rattle.h3_connection.specs.Sending.{appended as part_appended, counted, does, encoded, fields_cost, first_of, is_too_large, outgoing_at, sent_bytes, with_outgoing}
+use Rattle.h3_connection.specs.Refusals.{first_of, is_too_large}
+use Rattle.h3_connection.specs.Sending.{appended as part_appended, counted, does, encoded, fields_cost, outgoing_at, sent_bytes, with_outgoing}
 use Rattle.h3_connection.specs.StreamSets.{Streams, set_stream, stream_at}
 use Rattle.h3_connection.specs.StrictSendingLaws.{trailer_taken}
 use Rattle.h3_connection.specs.declared.event.Refusal.{Refusal}
@@ -28,7 +29,7 @@ use Rattle.h3_world.specs.Flow.{Part, flow_bytes}
 use Rattle.h3_world.specs.Flow.Part.{Body, End, Head as HeadPart, Interim, Trailer}
 use Rattle.h3_world.specs.Order.{outgoing_of}
 use Rattle.h3_world.specs.Refusals.{body_refusal, finish_refusal, head_refusal, trailer_refusal}
-use Rattle.h3_world.specs.Sending.{appended, finished, having_encoded, section_sent, sent_body, sent_head, sent_section, sent_trailer}
+use Rattle.h3_world.specs.Sending.{appended, finished, having_encoded, section_sent, sent_body, sent_head, with_section, sent_trailer}
 use Rattle.h3_world.specs.Setup.{announced_at}
 use Rattle.h3_world.specs.Step.{Does}
 use Rattle.h3_world.specs.Streams.{flow, is_open}
@@ -104,7 +105,7 @@ module _ (setup : Setup) (w : World) (ends : Ends) (known : ℕ → Bool) (h : S
       (λ e f final. knows e (ap (λ (x : Answer × Ends). x.0) is ∙ f) final))
     where
       by_interim : (s : Side) (b : Bool) → is_interim head.status ≡ b → TakesHead (end_at ends s) i head → is_open w s i ≡ true → (s ≡ Server → is_interim head.status ≡ false → known i ≡ true)
-          → Tallies setup (sent_section (if b then Interim else HeadPart) w s i (head_fields head)) (with_end ends s (after_head (end_at ends s) i head (strict_at s))) known
+          → Tallies setup (with_section (if b then Interim else HeadPart) w s i (head_fields head)) (with_end ends s (after_head (end_at ends s) i head (strict_at s))) known
       by_interim s true e takes opened knows = interim_tally setup w ends known i head h t strict s (only_server s head (subst (λ d. is_for (other d) head ≡ true) (side_of setup w ends s h) takes.fits) e) opened takes e
       by_interim Server false e takes opened knows = response_tally setup w ends known i head h t strict opened takes e (knows refl e)
       by_interim Client false e takes opened knows = request_tally setup w ends known i head h t strict opened takes
@@ -186,7 +187,7 @@ module _ (setup : Setup) (w : World) (ends : Ends) (known : ℕ → Bool) (h : S
       e = end_at ends s
 
       new : EndpointHistory
-      new = counted (part_appended (encoded (end_at ends s) i (head_fields trailer)) i (OwnTrailer (encoded_section (end_at ends s).encoder i (head_fields trailer)))) (fields_cost (head_fields trailer))
+      new = counted (part_appended (encoded (end_at ends s) i (head_fields trailer)) i (OwnTrailer (written_section (end_at ends s).encoder i (head_fields trailer)))) (fields_cost (head_fields trailer))
 
       goes : TakesTrailer (end_at ends s) i trailer → is_open w s i ≡ true → Tallies setup (sent_trailer w s i trailer) (with_end ends s new) known
       goes takes opened =
@@ -196,7 +197,7 @@ module _ (setup : Setup) (w : World) (ends : Ends) (known : ℕ → Bool) (h : S
           let late = trailer_is_late o.content takes.early in
           let q = having_encoded (party w s) i (head_fields trailer) in
           let part = Trailer (section_sent (party w s) i (head_fields trailer) (flow w s i)) in
-          behind_head s i part (record o { parts = o.parts ++ OwnTrailer (encoded_section (end_at ends s).encoder i (head_fields trailer)) ∷ [] }) new (sent_trailer w s i trailer) there (flows_with_party w s q i part there) refl refl refl refl (
+          behind_head s i part (record o { parts = o.parts ++ OwnTrailer (written_section (end_at ends s).encoder i (head_fields trailer)) ∷ [] }) new (sent_trailer w s i trailer) there (flows_with_party w s q i part there) refl refl refl refl (
             (
               trailer_taken (other s) (end_at ends s).announced (announced_at setup (other s)) (head_fields trailer) (strict_at s) takes.rule,
               ap takes_trailer (sym sends) ∙ late.0,

@@ -7,7 +7,7 @@ use Rattle.h3_qpack.specs.Hearing.{listen}
 use Rattle.h3_connection.specs.Arrivals.{stream_of}
 use Rattle.h3_connection.specs.declared.arrival.Arrival.TheVariants.{BytesCame, EndCame, ResetCame}
 use Rattle.h3_connection.specs.declared.arrival.Arrival.{Arrival}
-use Rattle.h3_connection.specs.Control.{Found, after_peer, if_learned, is_usable, listened_to, read_control, read_decoder, then_decoder, with_table}
+use Rattle.h3_connection.specs.Control.{Found, after_peer, if_learned, is_table_usable, listened_to, read_control, read_decoder, then_decoder, with_table}
 use Rattle.h3_connection.specs.Delivering.{bytes_at, closed_by, delivery_refusal, end_at, given_up_by, given_up_once, heard_as, incoming_at, kept, opened, opened_at, read_unidirectional, reset_at, taken, unidirectional_at, unless_second, with_end}
 use Rattle.h3_connection.specs.Endpoint.{EndpointHistory, Kind, is_second, kind_of}
 use Rattle.h3_connection.specs.Endpoint.Kind.{OwnUnidirectional, PeerUnidirectional, Request, ServerOpened}
@@ -96,7 +96,7 @@ if_learned_same : (before after : Option (List (ℕ × ℕ))) (e : EndpointHisto
 if_learned_same None (Some pairs) e =
     let capacity = unwrap_or (value_of 1 pairs) 0 in
     let blocked = unwrap_or (value_of 7 pairs) 0 in
-    learned_same e pairs (is_usable e.encoder.most_capacity capacity blocked) (with_table e capacity blocked) (record { incoming = refl; outgoing = refl; announced = refl })
+    learned_same e pairs (is_table_usable e.encoder.most_capacity capacity blocked) (with_table e capacity blocked) (record { incoming = refl; outgoing = refl; announced = refl })
 if_learned_same None None e = same_streams e
 if_learned_same (Some pairs) after e = same_streams e
 

@@ -14,7 +14,7 @@ use Rattle.h3_connection.specs.OwnIds.{other}
 use Rattle.h3_connection.specs.Pulling.{is_client}
 use Rattle.h3_connection.specs.Sending.{outgoing_at}
 use Rattle.h3_connection.specs.declared.setup.Announced.{Announced}
-use Rattle.h3_proto.specs.StreamIds.{is_request}
+use Rattle.h3_proto.specs.StreamIds.{is_request_stream}
 use Rattle.h3_world.specs.Ends.{Ends, answered, answers_of_ends, end_at, ends_after, new_ends}
 use Rattle.h3_world.specs.Flow.{Flow, unused}
 use Rattle.h3_world.specs.Headline.{Happens}
@@ -39,7 +39,8 @@ use Rattle.h3_strict.proofs.PullTally.{pull_tally}
 use Rattle.h3_strict.proofs.QuietEvents.{cancel_event, deliver_event, end_event, goaway_event, lost_event, open_event, reset_event}
 use Rattle.h3_strict.proofs.SameWorlds.{answers_more, ends_more, run_last, run_same}
 use Rattle.h3_strict.specs.PlainEnds.{Alike, Judges, NoneJudges, RefusesMalformed, StepsPlainly, is_malformed_refusal, judges, plain_ends, plain_setup}
-use Rattle.h3_strict.specs.ServerKnows.{AnswersKnowing, ServerKnows, ServerKnowsFrom, hands_head, is_done, is_server, knows_behind, tells_head}
+use Rattle.h3_headline.specs.Messages.{is_done}
+use Rattle.h3_strict.specs.ServerKnows.{AnswersKnowing, ServerKnows, ServerKnowsFrom, hands_head, is_server, knows_behind, tells_head}
 use Rattle.h3_strict.specs.Tallies.{Tallies, TalliesFlow, JudgesStrictly, awaited_of, has_head}
 
 -- The law that two ends without strict messages run in a world, over every schedule.
@@ -57,10 +58,10 @@ module _ (laws : Laws) (setup : Setup) (made : IsMadeSetup (plain_setup setup)) 
       → AnswersKnowing known e (answered ends e).0 → Tallies setup w ends known → Tallies setup v (answered ends e).1 (λ id. knows_behind id (known id) e (answered ends e).0)
   event_tally (event.OpenRequest s) w v ends known h g step knows t = open_event setup w ends known h t s v (answered ends (event.OpenRequest s)).0 (answered ends (event.OpenRequest s)).1 refl (answer.Opened (next_id w)) step.step
   event_tally (event.Head s i head) w v ends known h g step knows t =
-      head_event setup w ends known h t strict s i head v (answered ends (event.Head s i head)).0 (answered ends (event.Head s i head)).1 refl step.step (λ side done final. knows (ap is_server side) (ap is_done done) final)
-  event_tally (event.Body s i bytes) w v ends known h g step knows t = body_event setup w ends known h t strict s i bytes v (answered ends (event.Body s i bytes)).0 (answered ends (event.Body s i bytes)).1 refl step.step
-  event_tally (event.Trailer s i trailer) w v ends known h g step knows t = trailer_event setup w ends known h t strict s i trailer v (answered ends (event.Trailer s i trailer)).0 (answered ends (event.Trailer s i trailer)).1 refl step.step
-  event_tally (event.Finish s i) w v ends known h g step knows t = finish_event setup w ends known h t strict s i v (answered ends (event.Finish s i)).0 (answered ends (event.Finish s i)).1 refl step.step
+      head_event setup w ends known h t (λ side. (strict side).0) s i head v (answered ends (event.Head s i head)).0 (answered ends (event.Head s i head)).1 refl step.step (λ side done final. knows (ap is_server side) (ap is_done done) final)
+  event_tally (event.Body s i bytes) w v ends known h g step knows t = body_event setup w ends known h t (λ side. (strict side).0) s i bytes v (answered ends (event.Body s i bytes)).0 (answered ends (event.Body s i bytes)).1 refl step.step
+  event_tally (event.Trailer s i trailer) w v ends known h g step knows t = trailer_event setup w ends known h t (λ side. (strict side).0) s i trailer v (answered ends (event.Trailer s i trailer)).0 (answered ends (event.Trailer s i trailer)).1 refl step.step
+  event_tally (event.Finish s i) w v ends known h g step knows t = finish_event setup w ends known h t (λ side. (strict side).0) s i v (answered ends (event.Finish s i)).0 (answered ends (event.Finish s i)).1 refl step.step
   event_tally (event.Reset s i) w v ends known h g step knows t = reset_event setup w ends known h t s i v (answered ends (event.Reset s i)).0 (answered ends (event.Reset s i)).1 refl step.step
   event_tally (event.Cancel s i) w v ends known h g step knows t = cancel_event setup w ends known h t s i v (answered ends (event.Cancel s i)).0 (answered ends (event.Cancel s i)).1 refl step.step
   event_tally (event.Goaway s i) w v ends known h g step knows t = goaway_event setup w ends known h t s i v (answered ends (event.Goaway s i)).0 (answered ends (event.Goaway s i)).1 refl step.step
@@ -178,8 +179,8 @@ module _ (laws : Laws) (setup : Setup) (made : IsMadeSetup (plain_setup setup)) 
 
 -- Before anything.
 nothing_yet : (setup : Setup) (writer : Side) (id : ℕ) → flow (empty_world setup) writer id ≡ unused
-nothing_yet setup Client id = ap (λ e. e.request) (same_both (is_request id) no_exchange no_exchange (λ e. refl))
-nothing_yet setup Server id = ap (λ e. e.response) (same_both (is_request id) no_exchange no_exchange (λ e. refl))
+nothing_yet setup Client id = ap (λ e. e.request) (same_both (is_request_stream id) no_exchange no_exchange (λ e. refl))
+nothing_yet setup Server id = ap (λ e. e.response) (same_both (is_request_stream id) no_exchange no_exchange (λ e. refl))
 
 awaits_nothing : (writer : Side) → Unsaid ≡ awaited_of writer []
 awaits_nothing Client = refl

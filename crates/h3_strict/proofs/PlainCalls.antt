@@ -3,7 +3,8 @@ use Rattle.std.proofs.Common.{◌≡◌, ℕ, Bool, true, false, List, ◌∷◌
 use Rattle.h3_connection.specs.Control.{Found}
 use Rattle.h3_connection.specs.Delivering.{closed_by, taken}
 use Rattle.h3_connection.specs.Endpoint.{EndpointHistory}
-use Rattle.h3_connection.specs.Sending.{does, first_of, closed_or}
+use Rattle.h3_connection.specs.Refusals.{first_of}
+use Rattle.h3_connection.specs.Sending.{does, closed_or}
 use Rattle.h3_connection.specs.StrictSending.{unless_malformed}
 use Rattle.h3_connection.specs.declared.event.Malformation.{Malformation}
 use Rattle.h3_connection.specs.declared.event.Refusal.{Refusal}

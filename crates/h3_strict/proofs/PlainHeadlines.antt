@@ -15,7 +15,7 @@ use Rattle.h3_world.specs.World.{World, empty_world}
 use Rattle.h3_world.specs.declared.event.Answer.{Answer}
 use Rattle.h3_world.specs.declared.event.Event.{Event}
 use Rattle.h3_world.specs.declared.setup.Setup.{Setup}
-use Rattle.h3_headline.specs.Messages.{Content, IsFrontOf, at_reader, has_finished, has_pulled_end, pulled, sent}
+use Rattle.h3_headline.specs.Messages.{MessageContent, IsFrontOf, at_reader, has_finished, has_pulled_end, pulled, sent}
 use Rattle.h3_headline.specs.Standing.{Stands}
 use Rattle.h3_strict.specs.PlainEnds.{RunsPlainly, answers_without_malformed, plain_ends, plain_setup, without_malformed}
 use Rattle.h3_strict.proofs.PlainMessages.{same_ended, same_faults, same_finished, same_pulled, same_sent, sendable_left}
@@ -54,7 +54,7 @@ module _ (setup : Setup) (events : List Event) (made : IsMadeSetup setup) (senda
   no_fault h = sym (same_faults (answers_of_ends (new_ends setup) events)) ∙ ap (list_any is_connection_fault) runs.answers ∙ h
 
   module _ (side : Side) (id : ℕ) where
-    abbrev read : List Content → List Content
+    abbrev read : List MessageContent → List MessageContent
     read contents = map (at_reader (section_of (announced_at setup side))) contents
 
     same_front : pulled side id left plain_answers ≡ pulled side id events (answers_of_ends (new_ends setup) events)

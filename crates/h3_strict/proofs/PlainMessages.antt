@@ -6,7 +6,7 @@ use Rattle.h3_proto.specs.declared.stream.Side.{Side}
 use Rattle.h3_connection.specs.declared.event.Refusal.{Refusal}
 use Rattle.h3_connection.specs.declared.event.Refusal.TheVariants as refusal
 use Rattle.h3_connection.specs.declared.event.Malformation.{Malformation}
-use Rattle.h3_headline.specs.Messages.{Content, all_of, any_of, ended_in, finished_in, has_finished, has_pulled_end, pulled, pulled_in, sent, sent_in}
+use Rattle.h3_headline.specs.Messages.{MessageContent, all_of, any_of, ended_in, finished_in, has_finished, has_pulled_end, pulled, pulled_in, sent, sent_in}
 use Rattle.h3_world.specs.Headline.{is_connection_fault}
 use Rattle.h3_world.specs.Sendable.{IsSendable}
 use Rattle.h3_world.specs.declared.event.Answer.{Answer}
@@ -40,7 +40,7 @@ module _ (why : Malformation) where
   finishes_none side id (event.Finish acting i) = refl
   finishes_none side id _ = refl
 
-  none_if : (b : Bool) → (if b then [] else []) ≡ (let none : List Content = [] in none)
+  none_if : (b : Bool) → (if b then [] else []) ≡ (let none : List MessageContent = [] in none)
   none_if true = refl
   none_if false = refl
 
@@ -57,14 +57,14 @@ module _ (why : Malformation) where
   ends_none side id _ = refl
 
 -- over all events
-all_if : (f : Event → Answer → List Content) (e : Event) (a : Answer) (events : List Event) (answers : List Answer) (b : Bool) → (b ≡ true → f e a ≡ [])
+all_if : (f : Event → Answer → List MessageContent) (e : Event) (a : Answer) (events : List Event) (answers : List Answer) (b : Bool) → (b ≡ true → f e a ≡ [])
     → all_of f (without_malformed events answers) (answers_without_malformed answers) ≡ all_of f events answers
     → all_of f (if b then without_malformed events answers else e ∷ without_malformed events answers) (if b then answers_without_malformed answers else a ∷ answers_without_malformed answers)
     ≡ f e a ++ all_of f events answers
 all_if f e a events answers true none h = h ∙ sym (ap (λ l. l ++ all_of f events answers) (none refl))
 all_if f e a events answers false none h = ap (λ l. f e a ++ l) h
 
-all_without : (f : Event → Answer → List Content) → ((e : Event) (a : Answer) → is_malformed_refusal a ≡ true → f e a ≡ []) → (events : List Event) (answers : List Answer)
+all_without : (f : Event → Answer → List MessageContent) → ((e : Event) (a : Answer) → is_malformed_refusal a ≡ true → f e a ≡ []) → (events : List Event) (answers : List Answer)
     → all_of f (without_malformed events answers) (answers_without_malformed answers) ≡ all_of f events answers
 all_without f none [] [] = refl
 all_without f none [] (a ∷ answers) = refl

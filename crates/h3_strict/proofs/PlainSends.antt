@@ -12,8 +12,9 @@ use Rattle.h3_connection.specs.Endpoint.{EndpointHistory, is_critical_id}
 use Rattle.h3_connection.specs.Incoming.{Incoming, nothing_came, awaiting}
 use Rattle.h3_connection.specs.Outgoing.{Outgoing, OwnPart, nothing_sent, takes_head, takes_body, takes_end, is_sent_off, with_body, with_finish, with_reset, with_said}
 use Rattle.h3_connection.specs.Outgoing.OwnPart.{OwnTrailer}
-use Rattle.h3_connection.specs.Sections.{encoded_section}
-use Rattle.h3_connection.specs.Sending.{first_of, closed_or, open_refusal, open_request, head_refusal, body_refusal, trailer_refusal, finish_refusal, reset_refusal, goaway_refusal, goaway, cancel_refusal, cancel, send_head, send_body, send_trailer, finish, reset, is_too_large, sent_bytes, counted, encoded, appended, head_part, fields_cost, outgoing_at, asked, awaiting_at, content_of_own, known_of, remembers, saying_at, advance_at, advance}
+use Rattle.h3_connection.specs.Sections.{written_section}
+use Rattle.h3_connection.specs.Refusals.{first_of, is_too_large}
+use Rattle.h3_connection.specs.Sending.{closed_or, open_refusal, open_request, head_refusal, body_refusal, trailer_refusal, finish_refusal, reset_refusal, goaway_refusal, goaway, cancel_refusal, cancel, send_head, send_body, send_trailer, finish, reset, sent_bytes, counted, encoded, appended, head_part, fields_cost, outgoing_at, asked, awaiting_at, content_of_own, known_of, remembers, saying_at, advance_at, advance}
 use Rattle.h3_connection.specs.StreamSets.{Streams, stream_at, set_stream}
 use Rattle.h3_connection.specs.StrictSending.{broken_head, broken_trailer, early_trailer, passes_content, unless_malformed}
 use Rattle.h3_connection.specs.declared.event.Malformation.{Malformation}
@@ -111,7 +112,7 @@ module _ (e : EndpointHistory) (id : ℕ) where
       broken = broken_head e.side e.announced e.peer.settings fields
 
       part : OwnPart
-      part = head_part head (encoded_section e.encoder id fields)
+      part = head_part head (written_section e.encoder id fields)
 
       with_part : Outgoing → Outgoing
       with_part o = record o { parts = o.parts ++ part ∷ [] }
@@ -177,7 +178,7 @@ module _ (e : EndpointHistory) (id : ℕ) where
   trailers_plainly head =
       let fields = head_fields head in
       let broken = broken_trailer e.announced fields in
-      let part : OwnPart = OwnTrailer (encoded_section e.encoder id fields) in
+      let part : OwnPart = OwnTrailer (written_section e.encoder id fields) in
       let new : EndpointHistory = counted (appended (encoded e id fields) id part) (fields_cost fields) in
       does_plainly (trailer_refusal e id head) (trailer_refusal (plainly e) id head) e _ _
       (found (λ o. RulesPlainly (trailer_rules e sent head broken) (trailer_rules e o head None)) (trailer_rules_plain head broken sent))

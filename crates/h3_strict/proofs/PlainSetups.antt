@@ -1,6 +1,6 @@
 -- New endpoints, and setups, without strict messages.
 use Rattle.std.proofs.Common.{◌≡◌, ℕ, Bool, true, false, if◌then◌else◌, List, refl, ap, ◌∙◌}
-use Rattle.std.specs.Prelude.{◌^◌, nat_le, nat_lt, Result, Ok, Err}
+use Rattle.std.specs.Prelude.{◌^◌, ◌-◌, nat_le, nat_lt, Result, Ok, Err}
 use Rattle.h3_proto.specs.Config.{announced}
 use Rattle.h3_proto.specs.declared.config.Choices.{Choices}
 use Rattle.h3_proto.specs.declared.frame.SettingsError.{SettingsError}
@@ -30,7 +30,7 @@ plain_result (Ok a) = Ok (plain a)
 plain_result (Err e) = Err e
 
 abbrev without : Choices → Choices
-without choices = record choices { strict_messages = false }
+without choices = record choices { strict_messages = false; unfinished_limit = 2 ^ 62 - 1 }
 
 announces_plainly : (settings : Result (List (ℕ × ℕ)) SettingsError) (limits : Limits) (choices : Choices) → announced_by settings limits (without choices) ≡ plain_result (announced_by settings limits choices)
 announces_plainly settings limits choices = by_limits (nat_le (2 ^ 30) limits.table) (nat_lt 65535 limits.blocked)
@@ -58,5 +58,5 @@ pub setup_plainly : (setup : Setup) → IsMadeSetup setup → IsMadeSetup (plain
 setup_plainly setup h = record { client = made_plainly setup.client h.client; server = made_plainly setup.server h.server }
 
 pub judges_plainly : (setup : Setup) → JudgesPlainly (plain_setup setup)
-judges_plainly setup Client = refl
-judges_plainly setup Server = refl
+judges_plainly setup Client = (refl, refl)
+judges_plainly setup Server = (refl, refl)

@@ -40,7 +40,7 @@ use Rattle.h3_strict.proofs.StrictStreams.{pull_counts}
 use Rattle.h3_strict.specs.PlainEnds.{plain_ends, plain_setup}
 use Rattle.h3_strict.specs.Plainly.{is_judged, judged_as, judged_at, judged_open, plain_incoming, plainly, tells_malformed}
 use Rattle.h3_strict.specs.StrictPull.{CountsFlow, PullsOn}
-use Rattle.h3_strict.specs.Tallies.{IsFine, Tallies, TalliesFlow, awaited_of}
+use Rattle.h3_strict.specs.Tallies.{IsFine, JudgesStrictly, Tallies, TalliesFlow, awaited_of}
 
 pub given_up_again : (side : Side) (own : Announced) (id : ℕ) (e : EndpointHistory) (i : Incoming) (fault : StreamFault) → i.fault ≡ Some fault → pull_stream side own id e.decoding.decoder i ≡ just (pull.Fault (Stream fault)) i
 unfolding pull_stream
@@ -63,7 +63,7 @@ pub record Receiving (w : World) (e : EndpointHistory) (side : Side) (id : ℕ) 
   pub same : ReceivesFlow (flow w (other side) id) (plain_incoming i)
 
 module _ (laws : Laws) (setup : Setup) (made : IsMadeSetup (plain_setup setup)) (w : World) (ends : Ends) (known : ℕ → Bool) (h : Stands (plain_setup setup) w (plain_ends ends)) (t : Tallies setup w ends known)
-    (strict : (side : Side) → (announced_at setup side).choices.strict_messages ≡ true) (side : Side) (id : ℕ) where
+    (strict : JudgesStrictly setup) (side : Side) (id : ℕ) where
   abbrev pub puller : EndpointHistory
   puller = end_at ends side
 
@@ -106,7 +106,7 @@ module _ (laws : Laws) (setup : Setup) (made : IsMadeSetup (plain_setup setup)) 
       let counts = subst (λ x. CountsFlow side awaited f x) r.here (tallied.receives (ap (λ (x : Incoming). x.fault) r.here ∙ no_fault) more) in
       subst (λ (s : Side). PullsOn side awaited i.response f (pull_stream s puller.announced id puller.decoding.decoder i)) (sym (side_of setup w ends side h))
       (subst (λ (a : Announced). PullsOn side awaited i.response f (pull_stream side a id puller.decoding.decoder i)) (sym (t.announced side))
-      (pull_counts laws.lists side own id puller.decoding.decoder (strict side) awaited i.response came (party w (other side)) f i (sound_flow (plain_setup setup) w (other side) id h.sound there) r.same alive more
+      (pull_counts laws.lists side own id puller.decoding.decoder (strict side).0 (strict side).1 awaited i.response came (party w (other side)) f i (sound_flow (plain_setup setup) w (other side) id h.sound there) r.same alive more
       (endpoint_decodes laws.streams laws.lists (plain_setup setup) w side id (plainly puller) made puller_stands h.sound r.opened alive)
       (next_readable laws.lists side own id came puller.decoding.decoder f (b.sends_there id))
       tallied.unbroken (record { counts = counts; response = refl })))

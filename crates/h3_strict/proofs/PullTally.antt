@@ -4,7 +4,7 @@ use Rattle.std.specs.Prelude.{◌==◌, ◌&&◌, not, unwrap_or, option_map, Ma
 use Rattle.std.proofs.lemmas.Grind.{common_steps}
 use Rattle.h3_messages.specs.Content.{awaited_by}
 use Rattle.h3_messages.specs.declared.content.Content.{Content}
-use Rattle.h3_proto.specs.StreamIds.{is_request}
+use Rattle.h3_proto.specs.StreamIds.{is_request_stream}
 use Rattle.h3_proto.specs.declared.stream.Side.{Side}
 use Rattle.h3_proto.specs.declared.stream.Side.TheVariants.{Client, Server}
 use Rattle.h3_connection.specs.Announcing.{section_of}
@@ -57,7 +57,7 @@ use Rattle.h3_strict.specs.PlainEnds.{plain_ends, plain_setup}
 use Rattle.h3_strict.specs.Plainly.{plain_incoming, plainly}
 use Rattle.h3_strict.specs.ServerKnows.{hands_head, is_server}
 use Rattle.h3_strict.specs.StrictPull.{CountsFlow, PullsOn, flow_after, response_after, response_of_part}
-use Rattle.h3_strict.specs.Tallies.{IsFine, KnowsResponse, Tallies, TalliesFlow, awaited_of, has_head}
+use Rattle.h3_strict.specs.Tallies.{IsFine, JudgesStrictly, KnowsResponse, Tallies, TalliesFlow, awaited_of, has_head}
 use Rattle.h3_strict.specs.Unbroken.{AreUnbroken, content_along}
 
 -- A stream that is not open has a settled answer, which is no head.
@@ -78,26 +78,26 @@ unopened_none Client = refl
 unopened_none Server = refl
 
 closed_settled : (w : World) (side : Side) (id : ℕ) → is_open w side id ≡ false → IsSettled w side id
-closed_settled w side id closed = by_tests (id % 4 == control_id (other side)) refl (is_request id) refl
+closed_settled w side id closed = by_tests (id % 4 == control_id (other side)) refl (is_request_stream id) refl
   where
     rest : Option Pull
     rest = fault_or (flow w (other side) id).fault (if is_over (flow w (other side) id) then Some (pull.Item item.End) else None)
 
-    by_tests : (a : Bool) → (id % 4 == control_id (other side)) ≡ a → (b : Bool) → is_request id ≡ b → IsSettled w side id
+    by_tests : (a : Bool) → (id % 4 == control_id (other side)) ≡ a → (b : Bool) → is_request_stream id ≡ b → IsSettled w side id
     by_tests true e b k = record {
       answer = pull_unidirectional w (other side) id;
-      is = ap (λ x. if x then Some (pull_unidirectional w (other side) id) else (if not (is_request id) then Some pull.NoMessages else (if not (is_open w side id) then Some (pull_unopened side) else rest))) e;
+      is = ap (λ x. if x then Some (pull_unidirectional w (other side) id) else (if not (is_request_stream id) then Some pull.NoMessages else (if not (is_open w side id) then Some (pull_unopened side) else rest))) e;
       no_head = unidirectional_none _;
     }
     by_tests false e false k = record {
       answer = pull.NoMessages;
-      is = ap (λ x. if x then Some (pull_unidirectional w (other side) id) else (if not (is_request id) then Some pull.NoMessages else (if not (is_open w side id) then Some (pull_unopened side) else rest))) e
+      is = ap (λ x. if x then Some (pull_unidirectional w (other side) id) else (if not (is_request_stream id) then Some pull.NoMessages else (if not (is_open w side id) then Some (pull_unopened side) else rest))) e
           ∙ ap (λ x. if not x then Some pull.NoMessages else (if not (is_open w side id) then Some (pull_unopened side) else rest)) k;
       no_head = refl;
     }
     by_tests false e true k = record {
       answer = pull_unopened side;
-      is = ap (λ x. if x then Some (pull_unidirectional w (other side) id) else (if not (is_request id) then Some pull.NoMessages else (if not (is_open w side id) then Some (pull_unopened side) else rest))) e
+      is = ap (λ x. if x then Some (pull_unidirectional w (other side) id) else (if not (is_request_stream id) then Some pull.NoMessages else (if not (is_open w side id) then Some (pull_unopened side) else rest))) e
           ∙ ap (λ x. if not x then Some pull.NoMessages else (if not (is_open w side id) then Some (pull_unopened side) else rest)) k
           ∙ ap (λ x. if not x then Some (pull_unopened side) else rest) closed;
       no_head = unopened_none side;
@@ -108,11 +108,11 @@ open_settled : (w : World) (side : Side) (id : ℕ) → is_open w side id ≡ tr
 open_settled w side id opened =
     let rest = fault_or (flow w (other side) id).fault (if is_over (flow w (other side) id) then Some (pull.Item item.End) else None) in
     let request = (open_there w side id opened).request in
-    ap (λ x. if x then Some (pull_unidirectional w (other side) id) else (if not (is_request id) then Some pull.NoMessages else (if not (is_open w side id) then Some (pull_unopened side) else rest))) (not_own side id request)
+    ap (λ x. if x then Some (pull_unidirectional w (other side) id) else (if not (is_request_stream id) then Some pull.NoMessages else (if not (is_open w side id) then Some (pull_unopened side) else rest))) (not_own side id request)
     ∙ ap (λ x. if not x then Some pull.NoMessages else (if not (is_open w side id) then Some (pull_unopened side) else rest)) request
     ∙ ap (λ x. if not x then Some (pull_unopened side) else rest) opened
   where
-    not_own : (side : Side) (id : ℕ) → is_request id ≡ true → (id % 4 == control_id (other side)) ≡ false
+    not_own : (side : Side) (id : ℕ) → is_request_stream id ≡ true → (id % 4 == control_id (other side)) ≡ false
     not_own Client id e = grind (arith, common_steps, e)
     not_own Server id e = grind (arith, common_steps, e)
 
@@ -241,7 +241,7 @@ head_response (pull.Fault f) side part known s on is next = absurd (cc)
 head_response pull.NoMessages side part known s on is next = absurd (cc)
 
 module _ (laws : Laws) (setup : Setup) (made : IsMadeSetup (plain_setup setup)) (w : World) (ends : Ends) (known : ℕ → Bool) (h : Stands (plain_setup setup) w (plain_ends ends)) (t : Tallies setup w ends known)
-    (strict : (side : Side) → (announced_at setup side).choices.strict_messages ≡ true) (side : Side) (id : ℕ) where
+    (strict : JudgesStrictly setup) (side : Side) (id : ℕ) where
   settled_tally : (x : Pull × EndpointHistory) (v : World) → KeepsBut no_stream (end_at ends side) x.1 → hands_head x.0 ≡ false → v ≡ w
       → Tallies setup v (with_end ends side x.1) (λ j. if is_server side && (id == j) && hands_head x.0 then true else known j)
   settled_tally x v keeps no_head same =

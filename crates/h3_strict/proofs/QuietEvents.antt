@@ -3,7 +3,7 @@ use Rattle.std.proofs.Common.{◌≡◌, inl, inr, ℕ, ◌+◌, ◌*◌, Bool, 
 use Rattle.std.specs.Prelude.{◌==◌, ◌&&◌, ◌||◌, ◌/◌, not, unwrap_or, is_some, option_map}
 use Rattle.std.proofs.Math.Nat.{div-add-mod}
 use Rattle.std.proofs.lemmas.Bool.{le-ltb}
-use Rattle.h3_proto.specs.StreamIds.{is_request}
+use Rattle.h3_proto.specs.StreamIds.{is_request_stream}
 use Rattle.h3_proto.specs.declared.stream.Side.{Side}
 use Rattle.h3_proto.specs.declared.stream.Side.TheVariants.{Client, Server}
 use Rattle.h3_connection.specs.Delivering.{give_up, given_up_once, incoming_at, opened_at}
@@ -14,7 +14,8 @@ use Rattle.h3_connection.specs.Outgoing.{nothing_sent, with_reset}
 use Rattle.h3_connection.specs.OwnIds.{other}
 use Rattle.h3_connection.specs.Pulling.{is_client}
 use Rattle.h3_connection.specs.Sending as sender
-use Rattle.h3_connection.specs.Sending.{does, first_of, outgoing_at, with_outgoing}
+use Rattle.h3_connection.specs.Refusals.{first_of}
+use Rattle.h3_connection.specs.Sending.{does, outgoing_at, with_outgoing}
 use Rattle.h3_connection.specs.Shown.{has_outgoing, is_finished, is_reset, waiting}
 use Rattle.h3_connection.specs.StreamSets.{stream_at}
 use Rattle.h3_connection.specs.StrictSendingLaws.{not_closed}
@@ -46,7 +47,8 @@ use Rattle.h3_strict.proofs.SentTallies.{side_of, stands_at}
 use Rattle.h3_strict.proofs.TallySteps.{quiet_tallies}
 use Rattle.h3_strict.specs.PlainEnds.{plain_ends, plain_setup}
 use Rattle.h3_strict.specs.Plainly.{plain_incoming, plainly}
-use Rattle.h3_strict.specs.ServerKnows.{is_done, is_server}
+use Rattle.h3_headline.specs.Messages.{is_done}
+use Rattle.h3_strict.specs.ServerKnows.{is_server}
 use Rattle.h3_strict.specs.Tallies.{Tallies}
 
 -- what an event leaves of both ends, where only some streams of one of them may be given up
@@ -137,7 +139,7 @@ module _ (setup : Setup) (w : World) (ends : Ends) (known : ℕ → Bool) (h : S
   not_open_yet =
       let n = length w.exchanges in
       let place : (4 * n) / 4 ≡ n = omega (arith, div-add-mod (4 * n) 4) in
-      ap (is_open w Client) h.next_id ∙ ap (λ m. is_request (4 * n) && nat_lt m n) place ∙ ap (λ b. is_request (4 * n) && b) (le-ltb n n (omega arith)) ∙ second (is_request (4 * n))
+      ap (is_open w Client) h.next_id ∙ ap (λ m. is_request_stream (4 * n) && nat_lt m n) place ∙ ap (λ b. is_request_stream (4 * n) && b) (le-ltb n n (omega arith)) ∙ second (is_request_stream (4 * n))
     where
       second : (b : Bool) → (b && false) ≡ false
       second true = refl

@@ -14,7 +14,7 @@ use Rattle.h3_connection.specs.Outgoing.{Outgoing, OwnPart, is_unsent, nothing_s
 use Rattle.h3_connection.specs.Outgoing as sent
 use Rattle.h3_connection.specs.Outgoing.OwnPart.{OwnBody, OwnHead, OwnInterim, OwnTrailer}
 use Rattle.h3_connection.specs.OwnIds.{other}
-use Rattle.h3_connection.specs.Sections.{encoded_section}
+use Rattle.h3_connection.specs.Sections.{written_section}
 use Rattle.h3_connection.specs.declared.setup.Announced.{Announced}
 use Rattle.h3_connection.specs.Pulling.{is_interim}
 use Rattle.h3_connection.specs.Sending.{awaiting_at, content_of_own, content_of_response_to, known_of, outgoing_at}
@@ -25,7 +25,7 @@ use Rattle.h3_world.specs.Ends.{Ends, end_at, with_end}
 use Rattle.h3_world.specs.Flow.{Flow, Part, own_part}
 use Rattle.h3_world.specs.Flow.Part.{Body, End, Head as HeadPart, Interim, Trailer}
 use Rattle.h3_world.specs.Order.{is_over, outgoing_of}
-use Rattle.h3_world.specs.Sending.{appended, having_encoded, section_sent, sent_section}
+use Rattle.h3_world.specs.Sending.{appended, having_encoded, section_sent, with_section}
 use Rattle.h3_world.specs.Setup.{announced_at}
 use Rattle.h3_world.specs.Sound.{AreSent, MayFollow, is_before_head as is_before, is_in_body, is_trailer}
 use Rattle.h3_world.specs.Streams.{flow, is_open, with_flow}
@@ -100,7 +100,7 @@ still_unsent (OwnBody bytes ∷ parts) section h = absurd (cc)
 still_unsent (OwnTrailer s ∷ parts) section h = absurd (cc)
 
 no_end_yet : (o : Outgoing) → is_unsent o.parts ≡ true → takes_end o ≡ true → ⊥
-no_end_yet o unsent takes = by_tests (sent.is_open o) (is_unsent o.parts) unsent takes
+no_end_yet o unsent takes = by_tests (sent.is_unended o) (is_unsent o.parts) unsent takes
   where
     by_tests : (a b : Bool) → b ≡ true → (a && not b) ≡ true → ⊥
     by_tests true true e k = cc
@@ -117,7 +117,7 @@ module _ (setup : Setup) (w : World) (ends : Ends) (known : ℕ → Bool) (i : �
 
   -- An interim head, which a server sends.
   pub interim_tally : (s : Side) → s ≡ Server → is_open w s i ≡ true → TakesHead (end_at ends s) i head → is_interim head.status ≡ true
-      → Tallies setup (sent_section Interim w s i (head_fields head)) (with_end ends s (after_head (end_at ends s) i head (strict_end s))) known
+      → Tallies setup (with_section Interim w s i (head_fields head)) (with_end ends s (after_head (end_at ends s) i head (strict_end s))) known
   interim_tally Client off opened takes interim = absurd (cc)
   interim_tally Server on opened takes interim =
       let e = ends.server in
@@ -127,20 +127,20 @@ module _ (setup : Setup) (w : World) (ends : Ends) (known : ℕ → Bool) (i : �
       let p = said_head e i head (strict_end Server) in
       let sound = sound_flow (plain_setup setup) w Server i h.sound there in
       let along = head_along setup w ends Server i head Client (asked_in (flow w Client i).sent) h opened takes in
-      part_tally setup w (sent_section Interim w Server i (head_fields head)) ends known Server i part p (after_head e i head (strict_end Server))
-      (sends_part w (sent_section Interim w Server i (head_fields head)) ends Server i part p (after_head e i head (strict_end Server)) (flows_with_party w Server q i part there) (head_out e i head (strict_end Server))
+      part_tally setup w (with_section Interim w Server i (head_fields head)) ends known Server i part p (after_head e i head (strict_end Server))
+      (sends_part w (with_section Interim w Server i (head_fields head)) ends Server i part p (after_head e i head (strict_end Server)) (flows_with_party w Server q i part there) (head_out e i head (strict_end Server))
       (λ id. subst (λ (l : Streams Incoming). SameCounts (incoming_at e id) (unwrap_or (stream_at l id) nothing_came)) (sym (server_incoming e i head (strict_end Server) (side_of setup w ends Server h))) (same_counts (incoming_at e id))) refl)
       sound.out refl
       (head_unbroken setup w ends known Server i head h t (strict Server) takes, subst (IsAwaited Client) (sym along) (asked_awaited (flow w Client i).sent))
       (λ ends_now. absurd (no_end_yet p (by_kind (is_interim head.status) interim) ends_now)) t
     where
-      by_kind : (b : Bool) → b ≡ true → is_unsent ((outgoing_at ends.server i).parts ++ (if b then OwnInterim (encoded_section ends.server.encoder i (head_fields head)) else OwnHead (encoded_section ends.server.encoder i (head_fields head))) ∷ []) ≡ true
-      by_kind true e = still_unsent (outgoing_at ends.server i).parts (encoded_section ends.server.encoder i (head_fields head)) (head_is_open (outgoing_at ends.server i) takes.takes).1
+      by_kind : (b : Bool) → b ≡ true → is_unsent ((outgoing_at ends.server i).parts ++ (if b then OwnInterim (written_section ends.server.encoder i (head_fields head)) else OwnHead (written_section ends.server.encoder i (head_fields head))) ∷ []) ≡ true
+      by_kind true e = still_unsent (outgoing_at ends.server i).parts (written_section ends.server.encoder i (head_fields head)) (head_is_open (outgoing_at ends.server i) takes.takes).1
       by_kind false e = absurd (cc)
 
   -- A final head, which a server sends where it knows what was asked.
   pub response_tally : is_open w Server i ≡ true → TakesHead ends.server i head → is_interim head.status ≡ false → known i ≡ true
-      → Tallies setup (sent_section HeadPart w Server i (head_fields head)) (with_end ends Server (after_head ends.server i head (strict_end Server))) known
+      → Tallies setup (with_section HeadPart w Server i (head_fields head)) (with_end ends Server (after_head ends.server i head (strict_end Server))) known
   response_tally opened takes final knows =
       let e = ends.server in
       let there = open_there w Server i opened in
@@ -149,7 +149,7 @@ module _ (setup : Setup) (w : World) (ends : Ends) (known : ℕ → Bool) (i : �
       let request = (flow w Client i).sent in
       let part = HeadPart (section_sent (party w Server) i (head_fields head) f) in
       let p = said_head e i head (strict_end Server) in
-      let v = sent_section HeadPart w Server i (head_fields head) in
+      let v = with_section HeadPart w Server i (head_fields head) in
       let next = with_end ends Server (after_head e i head (strict_end Server)) in
       let sound = sound_flow (plain_setup setup) w Server i h.sound there in
       let along = head_along setup w ends Server i head Client (asked_in request) h opened takes in
@@ -242,7 +242,7 @@ module _ (setup : Setup) (w : World) (ends : Ends) (known : ℕ → Bool) (i : �
   is_there : IsThere w i
   is_there = open_there w Client i opened
 
-  flows_are : (writer : Side) (id : ℕ) → flow (sent_section HeadPart w Client i (head_fields head)) writer id ≡ (if is_on writer id Client i then appended (flow w Client i) request_part else flow w writer id)
+  flows_are : (writer : Side) (id : ℕ) → flow (with_section HeadPart w Client i (head_fields head)) writer id ≡ (if is_on writer id Client i then appended (flow w Client i) request_part else flow w writer id)
   flows_are writer id = flows_with_party w Client (having_encoded (party w Client) i (head_fields head)) i request_part is_there writer id
 
   -- before it no head was sent, neither of the request nor of its response
@@ -333,7 +333,7 @@ module _ (setup : Setup) (w : World) (ends : Ends) (known : ℕ → Bool) (i : �
       ∙ ap (λ d. content_of_own d (known_of (stream_at e.incoming i)) (head_fields head)) (side_of setup w ends Client h))
       (t.flows Client i)
 
-  pub request_tally : Tallies setup (sent_section HeadPart w Client i (head_fields head)) (with_end ends Client after) known
+  pub request_tally : Tallies setup (with_section HeadPart w Client i (head_fields head)) (with_end ends Client after) known
   request_tally = record {
     flows = flows;
     announced = announced;
@@ -342,7 +342,7 @@ module _ (setup : Setup) (w : World) (ends : Ends) (known : ℕ → Bool) (i : �
   }
     where
       v : World
-      v = sent_section HeadPart w Client i (head_fields head)
+      v = with_section HeadPart w Client i (head_fields head)
 
       announced : (side : Side) → (end_at (with_end ends Client after) side).announced ≡ announced_at setup side
       announced Client = t.announced Client

@@ -15,7 +15,8 @@ use Rattle.h3_connection.specs.Outgoing.{Outgoing, is_unsent, takes_body, takes_
 use Rattle.h3_connection.specs.Outgoing as sent
 use Rattle.h3_connection.specs.OwnIds.{other}
 use Rattle.h3_connection.specs.Pulling.{is_for}
-use Rattle.h3_connection.specs.Sending.{body_refusal, finish_refusal, first_of, head_refusal, is_open, is_too_large, outgoing_at, trailer_refusal}
+use Rattle.h3_connection.specs.Refusals.{first_of, is_too_large}
+use Rattle.h3_connection.specs.Sending.{body_refusal, finish_refusal, head_refusal, is_open, outgoing_at, trailer_refusal}
 use Rattle.h3_connection.specs.StrictSending.{broken_head, broken_trailer, early_trailer, passes_content, unless_malformed}
 use Rattle.h3_connection.specs.StrictSendingLaws.{not_closed, not_early, not_malformed, passed}
 use Rattle.h3_connection.specs.declared.event.Malformation.{Malformation}
@@ -109,15 +110,15 @@ finish_rules e id done =
 
 -- where a body may be sent, the end may
 pub body_is_behind : (o : Outgoing) → takes_body o ≡ true → takes_end o ≡ true
-body_is_behind o h = by_tests (sent.is_open o) (not (is_unsent o.parts)) (not (sent.last_is_trailer o.parts)) h
+body_is_behind o h = by_tests (sent.is_unended o) (not (is_unsent o.parts)) (not (sent.last_is_trailer o.parts)) h
   where
     by_tests : (a b c : Bool) → (a && b && c) ≡ true → (a && b) ≡ true
     by_tests true true c e = refl
     by_tests true false c e = absurd (cc)
     by_tests false b c e = absurd (cc)
 
-pub head_is_open : (o : Outgoing) → takes_head o ≡ true → (sent.is_open o ≡ true) × (is_unsent o.parts ≡ true)
-head_is_open o h = by_tests (sent.is_open o) (is_unsent o.parts) h
+pub head_is_open : (o : Outgoing) → takes_head o ≡ true → (sent.is_unended o ≡ true) × (is_unsent o.parts ≡ true)
+head_is_open o h = by_tests (sent.is_unended o) (is_unsent o.parts) h
   where
     by_tests : (a b : Bool) → (a && b) ≡ true → (a ≡ true) × (b ≡ true)
     by_tests true true e = (refl, refl)

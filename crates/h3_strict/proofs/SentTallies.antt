@@ -12,7 +12,7 @@ use Rattle.h3_connection.specs.Incoming.{Incoming, nothing_came}
 use Rattle.h3_connection.specs.Outgoing.{Outgoing, OwnPart, is_unsent, nothing_sent, with_said}
 use Rattle.h3_connection.specs.OwnIds.{other}
 use Rattle.h3_connection.specs.Pulling.{is_client}
-use Rattle.h3_connection.specs.Sections.{encoded_section}
+use Rattle.h3_connection.specs.Sections.{written_section}
 use Rattle.h3_connection.specs.Sending.{appended, asked, awaiting_at, content_of_own, counted, encoded, fields_cost, head_part, known_of, outgoing_at, saying_at}
 use Rattle.h3_connection.specs.StreamSetLaws.{set-here, set-set}
 use Rattle.h3_connection.specs.StreamSets.{Streams, set_stream, stream_at}
@@ -92,19 +92,19 @@ head_along setup w ends s i head reader awaited h opened takes =
 -- What a strict endpoint is after a head.
 module _ (e : EndpointHistory) (i : ℕ) (head : Head) (strict : e.announced.choices.strict_messages ≡ true) where
   head_wrote : OwnPart
-  head_wrote = head_part head (encoded_section e.encoder i (head_fields head))
+  head_wrote = head_part head (written_section e.encoder i (head_fields head))
 
   head_content : Content
   head_content = content_of_own e.side (known_of (stream_at e.incoming i)) (head_fields head)
 
   abbrev pub wrote_head : Outgoing
-  wrote_head = record (outgoing_at e i) { parts = (outgoing_at e i).parts ++ head_part head (encoded_section e.encoder i (head_fields head)) ∷ [] }
+  wrote_head = record (outgoing_at e i) { parts = (outgoing_at e i).parts ++ head_part head (written_section e.encoder i (head_fields head)) ∷ [] }
 
   abbrev pub said_head : Outgoing
   said_head = with_said wrote_head (content_of_own e.side (known_of (stream_at e.incoming i)) (head_fields head))
 
   abbrev pub after_head : EndpointHistory
-  after_head = asked (counted (appended (encoded e i (head_fields head)) i (head_part head (encoded_section e.encoder i (head_fields head)))) (fields_cost (head_fields head))) i (head_fields head)
+  after_head = asked (counted (appended (encoded e i (head_fields head)) i (head_part head (written_section e.encoder i (head_fields head)))) (fields_cost (head_fields head))) i (head_fields head)
 
   pub head_outgoing : after_head.outgoing ≡ set_stream e.outgoing i said_head
   head_outgoing =

@@ -32,6 +32,7 @@ use Rattle.h3_world.specs.Flow.{Flow, Part, Section, flow_bytes, part_bytes}
 use Rattle.h3_world.specs.Flow.Part.{Body, End, Head, Interim, Trailer}
 use Rattle.h3_world.specs.Items.{after_item, after_piece}
 use Rattle.h3_world.specs.Order.{is_end, is_over, last_part, next_part}
+use Rattle.h3_world.specs.Setup.{TakesAnyLength}
 use Rattle.h3_world.specs.Sound.{IsSentSection, IsSoundFlow}
 use Rattle.h3_world.specs.World.{Party}
 use Rattle.h3_headline.specs.Cited.{ListsAreTheirValue}
@@ -81,7 +82,7 @@ in_message_from place (part ∷ parts) h = in_message_from (place_behind place p
 same_section : (s t : Section) → ◌≡◌ {A = Option Section} (Some s) (Some t) → s ≡ t
 same_section s t e = ap (λ o. unwrap_or o s) e
 
-module _ (lists : ListsAreTheirValue) (side : Side) (own : Announced) (id : ℕ) (r : DecoderState) (strict : own.choices.strict_messages ≡ true) (awaited : Content) (known : Option Content) where
+module _ (lists : ListsAreTheirValue) (side : Side) (own : Announced) (id : ℕ) (r : DecoderState) (strict : own.choices.strict_messages ≡ true) (any : TakesAnyLength own) (awaited : Content) (known : Option Content) where
   -- an answer that hands out nothing and tells nothing of the message
   stays : (f : Flow) (q : Pull) (j : Incoming) → tells_malformed q ≡ false → flow_after f q ≡ f → response_after q side (next_part f) known ≡ known → Counting side awaited known f j
       → PullsOn side awaited known f (just q j)
@@ -203,7 +204,7 @@ module _ (lists : ListsAreTheirValue) (side : Side) (own : Announced) (id : ℕ)
         let front = short_front (concat i.unread) (drop f.delivered (flow_bytes f)) (frame_encoding 1 s.encoded) rest all (omega (arith, short)) in
         let missing : f.delivered < length (flow_bytes f) = omega (arith, came_is p f (plain_incoming i) h, whole_length p f part at, short, ap length bytes) in
         subst (PullsOn side awaited known f)
-        (sym (unfinished_waits side own id r i (h.on.ended ∙ not_ended p f h.sound missing) (unfinished_section s.encoded (concat i.unread) sent.has_length short front)))
+        (sym (unfinished_waits side own any id r i (h.on.ended ∙ not_ended p f h.sound missing) (unfinished_section s.encoded (concat i.unread) sent.has_length short front)))
         (stays f pull.Pending i refl refl refl counts)
     | inr there ↦
         let rest = flat_map part_bytes (drop (f.parts_out + 1) f.sent) in
@@ -214,7 +215,7 @@ module _ (lists : ListsAreTheirValue) (side : Side) (own : Announced) (id : ℕ)
         let x = begun_section (left_with i left) s.encoded in
         let some : 0 < length (frame_encoding 1 s.encoded) = section_bytes s.encoded in
         subst (PullsOn side awaited known f)
-        (sym (whole_frame side own id r i (frame.Headers s.encoded) left found refl (omega (arith, some, there)) ∙ frames (left_with i left) refl))
+        (sym (whole_frame side own any id r i (frame.Headers s.encoded) left found refl (omega (arith, some, there)) ∙ frames (left_with i left) refl))
         (section_good f came s x (counts_alike f i x refl refl refl counts) decodes (reads (past_section x) refl h.body_left refl refl))
   ]
     where
@@ -245,7 +246,7 @@ module _ (lists : ListsAreTheirValue) (side : Side) (own : Announced) (id : ℕ)
         let front = short_front (concat i.unread) (drop f.delivered (flow_bytes f)) head (bytes ++ rest) all (omega (arith, short)) in
         let missing : f.delivered < length (flow_bytes f) = omega (arith, came_is p f (plain_incoming i) h, whole_length p f (Body bytes end) at, short, length-append head bytes) in
         subst (PullsOn side awaited known f)
-        (sym (unfinished_waits side own id r i (h.on.ended ∙ not_ended p f h.sound missing) (unfinished_data (length bytes) (concat i.unread) at.sent.1 short front)))
+        (sym (unfinished_waits side own any id r i (h.on.ended ∙ not_ended p f h.sound missing) (unfinished_data (length bytes) (concat i.unread) at.sent.1 short front)))
         (stays f pull.Pending i refl refl refl counts)
     | inr there ↦
         let rest = flat_map part_bytes (drop (f.parts_out + 1) f.sent) in
@@ -260,7 +261,7 @@ module _ (lists : ListsAreTheirValue) (side : Side) (own : Announced) (id : ℕ)
         let said = content_along side awaited (take f.parts_out f.sent) in
         let says : SaysNoMore i.content said = subst (λ n. SaysNoMore i.content (content_along side awaited (take (begun f.parts_out n) f.sent))) h.body_left counts.counts.counts in
         subst (PullsOn side awaited known f)
-        (sym (whole_frame side own id r i (frame.Data (record { 0 = length bytes })) left found full (omega (arith, some, there))
+        (sym (whole_frame side own any id r i (frame.Data (record { 0 = length bytes })) left found full (omega (arith, some, there))
         ∙ ap (λ place. at_frame side own id r side (left_with i left) place (frame.Data (record { 0 = length bytes }))) (h.place ∙ at.place_is) ∙ data_in_body side (left_with i left) (length bytes)))
         (payload_good p f bytes end (begun_payload (left_with i left) (length bytes)) at next unbroken (sym (ap length whole)) at.sent.0 (omega (arith, h.out))
         (subst (SaysNoMore (left_after_data i.content (length bytes))) (sym (along_next side awaited f.sent f.parts_out (Body bytes end) next)) (left_no_more i.content said (length bytes) says)) counts.response)
@@ -279,7 +280,7 @@ module _ (lists : ListsAreTheirValue) (side : Side) (own : Announced) (id : ℕ)
       → IsUnbroken side own (content_along side awaited (take f.parts_out f.sent)) End → Counting side awaited known f i → PullsOn side awaited known f (between_frames side own id r i)
   end_comes p f i h at next unbroken counts =
       let none = nothing_left (concat i.unread) (drop f.delivered (flow_bytes f)) (h.unread ∙ at.bytes_behind ∙ ap (flat_map part_bytes) (at.last refl)) in
-      subst (PullsOn side awaited known f) (sym (nothing_there side own id r i none))
+      subst (PullsOn side awaited known f) (sym (nothing_there side own any id r i none))
       (either (PullsOn side awaited known f) i.ended (at_end side own id r i i.place) (just pull.Pending i) (subst (λ place. PullsOn side awaited known f (at_end side own id r i place)) (sym h.place) (at_place (place_after (take f.parts_out f.sent)) at.place_is)) (stays f pull.Pending i refl refl refl counts))
     where
       said : Content
@@ -319,7 +320,7 @@ module _ (lists : ListsAreTheirValue) (side : Side) (own : Announced) (id : ℕ)
   none_comes p f i h next counts =
       let none = nothing_left (concat i.unread) (drop f.delivered (flow_bytes f)) (h.unread ∙ ap (flat_map part_bytes) (none_left f.sent f.parts_out next)) in
       subst (PullsOn side awaited known f)
-      (sym (nothing_there side own id r i none ∙ ap (λ b. if b then at_end side own id r i i.place else just pull.Pending i) (h.on.ended ∙ still_open f.ended refl)))
+      (sym (nothing_there side own any id r i none ∙ ap (λ b. if b then at_end side own id r i i.place else just pull.Pending i) (h.on.ended ∙ still_open f.ended refl)))
       (stays f pull.Pending i refl refl refl counts)
     where
       finished : (a b : Bool) → (a && b) ≡ true → b ≡ true

@@ -1,7 +1,8 @@
--- What an endpoint that asks for strict messages is without that: the same endpoint, which asks for none and counts no content.
-use Rattle.std.specs.Prelude.{ℕ, Bool, true, false, [], ◌∷◌, Option, Some, None, ◌==◌}
+-- What an endpoint that asks for strict messages, or limits what is unfinished, is without that: the same endpoint, which does neither and
+-- counts no content.
+use Rattle.std.specs.Prelude.{ℕ, Bool, true, false, [], ◌∷◌, Option, Some, None, ◌==◌, ◌||◌, ◌^◌, ◌-◌}
 use Rattle.h3_messages.specs.declared.content.Content.TheVariants.{Unsaid}
-use Rattle.h3_connection.specs.Codes.{frame_unexpected}
+use Rattle.h3_connection.specs.Codes.{excessive_load, frame_unexpected}
 use Rattle.h3_connection.specs.Endpoint.{EndpointHistory, Kind, kind_of}
 use Rattle.h3_connection.specs.Endpoint.Kind.{Request}
 use Rattle.h3_connection.specs.Incoming.{Incoming}
@@ -19,9 +20,9 @@ use Rattle.h3_connection.specs.declared.event.StreamFault.{StreamFault}
 use Rattle.h3_connection.specs.declared.event.StreamFault.TheVariants as stream_fault
 use Rattle.h3_connection.specs.declared.setup.Announced.{Announced}
 
--- it announces the same, and asks for no strict messages
+-- it announces the same, asks for no strict messages, and has no limit on what is unfinished
 abbrev pub plain : Announced → Announced
-plain a = record a { choices = record a.choices { strict_messages = false } }
+plain a = record a { choices = record a.choices { strict_messages = false; unfinished_limit = 2 ^ 62 - 1 } }
 
 -- nothing is known of what content there is, nor of what a response may have
 abbrev pub plain_incoming : Incoming → Incoming
@@ -42,15 +43,15 @@ abbrev pub is_malformed : Refusal → Bool
 is_malformed (refusal.Malformed why) = true
 is_malformed _ = false
 
--- a pull finds a message malformed, or a frame at the wrong place, as a trailer in a tunnel is (RFC 9114, section 4.4). Those answers are
--- more than the rules of strict messages give: any endpoint has some of them
+-- a pull finds a message malformed, or a frame at the wrong place, as a trailer in a tunnel is (RFC 9114, section 4.4), or too long a frame.
+-- Those answers are more than the rules of strict messages and the limit give: any endpoint has some of them
 abbrev pub is_malformation : StreamFault → Bool
 is_malformation (stream_fault.Malformed why) = true
 is_malformation _ = false
 
 abbrev pub faults_message : Fault → Bool
 faults_message (fault.Stream f) = is_malformation f
-faults_message (fault.Connection code) = code == frame_unexpected
+faults_message (fault.Connection code) = (code == frame_unexpected) || (code == excessive_load)
 faults_message fault.Memory = false
 
 abbrev pub tells_malformed : Pull → Bool

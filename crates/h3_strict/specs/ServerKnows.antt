@@ -12,6 +12,7 @@ use Rattle.h3_world.specs.declared.event.Answer.{Answer}
 use Rattle.h3_world.specs.declared.event.Answer.TheVariants as answer
 use Rattle.h3_world.specs.declared.event.Event.{Event}
 use Rattle.h3_world.specs.declared.event.Event.TheVariants as event
+use Rattle.h3_headline.specs.Messages.{is_done}
 
 abbrev pub is_head : Item → Bool
 is_head (item.Head h) = true
@@ -25,10 +26,6 @@ hands_head _ = false
 abbrev pub tells_head : Answer → Bool
 tells_head (answer.Pulled p) = hands_head p
 tells_head _ = false
-
-abbrev pub is_done : Answer → Bool
-is_done answer.Done = true
-is_done _ = false
 
 abbrev pub is_server : Side → Bool
 is_server Client = false

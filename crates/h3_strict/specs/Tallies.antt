@@ -16,7 +16,7 @@ use Rattle.h3_world.specs.Ends.{Ends, end_at}
 use Rattle.h3_world.specs.Flow.{Flow, Part}
 use Rattle.h3_world.specs.Flow.Part.{Head}
 use Rattle.h3_world.specs.Order.{is_over}
-use Rattle.h3_world.specs.Setup.{announced_at}
+use Rattle.h3_world.specs.Setup.{TakesAnyLength, announced_at}
 use Rattle.h3_world.specs.Streams.{flow}
 use Rattle.h3_world.specs.World.{World}
 use Rattle.h3_world.specs.declared.setup.Setup.{Setup}
@@ -68,6 +68,10 @@ pub record Tallies (setup : Setup) (w : World) (ends : Ends) (known : ℕ → Bo
   pub asked : (id : ℕ) → has_head (flow w Server id).sent ≡ true → has_head (flow w Client id).sent ≡ true
   pub knows : (id : ℕ) → known id ≡ true → KnowsResponse (flow w Client id).sent (incoming_at ends.server id)
 
--- Both ask for strict messages.
+-- it asks for strict messages, and has no limit on what is unfinished
+abbrev pub IsStrict : Announced → Type 0
+IsStrict a = (a.choices.strict_messages ≡ true) × TakesAnyLength a
+
+-- and so does each side
 abbrev pub JudgesStrictly : Setup → Type 0
-JudgesStrictly setup = (side : Side) → (announced_at setup side).choices.strict_messages ≡ true
+JudgesStrictly setup = (side : Side) → IsStrict (announced_at setup side)

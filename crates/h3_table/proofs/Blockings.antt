@@ -8,8 +8,9 @@ use Rattle.std.proofs.lemmas.List.Sums.{sum_by-cons}
 use Rattle.h3_table.specs.Tracking.{without_newest}
 use Rattle.h3_table.specs.InOrder.{put_last}
 use Rattle.h3_table.specs.Blocking.{repeated, counts_from}
-use Rattle.h3_table.specs.ReleasingLaws.{none_newest, other_stays}
-use Rattle.h3_table.specs.InOrderLaws.{last_stays}
+use Rattle.h3_table.specs.ReleasingLaws.{none_newest}
+use Rattle.h3_table.proofs.Releases.{other_stays}
+use Rattle.h3_table.proofs.PutLast.{last_stays}
 
 All-repeated : (P : ℕ → Type 0) (times n : ℕ) (rest : List ℕ) → P n → AllByRecursion P rest → AllByRecursion P (repeated times n rest)
 All-repeated P zero n rest p h = h

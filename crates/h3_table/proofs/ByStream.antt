@@ -8,11 +8,12 @@ use Rattle.std.proofs.lemmas.List.Elements.{filter-append}
 use Rattle.h3_table.specs.declared.tracking.NamedEntries.{NamedEntries}
 use Rattle.h3_table.specs.declared.tracking.TrackedSection.{TrackedSection}
 use Rattle.h3_table.specs.Tracking.{is_of, newest_named, without_newest, without_oldest_of}
-use Rattle.h3_table.specs.InOrder.{put_first, put_last, in_order}
+use Rattle.h3_table.specs.InOrder.{put_first, put_last, in_order, Ascends}
 use Rattle.h3_table.specs.Sections.{IsWithoutOne, IsOldestTaken, IsNewestTaken}
 use Rattle.h3_table.specs.ByStream.{of_stream, HaveSame, HasOneMore, IsFirstTaken, IsLastTaken}
-use Rattle.h3_table.specs.ReleasingLaws.{none_newest, none_removed, last_goes}
-use Rattle.h3_table.specs.InOrderLaws.{Ascends, first_stays, filter_in_order, length_in_order, in_order_more, Ascends_in_order, oldest_in_order, newest_in_order}
+use Rattle.h3_table.specs.ReleasingLaws.{none_newest, none_removed}
+use Rattle.h3_table.proofs.Releases.{last_goes}
+use Rattle.h3_table.specs.InOrderLaws.{first_stays, filter_in_order, length_in_order, in_order_more, Ascends_in_order, oldest_in_order, newest_in_order}
 
 pub itself : (stream : ℕ) → (stream == stream) ≡ true
 itself stream = grind (arith, common_steps)

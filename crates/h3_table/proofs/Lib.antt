@@ -10,3 +10,6 @@ pub mod Alones
 pub mod Rows
 pub mod StreamSets
 pub mod Laid
+pub mod PutLast
+pub mod Evictions
+pub mod Releases

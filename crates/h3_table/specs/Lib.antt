@@ -10,6 +10,7 @@ pub mod InOrder
 pub mod Sections
 pub mod SectionsInside
 pub mod ByStream
+pub mod PlacedSectionLaws
 pub mod PlacedSectionInside
 pub mod Places
 pub mod PlaceRow

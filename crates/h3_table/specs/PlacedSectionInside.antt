@@ -1,6 +1,5 @@
 -- What the fields of a `PlacedSection` stand for.
-use Rattle.std.specs.Prelude.{◌≡◌, ◌*◌, ◌/◌}
-use Rattle.std.proofs.Common.{ap, arith}
+use Rattle.std.specs.Prelude.{◌*◌, ◌/◌}
 use Rattle.h3_table.specs.declared.tracking.TrackedSection.{TrackedSection}
 use Rattle.h3_table.specs.declared.places.PlacedSection.TheInside.{Inside}
 
@@ -9,7 +8,3 @@ placed_section_inside s = record { stream = s.index * 4; oldest = s.oldest; newe
 
 abbrev pub placed_section_of : TrackedSection → Inside
 placed_section_of t = record { index = t.stream / 4; oldest = t.oldest; newest = t.newest }
-
--- No bit of the fields is lost in the section.
-pub placed_section_is_back : (s : Inside) → placed_section_of (placed_section_inside s) ≡ s
-placed_section_is_back s = let same : s.index * 4 / 4 ≡ s.index = omega arith in ap (λ n. record s { index = n }) same

@@ -1,5 +1,5 @@
 -- How the table changes as insertions are added.
-use Rattle.std.proofs.Common.{◌≡◌, ℕ, ◌+◌, ◌-◌, ◌≤◌, List, [], ◌∷◌, ◌++◌, length, refl, arith, length-append}
+use Rattle.std.proofs.Common.{◌≡◌, ℕ, ◌+◌, ◌-◌, ◌≤◌, List, [], ◌∷◌, ◌++◌, length, arith, length-append}
 use Rattle.std.proofs.lemmas.Grind.{common_steps}
 use Rattle.std.proofs.lemmas.List.Sums.{sum_by-append}
 use Rattle.h3_field.specs.Field.{Field, field_size, section_size}
@@ -17,11 +17,6 @@ length-table-append capacity (f ∷ fs) gs =
 
 pub evictions-append : (capacity : ℕ) (fs gs : List Field) → evictions capacity fs ≤ evictions capacity (fs ++ gs)
 evictions-append capacity fs gs = omega (arith, length-table-append capacity fs gs, length-append fs gs, length-table capacity fs)
-
--- what fits stays whole
-pub table-whole : (capacity : ℕ) (fs : List Field) → section_size fs ≤ capacity → table capacity fs ≡ fs
-table-whole capacity [] h = refl
-table-whole capacity (f ∷ fs) h = grind (arith, common_steps)
 
 -- a field that fits is there, and the others have what it leaves
 pub table-one : (capacity : ℕ) (fs : List Field) (f : Field) → field_size f ≤ capacity → table capacity (fs ++ f ∷ []) ≡ table (capacity - field_size f) fs ++ f ∷ []

@@ -1,7 +1,6 @@
 //! How many sections wait for insertions that are not known to be received (RFC 9204, section 2.1.2).
-ghost use Rattle.std.specs.Prelude.{◌≡◌, ℕ, ◌-◌, ◌<◌, ◌≤◌, ◌^◌, ◌==◌, length, drop, sum, [], OnErr, OnOk};
+ghost use Rattle.std.specs.Prelude.{◌≡◌, ℕ, ◌-◌, ◌<◌, ◌^◌, ◌==◌, length, drop, sum, [], OnErr, OnOk};
 ghost use Rattle.h3_table.specs.Blocking.{BlockingState, counts_from, with_count, without_count, with_increment};
-ghost use Rattle.h3_table.specs.Tracking.{without_newest};
 
 use std::alloc::{AllocError, Global};
 use std::collections::VecDeque;

@@ -1,5 +1,5 @@
 //! The entries of a dynamic table (RFC 9204, section 3.2): present ones end to end in one row of bytes, each with its number.
-ghost use Rattle.std.specs.Prelude.{◌≡◌, ℕ, ◌+◌, ◌-◌, ◌*◌, ◌^◌, ◌<◌, ◌≤◌, List, [], ◌∷◌, ◌++◌, length, map, min, drop, true, Some, None, IfSome, IfNone, IfOk, OnErr, OnOk};
+ghost use Rattle.std.specs.Prelude.{◌≡◌, ℕ, ◌+◌, ◌-◌, ◌*◌, ◌^◌, ◌<◌, ◌≤◌, length, map, min, Some, None, IfSome, IfNone, OnErr, OnOk};
 ghost use Rattle.h3_field.specs.Field.{Field, field_size, section_size};
 ghost use Rattle.h3_table.specs.Table.{table};
 ghost use Rattle.h3_table.specs.TableState.{TableState, no_entries, evicted, entry_at, newest_in, with_entry, with_capacity};
@@ -15,12 +15,12 @@ use std::alloc::{AllocError, Global};
 use std::marker::Model;
 
 /// Numbers of entries stay below this one.
-pub const MOST_INSERTIONS: usize = 4611686018427387904;
+pub const MOST_INSERTIONS: usize = 1 << 62;
 
 /// The greatest capacity of a table, in bytes: 2^30 - 1. Of fields without bytes a table of it has 33,554,431 entries, with a record of
 /// about 50 bytes and, at an encoder, three numbers of 8 bytes for each, in rings that have room for up to twice as many; of long fields
 /// it has 1 GiB of bytes, in a block of at most a quarter more. A search walks the entries of one slot of 256.
-pub const MAX_CAPACITY: usize = 1073741823;
+pub const MAX_CAPACITY: usize = (1 << 30) - 1;
 
 /// The size of a field in a table, stopping at the greatest number (RFC 9204, section 3.2.1).
 pub fn size_of(field: &HeaderField) -> usize
@@ -105,6 +105,7 @@ impl Model for Entries {
 }
 
 impl Entries {
+    /// An empty table of capacity 0 (RFC 9204, section 3.2.3). It takes no memory.
     pub fn new(alloc: Global) -> Entries
         ensures { result ≡ no_entries }
     {
@@ -116,6 +117,7 @@ impl Entries {
         }
     }
 
+    /// The capacity in bytes, as entries count (RFC 9204, section 3.2.1): the sizes of the entries never sum to more.
     pub fn capacity(&self) -> usize
         ensures value { result ≡ self.now.capacity }
         ensures small { result < 2 ^ 30 }

@@ -1,5 +1,5 @@
 //! Fields in the order of their insertion, whose bytes lie end to end.
-ghost use Rattle.std.specs.Prelude.{◌≡◌, ℕ, ◌+◌, ◌-◌, ◌*◌, ◌/◌, ◌^◌, ◌<◌, ◌≤◌, ◌++◌, ◌∷◌, [], List, length, take, drop, slice_get, slice_index_or, min, max, Some, None, IfSome, IfNone, IfOk, OnOk, OnErr};
+ghost use Rattle.std.specs.Prelude.{◌≡◌, ◌+◌, ◌-◌, ◌*◌, ◌/◌, ◌^◌, ◌<◌, ◌≤◌, ◌++◌, ◌∷◌, [], List, length, take, drop, slice_get, slice_index_or, min, max, Some, None, IfSome, IfNone, IfOk, OnOk, OnErr};
 ghost use Rattle.std.specs.Vec.{vec_len, vec_capacity};
 ghost use Rattle.std.specs.VecDeque.{deque_len, deque_capacity};
 ghost use Rattle.h3_field.specs.Field.{Field, field_size, section_size};
@@ -43,12 +43,14 @@ impl<'t> Model for Entry<'t> {
 }
 
 impl<'t> Entry<'t> {
+    /// The bytes of the name.
     pub fn name(&self) -> &[u8]
         ensures { result.now ≡ self.now.name }
     {
         self.name
     }
 
+    /// The bytes of the value.
     pub fn value(&self) -> &[u8]
         ensures { result.now ≡ self.now.value }
     {

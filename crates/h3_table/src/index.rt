@@ -64,6 +64,7 @@ pub struct Index {
 }
 
 impl Index {
+    /// An index of no entries. It takes no memory.
     pub fn new(alloc: Global) -> Index
         ensures { (evicted : ℕ) → IsIndexed result evicted [] }
     {

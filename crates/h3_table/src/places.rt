@@ -27,7 +27,8 @@ struct PlacedSection {
 
 impl Model for PlacedSection {
     ghost use Rattle.h3_table.specs.declared.tracking.TrackedSection.{TrackedSection};
-    ghost use Rattle.h3_table.specs.PlacedSectionInside.{placed_section_inside, placed_section_of, placed_section_is_back};
+    ghost use Rattle.h3_table.specs.PlacedSectionInside.{placed_section_inside, placed_section_of};
+    ghost use Rattle.h3_table.specs.PlacedSectionLaws.{placed_section_is_back};
 
     ghost Value = { TrackedSection };
 

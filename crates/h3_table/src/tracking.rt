@@ -78,6 +78,7 @@ fn take_one(references: &mut VecDeque<usize>, place: usize)
 }
 
 impl Tracking {
+    /// Tracks no sections, over a table that never had an entry. It takes no memory.
     pub fn new(alloc: Global) -> Tracking
         ensures { result ≡ record { evicted = 0; made = 0; sections = [] } }
     {

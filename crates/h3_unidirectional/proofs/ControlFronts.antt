@@ -7,7 +7,8 @@ use Rattle.h3_wire.specs.Frames.{Front, Whole, Unknown, Refused, Unfinished, fra
 use Rattle.h3_wire.specs.Known.{known, Gives}
 use Rattle.h3_wire.specs.declared.frame.errors.FrameStreamError.{FrameStreamError}
 use Rattle.h3_wire.specs.declared.frame.errors.FrameStreamError.TheVariants as stream
-use Rattle.h3_wire.specs.KnownLaws.{IsKnown, known-other}
+use Rattle.h3_wire.specs.KnownLaws.{known-other}
+use Rattle.h3_wire.specs.Fronts.{IsKnown}
 use Rattle.h3_wire.specs.declared.proto.frame.PayloadLen.{PayloadLen}
 use Rattle.h3_wire.specs.declared.proto.frame.Frame.{Frame}
 use Rattle.h3_wire.specs.declared.proto.frame.Frame.TheVariants as frame

@@ -6,9 +6,10 @@ use Rattle.h3_coding.specs.Varint.{varint_at}
 use Rattle.h3_coding.specs.VarintLaws.{cases_number, begins, of_front}
 use Rattle.h3_wire.specs.declared.proto.frame.Frame.TheVariants as frame
 use Rattle.h3_wire.specs.Frames.{Front, Whole, Unknown, Refused, Unfinished, frame_of, with_head, frame_at}
-use Rattle.h3_wire.specs.FrameLaws.{IsFinished, IsBefore, with_more, at_no_kind, at_no_number, at_head, frame_of-finished, frame_of-more, frame_at-nil}
+use Rattle.h3_wire.specs.FrameLaws.{at_no_kind, at_no_number, at_head, frame_of-finished, frame_of-more, frame_at-nil}
+use Rattle.h3_wire.specs.Fronts.{IsFinished, IsBefore, with_more, IsKnown}
 use Rattle.h3_wire.specs.Known.{known}
-use Rattle.h3_wire.specs.KnownLaws.{IsKnown, cases_front, known-unknown, known-other, unknown_shorter}
+use Rattle.h3_wire.specs.KnownLaws.{cases_front, known-unknown, known-other, unknown_shorter}
 
 -- a whole frame, or a whole unknown one, is followed by these bytes
 abbrev pub Precedes : Front → List ℕ → Type 0

@@ -3,6 +3,7 @@ ghost use Rattle.std.specs.Prelude.{◌≡◌, ◌+◌, ◌^◌, ◌<◌, ◌≤
 ghost use Rattle.std.specs.List.{concat};
 ghost use Rattle.h3_proto.specs.declared.stream.Side.{Side};
 ghost use Rattle.h3_wire.specs.Known.{refusal};
+ghost use Rattle.h3_wire.specs.UnknownSize.{held_length};
 ghost use Rattle.h3_connection.specs.Codes.{settings_code, refusal_code};
 ghost use Rattle.h3_connection.specs.Lasts.{last_id};
 ghost use Rattle.h3_connection.specs.PeerReading.{Peer, nothing_read, with_unread, is_no_goaway, read_goaway, read_max_push, read_frame, refused_code, read_peer};
@@ -143,6 +144,14 @@ impl PeerControl {
         ensures { result ≡ length self.now.unread }
     {
         self.unread.len()
+    }
+
+    /// How many of them are held: none while an unknown frame is under way at the front. Where memory was refused its bytes are let go by the
+    /// next reading.
+    pub fn held(&self) -> usize
+        ensures { result ≡ held_length self.now.unread }
+    {
+        self.unread.held()
     }
 
     /// The bytes that are not read. Its `tries` say how often the head of the frame under way was tried, or else that of the last frame

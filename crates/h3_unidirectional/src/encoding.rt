@@ -6,7 +6,7 @@ ghost use Rattle.h3_qpack.specs.Drafting.{IsSent, IsCutOff};
 ghost use Rattle.h3_qpack.specs.EncoderHistory.{EncoderHistory, no_table, withdrawn, writing_on};
 ghost use Rattle.h3_qpack.specs.EncoderState.{encoder_state};
 ghost use Rattle.h3_connection.specs.Codes.{decoder_stream_error};
-ghost use Rattle.h3_connection.specs.Control.{is_usable};
+ghost use Rattle.h3_connection.specs.Control.{is_table_usable};
 ghost use Rattle.h3_connection.specs.Listeners.{Listens};
 ghost use Rattle.h3_unidirectional.specs.Faults.{IsReplyFaultOf, UnlessMemory};
 ghost use Rattle.h3_unidirectional.specs.Fronts.{StopsListening};
@@ -15,7 +15,7 @@ ghost use Rattle.h3_unidirectional.specs.Learned.{having_learned, usable_capacit
 use crate::waiting::{WaitingBytes, drop_front};
 use h3_field::HeaderField;
 use h3_field::waiting::{Wait, decoder_wait, decoder_wait_behind};
-use h3_proto::config::Choices;
+use h3_proto::config::{Choices, MAX_BLOCKED_STREAMS, MAX_TABLE_CAPACITY};
 use h3_proto::error::Code;
 use h3_proto::frame::{SettingId, Settings};
 use h3_proto::stream::StreamId;
@@ -184,9 +184,9 @@ impl Encoding {
 
 /// Whether the table may be used with these limits, where it has at most so much.
 fn is_usable(most: u64, capacity: u64, blocked: u64) -> bool
-    ensures { result ≡ is_usable most capacity blocked }
+    ensures { result ≡ is_table_usable most capacity blocked }
 {
-    most.min(capacity) > 0 && capacity < 1 << 30 && blocked < 1 << 16
+    most.min(capacity) > 0 && capacity <= MAX_TABLE_CAPACITY && blocked <= MAX_BLOCKED_STREAMS
 }
 
 /// The fault that a refused instruction is, unless memory was refused.

@@ -1,5 +1,5 @@
 //! The own control, encoder and decoder streams (RFC 9114, section 6.2.1; RFC 9204, section 4.2): what waits on each.
-ghost use Rattle.std.specs.Prelude.{◌≡◌, ◌<◌, ◌≤◌, ◌^◌, ◌++◌, length, IfOk, IfNone, IfSome, OnOk, OnErr};
+ghost use Rattle.std.specs.Prelude.{◌≡◌, ◌≤◌, ◌++◌, length, IfOk, OnOk, OnErr};
 ghost use Rattle.h3_coding.specs.Encodings.{encoding};
 ghost use Rattle.h3_field.specs.Instruction.{decoder_bytes};
 ghost use Rattle.h3_field.specs.Instruction.DecoderInstruction.{Acknowledge, CancelStream};
@@ -11,8 +11,9 @@ use crate::waiting::WaitingBytes;
 use h3_coding::coding::BufMutExt;
 use h3_coding::varint::VarInt;
 use h3_proto::frame::Settings;
-use h3_proto::stream::{Side, StreamId};
+use h3_proto::stream::{Side, StreamId, StreamType};
 use h3_qpack::{ack_header, stream_canceled};
+use h3_wire::proto::frame::FrameType;
 use std::alloc::{AllocError, Global};
 use std::marker::Model;
 
@@ -41,10 +42,10 @@ fn control_start(alloc: Global, settings: &Settings) -> Result<Vec<u8>, AllocErr
 {
     let mut bytes = Vec::new(alloc);
     let len = settings.payload_len() as u64;
-    let Ok(()) = bytes.write_var(0) else {
+    let Ok(()) = bytes.write(StreamType::CONTROL) else {
         return Err(AllocError);
     };
-    let Ok(()) = bytes.write_var(4) else {
+    let Ok(()) = bytes.write(FrameType::SETTINGS) else {
         return Err(AllocError);
     };
     let Ok(()) = bytes.write_var(len) else {
@@ -57,12 +58,11 @@ fn control_start(alloc: Global, settings: &Settings) -> Result<Vec<u8>, AllocErr
 }
 
 /// A stream that begins with its type.
-fn typed(alloc: Global, kind: u64) -> Result<Vec<u8>, AllocError>
-    requires { kind < 2 ^ 62 }
+fn typed(alloc: Global, kind: StreamType) -> Result<Vec<u8>, AllocError>
     ensures { IfOk result (λ bytes. bytes.items ≡ encoding kind) }
 {
     let mut bytes = Vec::new(alloc);
-    let Ok(()) = bytes.write_var(kind) else {
+    let Ok(()) = bytes.write(kind) else {
         return Err(AllocError);
     };
     Ok(bytes)
@@ -73,7 +73,7 @@ fn goaway_frame(alloc: Global, id: VarInt) -> Result<Vec<u8>, AllocError>
     ensures { IfOk result (λ bytes. bytes.items ≡ goaway_encoding id) }
 {
     let mut bytes = Vec::new(alloc);
-    let Ok(()) = bytes.write_var(7) else {
+    let Ok(()) = bytes.write(FrameType::GOAWAY) else {
         return Err(AllocError);
     };
     let Ok(()) = bytes.write_var(id.size() as u64) else {
@@ -120,8 +120,8 @@ impl OwnStreams {
         ensures { IfOk result (λ own. own ≡ first_own settings.now) }
     {
         let control = control_start(alloc, settings)?;
-        let encoder = typed(alloc, 2)?;
-        let decoder = typed(alloc, 3)?;
+        let encoder = typed(alloc, StreamType::ENCODER)?;
+        let decoder = typed(alloc, StreamType::DECODER)?;
         Ok(OwnStreams {
             control: WaitingBytes::from_vec(control),
             encoder: WaitingBytes::from_vec(encoder),

@@ -209,7 +209,7 @@ impl UnidirectionalStream {
             return Err(bytes);
         }
         bytes.advance(passed);
-        self.unread.push_reserved(bytes);
+        self.unread.keep_reserved(bytes);
         self.kind = Kind::Session(session);
         Ok(())
     }
@@ -278,8 +278,8 @@ impl UnidirectionalStream {
         }
     }
 
-    /// Bytes come: they tell the role, or are for it. What a session got is stored as it is, without a copy. An `Err` changes
-    /// nothing, and hands the bytes back. What tells a role stands in front of the bytes that are for it.
+    /// Bytes come: they tell the role, or are for it. What a session got is stored as it is, with no copy but of small pieces. An `Err`
+    /// changes nothing, and hands the bytes back. What tells a role stands in front of the bytes that are for it.
     #[tactic(auto, using(crate::proofs::Heads::tells_first))]
     pub fn receive(&mut self, bytes: Bytes) -> Result<Received, Bytes>
         requires { length (concat self.old.unread) + length bytes < 2 ^ 64 }

@@ -1,7 +1,8 @@
 -- A round of reading the type of a stream.
 use Rattle.std.proofs.Common.{◌≡◌, ◌≤◌, ℕ, List, ◌++◌, length, arith, sym, ◌∙◌, ap, ap₂, subst, append_assoc, length-append}
 use Rattle.std.specs.List.{concat}
-use Rattle.h3_wire.specs.Source.{Answer, Asked, asked_then, coming}
+use Rattle.h3_wire.specs.Source.{Answer, Asked, coming}
+use Rattle.h3_wire.proofs.Asking.{asked_then}
 use Rattle.h3_wire.specs.Accepting.{Accepting, start_from, all_left}
 
 -- The bytes from old on begin as those from start on.

@@ -4,8 +4,8 @@ use Rattle.std.proofs.lemmas.List.{take_at, drop_at, drop-append-le, length-drop
 use Rattle.h3_coding.specs.VarintLaws.{shorter}
 use Rattle.h3_wire.specs.declared.proto.frame.Frame.TheVariants as frame
 use Rattle.h3_wire.specs.Frames.{Whole, IsHeadersFrame, frame_at, has_head}
-use Rattle.h3_wire.specs.FrameLaws.{at_headers}
-use Rattle.h3_wire.specs.TryLaws.{head_is_whole}
+use Rattle.h3_wire.proofs.FrameRows.{at_headers}
+use Rattle.h3_wire.proofs.Tries.{head_is_whole}
 
 -- a head has bytes
 pub head_some : (bytes : List ℕ) (head size : ℕ) → IsHeadersFrame bytes head size → 0 < head

@@ -8,7 +8,7 @@ use Rattle.h3_coding.specs.VarintLaws.{of_front, reads_more}
 use Rattle.h3_wire.specs.declared.proto.frame.Frame.TheVariants as frame
 use Rattle.h3_wire.specs.Frames.{Whole, BeginsWithHead, IsHeadersFrame, frame_at}
 use Rattle.h3_wire.specs.FrameLaws.{at_head}
-use Rattle.h3_wire.specs.PieceLaws.{first_within}
+use Rattle.h3_wire.proofs.Chunks.{first_within}
 use Rattle.h3_wire.specs.Pieces.{first_bytes, first_size}
 
 -- a form of one byte

@@ -6,14 +6,15 @@ use Rattle.h3_wire.specs.declared.quic.Poll.TheVariants.{Ready, Pending}
 use Rattle.h3_wire.specs.declared.quic.StreamErrorIncoming.{StreamErrorIncoming}
 use Rattle.h3_wire.specs.declared.quic.StreamErrorIncoming.TheVariants as incoming
 use Rattle.h3_wire.specs.Source.{Answer, Polls, coming, Asked, done, more}
-use Rattle.h3_wire.specs.Given.{AddsPieces, asked_no_more, gave_once}
+use Rattle.h3_wire.specs.Given.{AddsPieces, asked_no_more}
+use Rattle.h3_wire.proofs.GivenPieces.{gave_once}
 use Rattle.h3_wire.proofs.PieceLemmas.{with_piece-some, concat-with_piece}
 use Rattle.h3_wire.specs.Streams.{Buffered, ReadsMore, Tells, AsksFirst, stream_error}
 use Rattle.h3_wire.specs.declared.frame.errors.FrameStreamError.{FrameStreamError}
 use Rattle.h3_wire.specs.declared.stream.Received.{Received}
 use Rattle.h3_wire.specs.declared.stream.Received.TheVariants as received
 use Rattle.h3_wire.specs.Asking.{Asks, no_room, once}
-use Rattle.h3_wire.specs.AskingLaws.{same_buffered}
+use Rattle.h3_wire.proofs.Asking.{same_buffered}
 
 -- What a read of an open stream leaves.
 pub record Reading {S : Type 0} (rest : S → List ℕ) (answers : S → Answer → S → Type 0) (old new : Buffered S) : Type 0 where

@@ -12,9 +12,9 @@ use Rattle.h3_wire.specs.Known.{known, refusal}
 use Rattle.h3_wire.specs.KnownLaws.{known-more, known_known}
 use Rattle.h3_wire.specs.Streams.{Framing, left, is_open, PollsFrame, PollsData}
 use Rattle.h3_wire.specs.Reads.{Framed, reads}
-use Rattle.h3_wire.specs.ReadLaws.{closed_is, reads-known, reads-whole, reads-refused, reads-bytes}
+use Rattle.h3_wire.proofs.ReadAlike.{closed_is, reads-known, reads-whole, reads-refused, reads-bytes}
 use Rattle.h3_wire.specs.ReadsOn.{reads_on, ReadsFrame, ReadsData}
-use Rattle.h3_wire.specs.GivesLaws.{whole_behind, refused_behind}
+use Rattle.h3_wire.proofs.Gives.{whole_behind, refused_behind}
 
 -- bytes with the same known part read alike, whatever follows
 alike : (a b more : List ℕ) → known a ≡ known b → reads (payload.Bytes 0) (a ++ more) ≡ reads (payload.Bytes 0) (b ++ more)

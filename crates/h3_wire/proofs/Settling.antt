@@ -4,7 +4,8 @@ use Rattle.h3_wire.specs.Frames.{Front, Whole, Unknown, Refused, Unfinished, fra
 use Rattle.h3_wire.specs.declared.proto.frame.PayloadLen.{PayloadLen}
 use Rattle.h3_wire.specs.declared.proto.frame.Frame.{Frame}
 use Rattle.h3_wire.specs.Known.{known, IsWaiting}
-use Rattle.h3_wire.specs.KnownLaws.{IsKnown, known-other, known-unknown}
+use Rattle.h3_wire.specs.KnownLaws.{known-other, known-unknown}
+use Rattle.h3_wire.specs.Fronts.{IsKnown}
 
 -- the bytes begin with a known front
 pub settled : (start mid new : List ℕ) (x : Front) → frame_at mid ≡ x → IsKnown x → known mid ≡ known start → new ≡ mid → (new ≡ known start) × (frame_at new ≡ x)

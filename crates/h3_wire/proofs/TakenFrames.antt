@@ -9,7 +9,7 @@ use Rattle.h3_wire.specs.declared.frame.errors.FrameStreamError.{FrameStreamErro
 use Rattle.h3_wire.specs.declared.frame.errors.FrameStreamError.TheVariants as stream
 use Rattle.h3_wire.specs.Source.{Answer, coming}
 use Rattle.h3_wire.specs.Frames.{Whole, frame_at}
-use Rattle.h3_wire.specs.GivesLaws.{whole_behind, refused_behind, same_behind, gives_fewer}
+use Rattle.h3_wire.proofs.Gives.{whole_behind, refused_behind, same_behind, gives_fewer}
 use Rattle.h3_wire.specs.Known.{known, Gives, IsWaiting, refusal}
 use Rattle.h3_wire.specs.Streams.{Buffered, Framing, left, Tells, PollsFrame}
 

@@ -1,7 +1,6 @@
 -- What holds of the frame that bytes begin with, whatever follows them.
-use Rattle.std.proofs.Common.{◌≡◌, ℕ, ◌+◌, ◌-◌, ◌<◌, ◌≤◌, ◌==◌, Bool, true, false, List, [], ◌∷◌, ◌++◌, length, take, drop, nat_lt, arith, sym, ◌∙◌, ap, subst, refl, inl, inr, ◌⊎◌, append-nil, length-append, Option, Some, None, Result, Ok, Err, if◌then◌else◌}
-use Rattle.std.specs.Option.{is_some}
-use Rattle.std.proofs.lemmas.List.{take-append-le, drop-append-le, length-drop, nil_from_length}
+use Rattle.std.proofs.Common.{◌≡◌, ℕ, ◌+◌, ◌-◌, ◌<◌, ◌≤◌, ◌==◌, Bool, true, false, List, [], ◌∷◌, ◌++◌, length, take, drop, nat_lt, arith, sym, ◌∙◌, ap, subst, refl, inl, inr, ◌⊎◌, length-append, Option, Some, None, Result, Ok, Err, if◌then◌else◌}
+use Rattle.std.proofs.lemmas.List.{take-append-le, drop-append-le, length-drop}
 use Rattle.std.proofs.lemmas.Bool.{cases_lt, lt-ltb, le-ltb}
 use Rattle.h3_coding.specs.Varint.{varint_at}
 use Rattle.h3_coding.specs.VarintLaws.{cases_number, reads_more, shorter, none_at_end}
@@ -10,8 +9,8 @@ use Rattle.h3_proto.specs.declared.frame.SettingsError.{SettingsError}
 use Rattle.h3_wire.specs.declared.proto.frame.PayloadLen.{PayloadLen}
 use Rattle.h3_wire.specs.declared.proto.frame.Frame.{Frame}
 use Rattle.h3_wire.specs.declared.proto.frame.Frame.TheVariants as frame
-use Rattle.h3_wire.specs.declared.proto.frame.FrameError.TheVariants as error
-use Rattle.h3_wire.specs.Frames.{Front, Whole, Unknown, Refused, Unfinished, alone, one_number, settings_frame, promise_frame, is_http2, frame_of, with_head, with_number, with_kind, frame_at, is_followed, has_head}
+use Rattle.h3_wire.specs.Frames.{Front, Whole, Unknown, Refused, Unfinished, alone, one_number, settings_frame, promise_frame, is_http2, frame_of, with_head, with_number, with_kind, frame_at}
+use Rattle.h3_wire.specs.Fronts.{IsFinished, with_more, IsBefore, tested, IsShorter}
 
 -- the three ways in which a front is read
 pub at_no_kind : (bytes : List ℕ) → varint_at bytes ≡ None → frame_at bytes ≡ Unfinished (length bytes + 1)
@@ -25,30 +24,6 @@ at_no_number kind bytes mid e k = ap (with_kind (length bytes)) e ∙ ap (with_n
 pub at_head : (kind number : ℕ) (bytes mid behind : List ℕ) → varint_at bytes ≡ Some (kind, mid) → varint_at mid ≡ Some (number, behind) → frame_at bytes ≡ with_head (length bytes) kind number behind
 unfolding frame_at
 at_head kind number bytes mid behind e k = ap (with_kind (length bytes)) e ∙ ap (with_number (length bytes) kind) k
-
--- a HEADERS frame whose field section is there
-pub at_headers : (number : ℕ) (bytes mid behind : List ℕ) → varint_at bytes ≡ Some (1, mid) → varint_at mid ≡ Some (number, behind) → number ≤ length behind
-    → frame_at bytes ≡ Whole (frame.Headers (take number behind)) (drop number behind)
-unfolding frame_of
-at_headers number bytes mid behind e k there = at_head 1 number bytes mid behind e k ∙ rw (le-ltb (length behind) number there) refl
-
--- a front that is no longer waiting
-abbrev pub IsFinished : Front → Type 0
-IsFinished (Unfinished least) = ⊥
-IsFinished _ = Unit {0}
-
--- the same front with more bytes at its end
-abbrev pub with_more : Front → List ℕ → Front
-with_more (Whole f rest) more = Whole f (rest ++ more)
-with_more (Unknown kind rest) more = Unknown kind (rest ++ more)
-with_more (Refused e) more = Refused e
-with_more (Unfinished least) more = Unfinished least
-
--- what follows a frame or an unknown frame is r
-abbrev pub IsBefore : List ℕ → Front → Type 0
-IsBefore r (Whole f rest) = rest ≡ r
-IsBefore r (Unknown kind rest) = rest ≡ r
-IsBefore r _ = Unit {0}
 
 -- a fact that holds in both branches
 either : (P : Front → Type 0) (b : Bool) (x y : Front) → P x → P y → P (if b then x else y)
@@ -115,15 +90,7 @@ frame_of-more kind payload r more =
     (both R (kind == 13) _ _ _ _ (one_number-more (varint_at payload) (λ id. frame.MaxPushId id) r more)
     (both R (is_http2 kind) _ _ _ _ refl refl))))))
 
--- `with_head`, where its two tests have values
-abbrev tested : Bool → Bool → ℕ → ℕ → ℕ → List ℕ → Front
-tested a b size kind number behind =
-    if a then Whole (frame.WebTransportStream number) behind
-    else (if b then Whole (frame.Data (record { 0 = number })) behind
-    else (if nat_lt (length behind) number then Unfinished (size - length behind + number)
-    else frame_of kind (take number behind) (drop number behind)))
-
-short_or_whole : (number : ℕ) (behind : List ℕ) → (nat_lt (length behind) number ≡ true) × (length behind < number) ⊎ (nat_lt (length behind) number ≡ false) × (number ≤ length behind)
+pub short_or_whole : (number : ℕ) (behind : List ℕ) → (nat_lt (length behind) number ≡ true) × (length behind < number) ⊎ (nat_lt (length behind) number ≡ false) × (number ≤ length behind)
 short_or_whole number behind = elim (cases_lt (length behind) number) [
   | inl h ↦ inl (lt-ltb (length behind) number h, h)
   | inr h ↦ inr (le-ltb (length behind) number h, h)
@@ -159,86 +126,6 @@ frame_at-more bytes more h = elim (cases_number bytes) [
   ]
 ]
 
--- a test has one value
-pub truth_apart : true ≡ false → ⊥
-truth_apart e = absurd (cc)
-
-pub least_of : {a b : ℕ} → Unfinished a ≡ Unfinished b → a ≡ b
-least_of e = cc
-
-nothing_more : (front more : List ℕ) (least : ℕ) → frame_at front ≡ Unfinished least → frame_at front ≡ Unfinished (length front + 1) → length (front ++ more) < least → (k : ℕ) × (frame_at (front ++ more) ≡ Unfinished k)
-nothing_more front more least e here few =
-    let asked : least ≡ length front + 1 = least_of (sym e ∙ here) in
-    let none : more ≡ [] = nil_from_length more (omega (arith, length-append front more, asked, few)) in
-    (least, ap (λ l. frame_at (front ++ l)) none ∙ ap frame_at (append-nil front) ∙ e)
-
-waits_payload : (size size' kind number least : ℕ) (behind more : List ℕ) → (nat_lt (length behind) number ≡ true) × (length behind < number) ⊎ (nat_lt (length behind) number ≡ false) × (number ≤ length behind)
-    → tested false false size kind number behind ≡ Unfinished least → length behind ≤ size → size' ≡ size + length more → size' < least → (k : ℕ) × (tested false false size' kind number (behind ++ more) ≡ Unfinished k)
-waits_payload size size' kind number least behind more (inl t) e inside sum few =
-    let asked : size - length behind + number ≡ least = least_of (rw t.0 at e) in
-    let short : length (behind ++ more) < number = omega (arith, length-append behind more, asked, few, inside, sum) in
-    (size' - length (behind ++ more) + number, rw (lt-ltb (length (behind ++ more)) number short) refl)
-waits_payload size size' kind number least behind more (inr t) e inside sum few =
-    let f = rw t.0 at e in
-    absurd (subst IsFinished f (frame_of-finished kind (take number behind) (drop number behind)).0)
-
-waits_on : (a b : Bool) (size size' kind number least : ℕ) (behind more : List ℕ) → tested a b size kind number behind ≡ Unfinished least → length behind ≤ size → size' ≡ size + length more → size' < least
-    → (k : ℕ) × (tested a b size' kind number (behind ++ more) ≡ Unfinished k)
-waits_on true b size size' kind number least behind more e inside sum few = absurd (cc)
-waits_on false true size size' kind number least behind more e inside sum few = absurd (cc)
-waits_on false false size size' kind number least behind more e inside sum few = waits_payload size size' kind number least behind more (short_or_whole number behind) e inside sum few
-
--- fewer bytes than a waiting front asked for still wait
-pub frame_at-fewer : (front more : List ℕ) (least : ℕ) → frame_at front ≡ Unfinished least → length (front ++ more) < least → (k : ℕ) × (frame_at (front ++ more) ≡ Unfinished k)
-frame_at-fewer front more least e few = elim (cases_number front) [
-  | inl none ↦ nothing_more front more least e (at_no_kind front none) few
-  | inr k ↦ elim (cases_number k.1) [
-    | inl none ↦ nothing_more front more least e (at_no_number k.0 front k.1 k.2 none) few
-    | inr n ↦
-        let here = sym (at_head k.0 n.0 front k.1 n.1 k.2 n.2) ∙ e in
-        let there = at_head k.0 n.0 (front ++ more) (k.1 ++ more) (n.1 ++ more) (reads_more k.0 front k.1 more k.2) (reads_more n.0 k.1 n.1 more n.2) in
-        let inside : length n.1 ≤ length front = omega (arith, shorter k.0 front k.1 k.2, shorter n.0 k.1 n.1 n.2) in
-        let still = waits_on (k.0 == 0x41) (k.0 == 0) (length front) (length (front ++ more)) k.0 n.0 least n.1 more here inside (length-append front more) few in
-        (still.0, there ∙ still.1)
-  ]
-]
-
-payload_there : (size size' kind number least : ℕ) (behind more : List ℕ) → (nat_lt (length behind) number ≡ true) × (length behind < number) ⊎ (nat_lt (length behind) number ≡ false) × (number ≤ length behind)
-    → tested false false size kind number behind ≡ Unfinished least → length behind ≤ size → size' ≡ size + length more → least ≤ size' → IsFinished (tested false false size' kind number (behind ++ more))
-payload_there size size' kind number least behind more (inl t) e inside sum enough =
-    let asked : size - length behind + number ≡ least = least_of (rw t.0 at e) in
-    let there : number ≤ length (behind ++ more) = omega (arith, length-append behind more, asked, enough, inside, sum) in
-    rw (le-ltb (length (behind ++ more)) number there) (frame_of-finished kind (take number (behind ++ more)) (drop number (behind ++ more))).0
-payload_there size size' kind number least behind more (inr t) e inside sum enough =
-    let f = rw t.0 at e in
-    absurd (subst IsFinished f (frame_of-finished kind (take number behind) (drop number behind)).0)
-
-head_and_payload : (a b : Bool) (size size' kind number least : ℕ) (behind more : List ℕ) → tested a b size kind number behind ≡ Unfinished least → length behind ≤ size → size' ≡ size + length more → least ≤ size'
-    → IsFinished (tested a b size' kind number (behind ++ more))
-head_and_payload true b size size' kind number least behind more e inside sum enough = absurd (cc)
-head_and_payload false true size size' kind number least behind more e inside sum enough = absurd (cc)
-head_and_payload false false size size' kind number least behind more e inside sum enough = payload_there size size' kind number least behind more (short_or_whole number behind) e inside sum enough
-
--- as many bytes as a front with a whole head asked for wait no longer
-pub frame_at-enough : (front more : List ℕ) (least : ℕ) → has_head front ≡ true → frame_at front ≡ Unfinished least → least ≤ length (front ++ more) → IsFinished (frame_at (front ++ more))
-frame_at-enough front more least whole e enough = elim (cases_number front) [
-  | inl none ↦ absurd (truth_apart (sym whole ∙ ap is_followed none))
-  | inr k ↦ elim (cases_number k.1) [
-    | inl none ↦ absurd (truth_apart (sym whole ∙ ap is_followed k.2 ∙ ap is_some none))
-    | inr n ↦
-        let here = sym (at_head k.0 n.0 front k.1 n.1 k.2 n.2) ∙ e in
-        let there = at_head k.0 n.0 (front ++ more) (k.1 ++ more) (n.1 ++ more) (reads_more k.0 front k.1 more k.2) (reads_more n.0 k.1 n.1 more n.2) in
-        let inside : length n.1 ≤ length front = omega (arith, shorter k.0 front k.1 k.2, shorter n.0 k.1 n.1 n.2) in
-        subst IsFinished (sym there) (head_and_payload (k.0 == 0x41) (k.0 == 0) (length front) (length (front ++ more)) k.0 n.0 least n.1 more here inside (length-append front more) enough)
-  ]
-]
-
--- what follows a front is shorter
-abbrev pub IsShorter : ℕ → Front → Type 0
-IsShorter n (Whole f rest) = length rest < n
-IsShorter n (Unknown kind rest) = length rest < n
-IsShorter n _ = Unit {0}
-
 before_shorter : (n : ℕ) (r : List ℕ) (x : Front) → IsBefore r x → length r < n → IsShorter n x
 before_shorter n r (Whole f rest) e h = rw e h
 before_shorter n r (Unknown kind rest) e h = rw e h
@@ -264,28 +151,3 @@ frame_at-shorter bytes = elim (cases_number bytes) [
 -- no bytes are the front of a frame
 pub frame_at-nil : frame_at [] ≡ Unfinished 1
 frame_at-nil = at_no_kind [] none_at_end
-
--- worked by hand
-pub row_unknown : frame_at (22 ∷ 4 ∷ 0 ∷ 255 ∷ 128 ∷ 0 ∷ 3 ∷ 1 ∷ 2 ∷ []) ≡ Unknown 22 (3 ∷ 1 ∷ 2 ∷ [])
-unfolding frame_at frame_of varint_at
-row_unknown = refl
-
-pub row_cancel : frame_at (3 ∷ 1 ∷ 2 ∷ []) ≡ Whole (frame.CancelPush 2) []
-unfolding frame_at frame_of varint_at
-row_cancel = refl
-
-pub row_settings : frame_at (4 ∷ 4 ∷ 0 ∷ 255 ∷ 128 ∷ []) ≡ Unfinished 6
-unfolding frame_at frame_of varint_at
-row_settings = refl
-
-pub row_data : frame_at (0 ∷ 255 ∷ []) ≡ Unfinished 3
-unfolding frame_at frame_of varint_at
-row_data = refl
-
-pub row_goaway : frame_at (7 ∷ 2 ∷ 0 ∷ 9 ∷ []) ≡ Refused error.Malformed
-unfolding frame_at frame_of varint_at
-row_goaway = refl
-
-pub row_session : frame_at (64 ∷ 65 ∷ []) ≡ Unfinished 3
-unfolding frame_at frame_of varint_at
-row_session = refl

@@ -2,13 +2,9 @@
 use Rattle.std.proofs.Common.{◌≡◌, ℕ, ◌<◌, ◌≤◌, List, ◌++◌, length, arith, sym, ◌∙◌, ap, subst, refl, inl, inr, ◌⊎◌, zero, suc}
 use Rattle.std.proofs.lemmas.List.{nil_from_length}
 use Rattle.h3_wire.specs.Frames.{Front, Whole, Unknown, Refused, Unfinished, frame_at}
-use Rattle.h3_wire.specs.FrameLaws.{IsFinished, with_more, IsShorter, frame_at-more, frame_at-shorter, frame_at-nil}
+use Rattle.h3_wire.specs.FrameLaws.{frame_at-more, frame_at-shorter, frame_at-nil}
+use Rattle.h3_wire.specs.Fronts.{IsFinished, with_more, IsShorter, IsKnown}
 use Rattle.h3_wire.specs.Known.{past_unknown, skipped, known}
-
--- no unknown frame
-abbrev pub IsKnown : Front → Type 0
-IsKnown (Unknown kind rest) = ⊥
-IsKnown _ = Unit {0}
 
 pub cases_front : (x : Front) → ((kind : ℕ) × (rest : List ℕ) × (x ≡ Unknown kind rest)) ⊎ IsKnown x
 cases_front (Unknown kind rest) = inl (kind, rest, refl)

@@ -1,23 +1,23 @@
 -- What holds of pieces whose first bytes are passed.
-use Rattle.std.proofs.Common.{◌≡◌, ℕ, zero, suc, ◌+◌, ◌-◌, ◌<◌, ◌≤◌, List, [], ◌∷◌, ◌++◌, length, take, drop, arith, refl, sym, subst, ◌∙◌, ap, inl, inr, length-append, if◌then◌else◌, Option, Some, None}
+use Rattle.std.proofs.Common.{◌≡◌, ℕ, zero, suc, ◌+◌, ◌-◌, ◌<◌, ◌≤◌, List, [], ◌∷◌, ◌++◌, length, drop, arith, refl, sym, ◌∙◌, ap, inl, inr, length-append, if◌then◌else◌}
 use Rattle.std.specs.List.{concat}
-use Rattle.std.proofs.lemmas.List.{drop-append-le, drop_all, drop-drop, length-drop, length-take}
+use Rattle.std.proofs.lemmas.List.{drop-append-le, drop_all, drop-drop, length-drop}
 use Rattle.std.proofs.lemmas.List.Folds.{concat-append}
-use Rattle.std.proofs.lemmas.Bool.{cases_lt, lt-ltb, le-ltb, lt-leb, le-leb}
+use Rattle.std.proofs.lemmas.Bool.{cases_lt, lt-ltb, le-ltb}
 use Rattle.std.proofs.Math.Seq.{drop-append-add}
-use Rattle.h3_wire.specs.Pieces.{without, first_size, chunk_of, IsRest, ending}
+use Rattle.h3_wire.specs.Pieces.{without, IsRest, ending}
 
 pub without-none : (pieces : List (List ℕ)) → without 0 pieces ≡ pieces
 without-none [] = refl
 without-none (p ∷ pieces) = refl
 
 -- within the first piece
-without-within : (n : ℕ) (p : List ℕ) (pieces : List (List ℕ)) → 0 < n → n < length p → without n (p ∷ pieces) ≡ drop n p ∷ pieces
+pub without-within : (n : ℕ) (p : List ℕ) (pieces : List (List ℕ)) → 0 < n → n < length p → without n (p ∷ pieces) ≡ drop n p ∷ pieces
 without-within zero p pieces some h = absurd (omega (arith, some))
 without-within (suc n) p pieces some h = ap (λ b. if b then drop (suc n) p ∷ pieces else without (suc n - length p) pieces) (lt-ltb (suc n) (length p) h)
 
 -- and past it
-without-past : (n : ℕ) (p : List ℕ) (pieces : List (List ℕ)) → 0 < n → length p ≤ n → without n (p ∷ pieces) ≡ without (n - length p) pieces
+pub without-past : (n : ℕ) (p : List ℕ) (pieces : List (List ℕ)) → 0 < n → length p ≤ n → without n (p ∷ pieces) ≡ without (n - length p) pieces
 without-past zero p pieces some h = absurd (omega (arith, some))
 without-past (suc n) p pieces some h = ap (λ b. if b then drop (suc n) p ∷ pieces else without (suc n - length p) pieces) (le-ltb (suc n) (length p) h)
 
@@ -91,53 +91,3 @@ pub rest_is : (size : ℕ) (all new : List (List ℕ)) → size ≡ length (conc
 rest_is size all new e a =
     let there = ap length (ap concat a.2 ∙ concat-without a.0 all) ∙ length-drop a.0 (concat all) in
     a.2 ∙ ap (λ n. without n all) (omega (arith, e, there, a.1))
-
-pub first_within : (pieces : List (List ℕ)) → first_size pieces ≤ length (concat pieces)
-first_within [] = omega arith
-first_within (p ∷ pieces) = omega (arith, length-append p (concat pieces))
-
-abbrev front_in : Option (List ℕ) × List (List ℕ) → Option (List ℕ)
-front_in x = x.0
-
-abbrev others_in : Option (List ℕ) × List (List ℕ) → List (List ℕ)
-others_in x = x.1
-
-abbrev bytes_in : Option (List ℕ) → List ℕ
-bytes_in None = []
-bytes_in (Some bytes) = bytes
-
--- the first piece is longer, or is taken whole
-chunk_cut : (size : ℕ) (p : List ℕ) (pieces : List (List ℕ)) → size < length p → chunk_of size (p ∷ pieces) ≡ (Some (take size p), drop size p ∷ pieces)
-chunk_cut size p pieces more = rw (lt-leb (length p) size more) refl
-
-chunk_whole : (size : ℕ) (p : List ℕ) (pieces : List (List ℕ)) → length p ≤ size → chunk_of size (p ∷ pieces) ≡ (Some p, pieces)
-chunk_whole size p pieces all = rw (le-leb (length p) size all) refl
-
--- where the first piece goes so far, its first bytes are so many
-pub chunk_size : (size : ℕ) (pieces others : List (List ℕ)) (front : List ℕ) → size ≤ first_size pieces → (Some front, others) ≡ chunk_of size pieces → length front ≡ size
-chunk_size size [] others front h e = let none : Some front ≡ None = ap front_in e in absurd (cc)
-chunk_size size (p ∷ pieces) others front h e = elim (cases_lt size (length p)) [
-  | inl more ↦
-      let is : front ≡ take size p = ap (λ x. bytes_in (front_in x)) (e ∙ chunk_cut size p pieces more) in
-      ap length is ∙ omega (arith, length-take size p, more)
-  | inr all ↦
-      let is : front ≡ p = ap (λ x. bytes_in (front_in x)) (e ∙ chunk_whole size p pieces all) in
-      ap length is ∙ omega (arith, h, all)
-]
-
--- behind some bytes of the first piece the others are left
-pub chunk_rest : (size : ℕ) (pieces others : List (List ℕ)) (front : List ℕ) → 0 < size → 0 < length front → (Some front, others) ≡ chunk_of size pieces → IsRest pieces others
-chunk_rest size [] others front n some e = let none : Some front ≡ None = ap front_in e in absurd (cc)
-chunk_rest size (p ∷ pieces) others front n some e = elim (cases_lt size (length p)) [
-  | inl more ↦
-      let behind : others ≡ drop size p ∷ pieces = ap others_in (e ∙ chunk_cut size p pieces more) in
-      let inside : size ≤ length (p ++ concat pieces) = omega (arith, more, length-append p (concat pieces)) in
-      (size, inside, behind ∙ sym (without-within size p pieces n more))
-  | inr all ↦
-      let is : front ≡ p = ap (λ x. bytes_in (front_in x)) (e ∙ chunk_whole size p pieces all) in
-      let behind : others ≡ pieces = ap others_in (e ∙ chunk_whole size p pieces all) in
-      let here : 0 < length p = subst (λ l. 0 < length l) is some in
-      let inside : length p ≤ length (p ++ concat pieces) = omega (arith, length-append p (concat pieces)) in
-      let none : length p - length p ≡ 0 = omega arith in
-      (length p, inside, behind ∙ sym (without-past (length p) p pieces here (omega arith) ∙ ap (λ k. without k pieces) none ∙ without-none pieces))
-]

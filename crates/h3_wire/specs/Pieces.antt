@@ -49,3 +49,13 @@ IsRest all new = (count : ℕ) × (count ≤ length (concat all)) × (new ≡ wi
 -- the last bytes of the pieces, so many
 abbrev pub ending : ℕ → List (List ℕ) → List (List ℕ)
 ending size all = without (length (concat all) - size) all
+
+abbrev pub front_in : Option (List ℕ) × List (List ℕ) → Option (List ℕ)
+front_in x = x.0
+
+abbrev pub others_in : Option (List ℕ) × List (List ℕ) → List (List ℕ)
+others_in x = x.1
+
+abbrev pub bytes_in : Option (List ℕ) → List ℕ
+bytes_in None = []
+bytes_in (Some bytes) = bytes

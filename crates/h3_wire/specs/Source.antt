@@ -1,6 +1,5 @@
 -- What a source of bytes answers.
 use Rattle.std.specs.Prelude.{◌≡◌, ℕ, ◌<◌, Bool, true, false, List, [], ◌++◌, length, Result, Ok, Err, Option, Some, None}
-use Rattle.std.proofs.Common.{subst}
 use Rattle.h3_wire.specs.declared.quic.Poll.{Poll}
 use Rattle.h3_wire.specs.declared.quic.Poll.TheVariants.{Ready, Pending}
 use Rattle.h3_wire.specs.declared.quic.StreamErrorIncoming.{StreamErrorIncoming}
@@ -24,8 +23,3 @@ pub data Asked {S : Type 0} (answers : S → Answer → S → Type 0) : S → S 
 abbrev pub coming : Bool → List ℕ → List ℕ
 coming true rest = []
 coming false rest = rest
-
--- askings one after another
-pub asked_then : {S : Type 0} (answers : S → Answer → S → Type 0) (s m t : S) → Asked answers s m → Asked answers m t → Asked answers s t
-asked_then answers s m t (done a b e) q = subst (λ x. Asked answers x t) e q
-asked_then answers s m t (more a mid b answer h p) q = more a mid t answer h (asked_then answers mid b t p q)

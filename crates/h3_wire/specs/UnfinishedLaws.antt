@@ -1,27 +1,16 @@
 -- Less than a frame that was written is the unfinished front of a frame.
-use Rattle.std.proofs.Common.{◌≡◌, ℕ, ◌+◌, ◌-◌, ◌<◌, ◌≤◌, ◌^◌, ◌==◌, false, List, [], ◌++◌, length, take, drop, codes, arith, lit<, sym, subst, ◌∙◌, ap, refl, inl, inr, length-append, take-append-drop, Option, Some, None}
+use Rattle.std.proofs.Common.{◌≡◌, ℕ, ◌+◌, ◌-◌, ◌<◌, ◌≤◌, ◌^◌, ◌==◌, false, List, [], ◌++◌, length, take, drop, arith, sym, ◌∙◌, ap, refl, inl, inr, length-append, take-append-drop, Some, None}
 use Rattle.std.proofs.lemmas.List.{take-append-le, length-take, length-drop}
-use Rattle.std.proofs.lemmas.Bool.{cases_lt, lt-ltb, ne_eqb}
+use Rattle.std.proofs.lemmas.Bool.{cases_lt, lt-ltb}
 use Rattle.std.proofs.Math.Seq.{take-append-add}
 use Rattle.h3_coding.specs.Encodings.{encoding}
 use Rattle.h3_coding.specs.Varint.{varint_at}
 use Rattle.h3_coding.specs.VarintLaws.{cases_number, reads_more, reads_shortest}
-use Rattle.h3_proto.specs.Ids.{reserved}
-use Rattle.h3_proto.specs.Pairs.{payload_of}
-use Rattle.h3_wire.specs.Encoded.{head_encoding, frame_encoding, promise_payload, needed_of, HasLength, HasNumbers, IsReserved}
-use Rattle.h3_wire.specs.EncodedLaws.{alone_number, length-encoding, not_session, written_head}
+use Rattle.h3_wire.specs.Encoded.{head_encoding, frame_encoding}
+use Rattle.h3_wire.specs.EncodedLaws.{alone_number, written_head}
 use Rattle.h3_wire.specs.FrameLaws.{at_no_kind, at_no_number}
 use Rattle.h3_wire.specs.Frames.{Unfinished, frame_at}
-use Rattle.h3_wire.specs.declared.proto.frame.Frame.{Frame}
-use Rattle.h3_wire.specs.declared.proto.frame.Frame.TheVariants as frame
-
--- the bytes begin a frame, and another try needs so many
-abbrev pub IsUnfinishedFront : List ℕ → Type 0
-IsUnfinishedFront bytes = (least : ℕ) × (frame_at bytes ≡ Unfinished least)
-
-abbrev behind_number : Option (ℕ × List ℕ) → List ℕ
-behind_number None = []
-behind_number (Some p) = p.1
+use Rattle.h3_wire.specs.Fronts.{IsUnfinishedFront, behind_number}
 
 -- less than a number is none
 pub front_of_number : (v n : ℕ) → v < 2 ^ 62 → n < length (encoding v) → varint_at (take n (encoding v)) ≡ None
@@ -74,21 +63,3 @@ front_of_frame kind payload n h k session plain short = elim (cases_lt n (length
         here ∙ rw (session, plain, lt-ltb (length (take j payload)) (length payload) less) refl,
       )
 ]
-
-of_number : (kind id n : ℕ) → kind < 2 ^ 62 → id < 2 ^ 62 → (kind == 0x41) ≡ false → (kind == 0) ≡ false → n < length (frame_encoding kind (encoding id)) → IsUnfinishedFront (take n (frame_encoding kind (encoding id)))
-of_number kind id n h k session plain short = front_of_frame kind (encoding id) n h (omega (arith, length-encoding id k)) session plain short
-
--- **Less than a frame that was written, of DATA less than its head, is the unfinished front of a frame.**
-pub fronts_are_unfinished : {B : Type 0} (unread : B → List ℕ) (f : Frame B) (n : ℕ) → HasLength unread f → HasNumbers f → IsReserved f → n < length (needed_of unread f) → IsUnfinishedFront (take n (needed_of unread f))
-fronts_are_unfinished unread (frame.Data b) n h k r short = (n + 1, front_of_head 0 (length (unread b)) n (lit< tt) h short)
-fronts_are_unfinished unread (frame.Headers section) n h k r short = front_of_frame 1 section n (lit< tt) h refl refl short
-fronts_are_unfinished unread (frame.CancelPush id) n h k r short = of_number 3 id n (lit< tt) k refl refl short
-fronts_are_unfinished unread (frame.Settings pairs) n h k r short = front_of_frame 4 (payload_of pairs) n (lit< tt) k refl refl short
-fronts_are_unfinished unread (frame.PushPromise p) n h k r short = front_of_frame 5 (promise_payload p) n (lit< tt) h refl refl short
-fronts_are_unfinished unread (frame.Goaway id) n h k r short = of_number 7 id n (lit< tt) k refl refl short
-fronts_are_unfinished unread (frame.MaxPushId id) n h k r short = of_number 13 id n (lit< tt) k refl refl short
-fronts_are_unfinished unread (frame.WebTransportStream id) n h k r short = (n + 1, front_of_head 0x41 id n (lit< tt) k short)
-fronts_are_unfinished unread (frame.Grease kind) n h k r short =
-    let session = subst (λ x. (x == 0x41) ≡ false) (sym r.1) (ne_eqb (reserved r.0) 0x41 (not_session r.0)) in
-    let plain = subst (λ x. (x == 0) ≡ false) (sym r.1) (ne_eqb (reserved r.0) 0 (omega arith)) in
-    front_of_frame kind (codes "grease") n k (lit< tt) session plain short

@@ -24,7 +24,10 @@ use std::marker::Model;
 mod buffer;
 mod decoder;
 mod errors;
+mod excess;
+mod let_go;
 mod payload_left;
+mod sparing;
 
 pub use buffer::FrameBuffer;
 pub use decoder::FrameDecoder;

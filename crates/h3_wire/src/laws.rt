@@ -1,15 +1,14 @@
 //! What holds of every frame. These functions do nothing: their contracts are the laws.
 ghost use Rattle.std.specs.Prelude.{◌≡◌, ◌<◌, ℕ, List, ◌++◌, length, take, Err};
 ghost use Rattle.h3_wire.specs.Asking.{ReadsOnce, Rounds};
-ghost use Rattle.h3_wire.specs.AskingLaws.{IsFunction, OneAnswer};
+ghost use Rattle.h3_wire.specs.OneAnswer.{IsFunction, OneAnswer, OneStart};
 ghost use Rattle.h3_wire.specs.Buffering.{AnswersFrom};
 ghost use Rattle.h3_wire.specs.Encoded.{encoding_of, needed_of, HasLength, IsReserved};
-ghost use Rattle.h3_wire.specs.EncodedLaws.{read_back};
+ghost use Rattle.h3_wire.specs.ReadBack.{read_back};
 ghost use Rattle.h3_wire.specs.Frames.{frame_at};
 ghost use Rattle.h3_wire.specs.Known.{Gives};
 ghost use Rattle.h3_wire.specs.Starting.{StartRounds};
-ghost use Rattle.h3_wire.specs.StartingLaws.{OneStart};
-ghost use Rattle.h3_wire.specs.UnfinishedLaws.{IsUnfinishedFront};
+ghost use Rattle.h3_wire.specs.Fronts.{IsUnfinishedFront};
 ghost use Rattle.h3_wire.specs.declared.frame.errors.FrameProtocolError.{FrameProtocolError};
 ghost use Rattle.h3_wire.specs.declared.frame.errors.FrameStreamError.TheVariants as stream;
 ghost use Rattle.h3_wire.specs.Reads.{reads, then_more};
@@ -26,6 +25,7 @@ pub fn written_is_read<B: Buf>(frame: &Frame<B>)
     requires reserved { IsReserved frame.now }
     ensures { (rest : List ℕ) → frame_at (encoding_of B.unread frame.now ++ rest) ≡ read_back B.unread frame.now rest }
 {
+    // (for the proof: its numbers have encodings)
     frame.known();
 }
 
@@ -42,6 +42,7 @@ pub fn less_than_a_frame_is_unfinished<B: Buf>(frame: &Frame<B>)
     requires reserved { IsReserved frame.now }
     ensures { (count : ℕ) → count < length (needed_of B.unread frame.now) → IsUnfinishedFront (take count (needed_of B.unread frame.now)) }
 {
+    // (for the proof: its numbers have encodings)
     frame.known();
 }
 

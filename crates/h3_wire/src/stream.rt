@@ -5,7 +5,8 @@ ghost use Rattle.std.specs.Borrow.{Lends, sem};
 ghost use Rattle.h3_wire.specs.contracts.stream.BufRecvStream.{the_row};
 ghost use Rattle.h3_wire.specs.Accepting.{TakesNumber};
 ghost use Rattle.h3_wire.specs.Asking.{Asks};
-ghost use Rattle.h3_wire.specs.Buffering.{left_behind, AnswersFrom, polls_behind, same_behind};
+ghost use Rattle.h3_wire.specs.Buffering.{left_behind, AnswersFrom};
+ghost use Rattle.h3_wire.specs.BufferingLaws.{polls_behind, same_behind};
 ghost use Rattle.h3_wire.specs.Known.{Gives};
 ghost use Rattle.h3_wire.specs.Cut.{TellsEnd};
 ghost use Rattle.h3_wire.specs.Given.{AddsPieces};
@@ -165,7 +166,7 @@ impl<S: RecvStream> BufRecvStream<S> {
         }
         match self.stream.poll_data() {
             Poll::Ready(Ok(Some(piece))) => {
-                self.buf.push_reserved(piece);
+                self.buf.keep_reserved(piece);
                 Poll::Ready(Ok(false))
             }
             Poll::Ready(Ok(None)) => {

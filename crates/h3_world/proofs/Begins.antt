@@ -10,7 +10,7 @@ use Rattle.h3_qpack.specs.Session.{Session}
 use Rattle.h3_qpack.specs.WholeInstructions.{decoder_instructions_in}
 use Rattle.h3_wire.specs.Encoded.{frame_encoding}
 use Rattle.h3_proto.specs.Pairs.{payload_of}
-use Rattle.h3_proto.specs.StreamIds.{is_request, index_of}
+use Rattle.h3_proto.specs.StreamIds.{is_request_stream, index_of}
 use Rattle.h3_proto.specs.declared.stream.Side.{Side}
 use Rattle.h3_proto.specs.declared.stream.Side.TheVariants.{Client, Server}
 use Rattle.h3_connection.specs.Endpoint.{first_encoder}
@@ -39,7 +39,7 @@ settings_to_come setup side =
     not_none (length (settings_bytes (announced_at setup side))) (length (encoding 0)) (length payload) (length-append (encoding 0) payload) one_byte
 
 exchange-empty : (setup : Setup) (id : ℕ) → exchange (empty_world setup) id ≡ no_exchange
-exchange-empty setup id = by_test (is_request id)
+exchange-empty setup id = by_test (is_request_stream id)
   where
     by_test : (b : Bool) → (if b then unwrap_or (slice_get {X = Exchange} [] (index_of id)) no_exchange else no_exchange) ≡ no_exchange
     by_test true = refl

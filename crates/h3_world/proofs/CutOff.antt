@@ -11,7 +11,7 @@ use Rattle.h3_qpack.specs.Schedule.SessionEvent.{CutOff}
 use Rattle.h3_proto.specs.declared.stream.Side.{Side}
 use Rattle.h3_proto.specs.declared.stream.Side.TheVariants.{Client, Server}
 use Rattle.h3_connection.specs.OwnIds.{other}
-use Rattle.h3_connection.specs.Sections.{having_inserted, instructions_for}
+use Rattle.h3_connection.specs.Sections.{having_inserted, own_instructions}
 use Rattle.h3_world.specs.declared.setup.Setup.{Setup}
 use Rattle.h3_world.specs.World.{World, Party, party, with_party}
 use Rattle.h3_world.specs.Came.{settings_came, insertions_came}
@@ -38,11 +38,11 @@ writer_inserted : QpackLaws → (setup : Setup) (side : Side) (p : Party) (knows
 writer_inserted laws setup side p knows id fields h =
     record {
       control = h.control;
-      encoder = omega (arith, h.encoder, bytes_longer encoder_bytes (encoding 2) p.own.instructions (instructions_for p.encoder id fields));
+      encoder = omega (arith, h.encoder, bytes_longer encoder_bytes (encoding 2) p.own.instructions (own_instructions p.encoder id fields));
       decoder = h.decoder;
       unknown = λ e.
           let u = h.unknown e in
-          (u.0, laws.still_empty p.encoder id fields u.0 u.1, ap (λ is. is ++ instructions_for p.encoder id fields) u.2 ∙ laws.inserts_none p.encoder id fields u.0 u.1);
+          (u.0, laws.still_empty p.encoder id fields u.0 u.1, ap (λ is. is ++ own_instructions p.encoder id fields) u.2 ∙ laws.inserts_none p.encoder id fields u.0 u.1);
       limit = h.limit;
       capacity = capacity_inserted laws (limits_for setup side).table p.encoder id fields h.capacity;
     }
@@ -57,7 +57,7 @@ inserted_session setup w side id fields sound h =
     let own : party new side ≡ q = party-with_party w side q in
     let others : party new (other side) ≡ party w (other side) = party-with_other w side q in
     let is = h.follows.encoder in
-    let is_for = instructions_for p.encoder id fields in
+    let is_for = own_instructions p.encoder id fields in
     let begun = opening s.encoder.most_capacity (limits_for setup side) in
     let knows : settings_came setup new (other side) ≡ settings_came setup w (other side) = ap (knows_of setup (other side)) others in
     steps_on setup w new side h (CutOff id fields) (without_section s id fields) refl (record {
@@ -67,7 +67,7 @@ inserted_session setup w side id fields sound h =
           ∙ ap (λ l. l ++ is_for) h.follows.instructions
           ∙ append_assoc (if settings_came setup w (other side) then begun else []) s.instructions is_for
           ∙ ap (λ k. (if k then begun else []) ++ (s.instructions ++ is_for)) (sym knows)
-          ∙ ap (λ x. (if settings_came setup new (other side) then begun else []) ++ (s.instructions ++ instructions_for x id fields)) (sym is);
+          ∙ ap (λ x. (if settings_came setup new (other side) then begun else []) ++ (s.instructions ++ own_instructions x id fields)) (sym is);
       received = h.follows.received ∙ sym (ap insertions_came own ∙ insertions_same p is_for (party_of setup w side sound).writer.encoder);
       decoder_instructions = h.follows.decoder_instructions ∙ sym (ap (left_of setup (other side)) others);
       canceled = λ i. h.follows.canceled i ∙ ap (λ f. is_some f.fault) (sym (flow-with_party w side side q i));
@@ -125,4 +125,4 @@ cut_off_sound laws setup w side id fields h =
       counts = counts_stay w new (other side) (ap (λ x. x.encoder.required_insert_counts) others) (sums (other side)) there.counts;
       session = inserted_other setup w side id fields there.session;
     })
-    (exchanges_stay w new (writes_on w side q (record { more = instructions_for p.encoder id fields; is = refl })) h.exchanges)
+    (exchanges_stay w new (writes_on w side q (record { more = own_instructions p.encoder id fields; is = refl })) h.exchanges)

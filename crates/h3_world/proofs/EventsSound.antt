@@ -5,7 +5,7 @@ use Rattle.std.specs.Prelude.{is_some, slice_set, ◌==◌}
 use Rattle.std.proofs.lemmas.Grind.{common_steps}
 use Rattle.h3_wire.specs.Encoded.{frame_encoding}
 use Rattle.h3_field.specs.Instruction.DecoderInstruction.{CancelStream}
-use Rattle.h3_proto.specs.StreamIds.{is_request, index_of}
+use Rattle.h3_proto.specs.StreamIds.{is_request_stream, index_of}
 use Rattle.h3_proto.specs.declared.stream.Side.{Side}
 use Rattle.h3_proto.specs.declared.stream.Side.TheVariants.{Client, Server}
 use Rattle.h3_connection.specs.OwnIds.{other}
@@ -49,7 +49,7 @@ both false b h = cc
 
 -- a server has got something on what is open at it
 pub open_seen : (w : World) (id : ℕ) → is_open w Server id ≡ true → (exchange w id).request.seen ≡ true
-open_seen w id h = (both (is_request id && nat_lt (index_of id) (length w.exchanges)) (exchange w id).request.seen h).1
+open_seen w id h = (both (is_request_stream id && nat_lt (index_of id) (length w.exchanges)) (exchange w id).request.seen h).1
 
 -- what a side that sends leaves of an exchange
 pub keeps_sending : (w : World) (side : Side) (id : ℕ) (f : Flow) → AllByRecursion (IsSoundExchange w) w.exchanges → is_open w side id ≡ true → f.seen ≡ (flow w side id).seen → f.fault ≡ (flow w side id).fault

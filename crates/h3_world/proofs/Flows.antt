@@ -3,7 +3,7 @@ use Rattle.std.proofs.Common.{◌≡◌, ℕ, zero, suc, ◌<◌, Bool, true, fa
 use Rattle.std.specs.Prelude.{◌%◌, slice_get, slice_set, unwrap_or, ◌==◌, if◌then◌else◌}
 use Rattle.std.proofs.Math.Nat.{div-add-mod}
 use Rattle.std.proofs.lemmas.Grind.{common_steps}
-use Rattle.h3_proto.specs.StreamIds.{is_request, index_of}
+use Rattle.h3_proto.specs.StreamIds.{is_request_stream, index_of}
 use Rattle.h3_proto.specs.declared.stream.Side.{Side}
 use Rattle.h3_proto.specs.declared.stream.Side.TheVariants.{Client, Server}
 use Rattle.h3_connection.specs.OwnIds.{other}
@@ -27,10 +27,10 @@ pub same_id : (a b : ℕ) → (a == b) ≡ true → a ≡ b
 same_id a b e = grind (arith, common_steps, e)
 
 -- requests have the places of their ids
-places_differ : (id i : ℕ) → is_request id ≡ true → is_request i ≡ true → (id == i) ≡ false → (index_of id == index_of i) ≡ false
+places_differ : (id i : ℕ) → is_request_stream id ≡ true → is_request_stream i ≡ true → (id == i) ≡ false → (index_of id == index_of i) ≡ false
 places_differ id i r q e = by_test (index_of id == index_of i) refl
   where
-    none_left : (n : ℕ) → is_request n ≡ true → n % 4 ≡ 0
+    none_left : (n : ℕ) → is_request_stream n ≡ true → n % 4 ≡ 0
     none_left n h = same_id (n % 4) 0 h
 
     same : index_of id ≡ index_of i → id ≡ i
@@ -45,7 +45,7 @@ places_differ id i r q e = by_test (index_of id == index_of i) refl
 
 -- The id is a request stream that was opened.
 pub record IsThere (w : World) (id : ℕ) : Type 0 where
-  pub request : is_request id ≡ true
+  pub request : is_request_stream id ≡ true
   pub place : index_of id < length w.exchanges
 
 pub exchange-with_exchange : (w : World) (id i : ℕ) (e : Exchange) → IsThere w id → exchange (with_exchange w id e) i ≡ (if id == i then e else exchange w i)
@@ -56,7 +56,7 @@ exchange-with_exchange w id i e there = by_id (id == i) refl
         ap (λ b. if b then unwrap_or (slice_get (slice_set w.exchanges (index_of id) e) (index_of id)) no_exchange else no_exchange) there.request
         ∙ ap (λ o. unwrap_or o no_exchange) (set_here w.exchanges (index_of id) e there.place)
 
-    elsewhere : (id == i) ≡ false → (r : Bool) → is_request i ≡ r
+    elsewhere : (id == i) ≡ false → (r : Bool) → is_request_stream i ≡ r
         → (if r then unwrap_or (slice_get (slice_set w.exchanges (index_of id) e) (index_of i)) no_exchange else no_exchange)
         ≡ (if r then unwrap_or (slice_get w.exchanges (index_of i)) no_exchange else no_exchange)
     elsewhere not true q = ap (λ o. unwrap_or o no_exchange) (set_elsewhere w.exchanges (index_of id) (index_of i) e (places_differ id i there.request q not))
@@ -64,7 +64,7 @@ exchange-with_exchange w id i e there = by_id (id == i) refl
 
     by_id : (t : Bool) → (id == i) ≡ t → exchange (with_exchange w id e) i ≡ (if t then e else exchange w i)
     by_id true h = ap (exchange (with_exchange w id e)) (sym (same_id id i h)) ∙ here
-    by_id false h = elsewhere h (is_request i) refl
+    by_id false h = elsewhere h (is_request_stream i) refl
 
 request_of : (t : Bool) (a b : Exchange) → (if t then a else b).request ≡ (if t then a.request else b.request)
 request_of true a b = refl

@@ -2,12 +2,12 @@
 use Rattle.std.proofs.Common.{◌≡◌, ℕ, ◌-◌, ◌≤◌, Bool, true, false, not, ◌&&◌, [], ◌∷◌, length, refl, sym, ap, ◌∙◌, subst, arith, if◌then◌else◌, Option, Some, None, nat_lt, nat_le}
 use Rattle.std.specs.Prelude.{MatchOption, is_none, is_some, ◌^◌, ◌==◌, ◌||◌, ◌%◌}
 use Rattle.std.proofs.lemmas.Grind.{common_steps}
-use Rattle.h3_proto.specs.StreamIds.{is_request}
+use Rattle.h3_proto.specs.StreamIds.{is_request_stream}
 use Rattle.h3_proto.specs.declared.stream.Side.{Side}
 use Rattle.h3_proto.specs.declared.stream.Side.TheVariants.{Client, Server}
 use Rattle.h3_connection.specs.OwnIds.{other, control_id, encoder_id, is_own}
 use Rattle.h3_connection.specs.Pulling.{is_client, is_for}
-use Rattle.h3_connection.specs.Sending.{first_of, going_away, is_too_large, raised}
+use Rattle.h3_connection.specs.Refusals.{first_of, going_away, is_too_large, raised}
 use Rattle.h3_connection.specs.Lasts.{last_id}
 use Rattle.h3_connection.specs.Outgoing.{takes_head, takes_body, takes_end}
 use Rattle.h3_field.specs.Field.{section_size}
@@ -47,7 +47,7 @@ differ : true ≡ false → ⊥
 differ e = cc
 
 -- the own streams are no request streams
-request_not_own : (side : Side) (id : ℕ) → is_request id ≡ true → is_own side id ≡ false
+request_not_own : (side : Side) (id : ℕ) → is_request_stream id ≡ true → is_own side id ≡ false
 request_not_own Client id h = grind (arith, common_steps, h)
 request_not_own Server id h = grind (arith, common_steps, h)
 
@@ -55,7 +55,7 @@ encoder_waits : (setup : Setup) (w : World) (side : Side) → waiting setup w si
 encoder_waits setup w Client = refl
 encoder_waits setup w Server = refl
 
-is_request_of : (w : World) (side : Side) (id : ℕ) → is_open w side id ≡ true → is_request id ≡ true
+is_request_of : (w : World) (side : Side) (id : ℕ) → is_open w side id ≡ true → is_request_stream id ≡ true
 is_request_of w Client id h = first _ _ h
   where
     first : (a b : Bool) → (a && b) ≡ true → a ≡ true
@@ -99,7 +99,7 @@ pull_comes_out setup w side id p new h pulls given e pauses = by_part (next_part
     allowed : PauseAllowed f sender.own.encoder_taken (next_part f)
     allowed = pause_allowed setup w side id p new (subst (λ s. MatchOption s (PullsNext setup w side id p new) (λ answer. (p ≡ answer) × (new ≡ w))) e pulls) pauses
 
-    request : is_request id ≡ true
+    request : is_request_stream id ≡ true
     request = is_request_of w side id (unsettled w side id e).0
 
     waits : bytes_waiting f ≡ 0
@@ -168,7 +168,7 @@ either_well false x y h k = k
 
 -- the answer of a pull that is settled
 settled_well : (w : World) (side : Side) (id : ℕ) → MatchOption (settled w side id) (Unit {0}) (λ p. IsNoFault (answer.Pulled p))
-settled_well w side id = by_tests (id % 4 == control_id (other side)) (not (is_request id)) (is_open w side id) (flow w (other side) id).fault (is_over (flow w (other side) id)) (own_delivered w (other side) id == 0) (is_client side)
+settled_well w side id = by_tests (id % 4 == control_id (other side)) (not (is_request_stream id)) (is_open w side id) (flow w (other side) id).fault (is_over (flow w (other side) id)) (own_delivered w (other side) id == 0) (is_client side)
   where
     by_tests : (a b c : Bool) (o : Option StreamFault) (d e g : Bool)
         → MatchOption (if a then Some (if e then pull.Pending else pull.NoMessages) else (if b then Some pull.NoMessages else (
@@ -263,7 +263,7 @@ step_well setup w new (event.Finish side id) a step = does_well (finish_refusal 
 step_well setup w new (event.Reset side id) a step = does_well (reset_refusal w side id) w _ _ a new (ended_well (is_critical id) (not (is_open w side id)) (is_sent_off (flow w side id))) refl step
 step_well setup w new (event.Cancel side id) a step =
     does_well (cancel_refusal w side id) w _ _ a new (ended_well (is_critical id) (not (is_open w side id)) (is_over (flow w (other side) id) || is_some (flow w (other side) id).fault)) refl step
-step_well setup w new (event.Goaway side id) a step = does_well (goaway_refusal w side id) w _ _ a new (goaway_well (not (is_client side) && not (is_request id)) id (last_id (party w side).own.goaways)) refl step
+step_well setup w new (event.Goaway side id) a step = does_well (goaway_refusal w side id) w _ _ a new (goaway_well (not (is_client side) && not (is_request_stream id)) id (last_id (party w side).own.goaways)) refl step
 step_well setup w new (event.Deliver side id count) a step = ap (λ r. is_connection_fault (answer_of r)) step ∙ delivery_well setup w side id count
 step_well setup w new (event.DeliverEnd side id) a step = ap (λ r. is_connection_fault (answer_of r)) step ∙ end_well setup w side id
 step_well setup w new (event.DeliverReset side id) a step = ap (λ r. is_connection_fault (answer_of r)) step ∙ reset_well w side id

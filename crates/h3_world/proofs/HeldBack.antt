@@ -9,7 +9,7 @@ use Rattle.h3_world.specs.declared.setup.Setup.{Setup}
 use Rattle.h3_world.specs.Came.{settings_came, insertions_came}
 use Rattle.h3_world.specs.Following.{sections_left}
 use Rattle.h3_world.specs.OwnStreams.{decoder_stream}
-use Rattle.h3_world.specs.Sound.{IsSoundFlow, IsSoundWriter, IsSoundWorld, sections_above}
+use Rattle.h3_world.specs.Sound.{IsSoundWriter, IsSoundWorld, sections_above}
 use Rattle.h3_world.specs.World.{World, Party, party, with_party}
 use Rattle.h3_world.proofs.Exchanges.{WriteOn, exchanges_stay, counts_stay, nothing_more}
 use Rattle.h3_world.proofs.Flows.{party-with_party, party-with_other, flow-with_party, other-other}

@@ -2,7 +2,7 @@
 use Rattle.std.proofs.Common.{◌≡◌, ℕ, zero, suc, ◌<◌, Bool, true, false, ◌&&◌, List, [], ◌∷◌, ◌++◌, length, refl, ap, arith, nat_lt, if◌then◌else◌}
 use Rattle.std.specs.Prelude.{slice_get, unwrap_or}
 use Rattle.std.proofs.lemmas.Grind.{common_steps}
-use Rattle.h3_proto.specs.StreamIds.{is_request, index_of}
+use Rattle.h3_proto.specs.StreamIds.{is_request_stream, index_of}
 use Rattle.h3_proto.specs.declared.stream.Side.{Side}
 use Rattle.h3_proto.specs.declared.stream.Side.TheVariants.{Client, Server}
 use Rattle.h3_world.specs.declared.setup.Setup.{Setup}
@@ -22,7 +22,7 @@ get_more (x ∷ xs) zero d = refl
 get_more (x ∷ xs) (suc n) d = get_more xs n d
 
 exchange-opened : (w : World) (id : ℕ) → exchange (opened w) id ≡ exchange w id
-exchange-opened w id = by_request (is_request id)
+exchange-opened w id = by_request (is_request_stream id)
   where
     by_request : (b : Bool) → (if b then unwrap_or (slice_get (w.exchanges ++ no_exchange ∷ []) (index_of id)) no_exchange else no_exchange)
         ≡ (if b then unwrap_or (slice_get w.exchanges (index_of id)) no_exchange else no_exchange)
@@ -61,9 +61,9 @@ below a b h = grind (arith, common_steps, h)
 
 pub open_is_there : (w : World) (side : Side) (id : ℕ) → is_open w side id ≡ true → IsThere w id
 open_is_there w Client id h =
-    let r = both (is_request id) (nat_lt (index_of id) (length w.exchanges)) h in
+    let r = both (is_request_stream id) (nat_lt (index_of id) (length w.exchanges)) h in
     record { request = r.0; place = below (index_of id) (length w.exchanges) r.1 }
 open_is_there w Server id h =
-    let r = both (is_request id && nat_lt (index_of id) (length w.exchanges)) (exchange w id).request.seen h in
-    let q = both (is_request id) (nat_lt (index_of id) (length w.exchanges)) r.0 in
+    let r = both (is_request_stream id && nat_lt (index_of id) (length w.exchanges)) (exchange w id).request.seen h in
+    let q = both (is_request_stream id) (nat_lt (index_of id) (length w.exchanges)) r.0 in
     record { request = q.0; place = below (index_of id) (length w.exchanges) q.1 }

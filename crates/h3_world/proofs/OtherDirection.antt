@@ -10,7 +10,7 @@ use Rattle.h3_world.specs.Flow.{Flow, Part, Section}
 use Rattle.h3_world.specs.World.{World, party, with_party}
 use Rattle.h3_world.specs.Streams.{flow, with_flow}
 use Rattle.h3_world.specs.Sending.{having_encoded, appended, section_sent}
-use Rattle.h3_world.specs.Sending.{sent_section as world_sent}
+use Rattle.h3_world.specs.Sending.{with_section as world_sent}
 use Rattle.h3_world.specs.Following.{HasSession}
 use Rattle.h3_world.proofs.Flows.{IsThere, flow-with_other, party-with_flow, party-with_party, party-with_other, flow-with_party, other-other}
 use Rattle.h3_world.proofs.SameSession.{knows_of, left_of, same_kept}

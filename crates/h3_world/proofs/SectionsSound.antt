@@ -8,7 +8,7 @@ use Rattle.h3_wire.specs.Encoded.{frame_encoding}
 use Rattle.h3_proto.specs.declared.stream.Side.{Side}
 use Rattle.h3_proto.specs.declared.stream.Side.TheVariants.{Client, Server}
 use Rattle.h3_connection.specs.OwnIds.{other}
-use Rattle.h3_connection.specs.Sections.{encoded_section, instructions_for}
+use Rattle.h3_connection.specs.Sections.{written_section, own_instructions}
 use Rattle.h3_world.specs.declared.setup.Setup.{Setup}
 use Rattle.h3_world.specs.Flow.{Flow, Part, Section, part_bytes, flow_bytes}
 use Rattle.h3_world.specs.Flow.Part.{Interim, Head, Body, Trailer, End}
@@ -17,7 +17,7 @@ use Rattle.h3_world.specs.OwnStreams.{encoder_stream}
 use Rattle.h3_world.specs.Came.{settings_came}
 use Rattle.h3_world.specs.Streams.{flow}
 use Rattle.h3_world.specs.Order.{last_part}
-use Rattle.h3_world.specs.Sending.{appended, having_encoded, section_count, section_sent, sent_section}
+use Rattle.h3_world.specs.Sending.{appended, having_encoded, section_count, section_sent, with_section}
 use Rattle.h3_world.specs.Sendable.{IsSendableSection}
 use Rattle.h3_world.specs.Following.{HasSession, as_encoded, section_in}
 use Rattle.h3_world.specs.Sound.{IsSentSection, IsSentPart, MayFollow, IsSoundFlow, HasCounts, IsSoundParty, IsSoundWorld, counts_in, sections_above}
@@ -68,16 +68,16 @@ pub record SendsSound (setup : Setup) (w : World) (side : Side) (id : ℕ) (fiel
   pub is_kind : IsSectionKind kind
   pub there : IsThere w id
   pub sendable : IsSendableSection fields
-  pub short : length (encoded_section (party w side).encoder id fields) < 2 ^ 62
+  pub short : length (written_section (party w side).encoder id fields) < 2 ^ 62
   pub follows : (s : Section) → MayFollow (last_part (flow w side id).sent) (kind s)
   pub keeps : (part : Part) → KeepsExchange w side id (appended (flow w side id) part)
 
 pub section_sound : QpackLaws → (setup : Setup) (w : World) (side : Side) (id : ℕ) (fields : List Field) (kind : Section → Part) → IsSoundWorld setup w → SendsSound setup w side id fields kind
-    → IsSoundWorld setup (sent_section kind w side id fields)
+    → IsSoundWorld setup (with_section kind w side id fields)
 section_sound laws setup w side id fields kind h sends =
     update_kept setup w side q side id g h (record {
       there = sends.there;
-      written = record { more = instructions_for p.encoder id fields; is = refl };
+      written = record { more = own_instructions p.encoder id fields; is = refl };
       writer = writer_encoded laws setup side p (settings_came setup w (other side)) id fields own.writer;
       knows = refl;
       flow_is = subst (λ x. IsSoundFlow x g) (sym (party-with_party w side q)) flow_is;
@@ -111,7 +111,7 @@ section_sound laws setup w side id fields kind h sends =
     v = with_party w side q
 
     new : World
-    new = sent_section kind w side id fields
+    new = with_section kind w side id fields
 
     own : IsSoundParty setup w side
     own = party_of setup w side h
@@ -142,7 +142,7 @@ section_sound laws setup w side id fields kind h sends =
 
     flow_is : IsSoundFlow q g
     flow_is =
-        appended_kept p q f part (record { more = instructions_for p.encoder id fields; is = refl }) sound (sends.follows s)
+        appended_kept p q f part (record { more = own_instructions p.encoder id fields; is = refl }) sound (sends.follows s)
         (sends.is_kind.part_is q (length (flow_bytes f) + length (part_bytes part)) s sent (ap (λ bytes. length (flow_bytes f) + length bytes) (sym (sends.is_kind.bytes s))))
 
     same_exchanges : (w : World) (side : Side) (q : Party) → (with_party w side q).exchanges ≡ w.exchanges

@@ -3,7 +3,7 @@ use Rattle.std.proofs.Common.{◌≡◌, ℕ, ◌≤◌, Bool, true, false, List
 use Rattle.std.specs.Prelude.{drop, ◌==◌, if◌then◌else◌}
 use Rattle.std.proofs.lemmas.List.{drop-append-le}
 use Rattle.h3_field.specs.Field.{Field}
-use Rattle.h3_connection.specs.Sections.{instructions_for}
+use Rattle.h3_connection.specs.Sections.{own_instructions}
 use Rattle.h3_proto.specs.declared.stream.Side.{Side}
 use Rattle.h3_proto.specs.declared.stream.Side.TheVariants.{Client, Server}
 use Rattle.h3_world.specs.declared.setup.Setup.{Setup}
@@ -14,7 +14,7 @@ use Rattle.h3_world.specs.OwnStreams.{encoder_stream}
 use Rattle.h3_world.specs.Came.{insertions_came}
 use Rattle.h3_world.specs.Streams.{flow, with_flow}
 use Rattle.h3_world.specs.Sending.{appended, having_encoded, section_sent}
-use Rattle.h3_world.specs.Sending.{sent_section as world_sent}
+use Rattle.h3_world.specs.Sending.{with_section as world_sent}
 use Rattle.h3_world.specs.Following.{EncodedSection, as_encoded, section_in, sections_in, HasSession}
 use Rattle.h3_world.proofs.Flows.{IsThere, flow-with_flow, party-with_flow, party-with_party, party-with_other, flow-with_party, same_id}
 use Rattle.h3_world.proofs.Wholes.{insertions_same}
@@ -61,7 +61,7 @@ sent_kept setup w side id fields kind on h =
       encoder = ap (λ x. x.encoder) own;
       instructions = ap (λ x. x.own.instructions) own;
       knows = ap (knows_of setup (other side)) others;
-      received = ap insertions_came own ∙ insertions_same p (instructions_for p.encoder id fields) on.came;
+      received = ap insertions_came own ∙ insertions_same p (own_instructions p.encoder id fields) on.came;
       replies = ap (left_of setup (other side)) others;
       faults = λ i. ap (λ g. g.fault) (flows i) ∙ fault_of w side id i part (id == i) refl;
       sections = λ i. ap sections_left (flows i) ∙ sections_of w side id i part (section_of p.encoder id fields) on.out section (id == i) refl;

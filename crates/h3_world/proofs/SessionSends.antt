@@ -10,7 +10,7 @@ use Rattle.h3_qpack.specs.Session.{UndecodedSection, encoded}
 use Rattle.h3_qpack.specs.Schedule.SessionEvent.{Encode}
 use Rattle.h3_proto.specs.declared.stream.Side.{Side}
 use Rattle.h3_connection.specs.OwnIds.{other}
-use Rattle.h3_connection.specs.Sections.{encoded_section, instructions_for}
+use Rattle.h3_connection.specs.Sections.{written_section, own_instructions}
 use Rattle.h3_world.specs.declared.setup.Setup.{Setup}
 use Rattle.h3_world.specs.World.{World, party}
 use Rattle.h3_world.specs.Came.{settings_came, insertions_came}
@@ -21,7 +21,7 @@ use Rattle.h3_world.proofs.Grown.{steps_on}
 
 -- the section that an encoder writes on a stream
 abbrev pub section_of : EncoderHistory → ℕ → List Field → EncodedSection
-section_of s id fields = record { fields = fields; encoded = encoded_section s id fields; count = section_count s id fields }
+section_of s id fields = record { fields = fields; encoded = written_section s id fields; count = section_count s id fields }
 
 pub sections_on-append : (id : ℕ) (bs cs : List UndecodedSection) → sections_on id (bs ++ cs) ≡ sections_on id bs ++ sections_on id cs
 sections_on-append id bs cs =
@@ -34,7 +34,7 @@ one_section id b false = refl
 -- What a field section changes of what the session sees.
 pub record SendsSection (setup : Setup) (old new : World) (side : Side) (id : ℕ) (fields : List Field) : Type 0 where
   pub encoder : (party new side).encoder ≡ sent_section (party old side).encoder id fields
-  pub instructions : (party new side).own.instructions ≡ (party old side).own.instructions ++ instructions_for (party old side).encoder id fields
+  pub instructions : (party new side).own.instructions ≡ (party old side).own.instructions ++ own_instructions (party old side).encoder id fields
   pub knows : settings_came setup new (other side) ≡ settings_came setup old (other side)
   pub received : insertions_came (party new side) ≡ insertions_came (party old side)
   pub replies : replies_left setup new side ≡ replies_left setup old side
@@ -53,10 +53,10 @@ section_sent_kept setup old new side id fields h sends =
       encoder = ap (λ x. sent_section x id fields) is ∙ sym sends.encoder;
       instructions =
           sends.instructions
-          ∙ ap (λ is. is ++ instructions_for e id fields) h.follows.instructions
-          ∙ append_assoc (if settings_came setup old (other side) then opening s.encoder.most_capacity (limits_for setup side) else []) s.instructions (instructions_for e id fields)
-          ∙ ap (λ k. (if k then opening s.encoder.most_capacity (limits_for setup side) else []) ++ (s.instructions ++ instructions_for e id fields)) (sym sends.knows)
-          ∙ ap (λ x. (if settings_came setup new (other side) then opening s.encoder.most_capacity (limits_for setup side) else []) ++ (s.instructions ++ instructions_for x id fields)) (sym is);
+          ∙ ap (λ is. is ++ own_instructions e id fields) h.follows.instructions
+          ∙ append_assoc (if settings_came setup old (other side) then opening s.encoder.most_capacity (limits_for setup side) else []) s.instructions (own_instructions e id fields)
+          ∙ ap (λ k. (if k then opening s.encoder.most_capacity (limits_for setup side) else []) ++ (s.instructions ++ own_instructions e id fields)) (sym sends.knows)
+          ∙ ap (λ x. (if settings_came setup new (other side) then opening s.encoder.most_capacity (limits_for setup side) else []) ++ (s.instructions ++ own_instructions x id fields)) (sym is);
       received = h.follows.received ∙ sym sends.received;
       decoder_instructions = h.follows.decoder_instructions ∙ sym sends.replies;
       canceled = λ i. h.follows.canceled i ∙ ap is_some (sym (sends.faults i));

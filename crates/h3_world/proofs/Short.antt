@@ -13,7 +13,7 @@ use Rattle.h3_field.specs.StringLiteral.{string_literal}
 use Rattle.h3_qpack.specs.EncoderHistory.{EncoderHistory, writing_on}
 use Rattle.h3_qpack.specs.SectionEncoding.{Draft, add_field, add_literal, draft_of, entry_name_line, found, found_name, is_insertable, required_insert_count, write_field}
 use Rattle.h3_qpack.specs.ShortLaws.{prefixed_short, string_short}
-use Rattle.h3_connection.specs.Sections.{encoded_section}
+use Rattle.h3_connection.specs.Sections.{written_section}
 use Rattle.h3_world.proofs.Inserted.{chosen, either_way, with_field}
 
 -- the lines so far take no more than that
@@ -79,7 +79,7 @@ prefix_short capacity count base = by_test (count == 0) (nat_lt base count)
     by_test false false = omega (arith, length-append first (prefixed 7 0 (base - count)), prefixed_short 8 0 (count % (2 * most_entries capacity) + 1), prefixed_short 7 0 (base - count))
 
 -- each encoded section is short where its fields are
-pub section_short : (s : EncoderHistory) (id : ℕ) (fields : List Field) → length (encoded_section s id fields) ≤ 20 + 30 * section_size fields
+pub section_short : (s : EncoderHistory) (id : ℕ) (fields : List Field) → length (written_section s id fields) ≤ 20 + 30 * section_size fields
 section_short s id fields =
     let e = writing_on s id in
     let d = draft_of e fields in
@@ -92,5 +92,5 @@ section_short s id fields =
       fields_short 0 e start fields (omega arith),
     )
 
-pub sections_are_short : (s : EncoderHistory) (id : ℕ) (fields : List Field) → section_size fields < 2 ^ 56 → length (encoded_section s id fields) < 2 ^ 62
+pub sections_are_short : (s : EncoderHistory) (id : ℕ) (fields : List Field) → section_size fields < 2 ^ 56 → length (written_section s id fields) < 2 ^ 62
 sections_are_short s id fields small = omega (arith, section_short s id fields, small)

@@ -3,7 +3,7 @@ use Rattle.std.proofs.Common.{inl, ℕ, zero, suc, Bool, true, false, List, [], 
 use Rattle.std.specs.List.{AllByRecursion}
 use Rattle.std.specs.Prelude.{slice_get, slice_set}
 use Rattle.std.proofs.lemmas.Grind.{common_steps}
-use Rattle.h3_proto.specs.StreamIds.{is_request, index_of}
+use Rattle.h3_proto.specs.StreamIds.{is_request_stream, index_of}
 use Rattle.h3_proto.specs.declared.stream.Side.{Side}
 use Rattle.h3_proto.specs.declared.stream.Side.TheVariants.{Client, Server}
 use Rattle.h3_world.specs.Flow.{unused}
@@ -46,7 +46,7 @@ all_weaker P Q weaker [] all = tt
 all_weaker P Q weaker (x ∷ xs) all = (weaker x all.0, all_weaker P Q weaker xs all.1)
 
 pub exchange_sound : (w : World) (id : ℕ) → AllByRecursion (IsSoundExchange w) w.exchanges → IsSoundExchange w (exchange w id)
-exchange_sound w id all = by_request (is_request id)
+exchange_sound w id all = by_request (is_request_stream id)
   where
     by_request : (b : Bool) → IsSoundExchange w (if b then unwrap_or (slice_get w.exchanges (index_of id)) no_exchange else no_exchange)
     by_request true = one_of (IsSoundExchange w) w.exchanges (index_of id) no_exchange all (no_exchange_sound w)

@@ -4,7 +4,7 @@ use Rattle.std.specs.Prelude.{MatchOption, is_some, ◌==◌, ◌||◌, ◌%◌}
 use Rattle.std.proofs.lemmas.Grind.{common_steps}
 use Rattle.h3_field.specs.Field.{Field}
 use Rattle.h3_header.specs.Head.{Head as Fields, head_fields}
-use Rattle.h3_proto.specs.StreamIds.{is_request}
+use Rattle.h3_proto.specs.StreamIds.{is_request_stream}
 use Rattle.h3_proto.specs.declared.stream.Side.{Side}
 use Rattle.h3_connection.specs.Announcing.{section_of}
 use Rattle.h3_connection.specs.Outgoing.{takes_head, takes_body, takes_end}
@@ -29,7 +29,7 @@ use Rattle.h3_world.specs.Came.{insertions_came}
 use Rattle.h3_world.specs.Streams.{flow, is_open, has_outgoing, waiting}
 use Rattle.h3_world.specs.Order.{last_part, next_part, is_over, is_finished, is_sent_off, outgoing_of}
 use Rattle.h3_world.specs.Refusals.{is_critical, head_refusal, trailer_refusal, body_refusal, finish_refusal, reset_refusal, cancel_refusal}
-use Rattle.h3_world.specs.Sending.{appended, sent_head, sent_section, sent_trailer, sent_body, finished, cut_off, given_up}
+use Rattle.h3_world.specs.Sending.{appended, sent_head, with_section, sent_trailer, sent_body, finished, cut_off, given_up}
 use Rattle.h3_world.specs.Delivering.{delivered, delivered_own, delivered_message, delivered_end, delivered_reset, is_closed, may_end, delivery, end_delivery, reset_delivery}
 use Rattle.h3_world.specs.Pauses.{pause_before, pause_of}
 use Rattle.h3_world.specs.Pulling.{settled, fault_or, PullsNext, Pulls}
@@ -75,7 +75,7 @@ both false b e = cc
 
 -- a section goes out where it may
 sends_sound : QpackLaws → (setup : Setup) (w : World) (side : Side) (id : ℕ) (fields : List Field) (kind : Section → Part) → IsSectionKind kind → IsSoundWorld setup w
-    → is_open w side id ≡ true → ((s : Section) → MayFollow (last_part (flow w side id).sent) (kind s)) → IsSendableSection fields → IsSoundWorld setup (sent_section kind w side id fields)
+    → is_open w side id ≡ true → ((s : Section) → MayFollow (last_part (flow w side id).sent) (kind s)) → IsSendableSection fields → IsSoundWorld setup (with_section kind w side id fields)
 sends_sound laws setup w side id fields kind is_kind h opened follows sendable =
     section_sound laws setup w side id fields kind h (record {
       is_kind = is_kind;
@@ -95,7 +95,7 @@ head_sound laws setup w side id head h sendable e =
     let follows = head_follows (flow w side id) (opposite (takes_head (outgoing_of (flow w side id))) second.0) in
     by_kind (is_interim head.status) opened follows
   where
-    by_kind : (b : Bool) → is_open w side id ≡ true → is_before_head (last_part (flow w side id).sent) ≡ true → IsSoundWorld setup (sent_section (if b then Interim else Head) w side id (head_fields head))
+    by_kind : (b : Bool) → is_open w side id ≡ true → is_before_head (last_part (flow w side id).sent) ≡ true → IsSoundWorld setup (with_section (if b then Interim else Head) w side id (head_fields head))
     by_kind true opened follows = sends_sound laws setup w side id (head_fields head) Interim interim_kind h opened (λ s. follows) sendable
     by_kind false opened follows = sends_sound laws setup w side id (head_fields head) Head head_kind h opened (λ s. follows) sendable
 
@@ -289,7 +289,7 @@ reset_delivery_sound setup w writer id h = by_open (not (has_outgoing w writer i
 
 -- a pull that is not settled is of a stream that is open and not given up
 pub unsettled : (w : World) (side : Side) (id : ℕ) → settled w side id ≡ None → (is_open w side id ≡ true) × ((flow w (other side) id).fault ≡ None)
-unsettled w side id e = by_tests (id % 4 == control_id (other side)) (not (is_request id)) (is_open w side id) (flow w (other side) id).fault _ _ _ e
+unsettled w side id e = by_tests (id % 4 == control_id (other side)) (not (is_request_stream id)) (is_open w side id) (flow w (other side) id).fault _ _ _ e
   where
     by_tests : (a b c : Bool) (o : Option StreamFault) (x y : Pull) (z : Option Pull)
         → ◌≡◌ {A = Option Pull} (if a then Some x else (if b then Some pull.NoMessages else (if not c then Some y else fault_or o z))) None → (c ≡ true) × (o ≡ None)

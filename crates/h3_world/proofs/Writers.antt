@@ -10,7 +10,7 @@ use Rattle.h3_qpack.specs.EncoderHistory.{encoder_after_all}
 use Rattle.h3_proto.specs.declared.stream.Side.{Side}
 use Rattle.h3_connection.specs.Endpoint.{goaway_encoding}
 use Rattle.h3_connection.specs.OwnIds.{control_id, encoder_id, decoder_id}
-use Rattle.h3_connection.specs.Sections.{instructions_for}
+use Rattle.h3_connection.specs.Sections.{own_instructions}
 use Rattle.h3_connection.specs.declared.setup.Limits.{Limits}
 use Rattle.h3_world.specs.declared.setup.Setup.{Setup}
 use Rattle.h3_world.specs.Setup.{announced_at, has_table}
@@ -56,11 +56,11 @@ pub writer_encoded : QpackLaws → (setup : Setup) (side : Side) (p : Party) (kn
 writer_encoded laws setup side p knows id fields h =
     record {
       control = h.control;
-      encoder = omega (arith, h.encoder, bytes_longer encoder_bytes (encoding 2) p.own.instructions (instructions_for p.encoder id fields));
+      encoder = omega (arith, h.encoder, bytes_longer encoder_bytes (encoding 2) p.own.instructions (own_instructions p.encoder id fields));
       decoder = h.decoder;
       unknown = λ e.
           let u = h.unknown e in
-          (u.0, laws.still_empty p.encoder id fields u.0 u.1, ap (λ is. is ++ instructions_for p.encoder id fields) u.2 ∙ laws.inserts_none p.encoder id fields u.0 u.1);
+          (u.0, laws.still_empty p.encoder id fields u.0 u.1, ap (λ is. is ++ own_instructions p.encoder id fields) u.2 ∙ laws.inserts_none p.encoder id fields u.0 u.1);
       limit = h.limit;
       capacity = capacity_sent laws (limits_for setup side).table p.encoder id fields h.capacity;
     }

@@ -1,5 +1,6 @@
 -- What a delivery changes: how much came, and what the receiver reads of it at once.
-use Rattle.std.specs.Prelude.{ℕ, ◌+◌, ◌-◌, min, Bool, true, not, ◌&&◌, ◌||◌, [], ◌∷◌, ◌++◌, length, drop, if◌then◌else◌, ◌==◌, nat_lt, is_some}
+use Rattle.std.specs.Prelude.{ℕ, ◌+◌, ◌-◌, min, Bool, true, not, ◌&&◌, ◌||◌, List, [], ◌∷◌, ◌++◌, length, drop, if◌then◌else◌, ◌==◌, nat_lt, is_some}
+use Rattle.h3_field.specs.Instruction.{DecoderInstruction}
 use Rattle.h3_field.specs.Instruction.EncoderInstruction.{SetCapacity}
 use Rattle.h3_qpack.specs.EncoderHistory.{using_table, encoder_after_all}
 use Rattle.h3_proto.specs.declared.stream.Side.{Side}
@@ -30,16 +31,28 @@ having_learned p limits =
     then record { own = record p.own { instructions = p.own.instructions ++ SetCapacity (min p.encoder.most_capacity limits.table) ∷ [] }; encoder = using_table p.encoder limits.table limits.blocked }
     else p
 
--- The receiver after own streams of the writer got further, from the old world to the new one: it learns the settings, its
--- encoder reads the decoder instructions, and its decoder counts the insertions (RFC 9204, section 4.4.3).
-abbrev pub having_listened : Setup → World → World → Side → Party
-having_listened setup old new writer =
+-- The receiver, where the settings came from the old world to the new one.
+abbrev pub having_settings : Setup → World → World → Side → Party
+having_settings setup old new writer =
     let p = party old (other writer) in
     let learns = not (settings_came setup old writer) && settings_came setup new writer in
-    let q = if learns then having_learned p (announced_at setup writer).limits else p in
+    if learns then having_learned p (announced_at setup writer).limits else p
+
+-- what its decoder replies to the insertions that came between (RFC 9204, section 4.4.3)
+abbrev pub count_of_insertions : World → World → Side → List DecoderInstruction
+count_of_insertions old new writer = increment (insertions_came (party new writer) - insertions_came (party old writer))
+
+-- the decoder instructions that came between, which its encoder reads
+abbrev pub replies_between : Setup → World → World → Side → List DecoderInstruction
+replies_between setup old new writer = drop (length (replies_read setup old writer)) (replies_read setup new writer)
+
+-- The receiver after own streams of the writer got further, from the old world to the new one.
+abbrev pub having_listened : Setup → World → World → Side → Party
+having_listened setup old new writer =
+    let q = having_settings setup old new writer in
     record {
-      own = record q.own { replies = q.own.replies ++ increment (insertions_came (party new writer) - insertions_came (party old writer)) };
-      encoder = encoder_after_all q.encoder (drop (length (replies_read setup old writer)) (replies_read setup new writer));
+      own = record q.own { replies = q.own.replies ++ count_of_insertions old new writer };
+      encoder = encoder_after_all q.encoder (replies_between setup old new writer);
     }
 
 abbrev pub delivered_own : Setup → World → Side → ℕ → ℕ → World

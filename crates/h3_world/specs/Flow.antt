@@ -33,10 +33,10 @@ own_part End = []
 
 -- the bytes of a part: one frame, but for the end (RFC 9114, sections 7.2.1 and 7.2.2)
 abbrev pub part_bytes : Part → List ℕ
-part_bytes (Interim s) = sender.part_bytes (OwnInterim s.encoded)
-part_bytes (Head s) = sender.part_bytes (OwnHead s.encoded)
-part_bytes (Body bytes own) = sender.part_bytes (OwnBody bytes)
-part_bytes (Trailer s) = sender.part_bytes (OwnTrailer s.encoded)
+part_bytes (Interim s) = sender.written_part (OwnInterim s.encoded)
+part_bytes (Head s) = sender.written_part (OwnHead s.encoded)
+part_bytes (Body bytes own) = sender.written_part (OwnBody bytes)
+part_bytes (Trailer s) = sender.written_part (OwnTrailer s.encoded)
 part_bytes End = []
 
 pub record Flow : Type 0 where

@@ -82,7 +82,7 @@ served setup w (event.Deliver side id count) = delivery setup w side id count
 served setup w (event.DeliverEnd side id) = end_delivery setup w side id
 served setup w (event.DeliverReset side id) = reset_delivery w side id
 served setup w (event.Pull side id) = pulled setup w side id
-served setup w (event.Show side) = (answer.Shown (limits_shown setup w side) (sizes_shown setup w side) (streams_waiting w side), w)
+served setup w (event.Show side) = (answer.Shown (limits_shown setup w side) (sizes_shown w side) (streams_waiting w side), w)
 
 -- the answers to the events, in order
 abbrev pub answers_from : Setup → World → List Event → List Answer

@@ -1,6 +1,6 @@
 -- What a pull may answer.
 use Rattle.std.specs.Prelude.{◌≡◌, ℕ, ◌%◌, not, ◌==◌, if◌then◌else◌, Option, Some, None, MatchOption}
-use Rattle.h3_proto.specs.StreamIds.{is_request}
+use Rattle.h3_proto.specs.StreamIds.{is_request_stream}
 use Rattle.h3_proto.specs.declared.stream.Side.{Side}
 use Rattle.h3_connection.specs.Announcing.{section_of}
 use Rattle.h3_connection.specs.OwnIds.{other, control_id, encoder_id, decoder_id}
@@ -45,7 +45,7 @@ abbrev pub settled : World → Side → ℕ → Option Pull
 settled w side id =
     let f = flow w (other side) id in
     if id % 4 == control_id (other side) then Some (pull_unidirectional w (other side) id) else (
-    if not (is_request id) then Some pull.NoMessages else (
+    if not (is_request_stream id) then Some pull.NoMessages else (
     if not (is_open w side id) then Some (pull_unopened side) else (
     fault_or f.fault (if is_over f then Some (pull.Item item.End) else None))))
 

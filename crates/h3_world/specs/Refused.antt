@@ -2,14 +2,14 @@
 use Rattle.std.specs.Prelude.{ℕ, min, List, ◌++◌}
 use Rattle.h3_field.specs.Field.{Field}
 use Rattle.h3_proto.specs.declared.stream.Side.{Side}
-use Rattle.h3_connection.specs.Sections.{having_inserted, instructions_for}
+use Rattle.h3_connection.specs.Sections.{having_inserted, own_instructions}
 use Rattle.h3_world.specs.World.{World, Party, party, with_party}
 
 -- the side after the insertions for some fields, whose section was not written
 abbrev pub having_inserted_for : Party → ℕ → List Field → Party
 having_inserted_for p id fields =
     record {
-      own = record p.own { instructions = p.own.instructions ++ instructions_for p.encoder id fields };
+      own = record p.own { instructions = p.own.instructions ++ own_instructions p.encoder id fields };
       encoder = having_inserted p.encoder id fields;
     }
 

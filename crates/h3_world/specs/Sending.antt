@@ -10,7 +10,7 @@ use Rattle.h3_qpack.specs.SectionEncoding as section
 use Rattle.h3_wire.specs.Encoded.{frame_encoding}
 use Rattle.h3_connection.specs.OwnIds.{other}
 use Rattle.h3_connection.specs.Pulling.{is_interim}
-use Rattle.h3_connection.specs.Sections.{encoded_section, instructions_for}
+use Rattle.h3_connection.specs.Sections.{written_section, own_instructions}
 use Rattle.h3_connection.specs.declared.event.StreamFault.{StreamFault}
 use Rattle.h3_world.specs.Flow.{Flow, Section, Part, flow_bytes}
 use Rattle.h3_world.specs.Flow.Part.{Interim, Head, Body, Trailer, End}
@@ -34,13 +34,13 @@ section_count s id fields = required_insert_count (draft_of (writing_on s id) fi
 abbrev pub having_encoded : Party → ℕ → List Field → Party
 having_encoded p id fields =
     record {
-      own = record p.own { instructions = p.own.instructions ++ instructions_for p.encoder id fields };
+      own = record p.own { instructions = p.own.instructions ++ own_instructions p.encoder id fields };
       encoder = section.sent_section p.encoder id fields;
     }
 
 abbrev pub section_sent : Party → ℕ → List Field → Flow → Section
 section_sent p id fields f =
-    let encoded = encoded_section p.encoder id fields in
+    let encoded = written_section p.encoder id fields in
     record {
       fields = fields;
       encoded = encoded;
@@ -50,17 +50,17 @@ section_sent p id fields f =
     }
 
 -- a head or a trailer went out
-abbrev pub sent_section : (Section → Part) → World → Side → ℕ → List Field → World
-sent_section kind w side id fields =
+abbrev pub with_section : (Section → Part) → World → Side → ℕ → List Field → World
+with_section kind w side id fields =
     let p = party w side in
     let f = flow w side id in
     with_flow (with_party w side (having_encoded p id fields)) side id (appended f (kind (section_sent p id fields f)))
 
 abbrev pub sent_head : World → Side → ℕ → Fields → World
-sent_head w side id head = sent_section (if is_interim head.status then Interim else Head) w side id (head_fields head)
+sent_head w side id head = with_section (if is_interim head.status then Interim else Head) w side id (head_fields head)
 
 abbrev pub sent_trailer : World → Side → ℕ → Fields → World
-sent_trailer w side id trailer = sent_section Trailer w side id (head_fields trailer)
+sent_trailer w side id trailer = with_section Trailer w side id (head_fields trailer)
 
 -- nothing is sent of an empty body
 abbrev pub sent_body : World → Side → ℕ → List ℕ → World

@@ -1,11 +1,11 @@
 -- What a client and a server announce (RFC 9114, section 7.2.4, and RFC 9204, section 5).
 use Rattle.std.specs.Prelude.{◌≡◌, ℕ, ◌<◌, Bool, false, Result, Ok, Err}
 use Rattle.h3_proto.specs.declared.config.Config.{Config}
-use Rattle.h3_proto.specs.Config.{announced}
+use Rattle.h3_proto.specs.Config.{announced, is_limit}
 use Rattle.h3_proto.specs.declared.stream.Side.{Side}
 use Rattle.h3_proto.specs.declared.stream.Side.TheVariants.{Client, Server}
 use Rattle.h3_connection.specs.Announcing.{announced_by}
-use Rattle.h3_connection.specs.Control.{is_usable}
+use Rattle.h3_connection.specs.Control.{is_table_usable}
 use Rattle.h3_connection.specs.declared.setup.Announced.{Announced}
 use Rattle.h3_connection.specs.declared.setup.Limits.{Limits}
 use Rattle.h3_connection.specs.declared.setup.NewError.{NewError}
@@ -21,17 +21,21 @@ abbrev pub announced_at : Setup → Side → Announced
 announced_at setup Client = setup.client
 announced_at setup Server = setup.server
 
--- it asks for no strict messages
-abbrev pub IsPlain : Announced → Type 0
-IsPlain a = a.choices.strict_messages ≡ false
+-- it has no limit on what is unfinished
+abbrev pub TakesAnyLength : Announced → Type 0
+TakesAnyLength a = is_limit a.choices.unfinished_limit ≡ false
 
--- and neither side does
+-- it asks for no strict messages, and has no such limit
+abbrev pub IsPlain : Announced → Type 0
+IsPlain a = (a.choices.strict_messages ≡ false) × TakesAnyLength a
+
+-- and so does each side
 abbrev pub JudgesPlainly : Setup → Type 0
 JudgesPlainly setup = (side : Side) → IsPlain (announced_at setup side)
 
 -- An encoder whose table has at most so much uses that of a peer that announces such limits (RFC 9204, section 3.2.3).
 abbrev pub has_table : ℕ → Limits → Bool
-has_table most limits = is_usable most limits.table limits.blocked
+has_table most limits = is_table_usable most limits.table limits.blocked
 
 -- some configuration announces it
 pub record IsMade (a : Announced) : Type 0 where

@@ -1,7 +1,6 @@
 -- What an end shows: the other side's limits, the sizes of both tables, and how many streams wait.
-use Rattle.std.specs.Prelude.{ℕ, ◌&&◌, count_by, nat_lt, is_none, Option, Some, None, option_map}
+use Rattle.std.specs.Prelude.{ℕ, ◌&&◌, count_by, nat_lt, is_none, take, Option, option_map}
 use Rattle.h3_field.specs.Field.{section_size}
-use Rattle.h3_qpack.specs.DecoderState.{DecoderState}
 use Rattle.h3_table.specs.Table.{table}
 use Rattle.h3_proto.specs.declared.stream.Side.{Side}
 use Rattle.h3_proto.specs.declared.stream.Side.TheVariants.{Client, Server}
@@ -12,20 +11,22 @@ use Rattle.h3_connection.specs.declared.event.TableSizes.{TableSizes}
 use Rattle.h3_world.specs.declared.setup.Setup.{Setup}
 use Rattle.h3_world.specs.Flow.{Flow}
 use Rattle.h3_world.specs.World.{World, Exchange, party}
-use Rattle.h3_world.specs.Came.{settings_known, insertions_came, decoder_at}
+use Rattle.h3_world.specs.Came.{settings_known, insertions_came}
 
 abbrev pub limits_shown : Setup → World → Side → Option PeerLimits
 limits_shown setup w side = option_map limits_of (settings_known setup w side)
 
-abbrev pub receiving_size : Option DecoderState → ℕ
-receiving_size None = 0
-receiving_size (Some d) = section_size d.table.entries
+-- The size of what the side's decoder holds: the table of the other side's encoder behind as many insertions as came (RFC 9204, section 3.2).
+abbrev pub receiving_size : World → Side → ℕ
+receiving_size w side =
+    let writer = party w (other side) in
+    section_size (table writer.encoder.capacity (take (insertions_came writer) writer.encoder.inserted))
 
 -- the sizes of the entries that the side's encoder holds, and of those that its decoder holds (RFC 9204, section 3.2.1)
-abbrev pub sizes_shown : Setup → World → Side → TableSizes
-sizes_shown setup w side =
+abbrev pub sizes_shown : World → Side → TableSizes
+sizes_shown w side =
     let encoder = (party w side).encoder in
-    record { sending = section_size (table encoder.capacity encoder.inserted); receiving = receiving_size (decoder_at setup w side) }
+    record { sending = section_size (table encoder.capacity encoder.inserted); receiving = receiving_size w side }
 
 -- what the side receives of an exchange
 abbrev pub incoming : Side → Exchange → Flow

@@ -43,7 +43,7 @@ Step setup w (event.DeliverReset side id) given new = (given, new) ≡ reset_del
 Step setup w (event.Pull side id) (answer.Pulled pull) new = Pulls setup w side id pull new
 Step setup w (event.Pull side id) _ new = ⊥
 Step setup w (event.Show side) given new =
-    (given ≡ answer.Shown (limits_shown setup w side) (sizes_shown setup w side) (streams_waiting w side)) × (new ≡ w)
+    (given ≡ answer.Shown (limits_shown setup w side) (sizes_shown w side) (streams_waiting w side)) × (new ≡ w)
 
 -- A pull pauses exactly where it must.
 abbrev pub IsExact : World → Event → Answer → Type 0

@@ -1,6 +1,6 @@
 -- The streams by their ids (RFC 9000, section 2.1).
 use Rattle.std.specs.Prelude.{ℕ, ◌-◌, Bool, ◌&&◌, ◌||◌, length, slice_get, slice_set, nat_lt, ◌==◌, if◌then◌else◌, unwrap_or}
-use Rattle.h3_proto.specs.StreamIds.{is_request, index_of}
+use Rattle.h3_proto.specs.StreamIds.{is_request_stream, index_of}
 use Rattle.h3_proto.specs.declared.stream.Side.{Side}
 use Rattle.h3_proto.specs.declared.stream.Side.TheVariants.{Client, Server}
 use Rattle.h3_connection.specs.OwnIds.{control_id, encoder_id, decoder_id, is_own}
@@ -12,7 +12,7 @@ use Rattle.h3_world.specs.OwnStreams.{control_stream, encoder_stream, decoder_st
 
 -- what went over a request stream, and nothing under any other id
 abbrev pub exchange : World → ℕ → Exchange
-exchange w id = if is_request id then unwrap_or (slice_get w.exchanges (index_of id)) no_exchange else no_exchange
+exchange w id = if is_request_stream id then unwrap_or (slice_get w.exchanges (index_of id)) no_exchange else no_exchange
 
 abbrev pub with_exchange : World → ℕ → Exchange → World
 with_exchange w id e = record w { exchanges = slice_set w.exchanges (index_of id) e }
@@ -28,8 +28,8 @@ with_flow w Server id f = with_exchange w id (record (exchange w id) { response 
 
 -- A client has opened the id, or a server has got something on it.
 abbrev pub is_open : World → Side → ℕ → Bool
-is_open w Client id = is_request id && nat_lt (index_of id) (length w.exchanges)
-is_open w Server id = is_request id && nat_lt (index_of id) (length w.exchanges) && (exchange w id).request.seen
+is_open w Client id = is_request_stream id && nat_lt (index_of id) (length w.exchanges)
+is_open w Server id = is_request_stream id && nat_lt (index_of id) (length w.exchanges) && (exchange w id).request.seen
 
 -- the side has bytes to hand over under this id
 abbrev pub has_outgoing : World → Side → ℕ → Bool

@@ -1,5 +1,5 @@
 //! What can be read.
-ghost use Rattle.std.specs.Prelude.{◌≡◌, ◌≤◌, ◌^◌, OnOk, IfOk};
+ghost use Rattle.std.specs.Prelude.{◌≡◌, ◌≤◌, ◌^◌};
 ghost use Rattle.h3_c.specs.Exported.{OnStream};
 ghost use Rattle.h3_c.specs.Numbers.{ok};
 ghost use Rattle.h3_c.specs.Showing.{ShowsStream, ShowsConnection, ShowsSetting};

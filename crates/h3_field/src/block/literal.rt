@@ -33,12 +33,16 @@ pub enum LiteralWithNameRef {
 }
 
 impl LiteralWithNameRef {
+    /// The line with the name of that entry of the static table, counted from 0 (RFC 9204, appendix A), and the value. It takes any index:
+    /// `encode` asks for one below 2^62.
     pub fn new_static(index: usize, value: Vec<u8>) -> LiteralWithNameRef
         ensures { result ≡ named_ref.Static index value }
     {
         LiteralWithNameRef::Static { index, value }
     }
 
+    /// The line with the name of a dynamic entry, by its relative index, 0 for the one right below the base (RFC 9204, section 3.2.5), and the
+    /// value.
     pub fn new_dynamic(index: usize, value: Vec<u8>) -> LiteralWithNameRef
         ensures { result ≡ named_ref.Dynamic index value }
     {
@@ -144,6 +148,7 @@ pub struct LiteralWithPostBaseNameRef {
 }
 
 impl LiteralWithPostBaseNameRef {
+    /// The line with the name of a dynamic entry, by its post-base index, 0 for the one at the base (RFC 9204, section 3.2.6), and the value.
     pub fn new(index: usize, value: Vec<u8>) -> LiteralWithPostBaseNameRef
         ensures { result ≡ record { index = index; value = value } }
     {
@@ -218,6 +223,7 @@ pub struct Literal {
 }
 
 impl Literal {
+    /// The line with that name and value, which it owns.
     pub fn new(name: Vec<u8>, value: Vec<u8>) -> Literal
         ensures { result ≡ record { name = name; value = value } }
     {

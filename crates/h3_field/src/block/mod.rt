@@ -1,5 +1,4 @@
 //! Field lines, and the prefix of a field section (RFC 9204, section 4.5).
-ghost use Rattle.std.specs.Prelude.{◌≡◌, ◌<◌, ◌≤◌};
 ghost use Rattle.h3_field.specs.LineAnswer.{IsLineKind};
 
 mod indexed;

@@ -1,5 +1,5 @@
 //! The prefix of an encoded field section (RFC 9204, section 4.5.1).
-ghost use Rattle.std.specs.Prelude.{◌≡◌, ◌⊎◌, ◌+◌, ◌*◌, ◌/◌, ◌^◌, ◌<◌, ◌≤◌, ◌++◌, ℕ, MatchOption, MatchResult, OnOk, OnErr};
+ghost use Rattle.std.specs.Prelude.{◌≡◌, ◌⊎◌, ◌+◌, ◌*◌, ◌/◌, ◌^◌, ◌<◌, ◌≤◌, ◌++◌, MatchOption, MatchResult, OnOk, OnErr};
 ghost use Rattle.h3_field.specs.Ends.{IsEndOf};
 ghost use Rattle.h3_field.specs.Prefix.{IsRequiredCount};
 ghost use Rattle.h3_field.specs.PrefixReading.{IsPrefix, HasNoCount, prefix};

@@ -1,5 +1,5 @@
 //! The bytes of a string, before they are decoded.
-ghost use Rattle.std.specs.Prelude.{◌≡◌, ◌+◌, ◌-◌, ◌≤◌, ℕ, List, length, is_some, true, IfOk, vec_len, vec_capacity};
+ghost use Rattle.std.specs.Prelude.{◌≡◌, ◌+◌, ◌-◌, ◌≤◌, is_some, true, IfOk, vec_len, vec_capacity};
 ghost use Rattle.h3_field.specs.Ends.{IsEndOf};
 ghost use Rattle.h3_field.specs.Room.{HasRoom};
 ghost use Rattle.h3_field.specs.StringReading.{string};

@@ -8,8 +8,8 @@ ghost use Rattle.h3_field.specs.Room.{HasRoom, inserted_value};
 ghost use Rattle.h3_field.specs.ShapeAnswer.{AtString, behind};
 ghost use Rattle.h3_field.specs.IntegerReading.{integer};
 ghost use Rattle.h3_field.specs.Shapes.{begins};
-ghost use Rattle.h3_field.specs.InstructionReading.{name_reference, literal_name, capacity, repeat};
-ghost use Rattle.h3_field.specs.InstructionAnswer.{AnswersInstruction, IsSendable, named_insertion, literal_insertion, duplication, capacity_setting};
+ghost use Rattle.h3_field.specs.InstructionReading.{name_reference, literal_name};
+ghost use Rattle.h3_field.specs.InstructionAnswer.{AnswersInstruction, IsSendable, named_insertion, literal_insertion};
 ghost use Rattle.h3_field.specs.declared.parse_error.ParseError.TheVariants.{InvalidPrefix};
 ghost use Rattle.h3_field.specs.declared.prefix_string.Error.TheVariants.{OutOfMemory};
 ghost use Rattle.h3_field.specs.declared.stream.insertion.InsertWithNameRef.TheVariants as named_ref;
@@ -31,12 +31,15 @@ pub enum InsertWithNameRef {
 }
 
 impl InsertWithNameRef {
+    /// The insertion with the name of that entry of the static table, counted from 0 (RFC 9204, appendix A), and the value. It takes any
+    /// index: `encode` asks for one below 2^62.
     pub fn new_static(index: usize, value: Vec<u8>) -> InsertWithNameRef
         ensures { result ≡ named_ref.Static index value }
     {
         InsertWithNameRef::Static { index, value }
     }
 
+    /// The insertion with the name of a dynamic entry, by its relative index, 0 for the newest (RFC 9204, section 3.2.5), and the value.
     pub fn new_dynamic(index: usize, value: Vec<u8>) -> InsertWithNameRef
         ensures { result ≡ named_ref.Dynamic index value }
     {
@@ -145,6 +148,7 @@ pub struct InsertWithoutNameRef {
 }
 
 impl InsertWithoutNameRef {
+    /// The insertion of that name and value, which it owns.
     pub fn new(name: Vec<u8>, value: Vec<u8>) -> InsertWithoutNameRef
         ensures { result ≡ record { name = name; value = value } }
     {

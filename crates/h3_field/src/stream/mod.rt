@@ -1,5 +1,4 @@
 //! Instructions of an encoder and of a decoder (RFC 9204, sections 4.3 and 4.4).
-ghost use Rattle.std.specs.Prelude.{◌≡◌};
 ghost use Rattle.h3_field.specs.InstructionAnswer.{IsEncoderKind, IsDecoderKind};
 
 mod insertion;

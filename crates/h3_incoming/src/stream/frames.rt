@@ -4,7 +4,9 @@ ghost use Rattle.std.specs.List.{concat};
 ghost use Rattle.h3_wire.specs.Frames.{frame_at};
 ghost use Rattle.h3_wire.specs.Known.{IsWaiting, refusal};
 ghost use Rattle.h3_qpack.specs.DecoderState.{DecoderState};
-ghost use Rattle.h3_connection.specs.Codes.{refusal_code};
+ghost use Rattle.h3_connection.specs.Codes.{excessive_load, refusal_code};
+ghost use Rattle.h3_connection.specs.declared.event.Fault.TheVariants.{Connection};
+ghost use Rattle.h3_connection.specs.declared.event.Pull.TheVariants as pull;
 ghost use Rattle.h3_connection.specs.Incoming.{Incoming, is_body};
 ghost use Rattle.h3_connection.specs.Pulling.{is_memory, at_frame, next_frame, between_frames};
 ghost use Rattle.h3_incoming.specs.Beginning.{IsBegunBy, IsSectionOf, begun_as};
@@ -27,7 +29,7 @@ use h3_proto::frame::SettingsError;
 use h3_proto::stream::{Side, StreamId};
 use h3_proto::webtransport::SessionId;
 use h3_qpack::Decoder;
-use h3_wire::frame::FrameProtocolError;
+use h3_wire::frame::{FrameBuffer, FrameProtocolError};
 use h3_wire::proto::frame::{Frame, PayloadLen};
 use std::alloc::Global;
 
@@ -51,14 +53,16 @@ impl IncomingStream {
         requires waits { self.old.waits_for ≡ 0 }
         ensures answer { is_memory (O.told out.new) ≡ false
             → Gives (between_frames side announced.now id decoder.now self.old) (O.told out.new) self.new replies.old.items replies.new.items }
-        ensures memory { is_memory (O.told out.new) ≡ true → Resumes self.old self.new × (replies.new.items ≡ replies.old.items) }
+        ensures memory { is_memory (O.told out.new) ≡ true → Resumes announced.now self.old self.new × (replies.new.items ≡ replies.old.items) }
         ensures list { Lists (O.listed out.new) (fields_next decoder.now self.old) }
     {
         let in_body = self.is_in_body();
-        match front(&mut self.unread, alloc, in_body) {
+        let most = announced.choices.unfinished_limit;
+        match front(&mut self.unread, alloc, in_body, most) {
             Err(_) => fail(out, Fault::Memory),
             Ok(Found::Unfinished) => self.pull_end(alloc, id, replies, out),
             Ok(Found::Refused(e)) => fail(out, Fault::Connection(refused_code(e))),
+            Ok(Found::Excessive) => self.refuse_excess(alloc, out),
             Ok(Found::Frame(frame)) => match begun_by(side, self.place, self.content, frame) {
                 Begun::Section(section) => {
                     self.section = Some(section);
@@ -78,6 +82,17 @@ impl IncomingStream {
                 Begun::Fault(code) => fail(out, Fault::Connection(code)),
             },
         }
+    }
+
+    // A frame is longer than what the endpoint takes. What came is let go.
+    #[inline(never)]
+    fn refuse_excess<O: Answer>(&mut self, alloc: Global, out: &mut O)
+        ensures stream { self.new ≡ record self.old { unread = [] } }
+        ensures is { O.told out.new ≡ pull.Fault (Connection excessive_load) }
+        ensures none { O.listed out.new ≡ None }
+    {
+        self.unread = FrameBuffer::new(alloc);
+        fail(out, Fault::Connection(Code::H3_EXCESSIVE_LOAD))
     }
 
     fn is_in_body(&self) -> bool

@@ -1,5 +1,5 @@
 //! A code of 64 bits for each request stream that has one, by its id. No call moves more than a page, however many there are.
-ghost use Rattle.std.specs.Prelude.{◌≡◌, ◌<◌, ◌/◌, ◌%◌, ◌==◌, ℕ, [], length, slice_index_or, OnOk, OnErr};
+ghost use Rattle.std.specs.Prelude.{◌≡◌, ◌<◌, ◌/◌, ◌%◌, ℕ, [], length, slice_index_or, OnOk, OnErr};
 ghost use Rattle.h3_requests.specs.Marks.{code_at, page_codes, HaveSameMarks, IsOneMark};
 
 use std::alloc::{AllocError, Global};

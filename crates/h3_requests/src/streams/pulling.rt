@@ -56,7 +56,7 @@ impl RequestStreams {
         ensures answer { is_memory (O.told out.new) ≡ false → IfSome (kept_at self.old id) (λ before. IfSome (kept_at self.new id) (λ after.
             PullsWithin side announced.now id decoder.now self.old self.new before after (O.told out.new) replies.old.items replies.new.items)) }
         ensures memory { is_memory (O.told out.new) ≡ true → IfSome (kept_at self.old id) (λ before. IfSome (kept_at self.new id) (λ after.
-            ResumesThere self.old self.new id before after)) × (replies.new.items ≡ replies.old.items) }
+            ResumesThere announced.now self.old self.new id before after)) × (replies.new.items ≡ replies.old.items) }
         ensures settled { IfSome (kept_at self.old id) (λ before. is_settled_request (Some before.incoming) ≡ true → is_memory (O.told out.new) ≡ false) }
         ensures list { Lists (O.listed out.new) (fields_at decoder.now (kept_at self.old id)) }
     {

@@ -10,8 +10,8 @@ ghost use Rattle.h3_requests.specs.Over.{with_end_taken};
 
 use super::RequestStreams;
 use crate::room::SectionRoom;
-use bytes::Bytes;
 use h3_connection::place::SendPlace;
+use h3_outgoing::EncodedSection;
 use h3_proto::stream::StreamId;
 
 impl RequestStreams {
@@ -20,9 +20,9 @@ impl RequestStreams {
     pub fn send_section(
         &mut self,
         room: SectionRoom,
-        section: Bytes,
+        section: EncodedSection,
         place: SendPlace,
-    ) -> Result<(), Bytes>
+    ) -> Result<(), EncodedSection>
         ensures ok { OnOk result (IfSome (kept_at self.old room) (λ r. Sets self.old self.new room (record r { outgoing = has_section r.outgoing section place }))) }
         ensures there { OnOk result (IsSome (kept_at self.old room)) }
         ensures err { IfErr result (λ b. (b ≡ section) × AllSame self.old self.new) }

@@ -1,5 +1,5 @@
 //! The heads and trailers that an endpoint sends.
-ghost use Rattle.std.specs.Prelude.{◌≡◌, ◌≢◌, ◌<◌, ◌≤◌, ◌+◌, ◌^◌, ℕ, List, [], Some, None, IfOk, IfErr, IfSome, IfNone, OnOk, OnErr, unwrap_or, if◌then◌else◌};
+ghost use Rattle.std.specs.Prelude.{◌≡◌, ◌≢◌, ◌<◌, ◌≤◌, ◌+◌, ◌^◌, ℕ, List, [], Some, None, IfOk, IfErr, IfSome, IfNone, OnOk, OnErr, drop, length, unwrap_or, if◌then◌else◌};
 ghost use Rattle.h3_field.specs.Field.{Field, section_size};
 ghost use Rattle.h3_qpack.specs.EncoderHistory.{EncoderHistory};
 ghost use Rattle.h3_qpack.specs.EncoderState.{encoder_state};
@@ -9,7 +9,8 @@ ghost use Rattle.h3_connection.specs.Calls.{AllSame};
 ghost use Rattle.h3_connection.specs.Endpoint.{EndpointHistory};
 ghost use Rattle.h3_connection.specs.OwnIds.{other};
 ghost use Rattle.h3_connection.specs.Pulling.{is_for, is_interim};
-ghost use Rattle.h3_connection.specs.Sending.{fields_cost, is_too_large, remembers};
+ghost use Rattle.h3_connection.specs.Refusals.{is_too_large};
+ghost use Rattle.h3_connection.specs.Sending.{fields_cost, remembers};
 ghost use Rattle.h3_connection.specs.SendingContracts.{SendsHead, SendsTrailer, CutsOff};
 ghost use Rattle.h3_connection.specs.State.{StandsFor, kept_at};
 ghost use Rattle.h3_connection.specs.declared.event.Refusal.TheVariants.{OutOfMemory};
@@ -18,13 +19,13 @@ ghost use Rattle.h3_session.specs.Refused.{side_refused, pseudo_refused, size_re
 ghost use Rattle.h3_session.specs.SendingFields.{Encodes, StopsEncoding, Queues, Remembers, SendsFields, IsJudged, asking, counts_responses};
 
 use super::Endpoint;
-use bytes::Bytes;
 use h3_coding::varint::VarInt;
 use h3_connection::event::Refusal;
 use h3_connection::place::SendPlace;
 use h3_field::HeaderField;
 use h3_header::Header;
 use h3_messages::Content;
+use h3_outgoing::EncodedSection;
 use h3_proto::frame::SettingId;
 use h3_proto::stream::{Side, StreamId};
 use h3_qpack::laws::sections_leave_their_counts;
@@ -265,34 +266,34 @@ fn encode(
     alloc: Global,
     room: &SectionRoom,
     fields: &[HeaderField],
-) -> Result<(Bytes, usize), AllocError>
+) -> Result<(EncodedSection, usize), AllocError>
     requires { section_size fields.now < 2 ^ 62 }
     ensures ok { IfOk result (λ r. (s : EncoderHistory) → streams.old.encoding.encoder ≡ encoder_state s → Encodes s room.now fields.now r.0 r.1 streams.old streams.new) }
     ensures err { OnErr result ((s : EncoderHistory) → streams.old.encoding.encoder ≡ encoder_state s → StopsEncoding s room.now fields.now streams.old streams.new) }
 {
     let id = room.id();
-    let mut block = block_for(alloc, fields);
+    let Ok(mut block) = block_for(alloc, fields) else {
+        return Err(AllocError);
+    };
     let Ok(count) = encode_into(&mut block, streams, room, id, fields) else {
         return Err(AllocError);
     };
-    let Ok(section) = Bytes::from_vec(block) else {
+    let Some(section) = EncodedSection::behind_room(block) else {
         withdraw(streams, id, count);
         return Err(AllocError);
     };
     Ok((section, count))
 }
 
-/// An empty vector with room for the section of so many short fields, so that it seldom grows while that is written. Where memory is refused
-/// for that it has no room yet.
-fn block_for(alloc: Global, fields: &[HeaderField]) -> Vec<u8>
-    ensures { result.items ≡ [] }
+/// A block with room for the section of so many short fields, so that it seldom grows while that is written.
+fn block_for(alloc: Global, fields: &[HeaderField]) -> Result<Vec<u8>, AllocError>
+    ensures { IfOk result (λ block. length block.items ≡ 9) }
 {
-    let mut block = Vec::new(alloc);
-    let _room = block.reserve(SHORT_FIELD * fields.len().min(MANY_FIELDS));
-    block
+    EncodedSection::block(alloc, SHORT_FIELD * fields.len().min(MANY_FIELDS))
 }
 
-/// The same into an empty vector, on the stream that there is room on. It answers the required insert count.
+/// The same into such a block, on the stream that there is room on. It answers the required insert count.
+#[tactic(auto, using(crate::proofs::SendingSections::behind_room))]
 fn encode_into(
     block: &mut Vec<u8>,
     streams: &mut ConnectionStreams,
@@ -301,9 +302,9 @@ fn encode_into(
     fields: &[HeaderField],
 ) -> Result<usize, AllocError>
     requires small { section_size fields.now < 2 ^ 62 }
-    requires empty { block.old.items ≡ [] }
+    requires empty { length block.old.items ≡ 9 }
     requires there { id ≡ _room.now }
-    ensures ok { IfOk result (λ count. (s : EncoderHistory) → streams.old.encoding.encoder ≡ encoder_state s → Encodes s id fields.now block.new.items count streams.old streams.new) }
+    ensures ok { IfOk result (λ count. (s : EncoderHistory) → streams.old.encoding.encoder ≡ encoder_state s → Encodes s id fields.now (drop 9 block.new.items) count streams.old streams.new) }
     ensures err { OnErr result ((s : EncoderHistory) → streams.old.encoding.encoder ≡ encoder_state s → StopsEncoding s id fields.now streams.old streams.new) }
 {
     streams

@@ -1,5 +1,5 @@
 //! What comes next on a stream, and the streams of which nothing more is wanted.
-ghost use Rattle.std.specs.Prelude.{◌≡◌, true, false, [], Some, None, IfSome, is_some, option_map, unwrap_or, OnOk, OnErr, IfErr, option_copied};
+ghost use Rattle.std.specs.Prelude.{◌≡◌, true, false, [], Some, None, IfSome, is_some, unwrap_or, OnOk, OnErr, IfErr};
 ghost use Rattle.h3_connection.specs.Calls.{AllSame};
 ghost use Rattle.h3_connection.specs.Endpoint.{EndpointHistory, kind_of};
 ghost use Rattle.h3_connection.specs.Endpoint.Kind.{Request, PeerUnidirectional};
@@ -18,7 +18,7 @@ ghost use Rattle.h3_requests.specs.Coming.{fields_at};
 ghost use Rattle.h3_session.specs.Listing.{ListsItem, ListsNext};
 ghost use Rattle.h3_requests.specs.Limited.{PullsWithin, ResumesThere, unopened_answer};
 ghost use Rattle.h3_session.specs.Pulling.{PullsItem, ReadsKept, answer_code, closed_with, settled_in};
-ghost use Rattle.h3_session.specs.OpenedLaws.{ChangesRequests};
+ghost use Rattle.h3_session.specs.Changes.{ChangesRequests};
 
 use super::Endpoint;
 use h3_connection::event::{Fault, Pull, Refusal};
@@ -70,7 +70,7 @@ fn pull_stream<O: Answer>(
     ensures answer { is_memory (O.told out.new) ≡ false → IfSome (kept_at requests.old id) (λ before. IfSome (kept_at requests.new id) (λ after.
         PullsWithin side announced.now id streams.old.decoding.decoder requests.old requests.new before after (O.told out.new) streams.old.own.decoder streams.new.own.decoder)) }
     ensures memory { is_memory (O.told out.new) ≡ true → IfSome (kept_at requests.old id) (λ before. IfSome (kept_at requests.new id) (λ after.
-        ResumesThere requests.old requests.new id before after)) × (streams.new.own.decoder ≡ streams.old.own.decoder) }
+        ResumesThere announced.now requests.old requests.new id before after)) × (streams.new.own.decoder ≡ streams.old.own.decoder) }
     ensures rest { streams.new ≡ record streams.old { own = record streams.old.own { decoder = streams.new.own.decoder } } }
     ensures settled { IfSome (kept_at requests.old id) (λ before. is_settled_request (Some before.incoming) ≡ true → is_memory (O.told out.new) ≡ false) }
     ensures list { Lists (O.listed out.new) (fields_at streams.old.decoding.decoder (kept_at requests.old id)) }
@@ -241,7 +241,7 @@ impl Endpoint {
         ensures answer { is_memory (O.told out.new) ≡ false → IfSome (kept_at self.old.requests id) (λ before. IfSome (kept_at self.new.requests id) (λ after.
             PullsWithin self.old.side self.old.announced id self.old.decoding.decoder self.old.requests self.new.requests before after (O.told out.new) self.old.own.decoder self.new.own.decoder)) }
         ensures memory { is_memory (O.told out.new) ≡ true → IfSome (kept_at self.old.requests id) (λ before. IfSome (kept_at self.new.requests id) (λ after.
-            ResumesThere self.old.requests self.new.requests id before after)) × (self.new.own.decoder ≡ self.old.own.decoder) }
+            ResumesThere self.old.announced self.old.requests self.new.requests id before after)) × (self.new.own.decoder ≡ self.old.own.decoder) }
         ensures settled { IfSome (kept_at self.old.requests id) (λ before. is_settled_request (Some before.incoming) ≡ true → is_memory (O.told out.new) ≡ false) }
         ensures list { Lists (O.listed out.new) (fields_at self.old.decoding.decoder (kept_at self.old.requests id)) }
     {

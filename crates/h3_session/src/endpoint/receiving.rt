@@ -1,5 +1,5 @@
 //! What comes from the peer.
-ghost use Rattle.std.specs.Prelude.{◌≡◌, ◌≢◌, true, false, [], Err, Some, None, option_map, option_copied, ◌<◌, ◌+◌, ◌++◌, ◌∷◌, OnOk, OnErr, IfOk, IfErr};
+ghost use Rattle.std.specs.Prelude.{◌≡◌, ◌≢◌, true, false, [], Err, Some, None, ◌<◌, ◌+◌, ◌++◌, ◌∷◌, OnOk, OnErr, IfOk, IfErr};
 ghost use Rattle.std.specs.VecDeque.{deque_len, deque_capacity};
 ghost use Rattle.h3_connection.specs.Arrivals.{stream_of, closes, is_closed_in};
 ghost use Rattle.h3_blocked.specs.Sums.{TakesOut};
@@ -13,7 +13,7 @@ ghost use Rattle.h3_connection.specs.State.{StandsFor, kept_at};
 ghost use Rattle.h3_connection.specs.declared.event.DeliverError.TheVariants.{Kept};
 ghost use Rattle.h3_session.specs.Arriving.{delivery_refused, arrival_refused, is_stored, IsReceived, IsAccepted, ComesFirst};
 ghost use Rattle.h3_requests.specs.Changing.{Receives as ReceivesHere, receiver_refusal, IsRefusedBy};
-ghost use Rattle.h3_session.specs.OpenedLaws.{ChangesRequests};
+ghost use Rattle.h3_session.specs.Changes.{ChangesRequests};
 
 use super::Endpoint;
 use bytes::Bytes;

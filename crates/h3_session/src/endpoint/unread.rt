@@ -33,6 +33,7 @@ fn held_in_all(id: StreamId, arrivals: &[Arrival]) -> usize
     ensures { result ≡ counted (sum_by (held_in id) arrivals.now) }
 {
     let mut held: usize = 0;
+    // (the label names the loop in its proof)
     'arrivals: for arrival in arrivals {
         held = held.saturating_add(held_in(id, arrival));
     }

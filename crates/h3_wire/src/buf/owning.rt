@@ -18,26 +18,27 @@ pub fn own(bytes: &mut Bytes, alloc: Global) -> Result<(), AllocError>
 }
 
 impl BufList<Bytes> {
-    /// Puts a copy in the place of each piece that has no block of its own, as `own` does. Only the pieces are looked at that were added since
-    /// this was done last. Nothing else changes, also at an `Err`: memory was refused, and the next call does the rest.
+    /// Puts a copy in the place of each piece that has no block of its own, as `own` does; small ones that share a block of the list's have
+    /// one. Only the pieces are looked at that were added since this was done last. Nothing else changes, also at an `Err`: memory was
+    /// refused, and the next call does the rest.
     pub fn own(&mut self, alloc: Global) -> Result<(), AllocError>
         ensures { self.new ≡ self.old }
     {
         let count = self.bufs.len();
         let first = count - self.added.min(count);
         for index in first..count {
-            self.own_piece(alloc, index)?;
+            self.own_element(alloc, index)?;
         }
         self.added = 0;
         Ok(())
     }
 
-    fn own_piece(&mut self, alloc: Global, index: usize) -> Result<(), AllocError>
+    fn own_element(&mut self, alloc: Global, index: usize) -> Result<(), AllocError>
         ensures { self.new ≡ self.old }
     {
-        let Some(piece) = self.bufs.get_mut(index) else {
+        let Some(element) = self.bufs.get_mut(index) else {
             return Ok(());
         };
-        own(piece, alloc)
+        element.own(alloc)
     }
 }

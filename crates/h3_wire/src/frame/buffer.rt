@@ -1,16 +1,19 @@
 //! The bytes of a stream of frames that came and were not read.
-ghost use Rattle.std.specs.Prelude.{◌≡◌, ◌+◌, ◌^◌, ◌<◌, ◌≤◌, ◌++◌, None, length, IfOk, IfErr, IfSome, OnOk, OnErr};
+ghost use Rattle.std.specs.Prelude.{◌≡◌, ◌+◌, ◌^◌, ◌<◌, ◌≤◌, ◌++◌, None, false, true, length, IfOk, IfErr, IfSome, OnOk, OnErr};
 ghost use Rattle.std.specs.List.{concat};
-ghost use Rattle.h3_wire.specs.Known.{Gives};
+ghost use Rattle.h3_wire.specs.ExcessiveFrames.{is_excessive};
+ghost use Rattle.h3_wire.specs.Known.{Gives, known};
 ghost use Rattle.h3_wire.specs.Pieces.{chunk_of, ending, first_of, with_piece};
 ghost use Rattle.h3_wire.specs.Tries.{Counts};
-ghost use Rattle.h3_wire.specs.UnreadFrames.{none_unread};
+ghost use Rattle.h3_wire.specs.UnknownSize.{held_length};
+ghost use Rattle.h3_wire.specs.UnreadFrames.{none_unread, AreBetween, IsStillUnderWay, IsPassed};
 
 use super::decoder::FrameDecoder;
 use super::errors::FrameStreamError;
-use crate::buf::BufList;
+use super::sparing::FrameBytes;
 use crate::proto::frame::{Frame, PayloadLen};
-use bytes::{Buf, Bytes};
+use bytes::Bytes;
+use h3_coding::varint::VarInt;
 use std::alloc::{AllocError, Global};
 use std::marker::Model;
 
@@ -18,7 +21,7 @@ use std::marker::Model;
 /// value, and no call parts them: so no head is tried again that is known to be unfinished, and none more than 17 times.
 #[derive(Drop)]
 pub struct FrameBuffer {
-    unread: BufList<Bytes>,
+    unread: FrameBytes,
     decoder: FrameDecoder,
 }
 
@@ -29,7 +32,7 @@ impl Model for FrameBuffer {
 
     ghost Value = { UnreadFrames };
 
-    ghost view = { λ b. record { pieces = b.unread.pieces; decoder = b.decoder } };
+    ghost view = { λ b. record { pieces = b.unread.pieces; passing = b.unread.passing; decoder = b.decoder } };
 
     ghost invariant = { λ b. Expects b.decoder (concat b.unread.pieces) };
 }
@@ -40,12 +43,13 @@ impl FrameBuffer {
         ensures { result ≡ none_unread }
     {
         FrameBuffer {
-            unread: BufList::new(alloc),
+            unread: FrameBytes::new(alloc),
             decoder: FrameDecoder::default(),
         }
     }
 
-    /// More bytes came. They are kept as they are, with no copy. An `Err` changes nothing, and hands them back: memory was refused.
+    /// More bytes came. They are kept as they are, with no copy but of small pieces, unless they belong to an unknown frame under way and are
+    /// its last so far: then they are let go. An `Err` changes nothing, and hands them back: memory was refused.
     #[tactic(auto, using(crate::proofs::Pushing::expects_pushed))]
     pub fn push(&mut self, bytes: Bytes) -> Result<(), Bytes>
         requires fits { length (concat self.old.pieces) + length bytes < 2 ^ 64 }
@@ -54,41 +58,99 @@ impl FrameBuffer {
         ensures same { OnErr result (self.new ≡ self.old) }
         ensures back { IfErr result (λ b. b ≡ bytes) }
     {
-        match self.unread.push(bytes) {
-            Ok(()) => Ok(()),
-            Err(e) => Err(e.value),
-        }
+        self.unread.push(bytes)
     }
 
     /// Takes the next known frame, of DATA the head alone, and the unknown ones before it. Without a whole frame, and at an error,
-    /// only unknown frames are taken. Fewer bytes than the frame at the front is known to need are not tried.
+    /// only unknown frames are taken, and the bytes of an unknown one under way are let go. Fewer bytes than the frame at the front is
+    /// known to need are not tried.
     pub fn next_frame(
         &mut self,
         alloc: Global,
     ) -> Result<Option<Frame<PayloadLen>>, FrameStreamError>
         ensures gives { Gives result (concat self.old.pieces) (concat self.new.pieces) }
-        ensures between { IfOk result (λ o. IfSome o (λ f. self.new.decoder.expected ≡ None)) }
+        ensures between { IfOk result (λ o. IfSome o (λ f. AreBetween self.new)) }
         ensures counts { Counts self.old.decoder (concat self.old.pieces) result self.new.decoder }
         ensures pieces { self.new.pieces ≡ ending (length (concat self.new.pieces)) self.old.pieces }
     {
-        self.decoder.decode(alloc, &mut self.unread)
+        if self.unread.passing() == 0 {
+            return self.decode(alloc);
+        }
+        if self.pass_unknown() {
+            return self.decode(alloc);
+        }
+        Ok(None)
+    }
+
+    // An unknown frame is under way, of which some bytes were let go. Where it is whole it is passed.
+    fn pass_unknown(&mut self) -> bool
+        requires under_way { 0 < self.old.passing }
+        ensures waits { result ≡ false → IsStillUnderWay self.old self.new }
+        ensures passed { result ≡ true → IsPassed self.old self.new }
+    {
+        let len = self.unread.len();
+        if len < self.decoder.needed() {
+            return false;
+        }
+        let size = self.unread.passing();
+        if len < size {
+            self.decoder.count(Some(size));
+            return false;
+        }
+        self.unread.pass();
+        self.decoder.count(None);
+        true
+    }
+
+    // The same where none is.
+    fn decode(&mut self, alloc: Global) -> Result<Option<Frame<PayloadLen>>, FrameStreamError>
+        requires none { self.old.passing ≡ 0 }
+        ensures gives { Gives result (concat self.old.pieces) (concat self.new.pieces) }
+        ensures between { IfOk result (λ o. IfSome o (λ f. AreBetween self.new)) }
+        ensures counts { Counts self.old.decoder (concat self.old.pieces) result self.new.decoder }
+        ensures pieces { self.new.pieces ≡ ending (length (concat self.new.pieces)) self.old.pieces }
+    {
+        let decoded = self.unread.decode(alloc, &mut self.decoder);
+        if let Ok(None) = &decoded {
+            self.unread.spare();
+        }
+        decoded
+    }
+
+    /// Where the front is an unknown frame under way, its bytes are let go, as far as they came, and from then on as they come. It is to
+    /// be called where a frame may begin. All that a contract sees of the bytes stays.
+    pub fn spare(&mut self)
+        ensures pieces { self.new.pieces ≡ self.old.pieces }
+        ensures decoder { self.new.decoder ≡ self.old.decoder }
+    {
+        self.unread.spare();
+    }
+
+    /// Whether there is a limit and the first frame that is no whole unknown one says a length above it, where it is one whose payload is kept
+    /// until it is whole (RFC 9114, section 10.5). The payload need not be there. Nothing is taken. 2^62 - 1 or more: no limit.
+    pub fn is_excessive(&self, most: u64) -> bool
+        ensures { result ≡ is_excessive most (known (concat self.now.pieces)) }
+    {
+        most < VarInt::MAX.into_inner() && self.unread.is_excessive(most)
     }
 
     /// The first piece's first bytes, `max` or all of it, where no head is under way. Nothing is copied. An `Err` changes nothing.
     pub fn take_chunk(&mut self, max: usize) -> Result<Option<Bytes>, AllocError>
-        requires between { self.old.decoder.expected ≡ None }
+        requires between { AreBetween self.old }
         ensures ok { IfOk result (λ o. (o, self.new.pieces) ≡ chunk_of max self.old.pieces) }
         ensures err { OnErr result (self.new.pieces ≡ self.old.pieces) }
         ensures decoder { self.new.decoder ≡ self.old.decoder }
+        ensures none { self.new.passing ≡ 0 }
     {
         self.unread.take_chunk(max)
     }
 
     /// The first piece, where no head is under way.
     pub fn take_first_chunk(&mut self) -> Option<Bytes>
-        requires between { self.old.decoder.expected ≡ None }
+        requires between { AreBetween self.old }
         ensures pieces { (result, self.new.pieces) ≡ first_of self.old.pieces }
         ensures decoder { self.new.decoder ≡ self.old.decoder }
+        ensures none { self.new.passing ≡ 0 }
     {
         self.unread.take_first_chunk()
     }
@@ -105,7 +167,17 @@ impl FrameBuffer {
     pub fn len(&self) -> usize
         ensures { result ≡ length (concat self.now.pieces) }
     {
-        self.unread.remaining()
+        self.unread.len()
+    }
+
+    /// How many of them are held: none while an unknown frame is under way at the front. It is to be asked where a frame may begin.
+    pub fn held(&self) -> usize
+        ensures { result ≡ held_length (concat self.now.pieces) }
+    {
+        if self.unread.is_under_way() {
+            return 0;
+        }
+        self.unread.len()
     }
 
     /// How often the head of the frame under way was tried, or else that of the last frame that was taken, an unknown one too: at

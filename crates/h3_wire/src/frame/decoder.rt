@@ -67,14 +67,14 @@ impl FrameDecoder {
     }
 
     // How many bytes the next try needs.
-    fn needed(&self) -> usize
+    pub(super) fn needed(&self) -> usize
         ensures { result ≡ needed self.now }
     {
         self.expected.unwrap_or(1)
     }
 
     // Counts a try, after which so many bytes are expected.
-    fn count(&mut self, expected: Option<usize>)
+    pub(super) fn count(&mut self, expected: Option<usize>)
         requires { one_more self.old.expected self.old.tries ≤ 17 }
         ensures { self.new ≡ counted self.old expected }
     {

@@ -1,6 +1,6 @@
 use Rattle.std.proofs.Common.{arith}
 use Rattle.std.proofs.lemmas.Result.{MatchResult-weaker}
-use Rattle.h3_coding.specs.ShortestEncodings.{encoding_one, encoding_two, encoding_four, encoding_eight}
+use Rattle.h3_coding.specs.ShortestLaws.{encoding_one, encoding_two, encoding_four, encoding_eight}
 use Rattle.h3_coding.proofs.varint.put_encoding.Goals as goal
 
 pub returns-then-x-clause-ok : goal.returns-then-x-clause-ok

@@ -1,5 +1,6 @@
 use Rattle.std.proofs.Common.{refl, sym, arith}
-use Rattle.h3_field.specs.EndLaws.{none_dropped, all_dropped}
+use Rattle.h3_field.specs.EndLaws.{none_dropped}
+use Rattle.h3_field.proofs.Ends.{all_dropped}
 use Rattle.h3_field.proofs.Standing.{stand_begin, no_prefix, stand_next, stand_long, stand_end, stand_bad, stand_kept}
 use Rattle.h3_field.proofs.decoder.list_section.Goals as goal
 

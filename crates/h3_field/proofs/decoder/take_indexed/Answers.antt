@@ -2,7 +2,8 @@ use Rattle.std.proofs.Common.{refl}
 use Rattle.h3_field.specs.LineReading.{indexed}
 use Rattle.h3_field.specs.LineAnswer.{indexed_line}
 use Rattle.h3_field.specs.ShapeAnswer.{AtInteger}
-use Rattle.h3_field.specs.SectionLaws.{has_field, no_static, line_indexed}
+use Rattle.h3_field.specs.SectionLaws.{line_indexed}
+use Rattle.h3_field.proofs.NoLines.{has_field, no_static}
 use Rattle.h3_field.specs.ShorterLaws.{indexed_less}
 use Rattle.h3_field.proofs.decoder.take_indexed.Goals as goal
 

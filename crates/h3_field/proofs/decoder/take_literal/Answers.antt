@@ -2,7 +2,8 @@ use Rattle.std.proofs.Common.{refl}
 use Rattle.h3_field.specs.LineReading.{literal}
 use Rattle.h3_field.specs.LineAnswer.{literal_line}
 use Rattle.h3_field.specs.ShapeAnswer.{AtString}
-use Rattle.h3_field.specs.SectionLaws.{has_field, line_literal, refused_line}
+use Rattle.h3_field.specs.SectionLaws.{line_literal}
+use Rattle.h3_field.proofs.NoLines.{has_field, refused_line}
 use Rattle.h3_field.specs.ShorterLaws.{literal_less}
 use Rattle.h3_field.proofs.NamedLines.{literal_asks}
 use Rattle.h3_field.proofs.decoder.take_literal.Goals as goal

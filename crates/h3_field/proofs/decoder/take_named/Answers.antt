@@ -3,7 +3,8 @@ use Rattle.h3_field.specs.LineReading.{named}
 use Rattle.h3_field.specs.LineAnswer.{named_line}
 use Rattle.h3_field.specs.ShapeAnswer.{behind}
 use Rattle.h3_field.specs.IntegerReading.{integer}
-use Rattle.h3_field.specs.SectionLaws.{has_field, no_static_name, named_entry, line_named}
+use Rattle.h3_field.specs.SectionLaws.{named_entry, line_named}
+use Rattle.h3_field.proofs.NoLines.{has_field, no_static_name}
 use Rattle.h3_field.specs.ShorterLaws.{named_less}
 use Rattle.h3_field.proofs.NamedLines.{refused_named}
 use Rattle.h3_field.proofs.decoder.take_named.Goals as goal

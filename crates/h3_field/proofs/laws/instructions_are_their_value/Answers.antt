@@ -1,4 +1,5 @@
-use Rattle.h3_field.specs.ValueLaws.{instruction_some, instruction_is, instruction_none, no_instruction, instruction_of_memory}
+use Rattle.h3_field.specs.ValueLaws.{instruction_some, instruction_is}
+use Rattle.h3_field.proofs.NoValues.{instruction_none, no_instruction, instruction_of_memory}
 use Rattle.h3_field.proofs.laws.instructions_are_their_value.Goals as goal
 
 pub returns-clause-some : goal.returns-clause-some

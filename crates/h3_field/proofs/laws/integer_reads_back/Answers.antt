@@ -1,4 +1,5 @@
-use Rattle.h3_field.specs.IntegerLaws.{prefixed_read, integer_read, integer_found}
+use Rattle.h3_field.specs.IntegerLaws.{prefixed_read, integer_read}
+use Rattle.h3_field.proofs.IntegersFound.{integer_found}
 use Rattle.h3_field.proofs.laws.integer_reads_back.Goals as goal
 
 pub returns-clause-written : goal.returns-clause-written

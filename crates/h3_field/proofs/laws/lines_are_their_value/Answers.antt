@@ -1,4 +1,5 @@
-use Rattle.h3_field.specs.ValueLaws.{line_some, line_is, line_none, no_line, line_of_memory}
+use Rattle.h3_field.specs.ValueLaws.{line_some, line_is}
+use Rattle.h3_field.proofs.NoValues.{line_none, no_line, line_of_memory}
 use Rattle.h3_field.proofs.laws.lines_are_their_value.Goals as goal
 
 pub returns-clause-some : goal.returns-clause-some

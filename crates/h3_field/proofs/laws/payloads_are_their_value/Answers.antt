@@ -1,4 +1,5 @@
-use Rattle.h3_field.specs.ValueLaws.{string_some, string_is, string_none, no_string}
+use Rattle.h3_field.specs.ValueLaws.{string_some, string_is}
+use Rattle.h3_field.proofs.NoValues.{string_none, no_string}
 use Rattle.h3_field.proofs.laws.payloads_are_their_value.Goals as goal
 
 pub returns-clause-some : goal.returns-clause-some

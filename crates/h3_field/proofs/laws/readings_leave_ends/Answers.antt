@@ -1,4 +1,5 @@
-use Rattle.h3_field.specs.EndLaws.{line_leaves, instruction_leaves, decoder_instruction_leaves, prefix_leaves}
+use Rattle.h3_field.specs.EndLaws.{line_leaves, instruction_leaves, decoder_instruction_leaves}
+use Rattle.h3_field.proofs.Ends.{prefix_leaves}
 use Rattle.h3_field.proofs.laws.readings_leave_ends.Goals as goal
 
 pub returns-clause-line : goal.returns-clause-line

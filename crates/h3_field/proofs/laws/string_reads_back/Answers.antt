@@ -1,5 +1,5 @@
 use Rattle.h3_field.specs.StringLaws.{string_literal_read}
-use Rattle.h3_field.specs.ValueLaws.{one_string_stood_for}
+use Rattle.h3_field.proofs.NoValues.{one_string_stood_for}
 use Rattle.h3_field.proofs.laws.string_reads_back.Goals as goal
 
 pub returns-clause-written : goal.returns-clause-written

@@ -1,4 +1,4 @@
-use Rattle.h3_field.specs.IntegerWritingLaws.{Left}
+use Rattle.h3_field.specs.IntegerSteps.{Left}
 use Rattle.h3_field.proofs.prefix_int.put_groups.Given as goal
 
 abbrev pub invariant-loop-left : goal.invariant-loop-left

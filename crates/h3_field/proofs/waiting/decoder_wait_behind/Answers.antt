@@ -1,5 +1,5 @@
 use Rattle.std.proofs.Common.{sym, ◌∙◌}
-use Rattle.h3_field.specs.WaitingLaws.{decoder_goes_on}
+use Rattle.h3_field.proofs.WaitsOn.{decoder_goes_on}
 use Rattle.h3_field.proofs.waiting.decoder_wait_behind.Goals as goal
 
 pub returns-in-Some : goal.returns-in-Some

@@ -1,5 +1,5 @@
 use Rattle.std.proofs.Common.{sym, ◌∙◌}
-use Rattle.h3_field.specs.WaitingLaws.{encoder_goes_on}
+use Rattle.h3_field.proofs.WaitsOn.{encoder_goes_on}
 use Rattle.h3_field.proofs.waiting.encoder_wait_behind.Goals as goal
 
 pub returns-in-Some : goal.returns-in-Some

@@ -1,7 +1,7 @@
 use Rattle.std.proofs.Common.{ap}
 use Rattle.std.specs.Prelude.{is_some}
 use Rattle.h3_headline.proofs.PulledAndSentLaws.{run_sound}
-use Rattle.h3_headline.proofs.Tables.{replies_taken, table_read}
+use Rattle.h3_headline.specs.TableReadingLaws.{replies_taken, table_read}
 use Rattle.h3_headline.proofs.parts.no_instruction_is_refused.Goals as goal
 
 pub returns-clause-encoder : goal.returns-clause-encoder

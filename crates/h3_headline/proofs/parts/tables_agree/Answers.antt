@@ -1,5 +1,5 @@
 use Rattle.h3_headline.proofs.PulledAndSentLaws.{run_sound}
-use Rattle.h3_headline.proofs.Tables.{table_read}
+use Rattle.h3_headline.specs.TableReadingLaws.{table_read}
 use Rattle.h3_headline.proofs.parts.tables_agree.Goals as goal
 
 pub returns : goal.returns

@@ -1,4 +1,5 @@
-use Rattle.h3_huffman.specs.UnhuffmanLaws.{unhuffman_some, unhuffman_is, unhuffman_none, no_unhuffman}
+use Rattle.h3_huffman.specs.UnhuffmanLaws.{unhuffman_some, unhuffman_is}
+use Rattle.h3_huffman.proofs.NoStrings.{unhuffman_none, no_unhuffman}
 use Rattle.h3_huffman.proofs.laws.encodings_are_their_value.Goals as goal
 
 pub returns-clause-some : goal.returns-clause-some

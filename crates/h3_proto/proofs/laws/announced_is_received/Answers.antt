@@ -1,4 +1,5 @@
-use Rattle.h3_proto.specs.ReceivedLaws.{announced_received, announced_received_with_table}
+use Rattle.h3_proto.specs.ReceivedLaws.{announced_received_with_table}
+use Rattle.h3_proto.proofs.KeptSettings.{announced_received}
 use Rattle.h3_proto.proofs.laws.announced_is_received.Goals as goal
 
 pub returns-clause-alone : goal.returns-clause-alone

@@ -1,4 +1,4 @@
-use Rattle.h3_proto.specs.ReceivedLaws.{own_settings, own_settings_with_table, own_table}
+use Rattle.h3_proto.proofs.KeptSettings.{own_settings, own_settings_with_table, own_table}
 use Rattle.h3_proto.proofs.laws.received_is_configured.Goals as goal
 
 pub returns-clause-alone : goal.returns-clause-alone

@@ -1,7 +1,7 @@
 use Rattle.std.proofs.Common.{◌+◌, ◌-◌, ◌^◌, ◌<◌, ◌≤◌, ℕ, List}
 use Rattle.std.specs.Prelude.{vec_len}
 use Rattle.std.specs.Vec.{vec_capacity}
-use Rattle.h3_field.specs.IntegerWritingLaws.{Left}
+use Rattle.h3_field.specs.IntegerSteps.{Left}
 use Rattle.h3_streams.proofs.learning.put_capacity.Given as goal
 
 pub record Invariant (start items : List ℕ) (all left len capacity room : ℕ) : Type 0 where

@@ -1,5 +1,5 @@
 use Rattle.std.proofs.Common.{sym, ◌∙◌, arith}
-use Rattle.h3_table.specs.TableLaws.{table-whole}
+use Rattle.h3_table.proofs.Evictions.{table-whole}
 use Rattle.h3_table.proofs.Laid.{row_with}
 use Rattle.h3_table.proofs.entries.evict_oldest.Goals as goal
 

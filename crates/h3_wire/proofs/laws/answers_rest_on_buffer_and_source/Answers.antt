@@ -1,5 +1,5 @@
-use Rattle.h3_wire.specs.AskingLaws.{one_frame, one_piece, buffered_is_function}
-use Rattle.h3_wire.specs.StartingLaws.{one_start}
+use Rattle.h3_wire.proofs.Asking.{one_frame, one_piece, buffered_is_function}
+use Rattle.h3_wire.proofs.Starting.{one_start}
 use Rattle.h3_wire.proofs.laws.answers_rest_on_buffer_and_source.Goals as goal
 
 pub returns : goal.returns

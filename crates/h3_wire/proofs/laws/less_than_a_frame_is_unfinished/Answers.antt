@@ -1,4 +1,4 @@
-use Rattle.h3_wire.specs.UnfinishedLaws.{fronts_are_unfinished}
+use Rattle.h3_wire.proofs.UnfinishedFronts.{fronts_are_unfinished}
 use Rattle.h3_wire.proofs.laws.less_than_a_frame_is_unfinished.Goals as goal
 
 pub returns : goal.returns

@@ -1,4 +1,4 @@
-use Rattle.h3_wire.specs.GivesLaws.{refused_again}
+use Rattle.h3_wire.proofs.Gives.{refused_again}
 use Rattle.h3_wire.proofs.laws.refused_stays_refused.Goals as goal
 
 pub returns : goal.returns

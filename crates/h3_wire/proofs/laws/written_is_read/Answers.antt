@@ -1,4 +1,4 @@
-use Rattle.h3_wire.specs.EncodedLaws.{written_is_read}
+use Rattle.h3_wire.proofs.WrittenFrames.{written_is_read}
 use Rattle.h3_wire.proofs.laws.written_is_read.Goals as goal
 
 pub returns : goal.returns

@@ -26,7 +26,7 @@ impl<B: Buf> Frame<B> {
         }
     }
 
-    /// Each number of the frame has an encoding.
+    /// Each number of the frame has an encoding. It does nothing: a proof that needs the fact calls it.
     pub(crate) fn known(&self)
         ensures { HasNumbers self.now }
     {

@@ -1,8 +1,8 @@
 -- One more.
-use Rattle.std.proofs.Common.{arith, rules, ◌≡◌, ◌<◌, ◌≤◌, ◌+◌, ◌^◌, ℕ, refl, true, false, ap, sym, ◌∙◌}
+use Rattle.std.proofs.Common.{arith, rules, ◌≡◌, refl, true, false, ap}
 use Rattle.std.specs.Prelude.{nat_lt}
 use Rattle.std.proofs.lemmas.Bool.{lt-ltb, le-ltb}
-use Rattle.h3_blocked.specs.Counting.{number_at, number_in, one_if, sum_above, IsOneNumber}
+use Rattle.h3_blocked.specs.Counting.{number_at, number_in, one_if}
 use Rattle.h3_blocked.proofs.Above.{few_above, few_at, grown, placed_sound}
 use Rattle.h3_blocked.proofs.counts.Blocked.place.Goals as goal
 

@@ -1,10 +1,10 @@
 -- One less.
-use Rattle.std.proofs.Common.{arith, rules, ◌≡◌, ◌<◌, ◌≤◌, ◌+◌, ◌^◌, ℕ, refl, true, false, ap, sym, ◌∙◌}
+use Rattle.std.proofs.Common.{arith, rules, ◌≡◌, ◌<◌, ◌^◌, ℕ, refl, true, false, ap}
 use Rattle.std.specs.Prelude.{nat_lt, ◌≢◌}
 use Rattle.std.proofs.lemmas.Bool.{lt-ltb, le-ltb}
 use Rattle.h3_blocked.specs.Counting.{number_at, number_in, one_if, HasCount}
 use Rattle.h3_blocked.specs.declared.counts.Blocked.{Blocked}
-use Rattle.h3_blocked.proofs.Above.{few_above, few_at, no_more_at, placed, shrunk, taken_sound}
+use Rattle.h3_blocked.proofs.Above.{few_at, no_more_at, placed, shrunk, taken_sound}
 use Rattle.h3_blocked.proofs.counts.Blocked.take_out.Goals as goal
 
 there : (b : Blocked) (count : ℕ) → count < 2 ^ 64 → (0 < count) × HasCount b count → b.newest ≢ count → 0 < number_at b count

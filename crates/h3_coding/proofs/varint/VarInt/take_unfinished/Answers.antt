@@ -1,6 +1,6 @@
 use Rattle.std.proofs.Common.{◌≡◌, ◌∷◌, drop, arith}
 use Rattle.std.specs.Prelude.{slice_index}
-use Rattle.h3_coding.specs.VarintLaws.{first_of, unfinished_at}
+use Rattle.h3_coding.proofs.Varints.{first_of, unfinished_at}
 use Rattle.h3_coding.proofs.varint.VarInt.take_unfinished.Goals as goal
 
 pub returns-clause-why : goal.returns-clause-why

@@ -1,5 +1,5 @@
 use Rattle.std.proofs.Common.{arith, sym, ◌∙◌}
-use Rattle.h3_proto.specs.ReceivedLaws.{kept_more}
+use Rattle.h3_proto.proofs.KeptSettings.{kept_more}
 use Rattle.h3_proto.proofs.frame.Settings.insert.Goals as goal
 
 pub invariant_of-self : goal.invariant_of-self

@@ -1,6 +1,6 @@
 use Rattle.std.proofs.Common.{rules, ◌≡◌, true, [], refl, arith}
 use Rattle.h3_qpack.specs.Instructions.{NoInstruction}
-use Rattle.h3_qpack.specs.InstructionLaws.{read_on}
+use Rattle.h3_qpack.proofs.InstructionsRead.{read_on}
 use Rattle.h3_qpack.proofs.decoder.Decoder.take_instructions.Goals as goal
 
 pub loop-self-init : goal.loop-self-init

@@ -1,5 +1,5 @@
 use Rattle.std.proofs.Common.{rules, ◌≡◌, true, false, sym, ◌∙◌}
-use Rattle.h3_qpack.specs.HearingLaws.{has_listened, nothing_left, refused_here}
+use Rattle.h3_qpack.proofs.Hearings.{has_listened, nothing_left, refused_here}
 use Rattle.h3_qpack.proofs.Ends.{heard_to_an_end}
 use Rattle.h3_qpack.proofs.DecoderInstructionsRead.{heard_none, heard_on}
 use Rattle.h3_qpack.proofs.encoder.Encoder.on_decoder_recv.Goals as goal

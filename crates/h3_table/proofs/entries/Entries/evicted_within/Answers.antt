@@ -1,7 +1,7 @@
 use Rattle.std.proofs.Common.{ap, arith}
 use Rattle.std.proofs.Math.ListN.{drop_of_length-le}
 use Rattle.h3_field.specs.Field.{section_size}
-use Rattle.h3_table.specs.EvictionLaws.{evicted_when, evicted_further}
+use Rattle.h3_table.proofs.Evictions.{evicted_when, evicted_further}
 use Rattle.h3_table.proofs.entries.Entries.evicted_within.Goals as goal
 
 pub returns-then-evicted-evictions-clause-none : goal.returns-then-evicted-evictions-clause-none

@@ -1,5 +1,6 @@
 use Rattle.std.proofs.Common.{arith}
-use Rattle.h3_table.specs.TableLaws.{section_size-table, table-whole}
+use Rattle.h3_table.specs.TableLaws.{section_size-table}
+use Rattle.h3_table.proofs.Evictions.{table-whole}
 use Rattle.h3_table.proofs.entries.Entries.kept_within.Goals as goal
 
 pub returns-then-self-room-clause-most : goal.returns-then-self-room-clause-most

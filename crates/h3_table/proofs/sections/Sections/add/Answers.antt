@@ -1,7 +1,7 @@
 use Rattle.std.proofs.Common.{◌++◌, sym, ◌∙◌, ap, arith, length}
 use Rattle.h3_table.specs.declared.tracking.TrackedSection.{TrackedSection}
 use Rattle.h3_table.specs.InOrder.{in_order, put_last}
-use Rattle.h3_table.specs.InOrderLaws.{length-put_last}
+use Rattle.h3_table.proofs.PutLast.{length-put_last}
 use Rattle.h3_table.proofs.ByStream.{same_in_order, more_in_order}
 use Rattle.h3_table.proofs.sections.Sections.add.Goals as goal
 

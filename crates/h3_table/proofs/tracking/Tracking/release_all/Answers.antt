@@ -1,7 +1,8 @@
 use Rattle.std.proofs.Common.{◌≡◌, false, sym, ◌∙◌, ap}
 use Rattle.std.specs.List.{list_any}
 use Rattle.h3_table.specs.Tracking.{TrackingState, is_of, without_oldest_of, without_all_of}
-use Rattle.h3_table.specs.ReleasingLaws.{none_removed, all_after_oldest, all_of_none, fewer_left}
+use Rattle.h3_table.specs.ReleasingLaws.{none_removed}
+use Rattle.h3_table.proofs.Releases.{all_after_oldest, all_of_none, fewer_left}
 use Rattle.h3_table.proofs.tracking.Tracking.release_all.Goals as goal
 
 pub loop-smaller : goal.loop-smaller

@@ -5,7 +5,7 @@ use Rattle.std.proofs.lemmas.List.{length-set}
 use Rattle.h3_table.specs.declared.tracking.TrackedSection.{TrackedSection}
 use Rattle.h3_table.specs.Tracking.{reference_counts, reference_count}
 use Rattle.h3_table.specs.InOrder.{put_last}
-use Rattle.h3_table.specs.InOrderLaws.{sum_by-put_last, length-put_last, All-put_last}
+use Rattle.h3_table.proofs.PutLast.{sum_by-put_last, length-put_last, All-put_last}
 use Rattle.h3_table.proofs.ReferenceCounts.{held_set, reference_count-length, held_count}
 use Rattle.h3_table.proofs.tracking.Tracking.track.Goals as goal
 

@@ -1,7 +1,8 @@
 use Rattle.std.proofs.Common.{arith, ◌∙◌, refl, subst, inl, inr, None}
 use Rattle.h3_wire.specs.Asking.{goes_on}
-use Rattle.h3_wire.specs.Source.{done, asked_then}
-use Rattle.h3_wire.specs.Given.{passes_then, rest_passes}
+use Rattle.h3_wire.specs.Source.{done}
+use Rattle.h3_wire.proofs.Asking.{asked_then}
+use Rattle.h3_wire.proofs.GivenPieces.{passes_then, rest_passes}
 use Rattle.h3_wire.specs.PieceLaws.{rest_same}
 use Rattle.h3_wire.specs.Streams.{AsksFirst, poll_error}
 use Rattle.h3_wire.proofs.Reading.{no_error_first}

@@ -1,6 +1,6 @@
 use Rattle.h3_wire.proofs.ReadingOn.{polls_read}
 use Rattle.std.proofs.Common.{refl}
-use Rattle.h3_wire.specs.Given.{passes_is}
+use Rattle.h3_wire.proofs.GivenPieces.{passes_is}
 use Rattle.h3_wire.proofs.frame.FrameStream.poll_next.Goals as goal
 
 pub returns-clause-reads : goal.returns-clause-reads

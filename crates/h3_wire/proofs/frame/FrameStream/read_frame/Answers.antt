@@ -2,7 +2,8 @@ use Rattle.std.proofs.Common.{◌<◌, length, arith, sym, ◌∙◌, ap, ap₂,
 use Rattle.std.specs.List.{concat}
 use Rattle.std.proofs.lemmas.List.{nil_from_length}
 use Rattle.h3_wire.specs.Source.{coming}
-use Rattle.h3_wire.specs.Given.{AddsPieces, adds_passes, passes_then, rest_passes}
+use Rattle.h3_wire.specs.Given.{AddsPieces}
+use Rattle.h3_wire.proofs.GivenPieces.{adds_passes, passes_then, rest_passes}
 use Rattle.h3_wire.specs.PieceLaws.{ending_rest}
 use Rattle.h3_wire.specs.Tries.{Expects}
 use Rattle.h3_wire.specs.TryLaws.{Awaits-more}

@@ -1,7 +1,7 @@
 use Rattle.std.proofs.Common.{◌≡◌, ◌+◌, ◌<◌, length, sym, ◌∙◌, ap, arith}
 use Rattle.std.specs.List.{concat}
 use Rattle.h3_wire.specs.Frames.{Whole}
-use Rattle.h3_wire.specs.PieceLaws.{chunk_size, chunk_rest}
+use Rattle.h3_wire.proofs.Chunks.{chunk_size, chunk_rest}
 use Rattle.h3_wire.specs.declared.proto.frame.Frame.TheVariants as frame
 use Rattle.h3_wire.proofs.Cutting.{head_some, cut_off}
 use Rattle.h3_wire.proofs.frame.decoder.cut_section.Goals as goal

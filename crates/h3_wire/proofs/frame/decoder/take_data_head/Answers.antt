@@ -2,7 +2,8 @@ use Rattle.std.proofs.Common.{◌≡◌, ◌-◌, ◌≤◌, length, drop, arith
 use Rattle.std.specs.List.{concat}
 use Rattle.h3_wire.specs.declared.proto.frame.Frame.TheVariants as frame
 use Rattle.h3_wire.specs.Frames.{Whole, BeginsWithHead}
-use Rattle.h3_wire.specs.PieceLaws.{first_within, without-none}
+use Rattle.h3_wire.specs.PieceLaws.{without-none}
+use Rattle.h3_wire.proofs.Chunks.{first_within}
 use Rattle.h3_wire.specs.Pieces.{first_size, without}
 use Rattle.h3_wire.proofs.Heads.{data_at, first_length, head_in_first}
 use Rattle.h3_wire.proofs.frame.decoder.take_data_head.Goals as goal

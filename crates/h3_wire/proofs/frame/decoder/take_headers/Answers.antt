@@ -1,7 +1,7 @@
 use Rattle.std.proofs.Common.{drop, arith, subst}
 use Rattle.std.specs.List.{concat}
 use Rattle.h3_wire.specs.Frames.{BeginsWithHead}
-use Rattle.h3_wire.specs.TryLaws.{head_is_whole}
+use Rattle.h3_wire.proofs.Tries.{head_is_whole}
 use Rattle.h3_wire.proofs.Heads.{head_in_first, headers_in_first}
 use Rattle.h3_wire.proofs.frame.decoder.take_headers.Goals as goal
 

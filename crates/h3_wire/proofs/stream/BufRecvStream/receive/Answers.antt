@@ -4,7 +4,7 @@ use Rattle.h3_wire.specs.Source.{done}
 use Rattle.h3_wire.specs.Streams.{Buffered, stream_error}
 use Rattle.h3_wire.specs.declared.quic.Poll.TheVariants.{Ready, Pending}
 use Rattle.h3_wire.proofs.Reading.{reading, adds_pieces, adds_none, error_keeps, error_adds, asks_first, asks_of, told_of, tells_error, read_error}
-use Rattle.h3_wire.specs.ReadLaws.{apart}
+use Rattle.h3_wire.proofs.ReadAlike.{apart}
 use Rattle.h3_wire.proofs.stream.BufRecvStream.receive.Goals as goal
 
 pub returns-then-self-clause-asked : goal.returns-then-self-clause-asked

@@ -3,7 +3,7 @@ use Rattle.std.specs.List.{concat}
 use Rattle.h3_wire.specs.KnownLaws.{unknown_shorter}
 use Rattle.h3_wire.specs.Tries.{Counts, Expects, needed, no_try, finds, passes, finds_less, refuses, wants_memory}
 use Rattle.h3_wire.specs.PieceLaws.{rest_same, rest_then}
-use Rattle.h3_wire.specs.TryLaws.{too_few, expects_next}
+use Rattle.h3_wire.proofs.Tries.{too_few, expects_next}
 use Rattle.h3_wire.proofs.Settling.{settled, found, waits, wants, passed}
 use Rattle.h3_wire.proofs.frame.decoder.FrameDecoder.decode_front.Goals as goal
 

@@ -1,4 +1,4 @@
-use Rattle.h3_wire.specs.EncodedLaws.{length-head}
+use Rattle.h3_wire.proofs.WrittenFrames.{length-head}
 use Rattle.h3_wire.proofs.proto.frame.encode.write_numbers.Goals as goal
 
 pub returns-in_err-write_var-clause-short : goal.returns-in_err-write_var-clause-short

@@ -1,5 +1,5 @@
 use Rattle.std.proofs.Common.{refl}
-use Rattle.h3_wire.specs.Given.{passes_is}
+use Rattle.h3_wire.proofs.GivenPieces.{passes_is}
 use Rattle.h3_wire.proofs.stream.accept.AcceptRecvStream.poll_type.Goals as goal
 
 pub returns-clause-pieces : goal.returns-clause-pieces

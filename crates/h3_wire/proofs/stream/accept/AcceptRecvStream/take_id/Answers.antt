@@ -1,7 +1,7 @@
 use Rattle.std.proofs.Common.{◌≡◌, ◌≤◌, ◌++◌, length, false, sym, ◌∙◌, ap, subst, Some, IsSome}
 use Rattle.std.specs.List.{concat}
 use Rattle.h3_wire.specs.Accepting.{Accepting, start_from, resolved}
-use Rattle.h3_wire.specs.AcceptingLaws.{takes_fewer, start_after_id}
+use Rattle.h3_wire.proofs.Accepting.{takes_fewer, start_after_id}
 use Rattle.h3_wire.proofs.stream.accept.AcceptRecvStream.take_id.Goals as goal
 
 pub returns-clause-same : goal.returns-clause-same

@@ -2,7 +2,7 @@ use Rattle.std.proofs.Common.{◌≡◌, ◌≤◌, ◌++◌, length, false, sym
 use Rattle.std.specs.List.{concat}
 use Rattle.std.specs.Option.{is_some}
 use Rattle.h3_wire.specs.Accepting.{Accepting, start_from}
-use Rattle.h3_wire.specs.AcceptingLaws.{takes_fewer, start_after_type}
+use Rattle.h3_wire.proofs.Accepting.{takes_fewer, start_after_type}
 use Rattle.h3_wire.proofs.stream.accept.AcceptRecvStream.take_type.Goals as goal
 
 none_is : (o : Option ℕ) → false ≡ is_some o → o ≡ None

@@ -1,0 +1,8 @@
+-- What the forms of a frame that waits stand for.
+use Rattle.h3_wire.specs.Outgoing.{Outgoing}
+use Rattle.h3_outgoing.specs.declared.frame.Form.{Form}
+use Rattle.h3_outgoing.specs.declared.frame.Form.TheVariants as form
+
+abbrev pub frame_in : Form → Outgoing
+frame_in (form.Headers frame) = frame
+frame_in (form.Data frame) = frame

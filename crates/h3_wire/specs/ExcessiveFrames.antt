@@ -1,0 +1,22 @@
+-- Frames that are longer than their reader takes (RFC 9114, section 10.5).
+use Rattle.std.specs.Prelude.{ℕ, Bool, false, ◌&&◌, ◌||◌, ◌==◌, List, nat_le, nat_lt, Option, Some, None}
+use Rattle.h3_coding.specs.Varint.{varint_at}
+use Rattle.h3_proto.specs.Config.{is_limit}
+
+-- the types of frames whose payload is kept until it is whole: all below 10 but DATA, and MAX_PUSH_ID. They are HEADERS 1, CANCEL_PUSH 3,
+-- SETTINGS 4, PUSH_PROMISE 5 and GOAWAY 7 (RFC 9114, section 7.2), and those of HTTP/2 that are refused (section 7.2.8)
+abbrev pub is_kept_whole : ℕ → Bool
+is_kept_whole kind = (nat_le 1 kind && nat_le kind 9) || (kind == 13)
+
+-- behind a type of these the length is above the limit
+abbrev pub is_too_long : ℕ → ℕ → Option (ℕ × List ℕ) → Bool
+is_too_long most kind None = false
+is_too_long most kind (Some p) = is_kept_whole kind && nat_lt most p.0
+
+abbrev pub says_too_much : ℕ → Option (ℕ × List ℕ) → Bool
+says_too_much most None = false
+says_too_much most (Some p) = is_too_long most p.0 (varint_at p.1)
+
+-- There is a limit, and the bytes begin with the head of a frame whose payload is kept, and that is longer. The payload need not be there.
+abbrev pub is_excessive : ℕ → List ℕ → Bool
+is_excessive most bytes = is_limit most && says_too_much most (varint_at bytes)

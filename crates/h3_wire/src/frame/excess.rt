@@ -1,0 +1,87 @@
+//! Frames that are longer than their reader takes (RFC 9114, section 10.5).
+ghost use Rattle.std.specs.Prelude.{◌≡◌, ◌<◌, ◌≤◌, ◌||◌, ◌==◌, true, drop, length, IfSome, IsNone, nat_lt};
+ghost use Rattle.std.specs.List.{concat};
+ghost use Rattle.h3_proto.specs.Config.{is_limit};
+ghost use Rattle.h3_wire.specs.ExcessiveFrames.{is_excessive, is_kept_whole};
+ghost use Rattle.h3_wire.specs.Known.{known};
+ghost use Rattle.h3_wire.specs.Place.{left_at};
+
+use crate::buf::{BufList, Cursor};
+use crate::proto::frame::FrameHead;
+use bytes::{Buf, Bytes};
+use h3_coding::coding::BufExt;
+
+/// Whether the first frame that is no whole unknown one says a length above this limit, and is one whose payload is kept until it is whole.
+/// Nothing is taken. It stays apart, so that a reader without a limit is as short as it was.
+#[inline(never)]
+pub(super) fn is_excessive(src: &BufList<Bytes>, most: u64) -> bool
+    requires { is_limit most ≡ true }
+    ensures { result ≡ is_excessive most (known (concat src.now.pieces)) }
+{
+    if let Some(head) = FrameHead::at_front(src.first_bytes()) {
+        if is_kept_whole(head.kind) {
+            return head.number > most;
+        }
+        if is_handed_out(head.kind) {
+            return false;
+        }
+    }
+    is_excessive_behind(src, 0, most)
+}
+
+/// The same behind so many bytes, wherever the heads lie. It stays apart, so that a look at one piece makes no room for a cursor.
+#[inline(never)]
+pub(super) fn is_excessive_behind(src: &BufList<Bytes>, passed: usize, most: u64) -> bool
+    requires limit { is_limit most ≡ true }
+    requires there { passed ≤ length (concat src.now.pieces) }
+    ensures { result ≡ is_excessive most (known (drop passed (concat src.now.pieces))) }
+{
+    let mut cursor = src.cursor();
+    cursor.advance(passed);
+    loop {
+        if let Some(answer) = look(&mut cursor, most) {
+            return answer;
+        }
+    }
+}
+
+// What the frame under the cursor tells. One that is unknown and whole tells nothing, and is passed.
+fn look(cursor: &mut Cursor<'_, Bytes>, most: u64) -> Option<bool>
+    requires { is_limit most ≡ true }
+    ensures some { IfSome result (λ b. b ≡ is_excessive most (known (left_at cursor.old))) }
+    ensures same { IsNone result → known (left_at cursor.new) ≡ known (left_at cursor.old) }
+    ensures less { IsNone result → length (left_at cursor.new) < length (left_at cursor.old) }
+{
+    let Ok(kind) = cursor.get_var() else {
+        return Some(false);
+    };
+    let Ok(number) = cursor.get_var() else {
+        return Some(false);
+    };
+    if is_kept_whole(kind) {
+        return Some(number > most);
+    }
+    if is_handed_out(kind) {
+        return Some(false);
+    }
+    let size = number as usize;
+    if cursor.remaining() < size {
+        return Some(false);
+    }
+    cursor.advance(size);
+    None
+}
+
+// The types of frames whose payload is kept until it is whole.
+fn is_kept_whole(kind: u64) -> bool
+    ensures { result ≡ is_kept_whole kind }
+{
+    (1 <= kind && kind <= 9) || kind == 13
+}
+
+// The types whose payload is handed out as it comes: DATA, and a stream of WebTransport.
+fn is_handed_out(kind: u64) -> bool
+    ensures { result ≡ ((kind == 0) || (kind == 0x41)) }
+{
+    kind == 0 || kind == 0x41
+}

@@ -1,0 +1,257 @@
+//! The bytes of a stream of frames, of which those of an unknown frame that is under way are not kept.
+ghost use Rattle.std.specs.Prelude.{◌≡◌, ◌+◌, ◌^◌, ◌<◌, ◌≤◌, ◌++◌, [], None, true, length, drop, IfOk, IfErr, IfSome, OnOk, OnErr};
+ghost use Rattle.std.specs.List.{concat};
+ghost use Rattle.h3_proto.specs.Config.{is_limit};
+ghost use Rattle.h3_wire.specs.ExcessiveFrames.{is_excessive};
+ghost use Rattle.h3_wire.specs.Known.{Gives, known};
+ghost use Rattle.h3_wire.specs.Pieces.{IsRest, chunk_of, ending, first_of, with_piece};
+ghost use Rattle.h3_wire.specs.Tries.{Counts, Expects};
+ghost use Rattle.h3_wire.specs.UnknownSize.{is_known_type, is_longer, is_under_way, unknown_size};
+
+use super::decoder::FrameDecoder;
+use super::errors::FrameStreamError;
+use super::excess;
+use super::let_go::LetGo;
+use crate::buf::BufList;
+use crate::proto::frame::{Frame, PayloadLen};
+use bytes::{Buf, Bytes};
+use h3_coding::coding::BufExt;
+use std::alloc::{AllocError, Global};
+use std::marker::Model;
+
+/// Pieces of bytes. Where an unknown frame is under way at their front, it lets go of them as they come (RFC 9114, section 9). A contract
+/// sees all of them.
+#[derive(Drop)]
+pub(super) struct FrameBytes {
+    kept: BufList<Bytes>,
+    // the pieces in front of those, and how many bytes they have
+    let_go: LetGo,
+    gone: usize,
+    // how many bytes the unknown frame has of which they are, or 0
+    passing: usize,
+}
+
+impl Model for FrameBytes {
+    ghost use Rattle.std.specs.Prelude.{◌++◌, ◌<◌, ◌^◌, length};
+    ghost use Rattle.std.specs.List.{concat};
+    ghost use Rattle.h3_wire.specs.UnknownSize.{Sparing, AreLetGo};
+
+    ghost Value = { Sparing };
+
+    ghost view = { λ b. record { pieces = b.let_go.pieces ++ b.kept.pieces; passing = b.passing } };
+
+    ghost invariant = { λ b. AreLetGo b.passing b.gone b.let_go.pieces × (length (concat (b.let_go.pieces ++ b.kept.pieces)) < 2 ^ 64) };
+}
+
+impl FrameBytes {
+    /// Those of a stream of which nothing came.
+    pub(super) fn new(alloc: Global) -> FrameBytes
+        ensures { result ≡ record { pieces = []; passing = 0 } }
+    {
+        FrameBytes {
+            kept: BufList::new(alloc),
+            let_go: LetGo::new(),
+            gone: 0,
+            passing: 0,
+        }
+    }
+
+    /// More bytes came. Where they belong to the unknown frame under way, and that goes on behind them, they are let go.
+    pub(super) fn push(&mut self, bytes: Bytes) -> Result<(), Bytes>
+        requires fits { length (concat self.old.pieces) + length bytes < 2 ^ 64 }
+        ensures ok { OnOk result (self.new ≡ record self.old { pieces = with_piece self.old.pieces bytes }) }
+        ensures same { OnErr result (self.new ≡ self.old) }
+        ensures back { IfErr result (λ b. b ≡ bytes) }
+    {
+        match self.kept.keep(bytes) {
+            Ok(()) => {
+                self.release();
+                Ok(())
+            }
+            Err(e) => Err(e.value),
+        }
+    }
+
+    // Lets go of what is kept, where the unknown frame under way goes on behind it.
+    fn release(&mut self)
+        ensures { self.new ≡ self.old }
+    {
+        if self.gone + self.kept.remaining() < self.passing {
+            self.gone += self.kept.remaining();
+            let_all_go(&mut self.kept, &mut self.let_go);
+        }
+    }
+
+    /// Where the front is an unknown frame under way, its bytes are let go. A frame has to begin there.
+    pub(super) fn spare(&mut self)
+        ensures { self.new.pieces ≡ self.old.pieces }
+    {
+        let len = self.kept.remaining();
+        if self.passing > 0 || len == 0 {
+            return;
+        }
+        match unknown_size(&self.kept) {
+            Some(size) if len < size => {
+                let_all_go(&mut self.kept, &mut self.let_go);
+                self.gone = len;
+                self.passing = size;
+            }
+            _ => {}
+        }
+    }
+
+    /// How many bytes the unknown frame under way has, head and payload, where some of it were let go; else 0.
+    pub(super) fn passing(&self) -> usize
+        ensures value { result ≡ self.now.passing }
+        ensures unknown { 0 < result → unknown_size (concat self.now.pieces) ≡ Some result }
+    {
+        self.passing
+    }
+
+    /// The unknown frame under way is whole, and is passed.
+    pub(super) fn pass(&mut self)
+        requires under_way { 0 < self.old.passing }
+        requires whole { self.old.passing ≤ length (concat self.old.pieces) }
+        ensures bytes { concat self.new.pieces ≡ drop self.old.passing (concat self.old.pieces) }
+        ensures rest { IsRest self.old.pieces self.new.pieces }
+        ensures none { self.new.passing ≡ 0 }
+    {
+        self.kept.advance(self.passing - self.gone);
+        self.let_go = LetGo::new();
+        self.gone = 0;
+        self.passing = 0;
+    }
+
+    /// `FrameDecoder::decode`, where no unknown frame is under way.
+    pub(super) fn decode(
+        &mut self,
+        alloc: Global,
+        decoder: &mut FrameDecoder,
+    ) -> Result<Option<Frame<PayloadLen>>, FrameStreamError>
+        requires none { self.old.passing ≡ 0 }
+        requires expects { Expects decoder.old (concat self.old.pieces) }
+        ensures gives { Gives result (concat self.old.pieces) (concat self.new.pieces) }
+        ensures expects { Expects decoder.new (concat self.new.pieces) }
+        ensures fresh { IfOk result (λ o. IfSome o (λ f. decoder.new.expected ≡ None)) }
+        ensures counts { Counts decoder.old (concat self.old.pieces) result decoder.new }
+        ensures pieces { self.new.pieces ≡ ending (length (concat self.new.pieces)) self.old.pieces }
+        ensures none { self.new.passing ≡ 0 }
+    {
+        decoder.decode(alloc, &mut self.kept)
+    }
+
+    /// `BufList::take_chunk`, where no unknown frame is under way.
+    pub(super) fn take_chunk(&mut self, max: usize) -> Result<Option<Bytes>, AllocError>
+        requires none { self.old.passing ≡ 0 }
+        ensures ok { IfOk result (λ o. (o, self.new.pieces) ≡ chunk_of max self.old.pieces) }
+        ensures err { OnErr result (self.new.pieces ≡ self.old.pieces) }
+        ensures none { self.new.passing ≡ 0 }
+    {
+        self.kept.take_chunk(max)
+    }
+
+    /// `BufList::take_first_chunk`, where no unknown frame is under way.
+    pub(super) fn take_first_chunk(&mut self) -> Option<Bytes>
+        requires none { self.old.passing ≡ 0 }
+        ensures pieces { (result, self.new.pieces) ≡ first_of self.old.pieces }
+        ensures none { self.new.passing ≡ 0 }
+    {
+        self.kept.take_first_chunk()
+    }
+
+    /// `BufList::own` of what is kept.
+    pub(super) fn own(&mut self, alloc: Global) -> Result<(), AllocError>
+        ensures { self.new ≡ self.old }
+    {
+        self.kept.own(alloc)
+    }
+
+    /// How many bytes came and were not read.
+    pub(super) fn len(&self) -> usize
+        ensures { result ≡ length (concat self.now.pieces) }
+    {
+        self.gone + self.kept.remaining()
+    }
+
+    /// Whether the first frame that is no whole unknown one says a length above this limit, and is one whose payload is kept until it is
+    /// whole. Nothing is taken.
+    pub(super) fn is_excessive(&self, most: u64) -> bool
+        requires { is_limit most ≡ true }
+        ensures { result ≡ is_excessive most (known (concat self.now.pieces)) }
+    {
+        if self.passing == 0 {
+            return excess::is_excessive(&self.kept, most);
+        }
+        if self.len() < self.passing {
+            return false;
+        }
+        excess::is_excessive_behind(&self.kept, self.passing - self.gone, most)
+    }
+
+    /// Whether an unknown frame is under way at the front. A frame has to begin there.
+    pub(super) fn is_under_way(&self) -> bool
+        ensures { result ≡ is_under_way (concat self.now.pieces) }
+    {
+        if self.passing > 0 {
+            return self.len() < self.passing;
+        }
+        is_longer(self.len(), unknown_size(&self.kept))
+    }
+}
+
+// Lets go of all pieces.
+fn let_all_go(kept: &mut BufList<Bytes>, let_go: &mut LetGo)
+    ensures pieces { let_go.new.pieces ≡ let_go.old.pieces ++ kept.old.pieces }
+    ensures none { kept.new.pieces ≡ [] }
+{
+    while let Some(piece) = kept.take_first_chunk() {
+        *let_go = LetGo::with(let_go, &piece);
+    }
+}
+
+// Whether a frame of this size has more bytes.
+fn is_longer(len: usize, size: Option<usize>) -> bool
+    ensures { result ≡ is_longer len size }
+{
+    match size {
+        Some(size) => len < size,
+        None => false,
+    }
+}
+
+// How many bytes the frame at the front has, where its head is whole and its type is unknown.
+#[tactic(auto, unfolding(crate::specs::UnknownSize::unknown_size))]
+fn unknown_size(pieces: &BufList<Bytes>) -> Option<usize>
+    ensures { result ≡ unknown_size (concat pieces.now.pieces) }
+{
+    let mut cursor = pieces.cursor();
+    let all = cursor.remaining();
+    let Ok(kind) = cursor.get_var() else {
+        return None;
+    };
+    if is_known_type(kind) {
+        return None;
+    }
+    let Ok(number) = cursor.get_var() else {
+        return None;
+    };
+    Some(all - cursor.remaining() + number as usize)
+}
+
+// Whether a type has a meaning, or is refused.
+fn is_known_type(kind: u64) -> bool
+    ensures { result ≡ is_known_type kind }
+{
+    kind == 0x41
+        || kind == 0
+        || kind == 1
+        || kind == 3
+        || kind == 4
+        || kind == 5
+        || kind == 7
+        || kind == 13
+        || kind == 2
+        || kind == 6
+        || kind == 8
+        || kind == 9
+}

@@ -1,0 +1,169 @@
+/* webtransport ADDRESS PORT CERTIFICATE KEY: a server of WebTransport sessions (draft-ietf-webtrans-http3-02), over HTTP/3. A session is taken
+ * on any path. Each stream of it is answered, when it has ended, with the count and the SHA-256 of its bytes: a bidirectional one on
+ * itself, a unidirectional one on one of the server's. Datagrams are dropped.
+ *
+ * SIGTERM and SIGINT: GOAWAY on each connection, and what was begun ends. The second signal cuts it off. */
+#include "http3.h"
+#include <gnutls/crypto.h>
+#include <signal.h>
+#include <stdio.h>
+#include <stdlib.h>
+#include <string.h>
+
+enum { SESSIONS = 4 }; /* on a connection at once */
+
+static const uint64_t BUFFERED_STREAM_REJECTED = 0x3994bd84, SESSION_GONE = 0x170d7b68; /* section 8.5 of the draft */
+
+static volatile sig_atomic_t asked_to_end; /* how often */
+
+/* The CONNECT request of a session, or a stream of one. */
+typedef struct work {
+  TAILQ_ENTRY(work) order;
+  http3_request *request;
+  uint64_t session; /* the id of its CONNECT request */
+  gnutls_hash_hd_t hash; /* of a stream: NULL when it was answered */
+  unsigned long long count;
+} work;
+
+static TAILQ_HEAD(works, work) works = TAILQ_HEAD_INITIALIZER(works); /* of all connections */
+
+static work *add(http3_request *request, uint64_t session) {
+  work *work = calloc(1, sizeof *work);
+  if (!work) return NULL;
+  work->request = request;
+  work->session = session;
+  TAILQ_INSERT_TAIL(&works, work, order);
+  return request->data = work;
+}
+
+static bool is_of(const work *work, const http3 *connection, uint64_t session) {
+  return work->request->connection == connection && work->session == session;
+}
+
+/* ---- sessions ---- */
+
+static void refuse(http3_request *request, const char *status) {
+  http3_field fields[] = {{":status", status}, {"content-length", "0"}};
+  if (http3_head(request, fields, 2)) http3_finish(request);
+  else http3_give_up(request, H3_CODE_INTERNAL_ERROR);
+  http3_ignore(request);
+}
+
+static void on_head(http3_request *request, const h3_item *head) {
+  http3_field fields[] = {{":status", "200"}, {"sec-webtransport-http3-draft", "draft02"}};
+  char protocol[16];
+  if (request->data || head->kind == H3_TRAILER) return;
+  if (head->kind == H3_TOO_LARGE_HEAD) return refuse(request, "431");
+  if (!http3_value(request->connection, head, ":protocol", protocol, sizeof protocol) || strcmp(protocol, "webtransport") != 0)
+    return refuse(request, "404");
+  if (!add(request, request->entry.id) || !http3_head(request, fields, 2)) http3_give_up(request, H3_CODE_INTERNAL_ERROR);
+}
+
+/* The session is over, and so are its streams. */
+static void end_session(const work *session) {
+  const work *work;
+  TAILQ_FOREACH(work, &works, order)
+    if (work->hash && is_of(work, session->request->connection, session->session)) http3_give_up(work->request, SESSION_GONE);
+  http3_finish(session->request);
+}
+
+/* ---- streams ---- */
+
+/* Is there a session? Its streams may overtake it, and are refused then: a client that waits for the answer to its CONNECT sees none of it. */
+static bool is_open(const http3 *connection, uint64_t session) {
+  const work *work;
+  TAILQ_FOREACH(work, &works, order) if (is_of(work, connection, session) && work->request->entry.id == session) return true;
+  return false;
+}
+
+static void on_session(http3_request *request, uint64_t session) {
+  work *work = is_open(request->connection, session) ? add(request, session) : NULL;
+  if (!work) return http3_give_up(request, BUFFERED_STREAM_REJECTED);
+  if (gnutls_hash_init(&work->hash, GNUTLS_DIG_SHA256) == 0) return;
+  work->hash = NULL;
+  http3_give_up(request, H3_CODE_INTERNAL_ERROR);
+}
+
+/* What comes on a CONNECT request are capsules, which are passed over. */
+static void on_body(http3_request *request, const uint8_t *bytes, size_t count) {
+  work *work = request->data;
+  if (!work || !work->hash) return;
+  gnutls_hash(work->hash, bytes, count);
+  work->count += count;
+}
+
+static void answer(work *work) {
+  uint8_t hash[32];
+  char text[128];
+  gnutls_hash_deinit(work->hash, hash);
+  work->hash = NULL;
+  int count = snprintf(text, sizeof text, "%llu ", work->count);
+  for (int i = 0; i < 32; i++) count += snprintf(text + count, sizeof text - (size_t)count, "%02x", hash[i]);
+  strcat(text, "\n");
+  bool is_both_ways = work->request->entry.id % 4 == 0;
+  if (is_both_ways ? http3_raw(work->request, (uint8_t *)text, strlen(text), true)
+                   : http3_raw_stream(work->request->connection, work->session, (uint8_t *)text, strlen(text)))
+    return;
+  http3_give_up(work->request, H3_CODE_INTERNAL_ERROR);
+}
+
+static void on_end(http3_request *request) {
+  work *work = request->data;
+  if (work && work->hash) answer(work);
+  else if (work && work->session == request->entry.id) end_session(work);
+}
+
+static void on_failed(http3_request *request, const h3_item *item) {
+  const work *work = request->data;
+  fprintf(stderr, "stream %llu failed: kind %u, %llu\n", (unsigned long long)request->entry.id, item->kind,
+          (unsigned long long)item->number);
+  if (work && work->session == request->entry.id) end_session(work);
+}
+
+/* ---- the program ---- */
+
+static void on_freed(http3_request *request) {
+  work *work = request->data;
+  if (!work) return;
+  if (work->hash) gnutls_hash_deinit(work->hash, NULL);
+  TAILQ_REMOVE(&works, work, order);
+  free(work);
+}
+
+static void on_room(http3_request *request) { (void)request; } /* no body is sent */
+
+static void on_ready(http3 *h, void *user) { (void)h, (void)user; }
+
+static void on_over(void *user, const quic_ending *ending) { (void)user, (void)ending; }
+
+static void on_signal(int signal) {
+  (void)signal;
+  if (asked_to_end < 2) asked_to_end++;
+}
+
+static void run(quic_socket *socket) {
+  while (!asked_to_end) quic_turn(socket, 1000);
+  quic_refuse_more(socket);
+  do quic_each(socket, http3_leave);
+  while (quic_turn(socket, 100) > 0 && asked_to_end < 2);
+}
+
+int main(int count, char **arguments) {
+  static const http3_events events = {on_ready, on_head, on_body, on_end, on_failed, on_room, on_freed, on_over, on_session};
+  http3_setup setup = {.server = true, .sessions = SESSIONS, .events = &events};
+  struct sigaction action = {.sa_handler = on_signal};
+  if (count != 5) {
+    fprintf(stderr, "webtransport ADDRESS PORT CERTIFICATE KEY\n");
+    return 2;
+  }
+  sigaction(SIGTERM, &action, NULL);
+  sigaction(SIGINT, &action, NULL);
+  quic_identity identity = {.certificate = arguments[3], .key = arguments[4]};
+  quic_socket *socket = quic_listen(arguments[1], arguments[2], &identity, &http3_over_quic, &setup);
+  if (!socket) return 1;
+  printf("WebTransport at %s port %s\n", arguments[1], arguments[2]);
+  fflush(stdout);
+  run(socket);
+  quic_free(socket);
+  return 0;
+}
