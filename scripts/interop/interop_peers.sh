@@ -57,22 +57,14 @@ curl_says() { # TEXT, arguments of curl: status, a blank, and the bytes of the b
   shift
   [ "$(within 60 "${curl3[@]}" -o /dev/null -w '%{http_version} %{response_code} %{size_download}' "$@")" = "3 $text" ]
 }
-# Some connections of curl 8.14.1 over OpenSSL 3.5 that begin with many requests at once never send their control and encoder stream, so
-# that requests which name entries of the table wait for ever (examples/PEERS.md has how many). So there are six tries.
+# A ClientHello of one packet (--curves): curl 8.14.1 over OpenSSL 3.5 loses its control and encoder stream for good where a timer ends in its handshake,
+# and quic-go 0.29.0 drops the second of two packets that come at once (examples/PEERS.md).
 curl_many() { # PORT
-  for _ in 1 2 3 4 5 6; do
-    if curl_once "$1"; then return; fi
-  done
-  return 1
-}
-curl_once() { # PORT
   local urls=()
   for i in $(seq 0 99); do urls+=(-o "$there/small-$i" "$(url "$1" "/small/$i.txt")"); done
-  within 10 "${curl3[@]}" -Z --parallel-max 50 "${urls[@]}" || return 1
+  within 60 "${curl3[@]}" --curves X25519 -Z --parallel-max 50 "${urls[@]}" || return 1
   for i in $(seq 0 99); do cmp -s "$root$there/small-$i" "$folder/small/$i.txt" || return 1; done
 }
-# One handshake of curl in fifty stands still where packets of it are lost, with ngtcp2 0.12.1 as the server (gtlsserver too).
-once_or_twice() { "$@" || "$@"; }
 curl_aborts() { # PORT: the upload is given up behind a second, and the server goes on
   within 60 "${curl3[@]}" --limit-rate 200k --max-time 1 --data-binary @$there/folder/big.bin "$(url "$1" /answer)"
   [ $? -eq 28 ] && curl_says "200 6" "$(url "$1" /hello.txt)"
