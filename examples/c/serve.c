@@ -4,10 +4,10 @@
  *   --requests N     at most so many requests on a connection: GOAWAY goes out when 100 are left (100,000; 0: no limit)
  *
  * SIGTERM and SIGINT: GOAWAY on each connection; what was begun ends, whatever its reader's speed. The second signal cuts it off. */
+#include "digest.h"
 #include "files.h"
 #include "http3.h"
 #include <getopt.h>
-#include <gnutls/crypto.h>
 #include <signal.h>
 #include <stdio.h>
 #include <stdlib.h>
@@ -15,13 +15,12 @@
 
 static volatile sig_atomic_t asked_to_end; /* how often */
 
-/* One request: the file that is sent, or the hash of what came. */
+/* One request: the file that is sent, or the digest of what came. */
 typedef struct {
-  bool head_only;          /* of HEAD: no body goes out */
-  shared_file *file;       /* NULL: none */
+  bool head_only;    /* of HEAD: no body goes out */
+  shared_file *file; /* NULL: none */
   uint64_t sent;
-  gnutls_hash_hd_t hash; /* NULL: none */
-  unsigned long long count;
+  digest digest;
 } work;
 
 /* ---- answers ---- */
@@ -70,30 +69,19 @@ static void on_head(http3_request *request, const h3_item *head) {
   work->head_only = strcmp(method, "HEAD") == 0;
   if (work->head_only || strcmp(method, "GET") == 0) return answer_file(request, path);
   if (strcmp(method, "POST") != 0) return refuse(request, "405", "GET, HEAD and POST are known\n");
-  if (gnutls_hash_init(&work->hash, GNUTLS_DIG_SHA256) == 0) return;
-  work->hash = NULL;
-  refuse(request, "500", "no hash\n");
+  if (!digest_begin(&work->digest)) refuse(request, "500", "no hash\n");
 }
 
 static void on_body(http3_request *request, const uint8_t *bytes, size_t count) {
   work *work = request->data;
-  if (!work || !work->hash) return;
-  gnutls_hash(work->hash, bytes, count);
-  work->count += count;
+  if (work) digest_add(&work->digest, bytes, count);
 }
 
 /* The body of a POST is whole. */
 static void on_end(http3_request *request) {
   work *work = request->data;
-  uint8_t hash[32];
-  char text[128];
-  if (!work || !work->hash) return;
-  gnutls_hash_deinit(work->hash, hash);
-  work->hash = NULL;
-  int count = snprintf(text, sizeof text, "%llu ", work->count);
-  for (int i = 0; i < 32; i++) count += snprintf(text + count, sizeof text - (size_t)count, "%02x", hash[i]);
-  strcat(text, "\n");
-  answer_text(request, "200", text);
+  char text[DIGEST_TEXT];
+  if (work && digest_end(&work->digest, text)) answer_text(request, "200", text);
 }
 
 static void on_failed(http3_request *request, const h3_item *item) {
@@ -117,7 +105,7 @@ static void on_freed(http3_request *request) {
   work *work = request->data;
   if (!work) return;
   if (work->file) files_close(work->file);
-  if (work->hash) gnutls_hash_deinit(work->hash, NULL);
+  digest_drop(&work->digest);
   free(work);
 }
 

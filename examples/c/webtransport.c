@@ -3,8 +3,8 @@
  * itself, a unidirectional one on one of the server's. Datagrams are dropped.
  *
  * SIGTERM and SIGINT: GOAWAY on each connection, and what was begun ends. The second signal cuts it off. */
+#include "digest.h"
 #include "http3.h"
-#include <gnutls/crypto.h>
 #include <signal.h>
 #include <stdio.h>
 #include <stdlib.h>
@@ -21,8 +21,7 @@ typedef struct work {
   TAILQ_ENTRY(work) order;
   http3_request *request;
   uint64_t session; /* the id of its CONNECT request */
-  gnutls_hash_hd_t hash; /* of a stream: NULL when it was answered */
-  unsigned long long count;
+  digest digest;    /* of a stream: none when it was answered */
 } work;
 
 static TAILQ_HEAD(works, work) works = TAILQ_HEAD_INITIALIZER(works); /* of all connections */
@@ -63,7 +62,7 @@ static void on_head(http3_request *request, const h3_item *head) {
 static void end_session(const work *session) {
   const work *work;
   TAILQ_FOREACH(work, &works, order)
-    if (work->hash && is_of(work, session->request->connection, session->session)) http3_give_up(work->request, SESSION_GONE);
+    if (work->digest.hash && is_of(work, session->request->connection, session->session)) http3_give_up(work->request, SESSION_GONE);
   http3_finish(session->request);
 }
 
@@ -79,38 +78,29 @@ static bool is_open(const http3 *connection, uint64_t session) {
 static void on_session(http3_request *request, uint64_t session) {
   work *work = is_open(request->connection, session) ? add(request, session) : NULL;
   if (!work) return http3_give_up(request, BUFFERED_STREAM_REJECTED);
-  if (gnutls_hash_init(&work->hash, GNUTLS_DIG_SHA256) == 0) return;
-  work->hash = NULL;
-  http3_give_up(request, H3_CODE_INTERNAL_ERROR);
+  if (!digest_begin(&work->digest)) http3_give_up(request, H3_CODE_INTERNAL_ERROR);
 }
 
 /* What comes on a CONNECT request are capsules, which are passed over. */
 static void on_body(http3_request *request, const uint8_t *bytes, size_t count) {
   work *work = request->data;
-  if (!work || !work->hash) return;
-  gnutls_hash(work->hash, bytes, count);
-  work->count += count;
+  if (work) digest_add(&work->digest, bytes, count);
 }
 
-static void answer(work *work) {
-  uint8_t hash[32];
-  char text[128];
-  gnutls_hash_deinit(work->hash, hash);
-  work->hash = NULL;
-  int count = snprintf(text, sizeof text, "%llu ", work->count);
-  for (int i = 0; i < 32; i++) count += snprintf(text + count, sizeof text - (size_t)count, "%02x", hash[i]);
-  strcat(text, "\n");
+static void answer(const work *work, const char *text) {
   bool is_both_ways = work->request->entry.id % 4 == 0;
-  if (is_both_ways ? http3_raw(work->request, (uint8_t *)text, strlen(text), true)
-                   : http3_raw_stream(work->request->connection, work->session, (uint8_t *)text, strlen(text)))
+  if (is_both_ways ? http3_raw(work->request, (const uint8_t *)text, strlen(text), true)
+                   : http3_raw_stream(work->request->connection, work->session, (const uint8_t *)text, strlen(text)))
     return;
   http3_give_up(work->request, H3_CODE_INTERNAL_ERROR);
 }
 
 static void on_end(http3_request *request) {
   work *work = request->data;
-  if (work && work->hash) answer(work);
-  else if (work && work->session == request->entry.id) end_session(work);
+  char text[DIGEST_TEXT];
+  if (!work) return;
+  if (digest_end(&work->digest, text)) answer(work, text);
+  else if (work->session == request->entry.id) end_session(work);
 }
 
 static void on_failed(http3_request *request, const h3_item *item) {
@@ -125,7 +115,7 @@ static void on_failed(http3_request *request, const h3_item *item) {
 static void on_freed(http3_request *request) {
   work *work = request->data;
   if (!work) return;
-  if (work->hash) gnutls_hash_deinit(work->hash, NULL);
+  digest_drop(&work->digest);
   TAILQ_REMOVE(&works, work, order);
   free(work);
 }
