@@ -181,7 +181,7 @@ static bool send_request(http3_request *request, exchange *exchange) {
     }
     snprintf(length, sizeof length, "%llu", (unsigned long long)status.st_size);
   }
-  if (!http3_head(request, fields, fetch.post ? 6 : 5)) return false;
+  if (!http3_head_of(request, fields, fetch.post ? 6 : 5)) return false;
   if (fetch.sizes) fprintf(stderr, "request of %llu bytes\n", (unsigned long long)http3_waiting(request));
   if (!fetch.post) http3_finish(request);
   return true;

@@ -18,7 +18,7 @@ enum {
 struct shared_file {
   int file;       /* -1: `bytes` has all of it */
   uint64_t length;
-  char digits[24]; /* the length as text */
+  http3_list *head;
   uint8_t *bytes;
   size_t users;   /* requests, and its place below */
   time_t at;      /* when it was opened */
@@ -96,18 +96,40 @@ static void read_small(shared_file *file) {
   file->bytes = NULL;
 }
 
+/* A content-type by a path's ending. */
+static const char *type_of(const char *path) {
+  static const char *const types[][2] = {{".html", "text/html; charset=utf-8"}, {".txt", "text/plain; charset=utf-8"},
+                                         {".css", "text/css"},                  {".js", "text/javascript"},
+                                         {".png", "image/png"},                 {".svg", "image/svg+xml"}};
+  size_t count = strcspn(path, "?#");
+  if (count > 0 && path[count - 1] == '/') return types[0][1];
+  for (size_t i = 0; i < sizeof types / sizeof *types; i++) {
+    size_t end = strlen(types[i][0]);
+    if (count >= end && strncasecmp(path + count - end, types[i][0], end) == 0) return types[i][1];
+  }
+  return "application/octet-stream";
+}
+
+static http3_list *make_head(const char *path, uint64_t length) {
+  char digits[24];
+  http3_field fields[] = {{":status", "200"}, {"content-type", type_of(path)}, {"content-length", digits}, {"server", "h3-serve"}};
+  snprintf(digits, sizeof digits, "%llu", (unsigned long long)length);
+  return http3_list_of(fields, 4);
+}
+
 static shared_file *open_new(const char *path, time_t now) {
   struct stat status;
   size_t count = strlen(path) + 1;
   int opened = open_file(path, &status);
   if (opened < 0) return NULL;
   shared_file *file = malloc(sizeof *file + count);
-  if (!file) {
+  http3_list *head = file ? make_head(path, (uint64_t)status.st_size) : NULL;
+  if (!head) {
+    free(file);
     close(opened);
     return NULL;
   }
-  *file = (shared_file){.file = opened, .length = (uint64_t)status.st_size, .users = 1, .at = now};
-  snprintf(file->digits, sizeof file->digits, "%llu", (unsigned long long)status.st_size);
+  *file = (shared_file){.file = opened, .length = (uint64_t)status.st_size, .head = head, .users = 1, .at = now};
   memcpy(file->path, path, count);
   read_small(file);
   return file;
@@ -140,36 +162,22 @@ shared_file *files_open(const char *path) {
 void files_close(shared_file *file) {
   if (--file->users > 0) return;
   if (file->file >= 0) close(file->file);
+  free(file->head);
   free(file->bytes);
   free(file);
 }
 
 uint64_t files_length(const shared_file *file) { return file->length; }
 
-const char *files_length_text(const shared_file *file) { return file->digits; }
+const http3_list *files_head(const shared_file *file) { return file->head; }
 
-size_t files_read(const shared_file *file, uint64_t from, uint8_t *bytes, size_t room) {
-  uint64_t left = from < file->length ? file->length - from : 0; /* the file may have grown since */
-  size_t count = left < room ? (size_t)left : room;
-  if (file->file < 0) {
-    memcpy(bytes, file->bytes + from, count);
-    return count;
-  }
-  ssize_t done = count > 0 ? pread(file->file, bytes, count, (off_t)from) : 0;
-  return done > 0 ? (size_t)done : 0;
-}
-
-const char *files_type(const char *path) {
-  static const char *const types[][2] = {{".html", "text/html; charset=utf-8"}, {".txt", "text/plain; charset=utf-8"},
-                                         {".css", "text/css"},                  {".js", "text/javascript"},
-                                         {".png", "image/png"},                 {".svg", "image/svg+xml"}};
-  size_t count = strcspn(path, "?#");
-  if (count > 0 && path[count - 1] == '/') return types[0][1];
-  for (size_t i = 0; i < sizeof types / sizeof *types; i++) {
-    size_t end = strlen(types[i][0]);
-    if (count >= end && strncasecmp(path + count - end, types[i][0], end) == 0) return types[i][1];
-  }
-  return "application/octet-stream";
+const uint8_t *files_read(const shared_file *file, uint64_t from, uint8_t *room, size_t *count) {
+  uint64_t left = file->length - from; /* the file may have grown since */
+  if (left < *count) *count = (size_t)left;
+  if (file->file < 0) return file->bytes + from;
+  ssize_t done = pread(file->file, room, *count, (off_t)from);
+  *count = done > 0 ? (size_t)done : 0;
+  return done > 0 ? room : NULL;
 }
 
 void files_end(void) {

@@ -1,9 +1,7 @@
-/* The files below a folder, for serve: paths of requests, and files that several requests may share. */
+/* The files below a folder, for serve: paths of requests, and files that several requests may share, with the head of their answers. */
 #ifndef EXAMPLES_FILES_H
 #define EXAMPLES_FILES_H
-#include <stdbool.h>
-#include <stddef.h>
-#include <stdint.h>
+#include "http3.h"
 
 typedef struct shared_file shared_file;
 
@@ -15,12 +13,10 @@ shared_file *files_open(const char *path);
 void files_close(shared_file *file);
 /* Its length when it was opened. */
 uint64_t files_length(const shared_file *file);
-/* The same as a content-length has it. */
-const char *files_length_text(const shared_file *file);
-/* Reads from an offset on, as many bytes as fit; 0: there are no more, as where the file has shrunk. */
-size_t files_read(const shared_file *file, uint64_t from, uint8_t *bytes, size_t room);
-/* A content-type by a path's ending. */
-const char *files_type(const char *path);
+/* The head of an answer that has the file as its body. */
+const http3_list *files_head(const shared_file *file);
+/* The bytes from an offset on: *count of them, where they lie in a file that is kept, else as many as fit, at `room`. NULL: it has shrunk. */
+const uint8_t *files_read(const shared_file *file, uint64_t from, uint8_t *room, size_t *count);
 /* Lets go of what is kept for a second, and of the folder. */
 void files_end(void);
 #endif

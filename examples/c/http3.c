@@ -4,10 +4,10 @@
 #include <time.h>
 
 enum {
-  PIECE = 16 * 1024,         /* bytes that are moved at once */
+  PIECE = 16 * 1024,         /* bytes that are moved at once, and of the longest value that is looked for */
+  NAME = 64,                 /* of the longest name of such a field */
   WAITING_LIMIT = 64 * 1024, /* bytes of a body that may wait in the endpoint */
   HELD_LIMIT = 128 * 1024,   /* bytes of a request that the endpoint may hold: more is no frame that is taken */
-  FIELDS = 16,
   GRACE = 100,               /* milliseconds that a client has for an answer before it is told to send no more */
   LINGER = 5,                /* seconds of silence behind which a connection that takes no more requests is closed */
   NOTICE = 1                 /* seconds between the first GOAWAY and the last: requests that were on their way come */
@@ -38,9 +38,11 @@ struct http3 {
 static http3_request *find(const http3 *h, uint64_t id) { return table_find(&h->found, id); }
 
 static http3_request *add(http3 *h, uint64_t id) {
-  http3_request *request = calloc(1, sizeof *request);
+  size_t data = h->setup->data;
+  http3_request *request = malloc(sizeof *request + data); /* calloc would pass over the blocks that were freed last */
   if (!request) return NULL;
-  request->connection = h;
+  *request = (http3_request){.connection = h, .data = data > 0 ? request + 1 : NULL};
+  memset(request + 1, 0, data);
   table_add(&h->found, &request->entry, id);
   TAILQ_INSERT_TAIL(&h->requests, request, order);
   return request;
@@ -58,15 +60,16 @@ static void grant_other(http3 *h, other *other) {
   if (other->owed > 0 && h3_stream(&h->endpoint, other->id, &state) == H3_OK) grant(h, other->id, &other->owed, (size_t)state.unread);
 }
 
-/* Of a request that is over nothing is held; of one that is ignored nothing more is wanted either. */
+/* Of a request that is over nothing is held, and nothing more is wanted: the connection alone gets credit. */
 static void grant_request(http3_request *request) {
-  h3_stream_state state = {0};
-  if (request->stop_at > 0) {
-    quic_dropped(request->connection->quic, request->owed);
+  http3 *h = request->connection;
+  h3_stream_state state;
+  if (request->owed == 0) return;
+  if (request->settled) {
+    quic_dropped(h->quic, request->owed);
     request->owed = 0;
-  }
-  if (request->owed == 0 || (!request->settled && h3_stream(&request->connection->endpoint, request->entry.id, &state) != H3_OK)) return;
-  grant(request->connection, request->entry.id, &request->owed, (size_t)state.unread);
+  } else if (h3_stream(&h->endpoint, request->entry.id, &state) == H3_OK)
+    grant(h, request->entry.id, &request->owed, (size_t)state.unread);
 }
 
 /* What is owed for a unidirectional stream. NULL: QUIC has opened more of them than it may. */
@@ -406,22 +409,41 @@ http3_request *http3_open(http3 *h, bool *going_away) {
   return request;
 }
 
-bool http3_head(http3_request *request, const http3_field *fields, size_t count) {
-  h3_field_size sizes[FIELDS];
-  char bytes[PIECE];
-  size_t total = 0;
-  if (count > FIELDS) return false;
+/* Sizes of names and values; behind the last one stand all their bytes. */
+struct http3_list {
+  size_t count, len;
+  h3_field_size sizes[];
+};
+
+static char *bytes_of(const http3_list *list) { return (char *)(list->sizes + list->count); }
+
+http3_list *http3_list_of(const http3_field *fields, size_t count) {
+  size_t len = 0;
+  for (size_t i = 0; i < count; i++) len += strlen(fields[i].name) + strlen(fields[i].value);
+  http3_list *list = malloc(sizeof *list + count * sizeof *list->sizes + len);
+  if (!list) return NULL;
+  *list = (http3_list){count, len};
+  char *at = bytes_of(list);
   for (size_t i = 0; i < count; i++) {
-    size_t name = strlen(fields[i].name), value = strlen(fields[i].value);
-    if (name + value > sizeof bytes - total) return false;
-    memcpy(bytes + total, fields[i].name, name);
-    memcpy(bytes + total + name, fields[i].value, value);
-    total += name + value;
-    sizes[i] = (h3_field_size){(uint32_t)name, (uint32_t)value};
+    list->sizes[i] = (h3_field_size){(uint32_t)strlen(fields[i].name), (uint32_t)strlen(fields[i].value)};
+    at = mempcpy(at, fields[i].name, list->sizes[i].name);
+    at = mempcpy(at, fields[i].value, list->sizes[i].value);
   }
-  if (h3_send_fields(&request->connection->endpoint, request->entry.id, sizes, count, bytes, total, NULL) != H3_OK) return false;
-  quic_wake(request->connection->quic, 0);
+  return list;
+}
+
+bool http3_head(http3_request *request, const http3_list *list) {
+  http3 *h = request->connection;
+  if (h3_send_fields(&h->endpoint, request->entry.id, list->sizes, list->count, bytes_of(list), list->len, NULL) != H3_OK) return false;
+  quic_wake(h->quic, 0);
   return request->sending = true;
+}
+
+bool http3_head_of(http3_request *request, const http3_field *fields, size_t count) {
+  http3_list *list = http3_list_of(fields, count);
+  bool sent = list && http3_head(request, list);
+  free(list);
+  return sent;
 }
 
 uint64_t http3_waiting(http3_request *request) {
@@ -489,19 +511,33 @@ void http3_ignore(http3_request *request) {
   request->stop_at = quic_time() + GRACE;
 }
 
-bool http3_value(http3 *h, const h3_item *head, const char *name, char *value, size_t room) {
-  char found[64];
-  size_t name_count, value_count;
-  for (size_t i = 0; i < head->fields; i++) {
-    uint32_t answer = h3_item_field(&h->endpoint, i, found, sizeof found, &name_count, value, room - 1, &value_count);
+/* The value that is still wanted of a field with this name, or NULL. */
+static http3_wanted *who_wants(http3_wanted *wanted, size_t count, const char *name, size_t name_count) {
+  for (; count > 0; wanted++, count--)
+    if (!wanted->found && strlen(wanted->name) == name_count && memcmp(wanted->name, name, name_count) == 0) return wanted;
+  return NULL;
+}
+
+/* false: the value is too long, or has a NUL. */
+static bool take_value(http3_wanted *wanted, const char *value, size_t count) {
+  if (count >= wanted->room || memchr(value, 0, count)) return false;
+  memcpy(wanted->value, value, count);
+  wanted->value[count] = 0;
+  return wanted->found = true;
+}
+
+bool http3_values(http3 *h, const h3_item *head, http3_wanted *wanted, size_t count) {
+  char name[NAME], value[PIECE];
+  size_t name_count, value_count, left = count;
+  for (size_t i = 0; left > 0 && i < head->fields; i++) {
+    uint32_t answer = h3_item_field(&h->endpoint, i, name, sizeof name, &name_count, value, sizeof value, &value_count);
     if (answer != H3_OK && answer != H3_ROOM) {
       refuse(h, answer, 0);
       return false;
     }
-    if (name_count != strlen(name) || name_count > sizeof found || memcmp(found, name, name_count) != 0) continue;
-    if (value_count >= room) return false;
-    value[value_count] = 0;
-    return memchr(value, 0, value_count) == NULL;
+    http3_wanted *found = who_wants(wanted, count, name, name_count);
+    if (found && !take_value(found, value, value_count)) return false;
+    if (found) left--;
   }
-  return false;
+  return left == 0;
 }

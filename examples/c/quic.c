@@ -132,7 +132,8 @@ static stream *find(const quic_connection *connection, int64_t id) { return tabl
 
 static stream *find_or_add(quic_connection *connection, int64_t id) {
   stream *found = find(connection, id);
-  if (found || !(found = calloc(1, sizeof *found))) return found;
+  if (found || !(found = malloc(sizeof *found))) return found;
+  *found = (stream){0};
   table_add(&connection->streams, &found->entry, (uint64_t)id);
   return found;
 }

@@ -17,6 +17,7 @@ static volatile sig_atomic_t asked_to_end; /* how often */
 
 /* One request: the file that is sent, or the digest of what came. */
 typedef struct {
+  bool begun;        /* its head came */
   bool head_only;    /* of HEAD: no body goes out */
   shared_file *file; /* NULL: none */
   uint64_t sent;
@@ -25,21 +26,13 @@ typedef struct {
 
 /* ---- answers ---- */
 
-/* A head with a type and a length, and where it is refused the end of the stream. */
-static bool answer(http3_request *request, const char *status, const char *type, const char *length) {
-  http3_field fields[] = {{":status", status}, {"content-type", type}, {"content-length", length}, {"server", "h3-serve"}};
-  if (http3_head(request, fields, 4)) return true;
-  http3_give_up(request, H3_CODE_INTERNAL_ERROR);
-  return false;
-}
-
 /* A short text is the whole answer. */
 static void answer_text(http3_request *request, const char *status, const char *text) {
   const work *work = request->data;
   char length[24];
+  http3_field fields[] = {{":status", status}, {"content-type", "text/plain; charset=utf-8"}, {"content-length", length}, {"server", "h3-serve"}};
   snprintf(length, sizeof length, "%zu", strlen(text));
-  if (!answer(request, status, "text/plain; charset=utf-8", length)) return;
-  if (work->head_only || http3_body(request, (const uint8_t *)text, strlen(text))) http3_finish(request);
+  if (http3_head_of(request, fields, 4) && (work->head_only || http3_body(request, (const uint8_t *)text, strlen(text)))) http3_finish(request);
   else http3_give_up(request, H3_CODE_INTERNAL_ERROR);
 }
 
@@ -53,19 +46,18 @@ static void answer_file(http3_request *request, const char *path) {
   work *work = request->data;
   work->file = files_open(path);
   if (!work->file) return answer_text(request, "404", "no such file\n");
-  if (!answer(request, "200", files_type(path), files_length_text(work->file))) return;
+  if (!http3_head(request, files_head(work->file))) return http3_give_up(request, H3_CODE_INTERNAL_ERROR);
   if (work->head_only || files_length(work->file) == 0) http3_finish(request);
 }
 
 static void on_head(http3_request *request, const h3_item *head) {
   char method[16], path[4096];
-  if (request->data) return; /* a trailer, which is passed over */
-  work *work = request->data = calloc(1, sizeof *work);
-  if (!work) return http3_give_up(request, H3_CODE_INTERNAL_ERROR);
+  http3_wanted wanted[] = {{":method", method, sizeof method, false}, {":path", path, sizeof path, false}};
+  work *work = request->data;
+  if (work->begun) return; /* a trailer, which is passed over */
+  work->begun = true;
   if (head->kind == H3_TOO_LARGE_HEAD) return refuse(request, "431", "the fields are too large\n");
-  if (!http3_value(request->connection, head, ":method", method, sizeof method) ||
-      !http3_value(request->connection, head, ":path", path, sizeof path))
-    return refuse(request, "400", "no method or path, or one that is too long\n");
+  if (!http3_values(request->connection, head, wanted, 2)) return refuse(request, "400", "no method or path, or one that is too long\n");
   work->head_only = strcmp(method, "HEAD") == 0;
   if (work->head_only || strcmp(method, "GET") == 0) return answer_file(request, path);
   if (strcmp(method, "POST") != 0) return refuse(request, "405", "GET, HEAD and POST are known\n");
@@ -74,14 +66,14 @@ static void on_head(http3_request *request, const h3_item *head) {
 
 static void on_body(http3_request *request, const uint8_t *bytes, size_t count) {
   work *work = request->data;
-  if (work) digest_add(&work->digest, bytes, count);
+  digest_add(&work->digest, bytes, count);
 }
 
 /* The body of a POST is whole. */
 static void on_end(http3_request *request) {
   work *work = request->data;
   char text[DIGEST_TEXT];
-  if (work && digest_end(&work->digest, text)) answer_text(request, "200", text);
+  if (digest_end(&work->digest, text)) answer_text(request, "200", text);
 }
 
 static void on_failed(http3_request *request, const h3_item *item) {
@@ -91,11 +83,12 @@ static void on_failed(http3_request *request, const h3_item *item) {
 /* The next pieces of a file. */
 static void on_room(http3_request *request) {
   work *work = request->data;
-  uint8_t bytes[16 * 1024];
-  if (!work || !work->file) return;
-  while (work->sent < files_length(work->file) && http3_room(request) >= sizeof bytes) {
-    size_t count = files_read(work->file, work->sent, bytes, sizeof bytes);
-    if (count == 0 || !http3_body(request, bytes, count)) return http3_give_up(request, H3_CODE_INTERNAL_ERROR); /* the file has shrunk */
+  uint8_t room[16 * 1024];
+  if (!work->file) return;
+  while (work->sent < files_length(work->file) && http3_room(request) >= sizeof room) {
+    size_t count = sizeof room;
+    const uint8_t *bytes = files_read(work->file, work->sent, room, &count);
+    if (!bytes || !http3_body(request, bytes, count)) return http3_give_up(request, H3_CODE_INTERNAL_ERROR);
     work->sent += count;
   }
   if (work->sent == files_length(work->file)) http3_finish(request);
@@ -103,10 +96,8 @@ static void on_room(http3_request *request) {
 
 static void on_freed(http3_request *request) {
   work *work = request->data;
-  if (!work) return;
   if (work->file) files_close(work->file);
   digest_drop(&work->digest);
-  free(work);
 }
 
 static void on_ready(http3 *h, void *user) { (void)h, (void)user; }
@@ -144,7 +135,7 @@ static bool read_options(int count, char **arguments, http3_setup *setup) {
 
 int main(int count, char **arguments) {
   static const http3_events events = {on_ready, on_head, on_body, on_end, on_failed, on_room, on_freed, on_over, NULL};
-  http3_setup setup = {.server = true, .requests = 100000, .events = &events};
+  http3_setup setup = {.server = true, .requests = 100000, .data = sizeof(work), .events = &events};
   struct sigaction action = {.sa_handler = on_signal};
   if (!read_options(count, arguments, &setup)) {
     fprintf(stderr, "serve [--requests N] ADDRESS PORT CERTIFICATE KEY FOLDER\n");

@@ -43,7 +43,7 @@ static bool is_of(const work *work, const http3 *connection, uint64_t session) {
 
 static void refuse(http3_request *request, const char *status) {
   http3_field fields[] = {{":status", status}, {"content-length", "0"}};
-  if (http3_head(request, fields, 2)) http3_finish(request);
+  if (http3_head_of(request, fields, 2)) http3_finish(request);
   else http3_give_up(request, H3_CODE_INTERNAL_ERROR);
   http3_ignore(request);
 }
@@ -51,11 +51,11 @@ static void refuse(http3_request *request, const char *status) {
 static void on_head(http3_request *request, const h3_item *head) {
   http3_field fields[] = {{":status", "200"}, {"sec-webtransport-http3-draft", "draft02"}};
   char protocol[16];
+  http3_wanted wanted = {":protocol", protocol, sizeof protocol, false};
   if (request->data || head->kind == H3_TRAILER) return;
   if (head->kind == H3_TOO_LARGE_HEAD) return refuse(request, "431");
-  if (!http3_value(request->connection, head, ":protocol", protocol, sizeof protocol) || strcmp(protocol, "webtransport") != 0)
-    return refuse(request, "404");
-  if (!add(request, request->entry.id) || !http3_head(request, fields, 2)) http3_give_up(request, H3_CODE_INTERNAL_ERROR);
+  if (!http3_values(request->connection, head, &wanted, 1) || strcmp(protocol, "webtransport") != 0) return refuse(request, "404");
+  if (!add(request, request->entry.id) || !http3_head_of(request, fields, 2)) http3_give_up(request, H3_CODE_INTERNAL_ERROR);
 }
 
 /* The session is over, and so are its streams. */
