@@ -8,6 +8,7 @@ import (
 	"errors"
 	"io"
 	"sync"
+	"sync/atomic"
 	"time"
 
 	"beanwhile/h3"
@@ -56,7 +57,8 @@ func closingCode(err error) quic.ApplicationErrorCode {
 // pieces has the buffers that are not in use. A stream that waits has none.
 var pieces = sync.Pool{New: func() any { return new([piece]byte) }}
 
-// Connection is one connection. Its lock is held in each call of the endpoint.
+// Connection is one connection. Its lock is held in each call of the endpoint. All requests of the connection want it, so whoever has several
+// calls to make takes it once.
 type Connection struct {
 	opening  sync.Mutex // one request is opened at a time
 	opened   *uint64    // the id that the endpoint gave and QUIC has no stream for yet
@@ -66,12 +68,14 @@ type Connection struct {
 	trace    *trace         // a server's
 	own      []*own         // control, encoder and decoder stream
 	inserted *sync.Cond     // the peer's encoder stream was read, or the connection is over
-	nextID   uint64         // a server's: behind the last request that came
-	endID    uint64         // requests from here on are not taken
-	leaving  chan struct{}  // closed: the peer was told by GOAWAY to open no more requests
-	active   int            // requests that Accept gave, and whoever answers them has not said Done of
 	broken   error          // why the connection is over
 	writers  sync.WaitGroup // those of the own streams
+
+	taking  sync.Mutex    // a server's, of the next three; it is taken before the lock
+	nextID  uint64        // behind the last request that came
+	endID   uint64        // requests from here on are not taken
+	leaving chan struct{} // closed: the peer was told by GOAWAY to open no more requests
+	active  atomic.Int64  // requests that Accept gave, and whoever answers them has not said Done of
 }
 
 // half is the own half of a stream.
@@ -92,6 +96,7 @@ type Request struct {
 	stream     quic.Stream
 	id         uint64
 	sending    half
+	isNew      bool // a server's: nothing was read of it, and the endpoint does not know it yet
 }
 
 // NewConnection opens the three own streams, and reads the peer's. A server has a trace, and takes so many requests (0: no limit).
@@ -183,10 +188,7 @@ func (c *Connection) wakeOwn() {
 
 // flush moves what waits on a stream to QUIC, and its end behind it. It waits until QUIC has room. The lock is held, and let go in between.
 func (c *Connection) flush(half half) {
-	for c.broken == nil {
-		if id, ok := c.endpoint.NextToSend(half.id); !ok || id != half.id || !c.writePiece(half) {
-			return
-		}
+	for c.broken == nil && c.writePiece(half) {
 	}
 }
 
@@ -196,6 +198,9 @@ func (c *Connection) writePiece(half half) bool {
 	buffer := pieces.Get().(*[piece]byte)
 	defer pieces.Put(buffer)
 	count, end := c.endpoint.Outgoing(half.id, buffer[:])
+	if count == 0 && !end {
+		return false
+	}
 	c.lock.Unlock()
 	_, err := half.stream.Write(buffer[:count])
 	if err == nil && end {
@@ -324,35 +329,31 @@ func (c *Connection) Accept() (*Request, error) {
 		if err != nil {
 			return nil, err
 		}
-		request, err := c.take(stream)
-		if err != nil || request != nil {
-			return request, err
+		if id := uint64(stream.StreamID()); c.take(id) {
+			return &Request{connection: c, stream: stream, id: id, sending: half{stream, id}, isNew: true}, nil
 		}
 		stream.CancelRead(h3.RequestRejected)
 		stream.CancelWrite(h3.RequestRejected)
 	}
 }
 
-// take takes a request. nil: no more are taken. The peer is told while it can still use as many streams as it may have opened: so none is refused.
-func (c *Connection) take(stream quic.Stream) (*Request, error) {
-	c.lock.Lock()
-	defer c.lock.Unlock()
-	id := uint64(stream.StreamID())
+// take says whether a request is taken. The peer is told to open no more while it can still use as many streams as it may have opened: so none
+// is refused.
+func (c *Connection) take(id uint64) bool {
+	c.taking.Lock()
+	defer c.taking.Unlock()
 	if id >= c.endID {
-		return nil, nil
-	}
-	if err := c.deliver(id, nil, nil); err != nil { // opens the request
-		return nil, err
+		return false
 	}
 	c.nextID = id + 4
-	c.active++
+	c.active.Add(1)
 	if c.endID-c.nextID <= 4*streams {
 		c.sayGoaway(c.endID)
 	}
-	return &Request{connection: c, stream: stream, id: id, sending: half{stream, id}}, nil
+	return true
 }
 
-// sayGoaway tells the peer to open no more requests. Those below `end` that come all the same are taken. The lock is held.
+// sayGoaway tells the peer to open no more requests. Those below `end` that come all the same are taken. No request is taken meanwhile.
 func (c *Connection) sayGoaway(end uint64) {
 	select {
 	case <-c.leaving:
@@ -363,6 +364,8 @@ func (c *Connection) sayGoaway(end uint64) {
 		close(c.leaving)
 	}
 	c.endID = end
+	c.lock.Lock()
+	defer c.lock.Unlock()
 	if err := c.endpoint.Goaway(end); err != nil {
 		c.fail(err)
 	}
@@ -371,57 +374,49 @@ func (c *Connection) sayGoaway(end uint64) {
 
 // Leave takes no further request but those that are on their way (RFC 9114, section 5.2). It waits for these.
 func (c *Connection) Leave() {
-	c.lock.Lock()
-	defer c.lock.Unlock()
+	c.taking.Lock()
 	c.sayGoaway(c.endID)
-	c.lock.Unlock()
+	c.taking.Unlock()
 	select {
 	case <-c.quic.Context().Done():
 	case <-time.After(notice):
 	}
-	c.lock.Lock()
+	c.taking.Lock()
 	c.sayGoaway(c.nextID)
+	c.taking.Unlock()
 }
 
 // Done says that a request that Accept gave is answered, or given up.
-func (r *Request) Done() {
-	r.connection.lock.Lock()
-	defer r.connection.lock.Unlock()
-	r.connection.active--
-}
+func (r *Request) Done() { r.connection.active.Add(-1) }
 
 // isDone says whether all that was begun is answered, and written.
-func (c *Connection) isDone() bool {
-	c.lock.Lock()
-	defer c.lock.Unlock()
-	return c.active == 0
-}
+func (c *Connection) isDone() bool { return c.active.Load() == 0 }
 
-// call makes one call of the endpoint, and wakes the own streams' writers.
-func (r *Request) call(call func() error) error {
+// call makes calls of the endpoint.
+func (r *Request) call(calls func(*h3.Endpoint) error) error {
 	c := r.connection
 	c.lock.Lock()
 	defer c.lock.Unlock()
 	if c.broken != nil {
 		return c.broken
 	}
-	err := call()
-	c.wakeOwn()
-	return err
+	return calls(c.endpoint)
 }
 
 // SendHead sends a head, its fields in the order that they have here: pseudo-header fields first. It goes out with what is sent behind it.
 func (r *Request) SendHead(fields []h3.Field) error {
-	return r.call(func() error { return r.connection.endpoint.SendFields(r.id, fields) })
+	return r.call(func(endpoint *h3.Endpoint) error {
+		defer r.connection.wakeOwn()
+		return endpoint.SendFields(r.id, fields)
+	})
 }
 
 // Write sends a piece of the body. Small pieces go out together, or with the end. It waits until QUIC has room.
 func (r *Request) Write(bytes []byte) (int, error) {
-	c := r.connection
-	err := r.call(func() error {
-		err := c.endpoint.SendBody(r.id, bytes)
-		if err == nil && c.endpoint.Stream(r.id).Waiting >= piece {
-			c.flush(r.sending)
+	err := r.call(func(endpoint *h3.Endpoint) error {
+		err := endpoint.SendBody(r.id, bytes)
+		if err == nil && endpoint.Stream(r.id).Waiting >= piece {
+			r.connection.flush(r.sending)
 		}
 		return err
 	})
@@ -433,8 +428,26 @@ func (r *Request) Write(bytes []byte) (int, error) {
 
 // Finish ends the own message, and waits until QUIC has taken all of it.
 func (r *Request) Finish() error {
-	return r.call(func() error {
-		err := r.connection.endpoint.Finish(r.id)
+	return r.call(func(endpoint *h3.Endpoint) error {
+		err := endpoint.Finish(r.id)
+		if err == nil {
+			r.connection.flush(r.sending)
+		}
+		return err
+	})
+}
+
+// Send sends a whole message, as SendHead, Write and Finish do.
+func (r *Request) Send(fields []h3.Field, body []byte) error {
+	return r.call(func(endpoint *h3.Endpoint) error {
+		err := endpoint.SendFields(r.id, fields)
+		if err == nil {
+			err = endpoint.SendBody(r.id, body)
+		}
+		if err == nil {
+			err = endpoint.Finish(r.id)
+		}
+		r.connection.wakeOwn()
 		if err == nil {
 			r.connection.flush(r.sending)
 		}
@@ -451,11 +464,12 @@ func (r *Request) IsStopped() bool {
 
 // GiveUp sends nothing more, and wants nothing more.
 func (r *Request) GiveUp(code quic.StreamErrorCode) {
-	r.call(func() error {
-		r.connection.endpoint.Cancel(r.id) // refused where the peer's message is over
-		if r.connection.endpoint.Reset(r.id) == nil {
+	r.call(func(endpoint *h3.Endpoint) error {
+		endpoint.Cancel(r.id) // refused where the peer's message is over
+		if endpoint.Reset(r.id) == nil {
 			r.stream.CancelWrite(code)
 		}
+		r.connection.wakeOwn()
 		return nil
 	})
 	r.stream.CancelRead(code)
@@ -464,7 +478,10 @@ func (r *Request) GiveUp(code quic.StreamErrorCode) {
 // Ignore wants nothing more of the request: a server has answered (RFC 9114, section 4.1), and the client need not send the rest. It is told so a
 // little later, so that it reads the answer first: some clients fail where they are stopped in sending.
 func (r *Request) Ignore() {
-	r.call(func() error { return r.connection.endpoint.Cancel(r.id) }) // refused where the message is over
+	r.call(func(endpoint *h3.Endpoint) error {
+		defer r.connection.wakeOwn()
+		return endpoint.Cancel(r.id) // refused where the message is over
+	})
 	time.AfterFunc(grace, func() { r.stream.CancelRead(h3.NoError) })
 }
 
@@ -473,39 +490,43 @@ func (r *Request) Ignore() {
 // out all the same.
 func (r *Request) Next() (h3.Item, error) {
 	c := r.connection
-	c.lock.Lock()
+	var unreadable, err error
+	if r.isNew {
+		r.isNew = false
+		unreadable, err = r.read()
+	} else {
+		c.lock.Lock()
+	}
 	defer c.lock.Unlock()
-	var unreadable error
-	for {
-		item, err := c.pull(r.id)
+	for err == nil {
+		var item h3.Item
+		item, err = c.pull(r.id)
 		switch {
 		case err != nil:
-			return h3.Item{}, err
 		case item.Kind == h3.Waiting && c.broken == nil:
 			c.inserted.Wait()
 		case item.Kind == h3.Waiting:
-			return h3.Item{}, c.broken
+			err = c.broken
 		case item.Kind == h3.Pending && unreadable != nil:
-			return h3.Item{}, unreadable
+			err = unreadable
 		case item.Kind == h3.Pending && c.endpoint.Stream(r.id).Unread > heldLimit:
-			return h3.Item{}, errTooLarge
+			err = errTooLarge
 		case item.Kind == h3.Pending:
-			if unreadable, err = r.read(); err != nil {
-				return h3.Item{}, err
-			}
+			c.lock.Unlock()
+			unreadable, err = r.read()
 		case item.Kind > h3.FaultConnection:
 			return item, h3.Fault{Kind: item.Kind, Number: item.Number}
 		default:
 			return item, nil
 		}
 	}
+	return h3.Item{}, err
 }
 
-// read reads a piece of the stream, and hands it over. `unreadable`: there will be nothing more. The lock is held, and let go in between.
+// read reads a piece of the stream, takes the lock, and hands the piece over. `unreadable`: there will be nothing more.
 func (r *Request) read() (unreadable, err error) {
 	buffer := pieces.Get().(*[piece]byte)
 	defer pieces.Put(buffer)
-	r.connection.lock.Unlock()
 	count, end := r.stream.Read(buffer[:])
 	r.connection.lock.Lock()
 	return end, r.connection.deliver(r.id, buffer[:count], end)

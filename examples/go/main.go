@@ -45,10 +45,7 @@ func ask(request *Request, wish wish, cancel int) error {
 	place := wish.place
 	fields := []h3.Field{{Name: ":method", Value: wish.method}, {Name: ":scheme", Value: "https"}, {Name: ":authority", Value: place.Host}, {Name: ":path", Value: place.RequestURI()}}
 	if wish.file == "" {
-		if err := request.SendHead(fields); err != nil {
-			return err
-		}
-		return request.Finish()
+		return request.Send(fields, nil)
 	}
 	body, err := os.Open(wish.file)
 	if err != nil {

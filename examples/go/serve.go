@@ -38,20 +38,16 @@ func value(head h3.Item, name string) string {
 	return value
 }
 
-func (h *handler) head(status, kind string, length int64) error {
-	return h.SendHead([]h3.Field{{Name: ":status", Value: status}, {Name: "content-type", Value: kind}, {Name: "content-length", Value: strconv.FormatInt(length, 10)}})
+func head(status, kind string, length int64) []h3.Field {
+	return []h3.Field{{Name: ":status", Value: status}, {Name: "content-type", Value: kind}, {Name: "content-length", Value: strconv.FormatInt(length, 10)}}
 }
 
 func (h *handler) text(status, text string) error {
-	if err := h.head(status, "text/plain; charset=utf-8", int64(len(text))); err != nil {
-		return err
+	fields := head(status, "text/plain; charset=utf-8", int64(len(text)))
+	if h.method == http.MethodHead {
+		text = ""
 	}
-	if h.method != http.MethodHead {
-		if _, err := h.Write([]byte(text)); err != nil {
-			return err
-		}
-	}
-	return h.Finish()
+	return h.Send(fields, []byte(text))
 }
 
 // refuse answers with a text, and does not read what it refuses: a body may be long.
@@ -86,13 +82,26 @@ func (h *handler) file(name string) error {
 	if kind == "" {
 		kind = "application/octet-stream"
 	}
-	if err := h.head("200", kind, status.Size()); err != nil {
-		return err
+	return h.content(head("200", kind, status.Size()), file, status.Size())
+}
+
+// content answers with so many bytes of a file.
+func (h *handler) content(fields []h3.Field, file io.Reader, length int64) error {
+	if h.method == http.MethodHead {
+		length = 0
 	}
-	if h.method != http.MethodHead {
-		if _, err := io.CopyN(h.Request, file, status.Size()); err != nil {
+	if length <= piece {
+		body := make([]byte, length)
+		if _, err := io.ReadFull(file, body); err != nil {
 			return err
 		}
+		return h.Send(fields, body)
+	}
+	if err := h.SendHead(fields); err != nil {
+		return err
+	}
+	if _, err := io.CopyN(h.Request, file, length); err != nil {
+		return err
 	}
 	return h.Finish()
 }
