@@ -8,12 +8,9 @@ import (
 	"flag"
 	"fmt"
 	"io"
-	"mime"
 	"net/http"
-	"net/url"
 	"os"
 	"os/signal"
-	"path"
 	"strconv"
 	"sync"
 	"syscall"
@@ -29,7 +26,7 @@ const linger = 5 * time.Second
 // handler answers one request.
 type handler struct {
 	*Request
-	files  http.FileSystem
+	files  *folder
 	method string
 }
 
@@ -42,12 +39,16 @@ func head(status, kind string, length int64) []h3.Field {
 	return []h3.Field{{Name: ":status", Value: status}, {Name: "content-type", Value: kind}, {Name: "content-length", Value: strconv.FormatInt(length, 10)}}
 }
 
-func (h *handler) text(status, text string) error {
-	fields := head(status, "text/plain; charset=utf-8", int64(len(text)))
+// whole sends an answer, of HEAD without its body.
+func (h *handler) whole(fields []h3.Field, body []byte) error {
 	if h.method == http.MethodHead {
-		text = ""
+		body = nil
 	}
-	return h.Send(fields, []byte(text))
+	return h.Send(fields, body)
+}
+
+func (h *handler) text(status, text string) error {
+	return h.whole(head(status, "text/plain; charset=utf-8", int64(len(text))), []byte(text))
 }
 
 // refuse answers with a text, and does not read what it refuses: a body may be long.
@@ -59,48 +60,23 @@ func (h *handler) refuse(status, text string) error {
 	return err
 }
 
-// file answers with a file below the folder. path.Clean takes every `..` away; links are followed.
+// file answers with a file below the folder.
 func (h *handler) file(name string) error {
-	place, err := url.ParseRequestURI(name)
-	if err != nil {
+	file, err := h.files.open(name)
+	if err == errNoPath {
 		return h.text("400", "no path\n")
 	}
-	clean := path.Clean("/" + place.Path)
-	if place.Path != "" && place.Path[len(place.Path)-1] == '/' {
-		clean = path.Join(clean, "index.html")
-	}
-	file, err := h.files.Open(clean)
 	if err != nil {
 		return h.text("404", "no such file\n")
 	}
-	defer file.Close()
-	status, err := file.Stat()
-	if err != nil || !status.Mode().IsRegular() {
-		return h.text("404", "no such file\n")
+	defer file.close()
+	if file.rest == nil || h.method == http.MethodHead {
+		return h.whole(file.fields, file.small)
 	}
-	kind := mime.TypeByExtension(path.Ext(clean))
-	if kind == "" {
-		kind = "application/octet-stream"
-	}
-	return h.content(head("200", kind, status.Size()), file, status.Size())
-}
-
-// content answers with so many bytes of a file.
-func (h *handler) content(fields []h3.Field, file io.Reader, length int64) error {
-	if h.method == http.MethodHead {
-		length = 0
-	}
-	if length <= piece {
-		body := make([]byte, length)
-		if _, err := io.ReadFull(file, body); err != nil {
-			return err
-		}
-		return h.Send(fields, body)
-	}
-	if err := h.SendHead(fields); err != nil {
+	if err := h.SendHead(file.fields); err != nil {
 		return err
 	}
-	if _, err := io.CopyN(h.Request, file, length); err != nil {
+	if _, err := io.CopyN(h.Request, file.rest, file.length); err != nil {
 		return err
 	}
 	return h.Finish()
@@ -159,7 +135,7 @@ func (h *handler) answer() error {
 }
 
 // takeRequests answers each request of a connection, at once, until the connection is over.
-func takeRequests(connection *Connection, files http.FileSystem) {
+func takeRequests(connection *Connection, files *folder) {
 	for {
 		request, err := connection.Accept()
 		if err != nil {
@@ -177,7 +153,7 @@ func takeRequests(connection *Connection, files http.FileSystem) {
 
 // server is what all connections share.
 type server struct {
-	files    http.FileSystem
+	files    *folder
 	requests uint64        // at most so many are taken on a connection
 	leave    chan struct{} // closed: what was begun is to end
 	traces   tracer
@@ -268,12 +244,12 @@ func serveCommand(words []string) error {
 	if options.NArg() != 4 {
 		return errors.New("serve [-requests N] ADDRESS CERTIFICATE KEY FOLDER")
 	}
-	address, folder := options.Arg(0), options.Arg(3)
+	address := options.Arg(0)
 	pair, err := tls.LoadX509KeyPair(options.Arg(1), options.Arg(2))
 	if err != nil {
 		return err
 	}
-	s := &server{files: http.Dir(folder), requests: *requests, leave: make(chan struct{})}
+	s := &server{files: newFolder(options.Arg(3)), requests: *requests, leave: make(chan struct{})}
 	config := settings.Clone()
 	config.Tracer = &s.traces
 	listener, err := quic.ListenAddr(address, &tls.Config{Certificates: []tls.Certificate{pair}, NextProtos: []string{"h3"}}, config)
@@ -283,7 +259,7 @@ func serveCommand(words []string) error {
 	signals := make(chan os.Signal, 2)
 	signal.Notify(signals, syscall.SIGTERM, syscall.SIGINT)
 	go leaveAt(signals, s.leave)
-	fmt.Println("serving", folder, "at", address)
+	fmt.Println("serving", options.Arg(3), "at", address)
 	s.run(listener)
 	return listener.Close()
 }
