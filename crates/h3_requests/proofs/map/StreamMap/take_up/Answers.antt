@@ -2,7 +2,7 @@
 use Rattle.std.proofs.Common.{◌≡◌, true, false, Some, None, refl, sym, ◌∙◌, ap}
 use Rattle.std.specs.Prelude.{Option, is_some}
 use Rattle.h3_connection.specs.State.{kept_at}
-use Rattle.h3_requests.specs.Stored.{either}
+use Rattle.h3_requests.specs.Listed.{either}
 use Rattle.h3_requests.proofs.Found.{same_stored, under}
 use Rattle.h3_requests.proofs.map.StreamMap.take_up.Goals as goal
 
@@ -16,7 +16,7 @@ none_first (Some x) h = absurd (cc)
 
 pub returns-then-contains_key-clause-there : goal.returns-then-contains_key-clause-there
 returns-then-contains_key-clause-there c =
-    sym (ap is_some (under c.args.self.now c.into_inner-number.result c.args.id (kept_at c.args.self.now.under_way.entries c.into_inner-number.result) c.into_inner-number.ensures.value c.into_inner-number.ensures.bound refl)
+    sym (ap is_some (under c.args.self.now c.into_inner-number.result c.args.id (kept_at c.args.self.now.under_way c.into_inner-number.result) c.into_inner-number.ensures.value c.into_inner-number.ensures.bound refl)
     ∙ there_first _ _ (sym c.contains_key.ensures ∙ c.if-contains_key.true))
 
 pub returns-in_default-clause-there : goal.returns-in_default-clause-there
