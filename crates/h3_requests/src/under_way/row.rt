@@ -47,6 +47,19 @@ impl Place {
         }
     }
 
+    // The stream of this id, where it stands there.
+    fn get(&self, id: u64) -> Option<&RequestStream>
+        ensures { option_copied result ≡ in_place self.now id }
+    {
+        if self.id != id {
+            return None;
+        }
+        match &self.stream {
+            Some(stream) => Some(stream.get()),
+            None => None,
+        }
+    }
+
     // Whether the stream of this id stands there.
     fn has(&self, id: u64) -> bool
         ensures { result ≡ is_some (in_place self.now id) }
@@ -81,14 +94,8 @@ impl Row {
     pub(crate) fn get(&self, id: u64) -> Option<&RequestStream>
         ensures { option_copied result ≡ held_at self.now id }
     {
-        let Some(place) = self.places.get(place_of(id)) else {
-            return None;
-        };
-        if place.id != id {
-            return None;
-        }
-        match &place.stream {
-            Some(stream) => Some(stream.get()),
+        match self.places.get(place_of(id)) {
+            Some(place) => place.get(id),
             None => None,
         }
     }

@@ -14,14 +14,14 @@ none_first : {X : Type 0} (o : Option X) → is_some o ≡ false → None ≡ o
 none_first None h = refl
 none_first (Some x) h = absurd (cc)
 
-pub returns-then-contains_key-clause-there : goal.returns-then-contains_key-clause-there
-returns-then-contains_key-clause-there c =
+pub returns-then-contains-clause-there : goal.returns-then-contains-clause-there
+returns-then-contains-clause-there c =
     sym (ap is_some (under c.args.self.now c.into_inner-number.result c.args.id (kept_at c.args.self.now.under_way c.into_inner-number.result) c.into_inner-number.ensures.value c.into_inner-number.ensures.bound refl)
-    ∙ there_first _ _ (sym c.contains_key.ensures ∙ c.if-contains_key.true))
+    ∙ there_first _ _ (sym c.contains.ensures ∙ c.if-contains.true))
 
 pub returns-in_default-clause-there : goal.returns-in_default-clause-there
 returns-in_default-clause-there c =
-    sym (ap is_some (under c.args.self.now c.into_inner-number.result c.args.id None c.into_inner-number.ensures.value c.into_inner-number.ensures.bound (none_first _ (sym c.contains_key.ensures ∙ c.if-contains_key.false)))
+    sym (ap is_some (under c.args.self.now c.into_inner-number.result c.args.id None c.into_inner-number.ensures.value c.into_inner-number.ensures.bound (none_first _ (sym c.contains.ensures ∙ c.if-contains.false)))
     ∙ ap is_some (sym c.get.ensures.value) ∙ ap is_some c.in_default.is)
 
 pub returns-in_default-insert-clause-same : goal.returns-in_default-insert-clause-same
@@ -29,5 +29,5 @@ returns-in_default-insert-clause-same c = same_stored c.args.self.now (record { 
 
 pub returns-clause-there : goal.returns-clause-there
 returns-clause-there c =
-    sym (ap is_some (under c.args.self.now c.into_inner-number.result c.args.id None c.into_inner-number.ensures.value c.into_inner-number.ensures.bound (none_first _ (sym c.contains_key.ensures ∙ c.if-contains_key.false)))
+    sym (ap is_some (under c.args.self.now c.into_inner-number.result c.args.id None c.into_inner-number.ensures.value c.into_inner-number.ensures.bound (none_first _ (sym c.contains.ensures ∙ c.if-contains.false)))
     ∙ ap is_some (sym c.in-Some.ensures.value))
