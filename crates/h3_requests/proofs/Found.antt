@@ -113,12 +113,3 @@ writes s n id x below over wrote = (
   distinct_in n,
   λ y there. found (stored_at s) id below ∙ ap (λ o. either o (over_at s id)) there,
 )
-
--- where none is under way none is lent
-pub writes_none : (s : StreamMap) (id : ℕ) (x : RequestState) → id < 2 ^ 64 → under_way_at s id ≡ None → Writes (streams_in s) (streams_in s) (under_way_at s id) id x
-writes_none s id x below none = (
-  λ some. absurd (let wrong : false ≡ true = subst (λ o. IsSome o) none some in cc),
-  λ there. all_same (stored_at s) (stored_at s) (λ q. refl),
-  distinct_in s,
-  λ y there. found (stored_at s) id below ∙ ap (λ o. either o (over_at s id)) there,
-)

@@ -65,8 +65,7 @@ written places id x p named has some = by_what (slice_get places (id / 4 % 128))
     by_what (Some before) is =
         let was = there places id (id / 4 % 128) before refl is some in
         let here : slice_get (slice_set places (id / 4 % 128) p) (id / 4 % 128) ≡ Some p = set_here places (id / 4 % 128) p before is in
-        let own : in_place p id ≡ Some x = let yes : (p.id == id) ≡ true = ap (λ n. n == id) named ∙ itself id in rw yes has in
-        (
+        let own : in_place p id ≡ Some x = let yes : (p.id == id) ≡ true = ap (λ n. n == id) named ∙ itself id in rw yes has in (
           ap (λ o. held_by o id) here ∙ own,
           λ q differs. elim (cases_eq (q / 4 % 128) (id / 4 % 128)) [
             | inl level ↦

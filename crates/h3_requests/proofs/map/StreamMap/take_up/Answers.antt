@@ -31,3 +31,6 @@ pub returns-clause-there : goal.returns-clause-there
 returns-clause-there c =
     sym (ap is_some (under c.args.self.now c.into_inner-number.result c.args.id None c.into_inner-number.ensures.value c.into_inner-number.ensures.bound (none_first _ (sym c.contains.ensures ∙ c.if-contains.false)))
     ∙ ap is_some (sym c.in-Some.ensures.value))
+
+pub insert-requires : goal.insert-requires
+insert-requires c = sym (none_first _ (sym c.contains.ensures ∙ c.if-contains.false))
