@@ -102,6 +102,7 @@ int main(void) {
   size_t request, waiting, control;
   h3_item item;
   make();
+  deliver(24, "\x21", 1); /* what a connection takes with its first request stream is no frame's */
   request = flood(0, 1);
   waiting = flood(4, 0);
   WANT(h3_deliver_end(&server, 0, NULL) == H3_OK, "h3_deliver_end", 0, 0);

@@ -1,21 +1,17 @@
 -- What is found in the streams of a map, by what is stored of each.
 use Rattle.std.proofs.Common.{◌≡◌, ◌<◌, ℕ, ◌^◌, true, false, [], refl, sym, ◌∙◌, ap, subst, inl, inr, arith}
 use Rattle.std.specs.Prelude.{Option, Some, None, ◌≢◌, IfSome, IsSome}
-use Rattle.std.specs.BTreeMap.{is_at}
-use Rattle.std.specs.Cmp.{unsigned_tied}
-use Rattle.std.specs.Map.{set_value}
-use Rattle.std.specs.Ordering.{nat_cmp}
 use Rattle.std.proofs.lemmas.Bool.{cases_eq}
-use Rattle.std.proofs.lemmas.Map.Steps.{set_value_same}
 use Rattle.h3_blocked.specs.Sums.{TakesOut}
 use Rattle.h3_blocked.specs.SumLaws.{kept_is_at}
 use Rattle.h3_connection.specs.Calls.{AllSame, Sets}
 use Rattle.h3_connection.specs.State.{RequestState, kept_at}
 use Rattle.h3_connection.specs.StreamSets.{Streams, HaveDistinctIds}
-use Rattle.h3_connection.specs.StreamSetLaws.{other_id}
 use Rattle.h3_requests.specs.Listed.{streams_of}
 use Rattle.h3_requests.specs.Lending.{Writes}
-use Rattle.h3_requests.specs.Stored.{either, over_at, stored_at, streams_in, under_way_at}
+use Rattle.h3_requests.specs.Stored.{over_at, stored_at, streams_in, under_way_at}
+use Rattle.h3_requests.specs.Listed.{either}
+use Rattle.h3_requests.specs.UnderWayLending.{WritesThere}
 use Rattle.h3_requests.specs.declared.map.StreamMap.{StreamMap}
 use Rattle.h3_requests.proofs.Listed as listed
 
@@ -50,14 +46,6 @@ at_each f g id here others q = elim (cases_eq q id) [
 pub few : (number id : ℕ) → number ≡ id → number < 2 ^ 62 → id < 2 ^ 64
 few number id is below = omega (arith, is, below)
 
--- another id is at another key
-pub not_at : (id q : ℕ) → q ≢ id → is_at (nat_cmp id) q ≡ false
-not_at id q differs = unsigned_tied id q ∙ other_id q id differs
-
--- at each other key the same is found
-abbrev pub KeepsOthers : {X : Type 0} → Streams X → Streams X → ℕ → Type 0
-KeepsOthers old new id = (q : ℕ) → is_at (nat_cmp id) q ≡ false → kept_at new q ≡ kept_at old q
-
 -- what is stored of a stream
 abbrev pub stored : {X : Type 0} → (under_way over : Streams X) → ℕ → Option X
 stored under_way over q = either (kept_at under_way q) (kept_at over q)
@@ -66,22 +54,22 @@ stored_alike : {X : Type 0} (u v o p : Streams X) (q : ℕ) → kept_at v q ≡ 
 stored_alike u v o p q under_way over = ap (λ x. either x (kept_at p q)) under_way ∙ ap (either (kept_at u q)) over
 
 -- what is found of a stream, by what is found of it among those under way
-pub under : (s : StreamMap) (number id : ℕ) (o : Option RequestState) → number ≡ id → number < 2 ^ 62 → o ≡ kept_at s.under_way.entries number → kept_at (streams_in s) id ≡ either o (over_at s id)
-under s number id o is below same = found (stored_at s) id (few number id is below) ∙ ap (λ x. either x (over_at s id)) (ap (kept_at s.under_way.entries) (sym is) ∙ sym same)
+pub under : (s : StreamMap) (number id : ℕ) (o : Option RequestState) → number ≡ id → number < 2 ^ 62 → o ≡ kept_at s.under_way number → kept_at (streams_in s) id ≡ either o (over_at s id)
+under s number id o is below same = found (stored_at s) id (few number id is below) ∙ ap (λ x. either x (over_at s id)) (ap (kept_at s.under_way) (sym is) ∙ sym same)
 
 -- nothing is stored,
-pub none_stored : (s : StreamMap) → s.under_way.entries ≡ [] → s.over ≡ [] → streams_in s ≡ []
+pub none_stored : (s : StreamMap) → s.under_way ≡ [] → s.over ≡ [] → streams_in s ≡ []
 none_stored s under_way over = listed.nothing (stored_at s) (λ q. ap (λ l. either (kept_at l q) (over_at s q)) under_way ∙ ap (λ l. kept_at l q) over)
 
 -- or the same
-pub same_stored : (s n : StreamMap) → n.under_way.entries ≡ s.under_way.entries → n.over ≡ s.over → streams_in n ≡ streams_in s
+pub same_stored : (s n : StreamMap) → n.under_way ≡ s.under_way → n.over ≡ s.over → streams_in n ≡ streams_in s
 same_stored s n under_way over =
-    listed.same_streams (stored_at s) (stored_at n) (λ q. stored_alike s.under_way.entries n.under_way.entries s.over n.over q (ap (λ l. kept_at l q) under_way) (ap (λ l. kept_at l q) over))
+    listed.same_streams (stored_at s) (stored_at n) (λ q. stored_alike s.under_way n.under_way s.over n.over q (ap (λ l. kept_at l q) under_way) (ap (λ l. kept_at l q) over))
 
 -- a stream is put among those under way,
-pub put_in : {X : Type 0} (u v o p : Streams X) (id : ℕ) (x : X) → id < 2 ^ 64 → kept_at v id ≡ Some x → KeepsOthers u v id → p ≡ o → Sets (streams_of (stored u o)) (streams_of (stored v p)) id x
-put_in u v o p id x below here others same =
-    sets (stored u o) (stored v p) id x below (ap (λ y. either y (kept_at p id)) here) (λ q differs. stored_alike u v o p q (others q (not_at id q differs)) (ap (λ l. kept_at l q) same))
+pub put_in : {X : Type 0} (u v o p : Streams X) (id : ℕ) (x : X) → id < 2 ^ 64 → Sets u v id x → p ≡ o → Sets (streams_of (stored u o)) (streams_of (stored v p)) id x
+put_in u v o p id x below put same =
+    sets (stored u o) (stored v p) id x below (ap (λ y. either y (kept_at p id)) put.here) (λ q differs. stored_alike u v o p q (put.others q differs) (ap (λ l. kept_at l q) same))
 
 -- or set among those that are over,
 set_over : {X : Type 0} (u o p : Streams X) (id : ℕ) (x : X) → id < 2 ^ 64 → kept_at u id ≡ None → Sets o p id x → Sets (streams_of (stored u o)) (streams_of (stored u p)) id x
@@ -96,46 +84,32 @@ over_set change u o p id below none h = by_what (kept_at o id) h
     by_what (Some r) h = set_over u o p id (change r) (omega (arith, below)) none h
 
 -- or taken out of both,
-pub taken_out : {X : Type 0} (u v o p : Streams X) (id : ℕ) → id < 2 ^ 64 → kept_at v id ≡ None → KeepsOthers u v id → TakesOut o p id → TakesOut (streams_of (stored u o)) (streams_of (stored v p)) id
-taken_out u v o p id below none others takes =
-    takes_out (stored u o) (stored v p) id below (ap (λ y. either y (kept_at p id)) none ∙ takes.here)
-    (λ q differs. stored_alike u v o p q (others q (not_at id q differs)) (takes.others q differs))
+pub taken_out : {X : Type 0} (u v o p : Streams X) (id : ℕ) → id < 2 ^ 64 → TakesOut u v id → TakesOut o p id → TakesOut (streams_of (stored u o)) (streams_of (stored v p)) id
+taken_out u v o p id below first second =
+    takes_out (stored u o) (stored v p) id below (ap (λ y. either y (kept_at p id)) first.here ∙ second.here)
+    (λ q differs. stored_alike u v o p q (first.others q differs) (second.others q differs))
 
 -- or taken up from those that are over,
-pub taken_up : {X : Type 0} (u v o : Streams X) (id : ℕ) (x : X) → kept_at u id ≡ None → kept_at o id ≡ Some x → kept_at v id ≡ Some x → KeepsOthers u v id
-    → streams_of (stored v o) ≡ streams_of (stored u o)
-taken_up u v o id x was over here others =
-    let at : stored v o id ≡ stored u o id = ap (λ y. either y (kept_at o id)) here ∙ sym (ap (λ y. either y (kept_at o id)) was ∙ over) in
-    listed.same_streams (stored u o) (stored v o) (at_each (stored u o) (stored v o) id at (λ q differs. stored_alike u v o o q (others q (not_at id q differs)) refl))
+pub taken_up : {X : Type 0} (u v o : Streams X) (id : ℕ) (x : X) → kept_at u id ≡ None → kept_at o id ≡ Some x → Sets u v id x → streams_of (stored v o) ≡ streams_of (stored u o)
+taken_up u v o id x was over put =
+    let at : stored v o id ≡ stored u o id = ap (λ y. either y (kept_at o id)) put.here ∙ sym (ap (λ y. either y (kept_at o id)) was ∙ over) in
+    listed.same_streams (stored u o) (stored v o) (at_each (stored u o) (stored v o) id at (λ q differs. stored_alike u v o o q (put.others q differs) refl))
 
 -- or is from now on among those that are over
-pub retired : {X : Type 0} (u v o p : Streams X) (id : ℕ) (x : X) → kept_at u id ≡ Some x → Sets o p id x → kept_at v id ≡ None → KeepsOthers u v id
-    → streams_of (stored v p) ≡ streams_of (stored u o)
-retired u v o p id x was over none others =
-    let at : stored v p id ≡ stored u o id = ap (λ y. either y (kept_at p id)) none ∙ over.here ∙ sym (ap (λ y. either y (kept_at o id)) was) in
-    listed.same_streams (stored u o) (stored v p) (at_each (stored u o) (stored v p) id at (λ q differs. stored_alike u v o p q (others q (not_at id q differs)) (over.others q differs)))
+pub retired : {X : Type 0} (u v o p : Streams X) (id : ℕ) (x : X) → kept_at u id ≡ Some x → Sets o p id x → TakesOut u v id → streams_of (stored v p) ≡ streams_of (stored u o)
+retired u v o p id x was over gone =
+    let at : stored v p id ≡ stored u o id = ap (λ y. either y (kept_at p id)) gone.here ∙ over.here ∙ sym (ap (λ y. either y (kept_at o id)) was) in
+    listed.same_streams (stored u o) (stored v p) (at_each (stored u o) (stored v p) id at (λ q differs. stored_alike u v o p q (gone.others q differs) (over.others q differs)))
 
 -- no id stands twice
 pub distinct_in : (s : StreamMap) → HaveDistinctIds (streams_in s)
 distinct_in s = listed.distinct (stored_at s)
 
 -- a stream that was lent is given back
-pub writes : (s n : StreamMap) (id : ℕ) (x : RequestState) → id < 2 ^ 64 → n.over ≡ s.over → n.under_way.entries ≡ set_value (is_at (nat_cmp id)) s.under_way.entries x
-    → (IsSome (under_way_at s id) → (under_way_at n id ≡ Some x) × KeepsOthers s.under_way.entries n.under_way.entries id) → Writes (streams_in s) (streams_in n) (under_way_at s id) id x
-writes s n id x below over is updates = (
-  λ some. let u = updates some in put_in s.under_way.entries n.under_way.entries s.over n.over id x below u.0 u.1 over,
-  λ there.
-      let same : n.under_way.entries ≡ s.under_way.entries = is ∙ set_value_same (is_at (nat_cmp id)) s.under_way.entries x there in
-      all_same (stored_at s) (stored_at n) (λ q. stored_alike s.under_way.entries n.under_way.entries s.over n.over q (ap (λ l. kept_at l q) same) (ap (λ l. kept_at l q) over)),
+pub writes : (s n : StreamMap) (id : ℕ) (x : RequestState) → id < 2 ^ 64 → n.over ≡ s.over → WritesThere s.under_way n.under_way id x → Writes (streams_in s) (streams_in n) (under_way_at s id) id x
+writes s n id x below over wrote = (
+  λ some. put_in s.under_way n.under_way s.over n.over id x below (wrote.0 some) over,
+  λ there. all_same (stored_at s) (stored_at n) (λ q. stored_alike s.under_way n.under_way s.over n.over q (ap (λ l. kept_at l q) (wrote.1 there)) (ap (λ l. kept_at l q) over)),
   distinct_in n,
-  λ y there. found (stored_at s) id below ∙ ap (λ o. either o (over_at s id)) there,
-)
-
--- where none is under way none is lent
-pub writes_none : (s : StreamMap) (id : ℕ) (x : RequestState) → id < 2 ^ 64 → under_way_at s id ≡ None → Writes (streams_in s) (streams_in s) (under_way_at s id) id x
-writes_none s id x below none = (
-  λ some. absurd (let wrong : false ≡ true = subst (λ o. IsSome o) none some in cc),
-  λ there. all_same (stored_at s) (stored_at s) (λ q. refl),
-  distinct_in s,
   λ y there. found (stored_at s) id below ∙ ap (λ o. either o (over_at s id)) there,
 )

@@ -1,7 +1,9 @@
 pub mod Alike
+pub mod Beside
 pub mod Counts
 pub mod Found
 pub mod Listed
+pub mod Places
 pub mod Pulls
 pub mod Sendable
 pub mod Received

@@ -11,4 +11,7 @@ pub mod Marks
 pub mod Over
 pub mod Ready
 pub mod Refused
+pub mod Row
+pub mod RowLending
 pub mod Stored
+pub mod UnderWayLending

@@ -2,15 +2,11 @@
 use Rattle.std.specs.Prelude.{ℕ, Option, Some, None}
 use Rattle.h3_connection.specs.State.{RequestState, kept_at}
 use Rattle.h3_connection.specs.StreamSets.{Streams}
-use Rattle.h3_requests.specs.Listed.{streams_of}
+use Rattle.h3_requests.specs.Listed.{either, streams_of}
 use Rattle.h3_requests.specs.declared.map.StreamMap.{StreamMap}
 
-abbrev pub either : {X : Type 0} → Option X → Option X → Option X
-either (Some x) other = Some x
-either None other = other
-
 abbrev pub under_way_at : StreamMap → ℕ → Option RequestState
-under_way_at s id = kept_at s.under_way.entries id
+under_way_at s id = kept_at s.under_way id
 
 abbrev pub over_at : StreamMap → ℕ → Option RequestState
 over_at s id = kept_at s.over id

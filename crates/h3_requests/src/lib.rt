@@ -9,6 +9,7 @@ mod ready;
 mod room;
 pub mod stream;
 pub mod streams;
+mod under_way;
 mod waiting;
 
 pub use room::SectionRoom;

@@ -11,20 +11,21 @@ ghost use Rattle.h3_requests.specs.Lending.{LendsStream};
 ghost use Rattle.h3_requests.specs.HasBytes.{has_end};
 ghost use Rattle.h3_requests.specs.Over.{with_end_taken, AreAlike, IsOver};
 ghost use Rattle.h3_requests.specs.Refused.{refused_over};
-ghost use Rattle.h3_requests.specs.Stored.{either, over_at, streams_in, under_way_at};
+ghost use Rattle.h3_requests.specs.Stored.{over_at, streams_in, under_way_at};
+ghost use Rattle.h3_requests.specs.Listed.{either};
 
 use crate::boxed::BoxedStream;
 use crate::over::OverStreams;
 use crate::stream::RequestStream;
+use crate::under_way::StreamsUnderWay;
 use h3_connection::event::Refusal;
 use h3_proto::stream::StreamId;
 use std::alloc::{AllocError, Global};
-use std::collections::BTreeMap;
 
 // The streams, no id twice. No look-up and no change moves or visits more than a few of them, however many there are.
 #[derive(Drop)]
 pub(crate) struct StreamMap {
-    under_way: BTreeMap<u64, BoxedStream>,
+    under_way: StreamsUnderWay,
     // and of a stream that is under way what it was when it was last over, which counts for nothing
     over: OverStreams,
 }
@@ -35,7 +36,7 @@ impl StreamMap {
         ensures { streams_in result ≡ [] }
     {
         StreamMap {
-            under_way: BTreeMap::new(alloc),
+            under_way: StreamsUnderWay::new(alloc),
             over: OverStreams::new(alloc),
         }
     }
@@ -44,8 +45,8 @@ impl StreamMap {
     pub(crate) fn get_alike(&self, id: StreamId) -> Option<&RequestStream>
         ensures { AreAlike (option_copied result) (kept_at (streams_in self.now) id) }
     {
-        match self.under_way.get(&id.into_inner()) {
-            Some(stream) => Some(stream.get()),
+        match self.under_way.get(id.into_inner()) {
+            Some(stream) => Some(stream),
             None => self.over.get_alike(id),
         }
     }
@@ -83,10 +84,7 @@ impl StreamMap {
         ensures value { option_copied_mut result ≡ under_way_at self.old id }
         ensures found { kept_at (streams_in self.old) id ≡ either (under_way_at self.old id) (over_at self.old id) }
     {
-        match self.under_way.get_mut(&id.into_inner()) {
-            Some(stream) => Some(stream.get_mut()),
-            None => None,
-        }
+        self.under_way.get_mut(id.into_inner())
     }
 
     // Puts the stream there, and answers what the one that was there waits for. An `Err` changes nothing: no stream was under way
@@ -115,7 +113,7 @@ impl StreamMap {
         let Ok(stream) = BoxedStream::new(alloc, stream) else {
             return Err(AllocError);
         };
-        let Ok(_) = self.under_way.insert(number, stream) else {
+        let Ok(()) = self.under_way.insert(number, stream) else {
             return Err(AllocError);
         };
         Ok(0)
@@ -127,7 +125,7 @@ impl StreamMap {
         ensures before { result ≡ waits_at (kept_at (streams_in self.old) id) }
         ensures distinct { HaveDistinctIds (streams_in self.new) }
     {
-        let stream = self.under_way.remove(&id.into_inner());
+        let stream = self.under_way.remove(id.into_inner());
         self.over.remove(id);
         match stream {
             Some(stream) => stream.waits_for(),
@@ -155,7 +153,7 @@ impl StreamMap {
         ensures same { streams_in self.new ≡ streams_in self.old }
     {
         let number = id.into_inner();
-        if self.under_way.contains_key(&number) {
+        if self.under_way.contains(number) {
             return Ok(true);
         }
         let Some(stream) = self.over.get(id) else {
@@ -164,7 +162,7 @@ impl StreamMap {
         let Ok(stream) = BoxedStream::new(alloc, stream) else {
             return Err(AllocError);
         };
-        let Ok(_) = self.under_way.insert(number, stream) else {
+        let Ok(()) = self.under_way.insert(number, stream) else {
             return Err(AllocError);
         };
         Ok(true)
@@ -184,15 +182,14 @@ impl StreamMap {
         ensures { streams_in self.new ≡ streams_in self.old }
     {
         let number = id.into_inner();
-        let Some(stream) = self.under_way.get(&number) else {
+        let Some(stream) = self.under_way.get(number) else {
             return;
         };
-        let stream = stream.get();
         if !stream.is_over() {
             return;
         }
         if self.over.put(id, stream) {
-            self.under_way.remove(&number);
+            self.under_way.remove(number);
         }
     }
 }

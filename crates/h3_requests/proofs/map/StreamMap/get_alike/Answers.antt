@@ -7,9 +7,8 @@ use Rattle.h3_requests.proofs.map.StreamMap.get_alike.Goals as goal
 
 pub returns-in-Some : goal.returns-in-Some
 returns-in-Some c =
-    ap (λ r. Some (codeless r)) c.get-in-Some.ensures
-    ∙ ap (option_map codeless) (sym (under c.args.self.now c.into_inner.result c.args.id (Some c.in-Some.stream.now) c.into_inner.ensures.value c.into_inner.ensures.bound c.in-Some.ensures.value))
+    ap (option_map codeless) (sym (under c.args.self.now c.into_inner.result c.args.id (Some c.in-Some.stream.now) c.into_inner.ensures.value c.into_inner.ensures.bound c.in-Some.ensures))
 
 pub returns-in-None : goal.returns-in-None
 returns-in-None c =
-    c.get_alike.ensures ∙ ap (option_map codeless) (sym (under c.args.self.now c.into_inner.result c.args.id None c.into_inner.ensures.value c.into_inner.ensures.bound c.in-None.ensures.value))
+    c.get_alike.ensures ∙ ap (option_map codeless) (sym (under c.args.self.now c.into_inner.result c.args.id None c.into_inner.ensures.value c.into_inner.ensures.bound c.in-None.ensures))

@@ -17,10 +17,9 @@ returns-in_default-insert-clause-distinct c = distinct_in (record { under_way = 
 pub returns-clause-ok : goal.returns-clause-ok
 returns-clause-ok c =
     let was = c.get_mut.follows.lender-at-none in
-    let updates = rw c.into_inner-number.ensures.value at c.in-Ok-insert.ensures.updates in
+    let put = rw (c.into_inner-number.ensures.value, c.in-Ok-new.ensures) at c.in-Ok-insert.ensures.ok in
     subst (λ s. Sets (streams_in s) (streams_in (record { under_way = c.insert.new.self; over = c.reserve.new.self })) c.args.id c.args.stream) c.get_mut.follows.holds-at-none
-    (put_in was.under_way.entries c.insert.new.self.entries was.over c.reserve.new.self c.args.id c.args.stream (few _ _ c.into_inner-number.ensures.value c.into_inner-number.ensures.bound)
-    (updates.1 ∙ ap Some c.in-Ok-new.ensures) updates.2 c.reserve.ensures.same)
+    (put_in was.under_way c.insert.new.self was.over c.reserve.new.self c.args.id c.args.stream (few _ _ c.into_inner-number.ensures.value c.into_inner-number.ensures.bound) put c.reserve.ensures.same)
 
 pub returns-clause-distinct : goal.returns-clause-distinct
 returns-clause-distinct c = distinct_in (record { under_way = c.insert.new.self; over = c.reserve.new.self })

@@ -7,9 +7,8 @@ use Rattle.h3_requests.proofs.map.StreamMap.remove.Goals as goal
 
 pub returns-in-Some-clause-takes_out : goal.returns-in-Some-clause-takes_out
 returns-in-Some-clause-takes_out c =
-    let updates = rw c.into_inner.ensures.value at c.remove-stream.ensures.updates in
-    taken_out c.args.self.now.under_way.entries c.remove-stream.new.self.entries c.args.self.now.over c.remove.new.self c.args.id (few _ _ c.into_inner.ensures.value c.into_inner.ensures.bound) updates.1 updates.2
-    c.remove.ensures.takes_out
+    let gone = rw c.into_inner.ensures.value at c.remove-stream.ensures.takes_out in
+    taken_out c.args.self.now.under_way c.remove-stream.new.self c.args.self.now.over c.remove.new.self c.args.id (few _ _ c.into_inner.ensures.value c.into_inner.ensures.bound) gone c.remove.ensures.takes_out
 
 pub returns-in-Some-clause-before : goal.returns-in-Some-clause-before
 returns-in-Some-clause-before c =
@@ -21,9 +20,8 @@ returns-in-Some-clause-distinct c = distinct_in (record { under_way = c.remove-s
 
 pub returns-in-None-clause-takes_out : goal.returns-in-None-clause-takes_out
 returns-in-None-clause-takes_out c =
-    let updates = rw c.into_inner.ensures.value at c.remove-stream.ensures.updates in
-    taken_out c.args.self.now.under_way.entries c.remove-stream.new.self.entries c.args.self.now.over c.remove.new.self c.args.id (few _ _ c.into_inner.ensures.value c.into_inner.ensures.bound) updates.1 updates.2
-    c.remove.ensures.takes_out
+    let gone = rw c.into_inner.ensures.value at c.remove-stream.ensures.takes_out in
+    taken_out c.args.self.now.under_way c.remove-stream.new.self c.args.self.now.over c.remove.new.self c.args.id (few _ _ c.into_inner.ensures.value c.into_inner.ensures.bound) gone c.remove.ensures.takes_out
 
 pub returns-in-None-clause-before : goal.returns-in-None-clause-before
 returns-in-None-clause-before c = sym (ap waits_at (under c.args.self.now c.into_inner.result c.args.id None c.into_inner.ensures.value c.into_inner.ensures.bound c.in-None.ensures.value) ∙ over_waits _ c.remove.ensures.over)

@@ -3,7 +3,8 @@ use Rattle.std.proofs.Common.{rules, ◌≡◌, sym, ◌∙◌, ap}
 use Rattle.std.specs.Option.{option_copied_mut}
 use Rattle.h3_connection.specs.State.{RequestState, kept_at}
 use Rattle.h3_outgoing.specs.Sent.{end_waits, takes_end}
-use Rattle.h3_requests.specs.Stored.{either, over_at}
+use Rattle.h3_requests.specs.Stored.{over_at}
+use Rattle.h3_requests.specs.Listed.{either}
 use Rattle.h3_requests.proofs.Ways.{over_advanced}
 use Rattle.h3_requests.proofs.Sendable.{had_place, moved, ready_before, settled}
 use Rattle.h3_requests.proofs.streams.RequestStreams.advance.Goals as goal

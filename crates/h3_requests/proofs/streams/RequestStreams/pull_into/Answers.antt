@@ -17,7 +17,8 @@ use Rattle.h3_requests.specs.Ready.{AreKept}
 use Rattle.h3_requests.proofs.Counts.{has_count_at, replaced_twice}
 use Rattle.h3_requests.proofs.Pulls.{gives_just, gives_limited, pulled_over, pulled_there}
 use Rattle.h3_requests.proofs.Sendable.{moved, kept_again, replaced, written}
-use Rattle.h3_requests.specs.Stored.{either, over_at, streams_in, under_way_at}
+use Rattle.h3_requests.specs.Stored.{over_at, streams_in, under_way_at}
+use Rattle.h3_requests.specs.Listed.{either}
 use Rattle.h3_requests.proofs.streams.RequestStreams.pull_into.Goals as goal
 
 pub within_limit-requires-clause-among : goal.within_limit-requires-clause-among

@@ -6,7 +6,8 @@ use Rattle.h3_connection.specs.Calls.{Sets}
 use Rattle.h3_connection.specs.State.{RequestState, kept_at}
 use Rattle.h3_requests.specs.HasBytes.{gives_end, has_end}
 use Rattle.h3_requests.specs.Over.{IsOver, with_end_taken}
-use Rattle.h3_requests.specs.Stored.{either, over_at, streams_in}
+use Rattle.h3_requests.specs.Stored.{over_at, streams_in}
+use Rattle.h3_requests.specs.Listed.{either}
 use Rattle.h3_requests.proofs.Sendable.{end_gone, over_gives, over_gone, written}
 use Rattle.h3_requests.proofs.streams.RequestStreams.take_end.Goals as goal
 

@@ -1,0 +1,113 @@
+//! The request streams under way, found by their ids: one in its place of a row, and in a map those whose place another has.
+ghost use Rattle.std.specs.Borrow.{sem};
+ghost use Rattle.std.specs.Option.{option_copied_mut};
+ghost use Rattle.std.specs.Prelude.{◌≡◌, [], None, is_some, option_copied, OnErr, OnOk};
+ghost use Rattle.h3_blocked.specs.Sums.{TakesOut};
+ghost use Rattle.h3_connection.specs.Calls.{Sets};
+ghost use Rattle.h3_connection.specs.State.{kept_at};
+ghost use Rattle.h3_requests.specs.UnderWayLending.{LendsUnderWay};
+
+use crate::boxed::BoxedStream;
+use crate::stream::RequestStream;
+use std::alloc::{AllocError, Global};
+use std::collections::BTreeMap;
+use std::marker::Model;
+
+mod row;
+
+use row::Row;
+
+/// The streams under way, no id twice. A contract sees the list of them, and finds one by `kept_at`.
+#[derive(Drop)]
+pub(crate) struct StreamsUnderWay {
+    row: Row,
+    // those that found their place taken
+    others: BTreeMap<u64, BoxedStream>,
+}
+
+impl Model for StreamsUnderWay {
+    ghost use Rattle.h3_connection.specs.State.{RequestState};
+    ghost use Rattle.h3_connection.specs.StreamSets.{Streams};
+    ghost use Rattle.h3_requests.specs.Listed.{streams_of};
+    ghost use Rattle.h3_requests.specs.Row.{found_at, AreApart};
+
+    ghost Value = { Streams RequestState };
+
+    ghost view = { λ s. streams_of (found_at s.row s.others.entries) };
+
+    ghost invariant = { λ s. AreApart s.row s.others.entries };
+}
+
+impl StreamsUnderWay {
+    /// No stream. It takes no memory.
+    pub(crate) fn new(alloc: Global) -> StreamsUnderWay
+        ensures { result ≡ [] }
+    {
+        StreamsUnderWay {
+            row: Row::new(alloc),
+            others: BTreeMap::new(alloc),
+        }
+    }
+
+    /// The stream of this id.
+    pub(crate) fn get(&self, id: u64) -> Option<&RequestStream>
+        ensures { option_copied result ≡ kept_at self.now id }
+    {
+        if let Some(stream) = self.row.get(id) {
+            return Some(stream);
+        }
+        match self.others.get(&id) {
+            Some(stream) => Some(stream.get()),
+            None => None,
+        }
+    }
+
+    /// Whether there is a stream of this id.
+    pub(crate) fn contains(&self, id: u64) -> bool
+        ensures { result ≡ is_some (kept_at self.now id) }
+    {
+        self.row.has(id) || self.others.contains_key(&id)
+    }
+
+    /// The stream of this id, to be changed.
+    pub(crate) fn get_mut(&mut self, id: u64) -> Option<&mut RequestStream>
+        ensures* writes_back { sem 𝓛 (LendsUnderWay self.entry id result) }
+        ensures value { option_copied_mut result ≡ kept_at self.old id }
+    {
+        if self.row.has(id) {
+            return Some(self.row.get_mut(id));
+        }
+        match self.others.get_mut(&id) {
+            Some(stream) => Some(stream.get_mut()),
+            None => None,
+        }
+    }
+
+    /// Puts a stream there, where none is. An `Err` changes nothing: memory was refused.
+    pub(crate) fn insert(&mut self, id: u64, stream: BoxedStream) -> Result<(), AllocError>
+        requires { kept_at self.old id ≡ None }
+        ensures ok { OnOk result (Sets self.old self.new id stream) }
+        ensures err { OnErr result (self.new ≡ self.old) }
+    {
+        self.row.reserve()?;
+        if self.row.has_room(id) {
+            self.row.put(id, stream);
+            return Ok(());
+        }
+        let Ok(_) = self.others.insert(id, stream) else {
+            return Err(AllocError);
+        };
+        Ok(())
+    }
+
+    /// Takes the stream of this id out. It takes no memory.
+    pub(crate) fn remove(&mut self, id: u64) -> Option<BoxedStream>
+        ensures value { result ≡ kept_at self.old id }
+        ensures takes_out { TakesOut self.old self.new id }
+    {
+        if let Some(stream) = self.row.take(id) {
+            return Some(stream);
+        }
+        self.others.remove(&id)
+    }
+}
