@@ -1,6 +1,6 @@
 -- What is found in the streams of a map, by what is stored of each.
-use Rattle.std.proofs.Common.{◌≡◌, ◌<◌, ℕ, ◌^◌, true, false, [], refl, sym, ◌∙◌, ap, subst, inl, inr, arith}
-use Rattle.std.specs.Prelude.{Option, Some, None, ◌≢◌, IfSome, IsSome}
+use Rattle.std.proofs.Common.{◌≡◌, ◌<◌, ℕ, ◌^◌, [], refl, sym, ◌∙◌, ap, inl, inr, arith}
+use Rattle.std.specs.Prelude.{Option, Some, None, ◌≢◌, IfSome}
 use Rattle.std.proofs.lemmas.Bool.{cases_eq}
 use Rattle.h3_blocked.specs.Sums.{TakesOut}
 use Rattle.h3_blocked.specs.SumLaws.{kept_is_at}

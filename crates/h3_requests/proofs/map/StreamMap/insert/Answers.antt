@@ -1,5 +1,5 @@
 -- The stream is set among those under way.
-use Rattle.std.proofs.Common.{Some, subst, ◌∙◌, ap}
+use Rattle.std.proofs.Common.{subst}
 use Rattle.h3_connection.specs.Calls.{Sets}
 use Rattle.h3_requests.specs.Stored.{streams_in}
 use Rattle.h3_requests.proofs.Found.{distinct_in, few, put_in}

@@ -1,5 +1,5 @@
 -- A stream that is over goes to those that are.
-use Rattle.std.proofs.Common.{Some, ap, sym, ◌∙◌}
+use Rattle.std.proofs.Common.{sym}
 use Rattle.h3_requests.proofs.Found.{retired}
 use Rattle.h3_requests.proofs.map.StreamMap.retire.Goals as goal
 
