@@ -86,6 +86,7 @@ static size_t *owed_for(http3 *h, uint64_t id) {
 static void drop(http3_request *request) {
   http3 *h = request->connection;
   grant_request(request);
+  if (!request->sent) h3_reset(&h->endpoint, request->entry.id, NULL); /* it reads no more of a body that was lent */
   table_remove(&h->found, &request->entry);
   TAILQ_REMOVE(&h->requests, request, order);
   h->setup->events->freed(request);
@@ -270,8 +271,9 @@ static void stream_closed(void *owner, int64_t stream) {
 
 /* ---- what goes out ---- */
 
-/* Moves what waits on a stream to QUIC, as far as it has room, and the end behind it, once. Answers whether anything was moved. */
-static bool move_out(http3 *h, uint64_t id) {
+/* Moves what waits on a stream to QUIC, as far as it has room, and the end behind it, once. Answers whether anything was moved. The request is
+ * NULL where the stream is not that of one. */
+static bool move_out(http3 *h, uint64_t id, http3_request *request) {
   uint8_t bytes[PIECE];
   for (bool moved = false;; moved = true) {
     size_t room = quic_room(h->quic, (int64_t)id), count;
@@ -285,23 +287,24 @@ static bool move_out(http3 *h, uint64_t id) {
     h3_advance(&h->endpoint, id, count);
     if (!end) continue;
     h3_end_taken(&h->endpoint, id); /* h3_next_to_send names the stream no longer */
+    if (request) request->sent = true;
     return true;
   }
 }
 
 /* The connection's own streams, before all others: the peer's heads may wait for them. */
 static void move_own(http3 *h) {
-  move_out(h, h3_control_id(h->setup->server));
-  move_out(h, h3_encoder_id(h->setup->server));
-  move_out(h, h3_decoder_id(h->setup->server));
+  move_out(h, h3_control_id(h->setup->server), NULL);
+  move_out(h, h3_encoder_id(h->setup->server), NULL);
+  move_out(h, h3_decoder_id(h->setup->server), NULL);
 }
 
 /* All streams on which bytes or an end wait. Answers whether anything was moved. */
 static bool move_all(http3 *h) {
   bool moved = false;
   for (uint64_t id = 0; h3_next_to_send(&h->endpoint, id, &id) == H3_OK; id++) {
-    moved |= move_out(h, id);
     http3_request *request = find(h, id);
+    moved |= move_out(h, id, request);
     if (request && request->sending) request->unsent = http3_waiting(request);
   }
   return moved;
@@ -376,9 +379,9 @@ static void *opened(quic_connection *quic, void *user) {
 
 static void closed(void *owner, const quic_ending *ending) {
   http3 *h = owner;
+  h3_free(&h->endpoint); /* first: bodies that were lent go with their requests */
   for (http3_request *request; (request = TAILQ_FIRST(&h->requests));) drop(request);
   h->setup->events->over(h->setup->user, ending);
-  h3_free(&h->endpoint);
   free(h);
 }
 
@@ -455,11 +458,20 @@ size_t http3_room(http3_request *request) {
   return request->sending && request->unsent < WAITING_LIMIT ? WAITING_LIMIT - request->unsent : 0;
 }
 
-bool http3_body(http3_request *request, const uint8_t *bytes, size_t count) {
-  if (h3_send_body(&request->connection->endpoint, request->entry.id, bytes, count, NULL) != H3_OK) return false;
+/* The endpoint has so many bytes more of the body, or (false) refused them. */
+static bool body_given(http3_request *request, uint32_t answer, size_t count) {
+  if (answer != H3_OK) return false;
   request->unsent += count;
   quic_wake(request->connection->quic, 0);
   return true;
+}
+
+bool http3_body(http3_request *request, const uint8_t *bytes, size_t count) {
+  return body_given(request, h3_send_body(&request->connection->endpoint, request->entry.id, bytes, count, NULL), count);
+}
+
+bool http3_body_lent(http3_request *request, const uint8_t *bytes, size_t count) {
+  return body_given(request, h3_send_body_lent(&request->connection->endpoint, request->entry.id, bytes, count, NULL), count);
 }
 
 bool http3_raw(http3_request *request, const uint8_t *bytes, size_t count, bool end) {

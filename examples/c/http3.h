@@ -21,6 +21,7 @@ typedef struct http3_request {
   uint64_t stop_at; /* when the peer is told to send no more of it, by quic_time; 0: never */
   bool waiting;   /* its head needs what the peer's encoder stream has not brought yet */
   bool sending;   /* the head was sent, the end was not */
+  bool sent;      /* QUIC has all of it, and its end */
   bool settled;   /* the end or a fault was told: nothing more comes */
   bool closed;    /* QUIC has forgotten the stream */
 } http3_request;
@@ -79,6 +80,8 @@ uint64_t http3_waiting(http3_request *);
 size_t http3_room(http3_request *);
 /* Sends a piece of the body. false: refused. */
 bool http3_body(http3_request *, const uint8_t *bytes, size_t count);
+/* Sends a piece that is not copied: it stays where it is, unchanged, until `freed` is called. false: refused. */
+bool http3_body_lent(http3_request *, const uint8_t *bytes, size_t count);
 /* The message is whole. */
 void http3_finish(http3_request *);
 /* Sends bytes on a bidirectional stream of a WebTransport session, as they are, and with `end` its end. false: no memory. */

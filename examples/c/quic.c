@@ -416,7 +416,7 @@ static void fail(quic_connection *connection, int error) {
 }
 
 /* Puts what fits of a stream (none: NULL) into a packet. Answers what ngtcp2 answers: bytes of a packet that is whole, 0, an error. */
-static ngtcp2_ssize write_stream(quic_connection *connection, stream *stream, ngtcp2_path *path, uint8_t *packet) {
+static ngtcp2_ssize write_stream(quic_connection *connection, stream *stream, ngtcp2_path *path, uint8_t *packet, ngtcp2_tstamp time) {
   ngtcp2_vec pieces[16];
   ngtcp2_pkt_info info;
   ngtcp2_ssize taken = -1;
@@ -425,7 +425,7 @@ static ngtcp2_ssize write_stream(quic_connection *connection, stream *stream, ng
   uint32_t flags = stream ? NGTCP2_WRITE_STREAM_FLAG_MORE : 0;
   ngtcp2_ssize done = ngtcp2_conn_writev_stream(connection->conn, path, &info, packet, PACKET, &taken,
                                                 last ? flags | NGTCP2_WRITE_STREAM_FLAG_FIN : flags,
-                                                stream ? (int64_t)stream->entry.id : -1, pieces, count, now());
+                                                stream ? (int64_t)stream->entry.id : -1, pieces, count, time);
   if (taken < 0) return done;
   stream->out.taken += (uint64_t)taken;
   if (last && (size_t)taken == total) stream->out.end_taken = true;
@@ -453,13 +453,14 @@ static bool next_turn(quic_connection *connection, stream *stream, ngtcp2_ssize 
 static void write_packets(quic_connection *connection) {
   batch *batch = &connection->socket->batch;
   ngtcp2_path_storage path;
+  ngtcp2_tstamp time = now(); /* of all packets of a burst */
   size_t total = 0, burst = ngtcp2_conn_get_send_quantum(connection->conn);
   connection->more = !flush(connection->socket);
   for (stream *stream; (stream = TAILQ_FIRST(&connection->blocked));) line_up(stream, &connection->ready);
   while (!connection->more) {
     stream *stream = TAILQ_FIRST(&connection->ready);
     ngtcp2_path_storage_zero(&path);
-    ngtcp2_ssize done = write_stream(connection, stream, &path.path, batch->bytes + batch->count);
+    ngtcp2_ssize done = write_stream(connection, stream, &path.path, batch->bytes + batch->count, time);
     if ((stream && next_turn(connection, stream, done)) || done == NGTCP2_ERR_WRITE_MORE) continue;
     if (done < 0) return fail(connection, (int)done);
     if (done == 0) break;
@@ -467,7 +468,7 @@ static void write_packets(quic_connection *connection) {
     connection->more = !join(connection->socket, (size_t)done, &path.path.remote) || total >= burst;
   }
   flush(connection->socket);
-  ngtcp2_conn_update_pkt_tx_time(connection->conn, now());
+  ngtcp2_conn_update_pkt_tx_time(connection->conn, time);
 }
 
 /* Connections. */

@@ -88,7 +88,8 @@ static void on_room(http3_request *request) {
   while (work->sent < files_length(work->file) && http3_room(request) >= sizeof room) {
     size_t count = sizeof room;
     const uint8_t *bytes = files_read(work->file, work->sent, room, &count);
-    if (!bytes || !http3_body(request, bytes, count)) return http3_give_up(request, H3_CODE_INTERNAL_ERROR);
+    bool is_given = bytes && (bytes == room ? http3_body(request, bytes, count) : http3_body_lent(request, bytes, count));
+    if (!is_given) return http3_give_up(request, H3_CODE_INTERNAL_ERROR);
     work->sent += count;
   }
   if (work->sent == files_length(work->file)) http3_finish(request);

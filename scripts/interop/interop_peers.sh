@@ -19,6 +19,11 @@ fi
 export PKG_CONFIG_PATH=$lib GO111MODULE=off GOPATH=/usr/share/gocode GOCACHE=${GOCACHE:-$work/go}
 build make -s -C examples/c LIB="$lib" OUT="$work/checked" CFLAGS="-O1 -g -fsanitize=address,undefined -fno-sanitize-recover=undefined"
 build make -s -C examples/go LIB="$lib" OUT="$work"
+has_root=no
+if bash scripts/interop/upstream.sh peers; then
+  has_root=yes
+  build bash scripts/interop/upstream.sh quinn # before a server starts, which has ten minutes
+fi
 make_served
 ours=("$work/checked/fetch" --address 127.0.0.1 --trust "$cert")
 go_ours=("$work/h3go" fetch)
@@ -65,6 +70,8 @@ curl_many() { # PORT
   within 60 "${curl3[@]}" --curves X25519 -Z --parallel-max 50 "${urls[@]}" || return 1
   for i in $(seq 0 99); do cmp -s "$root$there/small-$i" "$folder/small/$i.txt" || return 1; done
 }
+# One handshake of curl in fifty stands still where packets of it are lost, with ngtcp2 0.12.1 as the server (gtlsserver too).
+once_or_twice() { "$@" || "$@"; }
 curl_aborts() { # PORT: the upload is given up behind a second, and the server goes on
   within 60 "${curl3[@]}" --limit-rate 200k --max-time 1 --data-binary @$there/folder/big.bin "$(url "$1" /answer)"
   [ $? -eq 28 ] && curl_says "200 6" "$(url "$1" /hello.txt)"
@@ -227,7 +234,6 @@ HAPROXY
 }
 
 debian13() {
-  build bash scripts/interop/upstream.sh quinn
   mkdir -p "$root$there"
   cp -r "$folder" "$cert" "$key" "$work/posted" scripts/interop/aio.py "$root$there"
   echo "trailers" > "$work/trailers"
@@ -282,7 +288,7 @@ debian13() {
   rm -rf "${root:?}$there"
 }
 
-if bash scripts/interop/upstream.sh peers; then debian13; else echo "skipped curl, aioquic, nginx, haproxy and ngtcp2 1.11: there is no build/trixie (make upstream-root)"; fi
+if [ "$has_root" = yes ]; then debian13; else echo "skipped curl, aioquic, nginx, haproxy and ngtcp2 1.11: there is no build/trixie (make upstream-root)"; fi
 
 # ---- Firefox ----
 
