@@ -1,7 +1,7 @@
 -- What a reading leaves that was refused memory: what came was read up to some point, and the rest is still to be read.
 use Rattle.std.specs.Prelude.{List, Some, ◌≡◌, ◌∷◌, ◌++◌, All, ℕ, IfSome, Option, None, false, [], ◌<◌, ◌^◌, length}
 use Rattle.h3_connection.specs.declared.arrival.Arrival.{Arrival}
-use Rattle.h3_connection.specs.Endpoint.{EndpointHistory, kind_of, is_second}
+use Rattle.h3_connection.specs.Endpoint.{EndpointHistory, limit_of, kind_of, is_second}
 use Rattle.h3_connection.specs.PartReading.{ReadsOn, early_arrival, held_as}
 use Rattle.h3_proto.specs.declared.stream.Side.{Side}
 use Rattle.h3_connection.specs.Arrivals.{stream_of}
@@ -66,7 +66,7 @@ pub data Stops (role : Role) (s : EndpointState) (old new : StreamsState) (e : E
 
 -- What a reading of all that is held of the control stream finds, and what it leaves that was refused memory.
 abbrev pub ReadsHeld : StreamsState → StreamsState → Side → ℕ → Option ℕ → Type 0
-ReadsHeld x new side id fault = (s : EndpointState) (e : EndpointHistory) → IsRead s x e side id Control → e.control_on ≡ Some id → Reads s fault new (after_peer e (read_peer e.side e.peer))
+ReadsHeld x new side id fault = (s : EndpointState) (e : EndpointHistory) → IsRead s x e side id Control → e.control_on ≡ Some id → Reads s fault new (after_peer e (read_peer (limit_of e) e.side e.peer))
 
 abbrev pub StopsHeld : StreamsState → StreamsState → Side → ℕ → List Arrival → Type 0
 StopsHeld x new side id left = (s : EndpointState) (e : EndpointHistory) → IsRead s x e side id Control → e.control_on ≡ Some id → StopsAt s new e (BytesCame id [] ∷ []) left
