@@ -9,7 +9,7 @@ use Rattle.h3_connection.specs.declared.arrival.Arrival.{Arrival}
 use Rattle.h3_connection.specs.declared.arrival.Arrival.TheVariants.{BytesCame, EndCame, ResetCame}
 use Rattle.h3_connection.specs.Control.{Found, listened_to, read_decoder, with_table, if_learned, then_decoder, after_peer, read_control}
 use Rattle.h3_connection.specs.Delivering.{request_refusal, refusal_at, delivery_refusal, opened_at, opened, incoming_at, with_incoming, unidirectional_at, with_unidirectional, unless_second, heard_as, read_unidirectional, kept, with_end, bytes_at, end_at, give_up, reset_at, taken}
-use Rattle.h3_connection.specs.Endpoint.{EndpointHistory, Kind, is_second, kind_of}
+use Rattle.h3_connection.specs.Endpoint.{EndpointHistory, limit_of, Kind, is_second, kind_of}
 use Rattle.h3_connection.specs.Endpoint.Kind.{Request, ServerOpened, OwnUnidirectional, PeerUnidirectional}
 use Rattle.h3_connection.specs.Incoming.{Incoming}
 use Rattle.h3_connection.specs.Keeping.{read_arrival, unless_faulty, read_all, unkept, refused_behind, arrival_refusal, arrives_behind, arrives}
@@ -58,7 +58,7 @@ after_plain e (p, fault) =
     ∙ then_plain e.peer.settings p.settings (if_learned e.peer.settings p.settings f) fault
 
 control_plain : (e : EndpointHistory) (bytes : List ℕ) → read_control (plainly e) bytes ≡ plain_found (read_control e bytes)
-control_plain e bytes = after_plain e (read_peer e.side (with_unread e.peer (e.peer.unread ++ bytes)))
+control_plain e bytes = after_plain e (read_peer (limit_of e) e.side (with_unread e.peer (e.peer.unread ++ bytes)))
 
 second_plain : (b : Bool) (e : EndpointHistory) (x y : Found) → y ≡ plain_found x → unless_second b (plainly e) y ≡ plain_found (unless_second b e x)
 second_plain true e x y is = refl
