@@ -142,11 +142,12 @@ front_more limit side p bytes more x is small go = by_front x is
 
     by_front : (y : Front) → frame_at (known bytes) ≡ y → ReadsMore limit side more (read_peer limit side (with_unread p (bytes ++ more))) (read_peer limit side (with_unread p bytes))
     by_front (Whole f rest) e =
-        let found = found_more limit side more rest (read_frame side p p.settings f) (λ q. go q rest (rest_shorter bytes rest f e)) in
-        (found.0,
-        there (Whole f rest) e tt ∙ ap (λ z. unless_fault z (read_peer limit side)) (frame_with side p (rest ++ more) p.settings f)
-        ∙ found.1
-        ∙ sym (ap (then_peer limit side more found.0) (here (Whole f rest) e ∙ ap (λ z. unless_fault z (read_peer limit side)) (frame_with side p rest p.settings f))))
+        let found = found_more limit side more rest (read_frame side p p.settings f) (λ q. go q rest (rest_shorter bytes rest f e)) in (
+          found.0,
+          there (Whole f rest) e tt ∙ ap (λ z. unless_fault z (read_peer limit side)) (frame_with side p (rest ++ more) p.settings f)
+              ∙ found.1
+              ∙ sym (ap (then_peer limit side more found.0) (here (Whole f rest) e ∙ ap (λ z. unless_fault z (read_peer limit side)) (frame_with side p rest p.settings f))),
+        )
     by_front (Refused why) e = (known bytes ++ more, there (Refused why) e tt ∙ sym (ap (then_peer limit side more (known bytes ++ more)) (here (Refused why) e)))
     by_front (Unknown kind rest) e = waits_more limit side p bytes more (here (Unknown kind rest) e)
     by_front (Unfinished least) e = waits_more limit side p bytes more (here (Unfinished least) e)
@@ -155,9 +156,11 @@ front_more limit side p bytes more x is small go = by_front x is
 length_more : (limit : ℕ) (side : Side) (p : Peer) (bytes more : List ℕ) (large : Bool) → is_excessive limit (known bytes) ≡ large
     → ((q : Peer) (rest : List ℕ) → length rest < length bytes → ReadsMore limit side more (read_peer limit side (with_unread q (rest ++ more))) (read_peer limit side (with_unread q rest)))
     → ReadsMore limit side more (read_peer limit side (with_unread p (bytes ++ more))) (read_peer limit side (with_unread p bytes))
-length_more limit side p bytes more true e go =
-    ([], step_excessive limit side (with_unread p (bytes ++ more)) (excessive_behind limit bytes more e)
-    ∙ sym (ap (then_peer limit side more []) (step_excessive limit side (with_unread p bytes) e)))
+length_more limit side p bytes more true e go = (
+  [],
+  step_excessive limit side (with_unread p (bytes ++ more)) (excessive_behind limit bytes more e)
+      ∙ sym (ap (then_peer limit side more []) (step_excessive limit side (with_unread p bytes) e)),
+)
 length_more limit side p bytes more false e go = front_more limit side p bytes more (frame_at (known bytes)) refl e go
 
 more_within : (n limit : ℕ) (side : Side) (p : Peer) (bytes more : List ℕ) → length bytes ≤ n

@@ -265,6 +265,10 @@ arrival_keeps e (BytesCame id bytes) = bytes_keep e id bytes (kind_of e.side id)
 arrival_keeps e (EndCame id) = end_keeps e id (kind_of e.side id)
 arrival_keeps e (ResetCame id code) = resets_keep e id code (kind_of e.side id)
 
+-- what was announced stays
+pub arrival_announced : (e : EndpointHistory) (a : Arrival) → (read_arrival e a).0.announced ≡ e.announced
+arrival_announced e a = (arrival_keeps e a).announced
+
 -- **What comes, with nothing kept.**
 pub arrives_keep : (e : EndpointHistory) (a : Arrival) → e.kept ≡ [] → KeepsBut (lost_by a) e (arrives e a).1
 arrives_keep e a nothing =

@@ -38,7 +38,7 @@ use Rattle.h3_strict.proofs.PullEvents.{not_judged}
 use Rattle.h3_strict.proofs.PullTally.{pull_tally}
 use Rattle.h3_strict.proofs.QuietEvents.{cancel_event, deliver_event, end_event, goaway_event, lost_event, open_event, reset_event}
 use Rattle.h3_strict.proofs.SameWorlds.{answers_more, ends_more, run_last, run_same}
-use Rattle.h3_strict.specs.PlainEnds.{Alike, Judges, NoneJudges, RefusesMalformed, StepsPlainly, is_malformed_refusal, judges, plain_ends, plain_setup}
+use Rattle.h3_strict.specs.PlainEnds.{Alike, Judges, NoneJudges, RefusesMalformed, StepsPlainly, is_malformed_refusal, judges, plain_ends, plain_setup, refused_by, was_too_long}
 use Rattle.h3_headline.specs.Messages.{is_done}
 use Rattle.h3_strict.specs.ServerKnows.{AnswersKnowing, ServerKnows, ServerKnowsFrom, hands_head, is_server, knows_behind, tells_head}
 use Rattle.h3_strict.specs.Tallies.{Tallies, TalliesFlow, JudgesStrictly, awaited_of, has_head}
@@ -73,6 +73,10 @@ module _ (laws : Laws) (setup : Setup) (made : IsMadeSetup (plain_setup setup)) 
       (pull_tally laws setup made w ends known h t strict s i v step.step step.no_connection_fault g)
   event_tally (event.Show s) w v ends known h g step knows t = subst (λ u. Tallies setup u ends known) (sym step.step.1) t
 
+  -- what comes is never too long
+  none_too_long : {s : Side} (ends : Ends) → (end_at ends s).announced ≡ announced_at setup s → TakesAnyLength (announced_at setup s) → (a : Answer) → was_too_long ends s a ≡ false
+  none_too_long ends same any a = and_right (is_excess (refused_by a)) _ (subst TakesAnyLength (sym same) any)
+
   none_here : (e : Event) (w : World) (ends : Ends) (known : ℕ → Bool) → Stands (plain_setup setup) w (plain_ends ends) → Tallies setup w ends known → judges ends e ≡ false
   none_here (event.Pull s i) w ends known h t = not_judged laws setup made w ends known h t strict s i
   none_here (event.OpenRequest s) w ends known h t = refl
@@ -83,9 +87,9 @@ module _ (laws : Laws) (setup : Setup) (made : IsMadeSetup (plain_setup setup)) 
   none_here (event.Reset s i) w ends known h t = refl
   none_here (event.Cancel s i) w ends known h t = refl
   none_here (event.Goaway s i) w ends known h t = refl
-  none_here (event.Deliver s i count) w ends known h t = refl
-  none_here (event.DeliverEnd s i) w ends known h t = refl
-  none_here (event.DeliverReset s i) w ends known h t = refl
+  none_here (event.Deliver s i count) w ends known h t = none_too_long ends (t.announced (other s)) (strict (other s)).1 (delivery ends s i count).0
+  none_here (event.DeliverEnd s i) w ends known h t = none_too_long ends (t.announced (other s)) (strict (other s)).1 (end_delivery ends s i).0
+  none_here (event.DeliverReset s i) w ends known h t = none_too_long ends (t.announced (other s)) (strict (other s)).1 (reset_delivery ends s i).0
   none_here (event.Show s) w ends known h t = refl
 
   -- A send that was refused as malformed tells nothing of what is known.

@@ -239,12 +239,7 @@ impl PeerControl {
     /// Reads the next frame, unless it says a length above `most`: then what came is let go. Where memory is refused only unknown frames are
     /// passed.
     #[tactic(auto, using(crate::specs::PeerLaws::peer_waits, crate::proofs::ControlFronts::no_front, crate::proofs::ControlFronts::unknown_passed))]
-    fn read_one(
-        &mut self,
-        alloc: Global,
-        side: Side,
-        most: u64,
-    ) -> Result<Progress, AllocError>
+    fn read_one(&mut self, alloc: Global, side: Side, most: u64) -> Result<Progress, AllocError>
         ensures ok { IfOk result (λ progress. ReadsOne most side self.old self.new progress) }
         ensures refused { OnErr result (ReadsFront most side self.old self.new) }
     {
@@ -279,12 +274,7 @@ impl PeerControl {
     /// payload came or not (RFC 9114, section 10.5). Where memory is refused the frames that were read stand, and the others stay unread:
     /// the next reading goes on with them, and answers what this one would have.
     #[tactic(auto, using(crate::proofs::ControlFronts::no_front, crate::proofs::ControlFronts::then_front, crate::proofs::ControlFronts::behind_front, crate::proofs::ControlFronts::stops_later))]
-    pub fn read(
-        &mut self,
-        alloc: Global,
-        side: Side,
-        most: u64,
-    ) -> Result<Option<Code>, AllocError>
+    pub fn read(&mut self, alloc: Global, side: Side, most: u64) -> Result<Option<Code>, AllocError>
         ensures ok { IfOk result (λ fault. read_peer most side self.old ≡ (self.new, fault)) }
         ensures refused { OnErr result (StopsReading most side self.old self.new) }
     {

@@ -135,10 +135,7 @@ impl Endpoint {
         ensures kept { self.new.kept ≡ self.old.kept }
     {
         let most = self.announced.choices.unfinished_limit;
-        let left = match self
-            .streams
-            .bytes(self.alloc, self.side, most, id, bytes)
-        {
+        let left = match self.streams.bytes(self.alloc, self.side, most, id, bytes) {
             Ok(fault) => return Ok(fault),
             Err(left) => left,
         };
