@@ -2,6 +2,7 @@
 use Rattle.std.proofs.Common.{◌≡◌, inl, ℕ, Bool, true, false, List, [], ◌∷◌, ◌++◌, refl, sym, ap, ◌∙◌, subst, arith, if◌then◌else◌}
 use Rattle.std.specs.Prelude.{◌==◌, ◌&&◌}
 use Rattle.std.specs.List.{AllByRecursion}
+use Rattle.std.proofs.lemmas.Bool.{and_right}
 use Rattle.h3_messages.specs.declared.content.Content.{Content}
 use Rattle.h3_messages.specs.declared.content.Content.TheVariants.{Unsaid}
 use Rattle.h3_proto.specs.declared.stream.Side.{Side}
@@ -15,13 +16,13 @@ use Rattle.h3_connection.specs.Pulling.{is_client}
 use Rattle.h3_connection.specs.Sending.{outgoing_at}
 use Rattle.h3_connection.specs.declared.setup.Announced.{Announced}
 use Rattle.h3_proto.specs.StreamIds.{is_request_stream}
-use Rattle.h3_world.specs.Ends.{Ends, answered, answers_of_ends, end_at, ends_after, new_ends}
+use Rattle.h3_world.specs.Ends.{Ends, answered, answers_of_ends, delivery, end_at, end_delivery, ends_after, new_ends, reset_delivery}
 use Rattle.h3_world.specs.Flow.{Flow, unused}
 use Rattle.h3_world.specs.Headline.{Happens}
 use Rattle.h3_world.specs.Refusals.{next_id}
 use Rattle.h3_world.specs.Run.{Run}
 use Rattle.h3_world.specs.Sendable.{IsSendable}
-use Rattle.h3_world.specs.Setup.{IsMadeSetup, announced_at}
+use Rattle.h3_world.specs.Setup.{IsMadeSetup, TakesAnyLength, announced_at}
 use Rattle.h3_world.specs.Streams.{flow}
 use Rattle.h3_world.specs.World.{World, empty_world, no_exchange}
 use Rattle.h3_world.specs.declared.event.Answer.{Answer}
@@ -40,6 +41,7 @@ use Rattle.h3_strict.proofs.QuietEvents.{cancel_event, deliver_event, end_event,
 use Rattle.h3_strict.proofs.SameWorlds.{answers_more, ends_more, run_last, run_same}
 use Rattle.h3_strict.specs.PlainEnds.{Alike, Judges, NoneJudges, RefusesMalformed, StepsPlainly, is_malformed_refusal, judges, plain_ends, plain_setup, refused_by, was_too_long}
 use Rattle.h3_headline.specs.Messages.{is_done}
+use Rattle.h3_strict.specs.Plainly.{is_excess}
 use Rattle.h3_strict.specs.ServerKnows.{AnswersKnowing, ServerKnows, ServerKnowsFrom, hands_head, is_server, knows_behind, tells_head}
 use Rattle.h3_strict.specs.Tallies.{Tallies, TalliesFlow, JudgesStrictly, awaited_of, has_head}
 
