@@ -21,13 +21,13 @@ pub fn new_ends_are_plain()
 {}
 
 /// Each event at two ends, beside the same ends without strict messages: a send is refused as malformed, and nothing has changed; or it is a
-/// pull that finds a message malformed, or a trailer in a tunnel; or it is answered alike, and the ends after it are the same without strict
-/// messages.
+/// pull that finds a message malformed, a trailer in a tunnel or a frame too long, or a delivery that is too long for a reader with a limit; or
+/// it is answered alike, and the ends after it are the same without strict messages.
 pub fn each_event_steps_plainly()
     ensures { (ends : Ends) (e : Event) → StepsPlainly ends e }
 {}
 
-/// A schedule in which no pull finds a message malformed is answered, without the sends that were refused as malformed, as by the ends without
+/// A schedule in which no event judges so is answered, without the sends that were refused as malformed, as by the ends without
 /// strict messages over the other events (`all`). By its answers alone: so is each in which no pull was answered by a malformed message or a
 /// fault of the connection (`faultless`). So is every schedule up to the first pull that finds a message malformed (`front`): these events are
 /// a front of it, and their answers one of its answers.
