@@ -1,4 +1,4 @@
--- New ends in a schedule in which no pull judges a message: no pull finds a fault.
+-- New ends in a schedule in which no event judges: no answer tells of a fault.
 use Rattle.std.proofs.Common.{◌≡◌, ℕ, Bool, true, false, if◌then◌else◌, List, [], ◌∷◌, ◌++◌, refl, ap, sym, ◌∙◌, subst, Option, Some, None}
 use Rattle.std.specs.Prelude.{◌||◌, ◌&&◌, ◌==◌, nat_lt, not, take}
 use Rattle.std.specs.List.{AllByRecursion, list_any}
