@@ -7,7 +7,9 @@ use Rattle.h3_messages.specs.declared.content.Content.{Content}
 use Rattle.h3_messages.specs.declared.content.Content.TheVariants.{Unsaid}
 use Rattle.h3_proto.specs.declared.stream.Side.{Side}
 use Rattle.h3_proto.specs.declared.stream.Side.TheVariants.{Client, Server}
+use Rattle.h3_proto.specs.Config.{is_limit}
 use Rattle.h3_connection.specs.Delivering.{incoming_at}
+use Rattle.h3_connection.specs.Endpoint.{limit_of}
 use Rattle.h3_connection.specs.Incoming.{nothing_came}
 use Rattle.h3_connection.specs.Keeping.{pulls}
 use Rattle.h3_connection.specs.Outgoing.{nothing_sent}
@@ -76,8 +78,8 @@ module _ (laws : Laws) (setup : Setup) (made : IsMadeSetup (plain_setup setup)) 
   event_tally (event.Show s) w v ends known h g step knows t = subst (λ u. Tallies setup u ends known) (sym step.step.1) t
 
   -- what comes is never too long
-  none_too_long : {s : Side} (ends : Ends) → (end_at ends s).announced ≡ announced_at setup s → TakesAnyLength (announced_at setup s) → (a : Answer) → was_too_long ends s a ≡ false
-  none_too_long ends same any a = and_right (is_excess (refused_by a)) _ (subst TakesAnyLength (sym same) any)
+  none_too_long : (s : Side) (ends : Ends) → (end_at ends s).announced ≡ announced_at setup s → TakesAnyLength (announced_at setup s) → (a : Answer) → was_too_long ends s a ≡ false
+  none_too_long s ends same any a = and_right (is_excess (refused_by a)) (is_limit (limit_of (end_at ends s))) (subst TakesAnyLength (sym same) any)
 
   none_here : (e : Event) (w : World) (ends : Ends) (known : ℕ → Bool) → Stands (plain_setup setup) w (plain_ends ends) → Tallies setup w ends known → judges ends e ≡ false
   none_here (event.Pull s i) w ends known h t = not_judged laws setup made w ends known h t strict s i
@@ -89,9 +91,9 @@ module _ (laws : Laws) (setup : Setup) (made : IsMadeSetup (plain_setup setup)) 
   none_here (event.Reset s i) w ends known h t = refl
   none_here (event.Cancel s i) w ends known h t = refl
   none_here (event.Goaway s i) w ends known h t = refl
-  none_here (event.Deliver s i count) w ends known h t = none_too_long ends (t.announced (other s)) (strict (other s)).1 (delivery ends s i count).0
-  none_here (event.DeliverEnd s i) w ends known h t = none_too_long ends (t.announced (other s)) (strict (other s)).1 (end_delivery ends s i).0
-  none_here (event.DeliverReset s i) w ends known h t = none_too_long ends (t.announced (other s)) (strict (other s)).1 (reset_delivery ends s i).0
+  none_here (event.Deliver s i count) w ends known h t = none_too_long (other s) ends (t.announced (other s)) (strict (other s)).1 (delivery ends s i count).0
+  none_here (event.DeliverEnd s i) w ends known h t = none_too_long (other s) ends (t.announced (other s)) (strict (other s)).1 (end_delivery ends s i).0
+  none_here (event.DeliverReset s i) w ends known h t = none_too_long (other s) ends (t.announced (other s)) (strict (other s)).1 (reset_delivery ends s i).0
   none_here (event.Show s) w ends known h t = refl
 
   -- A send that was refused as malformed tells nothing of what is known.

@@ -14,7 +14,7 @@ use Rattle.h3_connection.specs.Arrivals.{stream_of, is_closed_in}
 use Rattle.h3_connection.specs.declared.arrival.Arrival.{Arrival}
 use Rattle.h3_connection.specs.declared.arrival.Arrival.TheVariants.{BytesCame, EndCame, ResetCame}
 use Rattle.h3_connection.specs.Codes.{excessive_load}
-use Rattle.h3_connection.specs.Control.{Found, listened_to, read_decoder, with_table, if_learned, then_decoder, after_peer, read_control}
+use Rattle.h3_connection.specs.Control.{Found, listened_to, read_encoder, read_decoder, with_table, if_learned, then_decoder, after_peer, read_control}
 use Rattle.h3_connection.specs.Delivering.{request_refusal, refusal_at, delivery_refusal, opened_at, opened, incoming_at, with_incoming, unidirectional_at, with_unidirectional, unless_second, heard_as, read_unidirectional, kept, with_end, bytes_at, end_at, give_up, reset_at, taken}
 use Rattle.h3_connection.specs.Endpoint.{EndpointHistory, limit_of, Kind, is_second, kind_of}
 use Rattle.h3_connection.specs.Endpoint.Kind.{Request, ServerOpened, OwnUnidirectional, PeerUnidirectional}
@@ -119,7 +119,9 @@ heard_plain e id (Untold front) bytes = ReadsAlike refl
 heard_plain e id Control bytes =
     let g : EndpointHistory = record e { control_on = Some id } in
     second_plain (limit_of e) (is_second e.control_on id) e (read_control g bytes) (read_control (plainly g) bytes) (control_plain g bytes)
-heard_plain e id Encoder bytes = second_plain (limit_of e) (is_second e.encoder_on id) e _ _ (ReadsAlike refl)
+heard_plain e id Encoder bytes =
+    let g : EndpointHistory = record e { encoder_on = Some id } in
+    second_plain (limit_of e) (is_second e.encoder_on id) e (read_encoder g bytes) (read_encoder (plainly g) bytes) (ReadsAlike refl)
 heard_plain e id Decoder bytes =
     let g : EndpointHistory = record e { decoder_on = Some id } in
     second_plain (limit_of e) (is_second e.decoder_on id) e (read_decoder g bytes) (read_decoder (plainly g) bytes) (ReadsAlike (decoder_plain (is_some e.peer.settings) g bytes))

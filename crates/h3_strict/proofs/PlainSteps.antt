@@ -151,6 +151,25 @@ by_test ends reader b c x v y w same h k = subst (λ d. Delivers ends reader (if
 
 -- deliveries, from one end to the other
 module _ (ends : Ends) (id : ℕ) where
+  offered : (writer : Side) (count : ℕ) (x y : Option Refusal × EndpointHistory) → CallsPlainly (end_at ends (other writer)) x y
+      → Beside ends (was_offered ends writer id count x) (was_offered (plain_ends ends) writer id count y)
+  offered writer count x y (Malforms told same) = refuses x told same
+    where
+      refuses : (x : Option Refusal × EndpointHistory) → tells x.0 ≡ true → x.1 ≡ end_at ends (other writer) → Beside ends (was_offered ends writer id count x) (was_offered (plain_ends ends) writer id count y)
+      refuses (None, e) told same = absurd (cc)
+      refuses (Some r, e) told same = Refuses told (ap (with_end ends (other writer)) same ∙ same_end ends (other writer))
+  offered writer count x y (Does told same) = subst (λ z. Beside ends (was_offered ends writer id count x) (was_offered (plain_ends ends) writer id count z)) (sym same) (goes x told)
+    where
+      goes : (x : Option Refusal × EndpointHistory) → tells x.0 ≡ false → Beside ends (was_offered ends writer id count x) (was_offered (plain_ends ends) writer id count (x.0, plainly x.1))
+      goes (Some r, e) told = Goes told (ap (λ v. let z : Answer × Ends = (answer.Refused r, v) in z) (sets_end ends (other writer) e))
+      goes (None, e) told =
+          let new : EndpointHistory = sender.advance (end_at ends writer) id count in
+          Goes refl (ap (λ v. let z : Answer × Ends = (answer.Delivered count, v) in z) (
+          ap (λ f. with_end (with_end (plain_ends ends) writer (sender.advance f id count)) (other writer) (plainly e)) (at_end ends writer)
+          ∙ ap (λ f. with_end (with_end (plain_ends ends) writer f) (other writer) (plainly e)) (advances_plainly (end_at ends writer) id count)
+          ∙ ap (λ v. with_end v (other writer) (plainly e)) (sets_end ends writer new)
+          ∙ sets_end (with_end ends writer new) (other writer) e))
+
   offered_long : (writer : Side) (count : ℕ) (x : Option Refusal × EndpointHistory) → x.0 ≡ Some (refusal.Connection excessive_load) → refused_by (was_offered ends writer id count x).0 ≡ Some excessive_load
   offered_long writer count (r, e) is = ap (λ o. refused_by (was_offered ends writer id count (let x : Option Refusal × EndpointHistory = (o, e) in x)).0) is
 
@@ -175,25 +194,6 @@ module _ (ends : Ends) (id : ℕ) where
 
   as_is : (reader : Side) (a : Answer) → is_malformed_refusal a ≡ false → Delivers ends reader (a, ends) (a, plain_ends ends)
   as_is reader a told = IsBeside (Goes told refl)
-
-  offered : (writer : Side) (count : ℕ) (x y : Option Refusal × EndpointHistory) → CallsPlainly (end_at ends (other writer)) x y
-      → Beside ends (was_offered ends writer id count x) (was_offered (plain_ends ends) writer id count y)
-  offered writer count x y (Malforms told same) = refuses x told same
-    where
-      refuses : (x : Option Refusal × EndpointHistory) → tells x.0 ≡ true → x.1 ≡ end_at ends (other writer) → Beside ends (was_offered ends writer id count x) (was_offered (plain_ends ends) writer id count y)
-      refuses (None, e) told same = absurd (cc)
-      refuses (Some r, e) told same = Refuses told (ap (with_end ends (other writer)) same ∙ same_end ends (other writer))
-  offered writer count x y (Does told same) = subst (λ z. Beside ends (was_offered ends writer id count x) (was_offered (plain_ends ends) writer id count z)) (sym same) (goes x told)
-    where
-      goes : (x : Option Refusal × EndpointHistory) → tells x.0 ≡ false → Beside ends (was_offered ends writer id count x) (was_offered (plain_ends ends) writer id count (x.0, plainly x.1))
-      goes (Some r, e) told = Goes told (ap (λ v. let z : Answer × Ends = (answer.Refused r, v) in z) (sets_end ends (other writer) e))
-      goes (None, e) told =
-          let new : EndpointHistory = sender.advance (end_at ends writer) id count in
-          Goes refl (ap (λ v. let z : Answer × Ends = (answer.Delivered count, v) in z) (
-          ap (λ f. with_end (with_end (plain_ends ends) writer (sender.advance f id count)) (other writer) (plainly e)) (at_end ends writer)
-          ∙ ap (λ f. with_end (with_end (plain_ends ends) writer f) (other writer) (plainly e)) (advances_plainly (end_at ends writer) id count)
-          ∙ ap (λ v. with_end v (other writer) (plainly e)) (sets_end ends writer new)
-          ∙ sets_end (with_end ends writer new) (other writer) e))
 
   -- the tests of the writer
   tests : (writer : Side) (b c : EndpointHistory → Bool) (short : EndpointHistory → Answer) (x y : Answer × Ends)
@@ -256,8 +256,8 @@ every_step ends (event.Finish side id) = steps ends _ (calls ends side (λ e. an
 every_step ends (event.Reset side id) = steps ends _ (calls ends side (λ e. answer.Done) (λ e. sender.reset e id) refl refl (λ e. resets_plainly e id))
 every_step ends (event.Cancel side id) = steps ends _ (calls ends side (λ e. answer.Done) (λ e. sender.cancel e id) refl refl (λ e. cancels_plainly e id))
 every_step ends (event.Goaway side id) = steps ends _ (calls ends side (λ e. answer.Done) (λ e. sender.goaway e id) refl refl (λ e. goaways_plainly e id))
-every_step ends (event.Deliver side id count) = delivers_steps ends (other side) _ refl (delivers ends id side count)
-every_step ends (event.DeliverEnd side id) = delivers_steps ends (other side) _ refl (delivers_end ends id side)
-every_step ends (event.DeliverReset side id) = delivers_steps ends (other side) _ refl (delivers_reset ends id side)
+every_step ends (event.Deliver side id count) = delivers_steps ends (other side) (event.Deliver side id count) refl (delivers ends id side count)
+every_step ends (event.DeliverEnd side id) = delivers_steps ends (other side) (event.DeliverEnd side id) refl (delivers_end ends id side)
+every_step ends (event.DeliverReset side id) = delivers_steps ends (other side) (event.DeliverReset side id) refl (delivers_reset ends id side)
 every_step ends (event.Pull side id) = pull_steps ends side id
 every_step ends (event.Show side) = steps ends _ (shows ends side)
