@@ -92,7 +92,8 @@
  *
  * HOW A CALLER GRANTS CREDIT (RFC 9000, section 4.1)
  *
- * What was delivered is kept until it is pulled or read, an unfinished frame or instruction whole, whatever length it says: QUIC's windows bound it.
+ * What was delivered is kept until it is pulled or read, an unfinished frame whole, up to unfinished_limit, and an unfinished instruction, whatever
+ * length it says: QUIC's windows bound it.
  * Of a frame of an unknown type (RFC 9114, section 9) nothing is kept while it comes.
  * For each stream of the peer's add up `owed`, the bytes that were delivered and for which no credit was granted. Behind each delivery and its pulls:
  *   h3_stream_state s; h3_stream(&e, id, &s); if (owed > s.unread) { grant(id, owed - s.unread); owed = s.unread; }
@@ -274,8 +275,9 @@ typedef struct {
                                        * the table stays empty there */
   uint64_t unfinished_limit;          /* the greatest length, in bytes, that a frame may say which is kept until it is whole: any known one but DATA.
                                        * One that says more closes the connection with code 0x107 (H3_EXCESSIVE_LOAD), as soon as its type and
-                                       * length came. A field section as it is written is such a frame: let it be no less than
-                                       * max_field_section_size. 2^62 - 1 and more: there is no limit */
+                                       * length came: on a request stream a pull tells, on the control stream the delivery. A field section as
+                                       * it is written is such a frame: let it be no less than max_field_section_size. 2^62 - 1 and more: there
+                                       * is no limit */
 } h3_config;
 
 /* A client whose limits are fit for a peer that is not trusted: it takes field sections of at most 65,536 bytes, and has a dynamic table of 4,096

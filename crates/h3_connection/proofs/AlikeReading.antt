@@ -10,7 +10,7 @@ use Rattle.h3_connection.specs.CallCuts.{joined_increments, SessionsDifferInCuts
 use Rattle.h3_connection.specs.Codes.{closed_critical_stream}
 use Rattle.h3_connection.specs.Control.{Found, increment, read_encoder, read_decoder, with_table, if_learned, then_decoder, after_peer, read_control}
 use Rattle.h3_connection.specs.Delivering.{request_refusal, closed_refusal, refusal_at, opened_at, opened, incoming_at, unidirectional_at, with_incoming, with_unidirectional, unless_second, heard_as, read_unidirectional, kept, with_end, bytes_at, closing, end_at, given_up_by, given_up_once, cancellation, give_up, reset_at}
-use Rattle.h3_connection.specs.Endpoint.{EndpointHistory, Kind, replied, is_second}
+use Rattle.h3_connection.specs.Endpoint.{EndpointHistory, limit_of, Kind, replied, is_second}
 use Rattle.h3_connection.specs.Endpoint.Kind.{Request, ServerOpened, OwnUnidirectional, PeerUnidirectional}
 use Rattle.h3_connection.specs.Incoming.{Incoming, nothing_came}
 use Rattle.h3_connection.specs.Listeners.{heard_more, insertions_heard}
@@ -66,7 +66,7 @@ after_with e (p, fault) s t r =
 
 pub control_with : (e : EndpointHistory) (bytes : List ℕ) (s : Streams Incoming) (t : Streams Unidirectional) (r : List DecoderInstruction)
     → read_control (with_streams e s t r) bytes ≡ (with_streams (read_control e bytes).0 s t r, (read_control e bytes).1)
-control_with e bytes s t r = after_with e (read_peer e.side (with_unread e.peer (e.peer.unread ++ bytes))) s t r
+control_with e bytes s t r = after_with e (read_peer (limit_of e) e.side (with_unread e.peer (e.peer.unread ++ bytes))) s t r
 
 -- what reads without a look at streams
 found_alike : (e : EndpointHistory) (x y : Found) (s : Streams Incoming) (t : Streams Unidirectional) (r : List DecoderInstruction) → Beside e s t r

@@ -1,8 +1,14 @@
 -- The reading of a control stream, cut anywhere, and the settings that stay.
-use Rattle.std.proofs.Common.{◌≡◌, ℕ, zero, suc, ◌<◌, ◌≤◌, Bool, true, false, if◌then◌else◌, List, ◌++◌, length, Option, Some, None, refl, ap, sym, ◌∙◌, subst, arith}
-use Rattle.std.specs.Prelude.{◌||◌}
+use Rattle.std.proofs.Common.{◌≡◌, ℕ, zero, suc, ◌<◌, ◌≤◌, Bool, true, false, if◌then◌else◌, List, [], ◌++◌, length, Option, Some, None, refl, ap, sym, ◌∙◌, subst, arith, inl, inr}
+use Rattle.std.specs.Prelude.{◌||◌, ◌&&◌, ◌⊎◌, nat_lt}
+use Rattle.std.proofs.lemmas.Bool.{and_parts, and_right}
+use Rattle.h3_coding.specs.Varint.{varint_at}
+use Rattle.h3_coding.specs.VarintLaws.{cases_number, reads_more}
+use Rattle.h3_proto.specs.Config.{is_limit}
 use Rattle.h3_proto.specs.declared.stream.Side.{Side}
 use Rattle.h3_proto.specs.declared.stream.Side.TheVariants.{Client, Server}
+use Rattle.h3_wire.specs.ExcessiveFrames.{is_excessive, is_kept_whole, is_too_long, says_too_much}
+use Rattle.h3_wire.specs.ExcessiveLaws.{excessive_more, kept_says}
 use Rattle.h3_wire.specs.Frames.{Front, Whole, Unknown, Refused, Unfinished, frame_at}
 use Rattle.h3_wire.specs.FrameLaws.{frame_at-more}
 use Rattle.h3_wire.specs.Fronts.{IsFinished, with_more, IsKnown}
@@ -11,23 +17,24 @@ use Rattle.h3_wire.specs.KnownLaws.{known-other, known-more, known_is}
 use Rattle.h3_wire.specs.declared.proto.frame.PayloadLen.{PayloadLen}
 use Rattle.h3_wire.specs.declared.proto.frame.Frame.{Frame}
 use Rattle.h3_wire.specs.declared.proto.frame.Frame.TheVariants as frame
-use Rattle.h3_connection.specs.PeerReading.{Peer, PeerFound, with_unread, is_no_goaway, is_above, is_below, read_max_push, read_frame, unless_fault, at_front, read_within, read_peer}
+use Rattle.h3_connection.specs.PeerReading.{Peer, PeerFound, with_unread, is_no_goaway, is_above, is_below, read_max_push, read_frame, unless_fault, at_front, unless_excessive, read_within, read_peer}
 use Rattle.h3_connection.specs.Lasts.{last_id}
 use Rattle.h3_connection.specs.SkippingLaws.{rest_shorter, skipped_step}
-use Rattle.h3_connection.specs.PeerReadingLaws.{peer_step}
+use Rattle.h3_connection.specs.PeerReadingLaws.{peer_step, step_excessive, step_within}
 use Rattle.h3_connection.specs.Skipping.{skip_front, skipped}
 
 -- only what `known` leaves counts
-front_of : (side : Side) (p : Peer) (other bytes : List ℕ) (x : Front) → at_front (read_peer side) side p bytes x ≡ at_front (read_peer side) side (with_unread p other) bytes x
-front_of side p other bytes (Whole f rest) = refl
-front_of side p other bytes (Unknown kind rest) = refl
-front_of side p other bytes (Refused e) = refl
-front_of side p other bytes (Unfinished least) = refl
+front_of : (limit : ℕ) (side : Side) (p : Peer) (other bytes : List ℕ) (x : Front) → at_front (read_peer limit side) side p bytes x ≡ at_front (read_peer limit side) side (with_unread p other) bytes x
+front_of limit side p other bytes (Whole f rest) = refl
+front_of limit side p other bytes (Unknown kind rest) = refl
+front_of limit side p other bytes (Refused e) = refl
+front_of limit side p other bytes (Unfinished least) = refl
 
-pub peer_known : (side : Side) (p : Peer) (bytes : List ℕ) → known p.unread ≡ known bytes → read_peer side p ≡ read_peer side (with_unread p bytes)
-peer_known side p bytes e =
-    peer_step side p ∙ ap (λ l. at_front (read_peer side) side p l (frame_at l)) e ∙ front_of side p bytes (known bytes) (frame_at (known bytes))
-    ∙ sym (peer_step side (with_unread p bytes))
+pub peer_known : (limit : ℕ) (side : Side) (p : Peer) (bytes : List ℕ) → known p.unread ≡ known bytes → read_peer limit side p ≡ read_peer limit side (with_unread p bytes)
+peer_known limit side p bytes e =
+    peer_step limit side p ∙ ap (λ l. unless_excessive limit l p (at_front (read_peer limit side) side p l (frame_at l))) e
+    ∙ ap (unless_excessive limit (known bytes) p) (front_of limit side p bytes (known bytes) (frame_at (known bytes)))
+    ∙ sym (peer_step limit side (with_unread p bytes))
 
 -- a frame does the same whatever is unread
 abbrev with_rest : List ℕ → PeerFound → PeerFound
@@ -73,51 +80,98 @@ known_longer bytes more h =
     let there : frame_at (known bytes ++ more) ≡ with_more (frame_at (known bytes)) more = frame_at-more (known bytes) more h in
     known-more bytes more ∙ known-other (known bytes ++ more) (subst IsKnown (sym there) (more_known (frame_at (known bytes)) more (known_is bytes)))
 
--- what more bytes do behind a reading
-abbrev pub then_peer : Side → List ℕ → PeerFound → PeerFound
-then_peer side more (p, Some code) = (with_unread p (p.unread ++ more), Some code)
-then_peer side more (p, None) = read_peer side (with_unread p (p.unread ++ more))
+-- a frame that is too long is so whatever comes behind its head
+no_head : (limit : ℕ) (bytes : List ℕ) → says_too_much limit (varint_at bytes) ≡ false → is_excessive limit bytes ≡ true → ⊥
+no_head limit bytes none large = let wrong : false ≡ true = sym (and_right (is_limit limit) (says_too_much limit (varint_at bytes)) none) ∙ large in cc
 
-found_more : (side : Side) (more rest : List ℕ) (x : PeerFound) → ((q : Peer) → read_peer side (with_unread q (rest ++ more)) ≡ then_peer side more (read_peer side (with_unread q rest)))
-    → unless_fault (with_rest (rest ++ more) x) (read_peer side) ≡ then_peer side more (unless_fault (with_rest rest x) (read_peer side))
-found_more side more rest (q, Some code) h = refl
-found_more side more rest (q, None) h = h q
+said_more : (limit : ℕ) (bytes more : List ℕ) → is_excessive limit bytes ≡ true → is_excessive limit (known (bytes ++ more)) ≡ true
+said_more limit bytes more large = elim (cases_number bytes) [
+  | inl none ↦ absurd (no_head limit bytes (ap (says_too_much limit) none) large)
+  | inr (kind, mid, e) ↦ by_number kind mid e (cases_number mid)
+]
+  where
+    by_number : (kind : ℕ) (mid : List ℕ) → varint_at bytes ≡ Some (kind, mid) → (varint_at mid ≡ None) ⊎ ((v : ℕ) × (rest : List ℕ) × (varint_at mid ≡ Some (v, rest))) → is_excessive limit (known (bytes ++ more)) ≡ true
+    by_number kind mid e (inl none) = absurd (no_head limit bytes (ap (says_too_much limit) e ∙ ap (is_too_long limit kind) none) large)
+    by_number kind mid e (inr (number, behind, k)) =
+        let said : (is_kept_whole kind && nat_lt limit number) ≡ says_too_much limit (varint_at bytes) = sym (ap (says_too_much limit) e ∙ ap (is_too_long limit kind) k) in
+        let parts = and_parts (is_limit limit) (says_too_much limit (varint_at bytes)) large in
+        let both = and_parts (is_kept_whole kind) (nat_lt limit number) (said ∙ parts.1) in
+        kept_says limit kind number (bytes ++ more) (mid ++ more) (behind ++ more) parts.0 both.0 (reads_more kind bytes mid more e) (reads_more number mid behind more k) ∙ both.1
 
-waits_more : (side : Side) (p : Peer) (bytes more : List ℕ) (x : Front) → frame_at (known bytes) ≡ x → at_front (read_peer side) side (with_unread p bytes) (known bytes) x ≡ (with_unread p (known bytes), None)
-    → read_peer side (with_unread p (bytes ++ more)) ≡ then_peer side more (read_peer side (with_unread p bytes))
-waits_more side p bytes more x is waits =
-    peer_known side (with_unread p (bytes ++ more)) (known bytes ++ more) (known-more bytes more)
-    ∙ sym (ap (then_peer side more) (peer_step side (with_unread p bytes) ∙ ap (at_front (read_peer side) side (with_unread p bytes) (known bytes)) is ∙ waits))
+excessive_behind : (limit : ℕ) (bytes more : List ℕ) → is_excessive limit (known bytes) ≡ true → is_excessive limit (known (bytes ++ more)) ≡ true
+excessive_behind limit bytes more large = ap (is_excessive limit) (known-more bytes more) ∙ said_more limit (known bytes) more large
 
-front_more : (side : Side) (p : Peer) (bytes more : List ℕ) (x : Front) → frame_at (known bytes) ≡ x
-    → ((q : Peer) (rest : List ℕ) → length rest < length bytes → read_peer side (with_unread q (rest ++ more)) ≡ then_peer side more (read_peer side (with_unread q rest)))
-    → read_peer side (with_unread p (bytes ++ more)) ≡ then_peer side more (read_peer side (with_unread p bytes))
-front_more side p bytes more (Whole f rest) is go =
-    let whole : IsFinished (frame_at (known bytes)) = subst IsFinished (sym is) tt in
-    let there : frame_at (known (bytes ++ more)) ≡ Whole f (rest ++ more) =
-    ap frame_at (known_longer bytes more whole) ∙ frame_at-more (known bytes) more whole ∙ ap (λ y. with_more y more) is in
-    peer_step side (with_unread p (bytes ++ more)) ∙ ap (at_front (read_peer side) side (with_unread p (bytes ++ more)) (known (bytes ++ more))) there
-    ∙ ap (λ y. unless_fault y (read_peer side)) (frame_with side p (rest ++ more) p.settings f)
-    ∙ found_more side more rest (read_frame side p p.settings f) (λ q. go q rest (rest_shorter bytes rest f is))
-    ∙ sym (ap (then_peer side more) (peer_step side (with_unread p bytes) ∙ ap (at_front (read_peer side) side (with_unread p bytes) (known bytes)) is
-    ∙ ap (λ y. unless_fault y (read_peer side)) (frame_with side p rest p.settings f)))
-front_more side p bytes more (Refused e) is go =
-    let whole : IsFinished (frame_at (known bytes)) = subst IsFinished (sym is) tt in
-    let longer : known (bytes ++ more) ≡ known bytes ++ more = known_longer bytes more whole in
-    let there : frame_at (known bytes ++ more) ≡ Refused e = frame_at-more (known bytes) more whole ∙ ap (λ y. with_more y more) is in
-    peer_step side (with_unread p (bytes ++ more)) ∙ ap (λ l. at_front (read_peer side) side (with_unread p (bytes ++ more)) l (frame_at l)) longer
-    ∙ ap (at_front (read_peer side) side (with_unread p (bytes ++ more)) (known bytes ++ more)) there
-    ∙ sym (ap (then_peer side more) (peer_step side (with_unread p bytes) ∙ ap (at_front (read_peer side) side (with_unread p bytes) (known bytes)) is))
-front_more side p bytes more (Unknown kind rest) is go = waits_more side p bytes more (Unknown kind rest) is refl
-front_more side p bytes more (Unfinished least) is go = waits_more side p bytes more (Unfinished least) is refl
+-- What more bytes do behind a reading: a fault stays, and these are left then.
+abbrev pub then_peer : ℕ → Side → List ℕ → List ℕ → PeerFound → PeerFound
+then_peer limit side more left (p, Some code) = (with_unread p left, Some code)
+then_peer limit side more left (p, None) = read_peer limit side (with_unread p (p.unread ++ more))
 
-more_within : (n : ℕ) (side : Side) (p : Peer) (bytes more : List ℕ) → length bytes ≤ n → read_peer side (with_unread p (bytes ++ more)) ≡ then_peer side more (read_peer side (with_unread p bytes))
-more_within zero side p bytes more h = front_more side p bytes more (frame_at (known bytes)) refl (λ q rest less. absurd (omega (arith, less, h)))
-more_within (suc n) side p bytes more h = front_more side p bytes more (frame_at (known bytes)) refl (λ q rest less. more_within n side q rest more (omega (arith, less, h)))
+abbrev pub ReadsMore : ℕ → Side → List ℕ → PeerFound → PeerFound → Type 0
+ReadsMore limit side more all front = (left : List ℕ) × (all ≡ then_peer limit side more left front)
+
+found_more : (limit : ℕ) (side : Side) (more rest : List ℕ) (x : PeerFound)
+    → ((q : Peer) → ReadsMore limit side more (read_peer limit side (with_unread q (rest ++ more))) (read_peer limit side (with_unread q rest)))
+    → ReadsMore limit side more (unless_fault (with_rest (rest ++ more) x) (read_peer limit side)) (unless_fault (with_rest rest x) (read_peer limit side))
+found_more limit side more rest (q, Some code) h = (rest ++ more, refl)
+found_more limit side more rest (q, None) h = h q
+
+waits_more : (limit : ℕ) (side : Side) (p : Peer) (bytes more : List ℕ) → read_peer limit side (with_unread p bytes) ≡ (with_unread p (known bytes), None)
+    → ReadsMore limit side more (read_peer limit side (with_unread p (bytes ++ more))) (read_peer limit side (with_unread p bytes))
+waits_more limit side p bytes more waits =
+    ([], peer_known limit side (with_unread p (bytes ++ more)) (known bytes ++ more) (known-more bytes more) ∙ sym (ap (then_peer limit side more []) waits))
+
+-- behind a frame that is not too long
+front_more : (limit : ℕ) (side : Side) (p : Peer) (bytes more : List ℕ) (x : Front) → frame_at (known bytes) ≡ x → is_excessive limit (known bytes) ≡ false
+    → ((q : Peer) (rest : List ℕ) → length rest < length bytes → ReadsMore limit side more (read_peer limit side (with_unread q (rest ++ more))) (read_peer limit side (with_unread q rest)))
+    → ReadsMore limit side more (read_peer limit side (with_unread p (bytes ++ more))) (read_peer limit side (with_unread p bytes))
+front_more limit side p bytes more x is small go = by_front x is
+  where
+    here : (y : Front) → frame_at (known bytes) ≡ y → read_peer limit side (with_unread p bytes) ≡ at_front (read_peer limit side) side (with_unread p bytes) (known bytes) y
+    here y e = step_within limit side (with_unread p bytes) small ∙ ap (at_front (read_peer limit side) side (with_unread p bytes) (known bytes)) e
+
+    longer : IsFinished (frame_at (known bytes)) → known (bytes ++ more) ≡ known bytes ++ more
+    longer whole = known_longer bytes more whole
+
+    there : (y : Front) → frame_at (known bytes) ≡ y → IsFinished y
+        → read_peer limit side (with_unread p (bytes ++ more)) ≡ at_front (read_peer limit side) side (with_unread p (bytes ++ more)) (known bytes ++ more) (with_more y more)
+    there y e whole =
+        let finished : IsFinished (frame_at (known bytes)) = subst IsFinished (sym e) whole in
+        step_within limit side (with_unread p (bytes ++ more)) (ap (is_excessive limit) (longer finished) ∙ excessive_more limit (known bytes) more finished ∙ small)
+        ∙ ap (λ l. at_front (read_peer limit side) side (with_unread p (bytes ++ more)) l (frame_at l)) (longer finished)
+        ∙ ap (at_front (read_peer limit side) side (with_unread p (bytes ++ more)) (known bytes ++ more)) (frame_at-more (known bytes) more finished ∙ ap (λ z. with_more z more) e)
+
+    by_front : (y : Front) → frame_at (known bytes) ≡ y → ReadsMore limit side more (read_peer limit side (with_unread p (bytes ++ more))) (read_peer limit side (with_unread p bytes))
+    by_front (Whole f rest) e =
+        let found = found_more limit side more rest (read_frame side p p.settings f) (λ q. go q rest (rest_shorter bytes rest f e)) in (
+          found.0,
+          there (Whole f rest) e tt ∙ ap (λ z. unless_fault z (read_peer limit side)) (frame_with side p (rest ++ more) p.settings f)
+              ∙ found.1
+              ∙ sym (ap (then_peer limit side more found.0) (here (Whole f rest) e ∙ ap (λ z. unless_fault z (read_peer limit side)) (frame_with side p rest p.settings f))),
+        )
+    by_front (Refused why) e = (known bytes ++ more, there (Refused why) e tt ∙ sym (ap (then_peer limit side more (known bytes ++ more)) (here (Refused why) e)))
+    by_front (Unknown kind rest) e = waits_more limit side p bytes more (here (Unknown kind rest) e)
+    by_front (Unfinished least) e = waits_more limit side p bytes more (here (Unfinished least) e)
+
+-- one that is too long is so with more bytes behind it
+length_more : (limit : ℕ) (side : Side) (p : Peer) (bytes more : List ℕ) (large : Bool) → is_excessive limit (known bytes) ≡ large
+    → ((q : Peer) (rest : List ℕ) → length rest < length bytes → ReadsMore limit side more (read_peer limit side (with_unread q (rest ++ more))) (read_peer limit side (with_unread q rest)))
+    → ReadsMore limit side more (read_peer limit side (with_unread p (bytes ++ more))) (read_peer limit side (with_unread p bytes))
+length_more limit side p bytes more true e go = (
+  [],
+  step_excessive limit side (with_unread p (bytes ++ more)) (excessive_behind limit bytes more e)
+      ∙ sym (ap (then_peer limit side more []) (step_excessive limit side (with_unread p bytes) e)),
+)
+length_more limit side p bytes more false e go = front_more limit side p bytes more (frame_at (known bytes)) refl e go
+
+more_within : (n limit : ℕ) (side : Side) (p : Peer) (bytes more : List ℕ) → length bytes ≤ n
+    → ReadsMore limit side more (read_peer limit side (with_unread p (bytes ++ more))) (read_peer limit side (with_unread p bytes))
+more_within zero limit side p bytes more h = length_more limit side p bytes more (is_excessive limit (known bytes)) refl (λ q rest less. absurd (omega (arith, less, h)))
+more_within (suc n) limit side p bytes more h =
+    length_more limit side p bytes more (is_excessive limit (known bytes)) refl (λ q rest less. more_within n limit side q rest more (omega (arith, less, h)))
 
 -- However the bytes are cut, they read alike.
-pub peer_more : (side : Side) (p : Peer) (bytes more : List ℕ) → read_peer side (with_unread p (bytes ++ more)) ≡ then_peer side more (read_peer side (with_unread p bytes))
-peer_more side p bytes more = more_within (length bytes) side p bytes more (omega arith)
+pub peer_more : (limit : ℕ) (side : Side) (p : Peer) (bytes more : List ℕ) → ReadsMore limit side more (read_peer limit side (with_unread p (bytes ++ more))) (read_peer limit side (with_unread p bytes))
+peer_more limit side p bytes more = more_within (length bytes) limit side p bytes more (omega arith)
 
 -- settings that came stay
 settings_if : (b : Bool) (x y : PeerFound) (o : Option (List (ℕ × ℕ))) → x.0.settings ≡ o → y.0.settings ≡ o → (if b then x else y).0.settings ≡ o
@@ -152,13 +206,15 @@ stay_front side p pairs bytes (Unknown kind rest) go h later = h
 stay_front side p pairs bytes (Refused e) go h later = h
 stay_front side p pairs bytes (Unfinished least) go h later = h
 
-stay_within : (n : ℕ) (side : Side) (p : Peer) (pairs : List (ℕ × ℕ)) → p.settings ≡ Some pairs → (read_within n side p).0.settings ≡ Some pairs
-stay_within zero side p pairs h = h
-stay_within (suc n) side p pairs h = stay_front side p pairs (known p.unread) (frame_at (known p.unread)) (read_within n side) h (λ q is. stay_within n side q pairs is)
+stay_within : (n limit : ℕ) (side : Side) (p : Peer) (pairs : List (ℕ × ℕ)) → p.settings ≡ Some pairs → (read_within n limit side p).0.settings ≡ Some pairs
+stay_within zero limit side p pairs h = h
+stay_within (suc n) limit side p pairs h =
+    settings_if (is_excessive limit (known p.unread)) _ _ (Some pairs) h
+    (stay_front side p pairs (known p.unread) (frame_at (known p.unread)) (read_within n limit side) h (λ q is. stay_within n limit side q pairs is))
 
-pub settings_stay : (side : Side) (p : Peer) (pairs : List (ℕ × ℕ)) → p.settings ≡ Some pairs → (read_peer side p).0.settings ≡ Some pairs
+pub settings_stay : (limit : ℕ) (side : Side) (p : Peer) (pairs : List (ℕ × ℕ)) → p.settings ≡ Some pairs → (read_peer limit side p).0.settings ≡ Some pairs
 unfolding read_peer
-settings_stay side p pairs h = stay_within (length p.unread) side p pairs h
+settings_stay limit side p pairs h = stay_within (length p.unread) limit side p pairs h
 
 -- only what `known` leaves counts
 pub skipped_known : (in_body : Bool) (bytes other : List ℕ) → known bytes ≡ known other → skipped in_body bytes ≡ skipped in_body other

@@ -1,7 +1,7 @@
 -- The peer's control and decoder streams change nothing that request streams rest on.
 use Rattle.std.proofs.Common.{◌≡◌, ℕ, Bool, true, false, List, [], ◌++◌, refl, ◌∙◌}
 use Rattle.std.specs.Prelude.{Option, Some, None, if◌then◌else◌}
-use Rattle.h3_connection.specs.Endpoint.{EndpointHistory}
+use Rattle.h3_connection.specs.Endpoint.{EndpointHistory, limit_of}
 use Rattle.h3_connection.specs.PeerReading.{PeerFound, read_peer, with_unread}
 use Rattle.h3_connection.specs.Control.{Found, read_decoder, read_control, after_peer, then_decoder, if_learned, learned}
 
@@ -66,4 +66,4 @@ quiet_after e (p, fault) =
     (quiet_then f g _ (quiet_if_learned e.peer.settings p.settings f) (quiet_then_decoder e.peer.settings p.settings g fault))
 
 pub quiet_control : (e : EndpointHistory) (bytes : List ℕ) → Quiet e (read_control e bytes).0
-quiet_control e bytes = quiet_after e (read_peer e.side (with_unread e.peer (e.peer.unread ++ bytes)))
+quiet_control e bytes = quiet_after e (read_peer (limit_of e) e.side (with_unread e.peer (e.peer.unread ++ bytes)))

@@ -5,7 +5,8 @@ use Rattle.h3_qpack.specs.DecoderState.{DecoderState}
 use Rattle.h3_qpack.specs.EncoderHistory.{EncoderHistory}
 use Rattle.h3_qpack.specs.Hearing.{Heard, hear, heard_with, heard_then, Listened, listen, listened_with, listened_then}
 use Rattle.h3_connection.specs.Codes.{encoder_stream_error, decoder_stream_error}
-use Rattle.h3_connection.specs.Endpoint.{EndpointHistory, replied}
+use Rattle.h3_connection.specs.declared.setup.Announced.{Announced}
+use Rattle.h3_connection.specs.Endpoint.{EndpointHistory, limit_of, replied}
 use Rattle.h3_connection.specs.PeerReading.{Peer, PeerFound, with_unread, read_peer}
 use Rattle.h3_connection.proofs.PeerReadings.{then_peer, peer_more, settings_stay}
 use Rattle.h3_connection.specs.Listeners.{fault_if, heard_more, after_hearing, insertions_heard}
@@ -137,52 +138,61 @@ came_fault g f q p pairs None same is =
     alike_same _ _ (ap (λ e. read_decoder e []) (learned_with h p pairs) ∙ decoder_with (learned h pairs) p [] settings ∙ ap (λ x. (record x.0 { peer = p }, x.1)) is)
 
 -- the settings came in the first bytes
-came_first : (g f : EndpointHistory) (q : Peer) (pairs : List (ℕ × ℕ)) (b : List ℕ) → g.peer.settings ≡ None → q.settings ≡ Some pairs → f.side ≡ g.side → after_peer g (q, None) ≡ (f, None)
-    → Alike IsSame (after_peer g (read_peer g.side (with_unread q (q.unread ++ b)))) (read_control f b)
-came_first g f q pairs b none came side is =
+came_first : (g f : EndpointHistory) (q : Peer) (pairs : List (ℕ × ℕ)) (b : List ℕ) → g.peer.settings ≡ None → q.settings ≡ Some pairs → f.side ≡ g.side → limit_of f ≡ limit_of g → after_peer g (q, None) ≡ (f, None)
+    → Alike IsSame (after_peer g (read_peer (limit_of g) g.side (with_unread q (q.unread ++ b)))) (read_control f b)
+came_first g f q pairs b none came side limit is =
     let h : EndpointHistory = record g { peer = q } in
-    let y = read_peer g.side (with_unread q (q.unread ++ b)) in
+    let y = read_peer (limit_of g) g.side (with_unread q (q.unread ++ b)) in
     let read : read_decoder (learned h pairs) [] ≡ (f, None) =
     sym (ap (λ o. after_by o g (q, None)) none ∙ ap (λ o. then_decoder None o (if_learned None o h) None) came) ∙ is in
     let peer : f.peer ≡ q = ap (λ x. x.0.peer) (sym read) ∙ decoder_peer (learned h pairs) [] ∙ learned_peer h pairs in
-    let still : y.0.settings ≡ Some pairs = settings_stay g.side (with_unread q (q.unread ++ b)) pairs came in
+    let still : y.0.settings ≡ Some pairs = settings_stay (limit_of g) g.side (with_unread q (q.unread ++ b)) pairs came in
     let one : after_peer g y ≡ then_decoder None (Some pairs) (learned (record g { peer = y.0 }) pairs) y.1 =
     ap (λ o. after_by o g y) none ∙ ap (λ o. then_decoder None o (if_learned None o (record g { peer = y.0 })) y.1) still in
     let there : read_control f b ≡ after_peer f y =
-    ap (λ s. after_peer f (read_peer s (with_unread f.peer (f.peer.unread ++ b)))) side
-    ∙ ap (λ (p : Peer). after_peer f (read_peer g.side (with_unread p (p.unread ++ b)))) peer in
+    ap (λ s. after_peer f (read_peer (limit_of f) s (with_unread f.peer (f.peer.unread ++ b)))) side
+    ∙ ap (λ n. after_peer f (read_peer n g.side (with_unread f.peer (f.peer.unread ++ b)))) limit
+    ∙ ap (λ (p : Peer). after_peer f (read_peer (limit_of g) g.side (with_unread p (p.unread ++ b)))) peer in
     let two : read_control f b ≡ (record f { peer = y.0 }, y.1) = there ∙ after_same f y (still ∙ sym (ap (λ (p : Peer). p.settings) peer ∙ came)) in
     alike_as IsSame _ _ _ _ one two (came_fault g f q y.0 pairs y.1 (still ∙ sym came) read)
 
 -- they came before, or did not come
 came_else : (g f : EndpointHistory) (q : Peer) (b : List ℕ) → q.settings ≡ g.peer.settings → after_peer g (q, None) ≡ (f, None)
-    → Alike IsSame (after_peer g (read_peer g.side (with_unread q (q.unread ++ b)))) (read_control f b)
+    → Alike IsSame (after_peer g (read_peer (limit_of g) g.side (with_unread q (q.unread ++ b)))) (read_control f b)
 came_else g f q b same is =
-    let y = read_peer g.side (with_unread q (q.unread ++ b)) in
+    let y = read_peer (limit_of g) g.side (with_unread q (q.unread ++ b)) in
     let h : EndpointHistory = record g { peer = q } in
     let at : f ≡ h = ap (λ x. x.0) (sym is ∙ after_same g (q, None) same) in
     alike_same _ _ (ap (λ o. after_by o g y) (sym same) ∙ ap (λ e. read_control e b) (sym at))
 
-control_found : (g f : EndpointHistory) (b : List ℕ) (x : PeerFound) → f.side ≡ g.side → ((pairs : List (ℕ × ℕ)) → g.peer.settings ≡ Some pairs → x.0.settings ≡ Some pairs) → after_peer g x ≡ (f, None)
-    → Alike IsSame (after_peer g (then_peer g.side b x)) (read_control f b)
-control_found g f b (q, Some code) side keep is = let wrong : Some code ≡ None = ap (λ x. x.1) is in absurd (cc)
-control_found g f b (q, None) side keep is = by_settings g.peer.settings q.settings refl refl
+control_found : (g f : EndpointHistory) (b left : List ℕ) (x : PeerFound) → f.side ≡ g.side → limit_of f ≡ limit_of g
+    → ((pairs : List (ℕ × ℕ)) → g.peer.settings ≡ Some pairs → x.0.settings ≡ Some pairs) → after_peer g x ≡ (f, None)
+    → Alike IsSame (after_peer g (then_peer (limit_of g) g.side b left x)) (read_control f b)
+control_found g f b left (q, Some code) side limit keep is = let wrong : Some code ≡ None = ap (λ x. x.1) is in absurd (cc)
+control_found g f b left (q, None) side limit keep is = by_settings g.peer.settings q.settings refl refl
   where
-    by_settings : (o p : Option (List (ℕ × ℕ))) → g.peer.settings ≡ o → q.settings ≡ p → Alike IsSame (after_peer g (read_peer g.side (with_unread q (q.unread ++ b)))) (read_control f b)
+    by_settings : (o p : Option (List (ℕ × ℕ))) → g.peer.settings ≡ o → q.settings ≡ p → Alike IsSame (after_peer g (read_peer (limit_of g) g.side (with_unread q (q.unread ++ b)))) (read_control f b)
     by_settings (Some pairs) p before after = came_else g f q b (keep pairs before ∙ sym before) is
     by_settings None None before after = came_else g f q b (after ∙ sym before) is
-    by_settings None (Some pairs) before after = came_first g f q pairs b before after side is
+    by_settings None (Some pairs) before after = came_first g f q pairs b before after side limit is
+
+-- what is left at a fault
+left_behind : (g : EndpointHistory) (a b : List ℕ) → List ℕ
+left_behind g a b = (peer_more (limit_of g) g.side g.peer (g.peer.unread ++ a) b).0
 
 read_behind : (g : EndpointHistory) (a b : List ℕ)
-    → read_peer g.side (with_unread g.peer (g.peer.unread ++ (a ++ b))) ≡ then_peer g.side b (read_peer g.side (with_unread g.peer (g.peer.unread ++ a)))
-read_behind g a b = ap (λ l. read_peer g.side (with_unread g.peer l)) (sym (append_assoc g.peer.unread a b)) ∙ peer_more g.side g.peer (g.peer.unread ++ a) b
+    → read_peer (limit_of g) g.side (with_unread g.peer (g.peer.unread ++ (a ++ b)))
+    ≡ then_peer (limit_of g) g.side b (left_behind g a b) (read_peer (limit_of g) g.side (with_unread g.peer (g.peer.unread ++ a)))
+unfolding left_behind
+read_behind g a b =
+    ap (λ l. read_peer (limit_of g) g.side (with_unread g.peer l)) (sym (append_assoc g.peer.unread a b)) ∙ (peer_more (limit_of g) g.side g.peer (g.peer.unread ++ a) b).1
 
 pub control_cut : (g : EndpointHistory) (a b : List ℕ) → (read_control g a).1 ≡ None → Alike IsSame (read_control g (a ++ b)) (read_control (read_control g a).0 b)
 control_cut g a b none =
-    let x = read_peer g.side (with_unread g.peer (g.peer.unread ++ a)) in
+    let x = read_peer (limit_of g) g.side (with_unread g.peer (g.peer.unread ++ a)) in
     let found : read_control g a ≡ ((read_control g a).0, None) = ap (λ c. ((read_control g a).0, c)) none in
     subst (λ z. Alike IsSame (after_peer g z) (read_control (read_control g a).0 b)) (sym (read_behind g a b))
-    (control_found g (read_control g a).0 b x (quiet_control g a).side (λ pairs e. settings_stay g.side (with_unread g.peer (g.peer.unread ++ a)) pairs e) found)
+    (control_found g (read_control g a).0 b (left_behind g a b) x (quiet_control g a).side (ap (λ (own : Announced). own.choices.unfinished_limit) (quiet_control g a).announced) (λ pairs e. settings_stay (limit_of g) g.side (with_unread g.peer (g.peer.unread ++ a)) pairs e) found)
 
 -- the stream that is read as the control stream stays
 then_on : (before after : Option (List (ℕ × ℕ))) (e : EndpointHistory) (fault : Option ℕ) → (then_decoder before after e fault).0.control_on ≡ e.control_on
@@ -198,7 +208,7 @@ learned_on (Some pairs) after e = refl
 
 pub control_on_stays : (e : EndpointHistory) (bytes : List ℕ) → (read_control e bytes).0.control_on ≡ e.control_on
 control_on_stays e bytes =
-    let x = read_peer e.side (with_unread e.peer (e.peer.unread ++ bytes)) in
+    let x = read_peer (limit_of e) e.side (with_unread e.peer (e.peer.unread ++ bytes)) in
     then_on e.peer.settings x.0.settings (if_learned e.peer.settings x.0.settings (record e { peer = x.0 })) x.1 ∙ learned_on e.peer.settings x.0.settings (record e { peer = x.0 })
 
 pub decoder_on_stays : (e : EndpointHistory) (bytes : List ℕ) → (read_decoder e bytes).0.decoder_on ≡ e.decoder_on
@@ -237,10 +247,10 @@ reads_none : (came : Bool) (e : EndpointHistory) → e.decoder_unread ≡ [] →
 reads_none true e empty = ap (λ l. fault_if (listen e.encoder (l ++ [])).is_bad decoder_stream_error) empty ∙ ap (λ b. fault_if b decoder_stream_error) (listens_none e.encoder)
 reads_none false e empty = refl
 
-fault_found : (g : EndpointHistory) (b : List ℕ) (x : PeerFound) (code : ℕ) → (g.peer.settings ≡ None → g.decoder_unread ≡ []) → ((pairs : List (ℕ × ℕ)) → g.peer.settings ≡ Some pairs → x.0.settings ≡ Some pairs)
-    → (after_peer g x).1 ≡ Some code → (after_peer g (then_peer g.side b x)).1 ≡ Some code
-fault_found g b (q, Some found) code early keep is = is
-fault_found g b (q, None) code early keep is = absurd (by_settings g.peer.settings q.settings refl refl)
+fault_found : (g : EndpointHistory) (b left : List ℕ) (x : PeerFound) (code : ℕ) → (g.peer.settings ≡ None → g.decoder_unread ≡ []) → ((pairs : List (ℕ × ℕ)) → g.peer.settings ≡ Some pairs → x.0.settings ≡ Some pairs)
+    → (after_peer g x).1 ≡ Some code → (after_peer g (then_peer (limit_of g) g.side b left x)).1 ≡ Some code
+fault_found g b left (q, Some found) code early keep is = is
+fault_found g b left (q, None) code early keep is = absurd (by_settings g.peer.settings q.settings refl refl)
   where
     differ : {A : Type 0} (x : Option A) (y : A) → x ≡ None → x ≡ Some y → ⊥
     differ x y none some = let wrong : None ≡ Some y = sym none ∙ some in cc
@@ -256,18 +266,18 @@ fault_found g b (q, None) code early keep is = absurd (by_settings g.peer.settin
 
 pub control_fault : (g : EndpointHistory) (a b : List ℕ) (code : ℕ) → (g.peer.settings ≡ None → g.decoder_unread ≡ []) → (read_control g a).1 ≡ Some code → (read_control g (a ++ b)).1 ≡ Some code
 control_fault g a b code early is =
-    let x = read_peer g.side (with_unread g.peer (g.peer.unread ++ a)) in
+    let x = read_peer (limit_of g) g.side (with_unread g.peer (g.peer.unread ++ a)) in
     ap (λ z. (after_peer g z).1) (read_behind g a b)
-    ∙ fault_found g b x code early (λ pairs e. settings_stay g.side (with_unread g.peer (g.peer.unread ++ a)) pairs e) is
+    ∙ fault_found g b (left_behind g a b) x code early (λ pairs e. settings_stay (limit_of g) g.side (with_unread g.peer (g.peer.unread ++ a)) pairs e) is
 
 -- where bytes of the decoder stream wait for the settings too, it is a fault
-any_fault : (g : EndpointHistory) (b : List ℕ) (x : PeerFound) (code : ℕ) → ((pairs : List (ℕ × ℕ)) → g.peer.settings ≡ Some pairs → x.0.settings ≡ Some pairs)
-    → (after_peer g x).1 ≡ Some code → (other : ℕ) × ((after_peer g (then_peer g.side b x)).1 ≡ Some other)
-any_fault g b (q, Some found) code keep is = (code, is)
-any_fault g b (q, None) code keep is = by_settings g.peer.settings q.settings refl refl
+any_fault : (g : EndpointHistory) (b left : List ℕ) (x : PeerFound) (code : ℕ) → ((pairs : List (ℕ × ℕ)) → g.peer.settings ≡ Some pairs → x.0.settings ≡ Some pairs)
+    → (after_peer g x).1 ≡ Some code → (other : ℕ) × ((after_peer g (then_peer (limit_of g) g.side b left x)).1 ≡ Some other)
+any_fault g b left (q, Some found) code keep is = (code, is)
+any_fault g b left (q, None) code keep is = by_settings g.peer.settings q.settings refl refl
   where
     y : PeerFound
-    y = read_peer g.side (with_unread q (q.unread ++ b))
+    y = read_peer (limit_of g) g.side (with_unread q (q.unread ++ b))
 
     none_found : q.settings ≡ g.peer.settings → (other : ℕ) × ((after_peer g y).1 ≡ Some other)
     none_found same = let wrong : None ≡ Some code = sym (ap (λ x. x.1) (after_same g (q, None) same)) ∙ is in absurd (cc)
@@ -281,7 +291,7 @@ any_fault g b (q, None) code keep is = by_settings g.peer.settings q.settings re
         h = record g { peer = q }
 
         still : y.0.settings ≡ Some pairs
-        still = settings_stay g.side (with_unread q (q.unread ++ b)) pairs after
+        still = settings_stay (limit_of g) g.side (with_unread q (q.unread ++ b)) pairs after
 
         found : after_peer g y ≡ then_decoder None (Some pairs) (learned (record g { peer = y.0 }) pairs) y.1
         found = ap (λ o. after_by o g y) before ∙ ap (λ o. then_decoder None o (if_learned None o (record g { peer = y.0 })) y.1) still
@@ -302,7 +312,7 @@ any_fault g b (q, None) code keep is = by_settings g.peer.settings q.settings re
 
 pub control_faults : (g : EndpointHistory) (a b : List ℕ) (code : ℕ) → (read_control g a).1 ≡ Some code → (other : ℕ) × ((read_control g (a ++ b)).1 ≡ Some other)
 control_faults g a b code is =
-    let found = any_fault g b (read_peer g.side (with_unread g.peer (g.peer.unread ++ a))) code (λ pairs e. settings_stay g.side (with_unread g.peer (g.peer.unread ++ a)) pairs e) is in
+    let found = any_fault g b (left_behind g a b) (read_peer (limit_of g) g.side (with_unread g.peer (g.peer.unread ++ a))) code (λ pairs e. settings_stay (limit_of g) g.side (with_unread g.peer (g.peer.unread ++ a)) pairs e) is in
     (found.0, ap (λ z. (after_peer g z).1) (read_behind g a b) ∙ found.1)
 
 -- until the settings come, bytes of the control stream change nothing of the decoder stream
@@ -310,7 +320,7 @@ pub quiet_until : (g : EndpointHistory) (bytes : List ℕ) → (read_control g b
 quiet_until g bytes none = by_settings g.peer.settings x.0.settings refl refl
   where
     x : PeerFound
-    x = read_peer g.side (with_unread g.peer (g.peer.unread ++ bytes))
+    x = read_peer (limit_of g) g.side (with_unread g.peer (g.peer.unread ++ bytes))
 
     differ : {A : Type 0} (o : Option A) (y : A) → o ≡ None → o ≡ Some y → ⊥
     differ o y none some = let wrong : None ≡ Some y = sym none ∙ some in cc
@@ -322,7 +332,7 @@ quiet_until g bytes none = by_settings g.peer.settings x.0.settings refl refl
     by_settings : (o p : Option (List (ℕ × ℕ))) → g.peer.settings ≡ o → x.0.settings ≡ p → (g.peer.settings ≡ None) × ((read_control g bytes).0.decoder_unread ≡ g.decoder_unread)
     by_settings None None before after = (before, ap (λ z. z.0.decoder_unread) (after_same g x (after ∙ sym before)))
     by_settings (Some pairs) p before after =
-        let still : x.0.settings ≡ Some pairs = settings_stay g.side (with_unread g.peer (g.peer.unread ++ bytes)) pairs before in
+        let still : x.0.settings ≡ Some pairs = settings_stay (limit_of g) g.side (with_unread g.peer (g.peer.unread ++ bytes)) pairs before in
         absurd (differ (read_control g bytes).0.peer.settings pairs none (ap (λ z. z.0.peer.settings) (after_same g x (still ∙ sym before)) ∙ still))
     by_settings None (Some pairs) before after =
         let h : EndpointHistory = record g { peer = x.0 } in

@@ -7,7 +7,7 @@ use Rattle.h3_proto.specs.declared.stream.Side.{Side}
 use Rattle.h3_connection.specs.Incoming.{Incoming}
 use Rattle.h3_connection.specs.StreamSets.{stream_at, set_stream}
 use Rattle.h3_connection.specs.StreamSetLaws.{set-set, set-same}
-use Rattle.h3_connection.specs.Endpoint.{EndpointHistory, kind_of, replied, heads_waiting}
+use Rattle.h3_connection.specs.Endpoint.{EndpointHistory, limit_of, kind_of, replied, heads_waiting}
 use Rattle.h3_connection.specs.Endpoint.Kind.{Request}
 use Rattle.h3_connection.specs.PeerReading.{Peer, with_unread, read_peer}
 use Rattle.h3_connection.specs.PeerReadingLaws.{nothing_read_on}
@@ -38,14 +38,14 @@ endpoint_unknown e id i rest open_still request here m b =
     ∙ sym (pulled_anew e id j (pull_stream e.side e.announced id e.decoding.decoder j))
     ∙ sym (pull_is (with_incoming e id j) id j open_still request (at_same e.incoming id j))
 
-pub peer_unknown : (side : Side) (p : Peer) (rest : List ℕ) → BeginsUnknown p.unread rest → read_peer side p ≡ read_peer side (with_unread p rest)
-peer_unknown side p rest b = peer_known side p rest (unknown_left_out p.unread rest b)
+pub peer_unknown : (limit : ℕ) (side : Side) (p : Peer) (rest : List ℕ) → BeginsUnknown p.unread rest → read_peer limit side p ≡ read_peer limit side (with_unread p rest)
+peer_unknown limit side p rest b = peer_known limit side p rest (unknown_left_out p.unread rest b)
 
 control_unknown : (e : EndpointHistory) (bytes rest : List ℕ) → e.peer.unread ≡ [] → BeginsUnknown bytes rest → read_control e bytes ≡ read_control e rest
 control_unknown e bytes rest empty b =
     let same : known (e.peer.unread ++ bytes) ≡ known (e.peer.unread ++ rest) =
     ap (λ l. known (l ++ bytes)) empty ∙ unknown_left_out bytes rest b ∙ sym (ap (λ l. known (l ++ rest)) empty) in
-    ap (after_peer e) (peer_known e.side (with_unread e.peer (e.peer.unread ++ bytes)) (e.peer.unread ++ rest) same)
+    ap (after_peer e) (peer_known (limit_of e) e.side (with_unread e.peer (e.peer.unread ++ bytes)) (e.peer.unread ++ rest) same)
 
 -- what a delivery on the control stream does
 delivered_control : (e : EndpointHistory) (id : ℕ) (bytes : List ℕ) → ReadsControl e id
@@ -71,8 +71,8 @@ nothing_learned (Some pairs) e = refl
 
 nothing_read : (e : EndpointHistory) → e.peer.unread ≡ [] → read_control e [] ≡ (e, None)
 nothing_read e empty =
-    ap (λ l. after_peer e (read_peer e.side (with_unread e.peer (l ++ [])))) empty
-    ∙ ap (after_peer e) (nothing_read_on e.side e.peer)
+    ap (λ l. after_peer e (read_peer (limit_of e) e.side (with_unread e.peer (l ++ [])))) empty
+    ∙ ap (after_peer e) (nothing_read_on (limit_of e) e.side e.peer)
     ∙ nothing_learned e.peer.settings (record e { peer = with_unread e.peer [] })
     ∙ ap (λ l. (record e { peer = with_unread e.peer l }, None)) (sym empty)
 

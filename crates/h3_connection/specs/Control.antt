@@ -10,7 +10,7 @@ use Rattle.h3_qpack.specs.EncoderHistory.{using_table}
 use Rattle.h3_qpack.specs.Hearing.{Listened, listen}
 use Rattle.h3_connection.specs.Listeners.{fault_if, heard_more, after_hearing, insertions_heard}
 use Rattle.h3_connection.specs.PeerReading.{PeerFound, with_unread, read_peer}
-use Rattle.h3_connection.specs.Endpoint.{EndpointHistory, replied}
+use Rattle.h3_connection.specs.Endpoint.{EndpointHistory, limit_of, replied}
 
 abbrev pub Found : Type 0
 Found = EndpointHistory × Option ℕ
@@ -68,4 +68,4 @@ after_peer e (p, fault) = then_decoder e.peer.settings p.settings (if_learned e.
 
 -- the peer's control stream
 abbrev pub read_control : EndpointHistory → List ℕ → Found
-read_control e bytes = after_peer e (read_peer e.side (with_unread e.peer (e.peer.unread ++ bytes)))
+read_control e bytes = after_peer e (read_peer (limit_of e) e.side (with_unread e.peer (e.peer.unread ++ bytes)))

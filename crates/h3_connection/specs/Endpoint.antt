@@ -79,6 +79,10 @@ new_endpoint side announced =
       sent = 0;
     }
 
+-- the longest frame whose payload it keeps until it is whole
+abbrev pub limit_of : EndpointHistory → ℕ
+limit_of e = e.announced.choices.unfinished_limit
+
 -- What an id is to an endpoint, by its two low bits.
 pub data Kind : Type 0 where
   Request : Kind

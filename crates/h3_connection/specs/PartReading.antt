@@ -6,7 +6,7 @@ use Rattle.h3_connection.specs.declared.setup.Announced.{Announced}
 use Rattle.h3_connection.specs.Arrivals.{Arrival, BytesCame}
 use Rattle.h3_connection.specs.Control.{increment, if_learned}
 use Rattle.h3_connection.specs.Delivering.{unidirectional_at, with_incoming, with_end, kept, with_unidirectional}
-use Rattle.h3_connection.specs.Endpoint.{EndpointHistory, replied, is_second, kind_of}
+use Rattle.h3_connection.specs.Endpoint.{EndpointHistory, limit_of, replied, is_second, kind_of}
 use Rattle.h3_connection.specs.Endpoint.Kind.{PeerUnidirectional}
 use Rattle.h3_qpack.specs.Hearing.{hear, listen}
 use Rattle.h3_connection.specs.Incoming.{Incoming}
@@ -20,13 +20,13 @@ use Rattle.h3_connection.specs.Unidirectional.{Role, role_after, with_bytes}
 use Rattle.h3_connection.specs.Unidirectional.Role.{Control, Encoder, Decoder}
 use Rattle.h3_qpack.specs.DecoderState.{DecoderState}
 
--- A front of the bytes of the control stream was read, without a fault.
-pub record PeerReadsPart (side : Side) (old new : Peer) : Type 0 where
+-- A front of the bytes of the control stream was read, without a fault, where frames are taken up to this limit.
+pub record PeerReadsPart (limit : ℕ) (side : Side) (old new : Peer) : Type 0 where
   pub front : List ℕ
   pub rest : List ℕ
   pub cut : old.unread ≡ front ++ rest
   pub read : Peer
-  pub reads : read_peer side (with_unread old front) ≡ (read, None)
+  pub reads : read_peer limit side (with_unread old front) ≡ (read, None)
   pub left : new ≡ with_unread read (read.unread ++ rest)
 
 -- A front of the bytes of the peer's encoder stream was read, without a bad instruction.
@@ -94,7 +94,7 @@ pub data ReadsOn : EndpointHistory → List Arrival → EndpointHistory → List
       → is_reader e id (role_after (unidirectional_at e id).role bytes).0 ≡ true
       → ReadsOn e (BytesCame id bytes ∷ more) (held e id bytes) (BytesCame id [] ∷ more)
   -- a front of the bytes that are held of the control stream
-  ReadsFrames : {e : EndpointHistory} {id : ℕ} {p : Peer} {more : List Arrival} → e.control_on ≡ Some id → PeerReadsPart e.side e.peer p
+  ReadsFrames : {e : EndpointHistory} {id : ℕ} {p : Peer} {more : List Arrival} → e.control_on ≡ Some id → PeerReadsPart (limit_of e) e.side e.peer p
       → ReadsOn e (BytesCame id [] ∷ more) (after_frames e p) (BytesCame id [] ∷ early e p ++ more)
   -- of the encoder stream
   Hears : {e : EndpointHistory} {id : ℕ} {d : Decoding} {more : List Arrival} → e.encoder_on ≡ Some id → HearsPart e.decoding d

@@ -2,6 +2,7 @@
 use Rattle.std.specs.Prelude.{ℕ, zero, suc, ◌%◌, Bool, false, not, ◌||◌, List, [], ◌∷◌, ◌++◌, length, if◌then◌else◌, ◌==◌, nat_lt, Option, Some, None}
 use Rattle.h3_proto.specs.declared.stream.Side.{Side}
 use Rattle.h3_proto.specs.declared.stream.Side.TheVariants.{Client, Server}
+use Rattle.h3_wire.specs.ExcessiveFrames.{is_excessive}
 use Rattle.h3_wire.specs.Frames.{Front, Whole, Unknown, Refused, Unfinished, frame_at}
 use Rattle.h3_wire.specs.Known.{known}
 use Rattle.h3_wire.specs.declared.proto.frame.PayloadLen.{PayloadLen}
@@ -9,7 +10,7 @@ use Rattle.h3_wire.specs.declared.proto.frame.Frame.{Frame}
 use Rattle.h3_wire.specs.declared.proto.frame.Frame.TheVariants as frame
 use Rattle.h3_wire.specs.declared.proto.frame.FrameError.{FrameError}
 use Rattle.h3_wire.specs.declared.proto.frame.FrameError.TheVariants as error
-use Rattle.h3_connection.specs.Codes.{frame_unexpected, id_error, missing_settings, refusal_code, settings_code}
+use Rattle.h3_connection.specs.Codes.{excessive_load, frame_unexpected, id_error, missing_settings, refusal_code, settings_code}
 use Rattle.h3_connection.specs.Lasts.{last_id}
 
 pub record Peer : Type 0 where
@@ -77,12 +78,18 @@ at_front go side p bytes (Refused e) = (with_unread p bytes, Some (refused_code 
 at_front go side p bytes (Unknown kind rest) = (with_unread p bytes, None)
 at_front go side p bytes (Unfinished least) = (with_unread p bytes, None)
 
+-- A frame that is longer than the endpoint takes is a fault of the connection (RFC 9114, sections 8.1 and 10.5), whether its payload came or
+-- not: its head is enough. What came is let go
+abbrev pub unless_excessive : ℕ → List ℕ → Peer → PeerFound → PeerFound
+unless_excessive limit bytes p found = if is_excessive limit bytes then (with_unread p [], Some excessive_load) else found
+
 -- Frames of unknown types are passed over before the settings too: that SETTINGS comes first (RFC 9114, section 6.2.1) is not
 -- enforced against those.
-abbrev pub read_within : ℕ → Side → Peer → PeerFound
-read_within zero side p = (p, None)
-read_within (suc most) side p = at_front (read_within most side) side p (known p.unread) (frame_at (known p.unread))
+abbrev pub read_within : ℕ → ℕ → Side → Peer → PeerFound
+read_within zero limit side p = (p, None)
+read_within (suc most) limit side p =
+    unless_excessive limit (known p.unread) p (at_front (read_within most limit side) side p (known p.unread) (frame_at (known p.unread)))
 
--- all whole frames that were not read, up to the first fault
-unfoldable pub read_peer : Side → Peer → PeerFound
-read_peer side p = read_within (length p.unread) side p
+-- all whole frames that were not read, up to the first fault, where the endpoint takes no longer ones than this limit
+unfoldable pub read_peer : ℕ → Side → Peer → PeerFound
+read_peer limit side p = read_within (length p.unread) limit side p

@@ -158,7 +158,7 @@ pub fn unknown_frames_give_nothing()
         pull_stream side own id r i ≡ pull_stream side own id r (left_with i rest) }
     ensures pulled { (e : EndpointHistory) (id : ℕ) (i : Incoming) (rest : List ℕ) → e.closed ≡ None → kind_of e.side id ≡ Request → stream_at e.incoming id ≡ Some i →
         MayBeginFrame i → BeginsUnknown (concat i.unread) rest → pull e id ≡ pull (with_incoming e id (left_with i rest)) id }
-    ensures peer { (side : Side) (p : Peer) (rest : List ℕ) → BeginsUnknown p.unread rest → read_peer side p ≡ read_peer side (with_unread p rest) }
+    ensures peer { (limit : ℕ) (side : Side) (p : Peer) (rest : List ℕ) → BeginsUnknown p.unread rest → read_peer limit side p ≡ read_peer limit side (with_unread p rest) }
     ensures delivered { (e : EndpointHistory) (id : ℕ) (bytes rest : List ℕ) → ReadsControl e id → e.peer.unread ≡ [] → BeginsUnknown bytes rest → deliver e id bytes ≡ deliver e id rest }
     ensures alone { (e : EndpointHistory) (id : ℕ) (bytes : List ℕ) → ReadsControl e id → e.peer.unread ≡ [] → BeginsUnknown bytes [] → deliver e id bytes ≡ (None, e) }
 {}

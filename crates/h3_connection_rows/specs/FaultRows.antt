@@ -11,7 +11,7 @@ use Rattle.h3_connection.specs.Endpoint.{EndpointHistory, new_endpoint}
 use Rattle.h3_connection.specs.CallLists.{Call, Result}
 use Rattle.h3_connection.specs.CallLists.Call.{OpenRequest, Outgoing, Deliver, DeliverEnd, PullStream, Cancel, Show}
 use Rattle.h3_connection.specs.CallLists.Result.{Opened, Done, Refused, Waits, Pulled, Shown}
-use Rattle.h3_connection_rows.specs.Worked.{hex, field, head, plain}
+use Rattle.h3_connection_rows.specs.Worked.{hex, field, head, limited, plain}
 
 abbrev pub body_before_the_head_endpoint : EndpointHistory
 body_before_the_head_endpoint = new_endpoint Client (plain 1000 0 0)
@@ -440,4 +440,66 @@ body_behind_an_interim_head_answers =
     Done ∷
     Pulled (pulls.Item (item.Interim (head (field (codes ":status") (codes "103") ∷ [])))) ∷
     Pulled (pulls.Fault (fault.Connection 261)) ∷
+    []
+
+abbrev pub settings_above_the_limit_endpoint : EndpointHistory
+settings_above_the_limit_endpoint = new_endpoint Client limited
+
+abbrev pub settings_above_the_limit : List Call
+settings_above_the_limit =
+    Deliver 3 (hex (codes "000440c8060401020304")) ∷
+    Deliver 3 (hex (codes "05")) ∷
+    []
+
+abbrev pub settings_above_the_limit_answers : List Result
+settings_above_the_limit_answers =
+    Refused (refusal.Connection 263) ∷
+    Refused (refusal.Connection 263) ∷
+    []
+
+abbrev pub settings_above_the_limit_in_two_endpoint : EndpointHistory
+settings_above_the_limit_in_two_endpoint = new_endpoint Client limited
+
+abbrev pub settings_above_the_limit_in_two : List Call
+settings_above_the_limit_in_two =
+    Deliver 3 (hex (codes "000440")) ∷
+    Deliver 3 (hex (codes "c8060401020304")) ∷
+    []
+
+abbrev pub settings_above_the_limit_in_two_answers : List Result
+settings_above_the_limit_in_two_answers =
+    Done ∷
+    Refused (refusal.Connection 263) ∷
+    []
+
+abbrev pub goaway_above_the_limit_endpoint : EndpointHistory
+goaway_above_the_limit_endpoint = new_endpoint Server limited
+
+abbrev pub goaway_above_the_limit : List Call
+goaway_above_the_limit =
+    Deliver 2 (hex (codes "000400210107")) ∷
+    Deliver 2 (hex (codes "07c0000000400000")) ∷
+    Deliver 2 (hex (codes "00")) ∷
+    []
+
+abbrev pub goaway_above_the_limit_answers : List Result
+goaway_above_the_limit_answers =
+    Done ∷
+    Done ∷
+    Refused (refusal.Connection 263) ∷
+    []
+
+abbrev pub settings_at_the_limit_endpoint : EndpointHistory
+settings_at_the_limit_endpoint = new_endpoint Client limited
+
+abbrev pub settings_at_the_limit : List Call
+settings_at_the_limit =
+    Deliver 3 (hex (codes "0021406500")) ∷
+    Deliver 3 (hex (codes "00044064")) ∷
+    []
+
+abbrev pub settings_at_the_limit_answers : List Result
+settings_at_the_limit_answers =
+    Done ∷
+    Done ∷
     []

@@ -43,6 +43,10 @@ plain section capacity blocked =
 abbrev pub strict : ℕ → Announced
 strict section = record (plain section 0 0) { choices = record no_choices { strict_messages = true } }
 
+-- the same as the plain one, and frames of at most 100 bytes are kept until they are whole
+abbrev pub limited : Announced
+limited = record (plain 1000 0 0) { choices = record no_choices { unfinished_limit = 100 } }
+
 -- answers with each head as its field list reads
 abbrev pub item_as_list : Item → Item
 item_as_list (item.Head h) = item.Head (head (head_fields h))

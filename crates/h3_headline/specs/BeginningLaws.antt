@@ -8,7 +8,7 @@ use Rattle.h3_world.specs.declared.setup.Setup.{Setup}
 use Rattle.h3_world.specs.Streams.{is_open, exchange, flow}
 use Rattle.h3_world.specs.World.{empty_world, no_exchange}
 use Rattle.h3_proto.specs.declared.stream.Side.{Side}
-use Rattle.h3_world.specs.Setup.{announced_at}
+use Rattle.h3_world.specs.Setup.{JudgesPlainly, TakesAnyLength, announced_at}
 use Rattle.h3_connection.specs.OwnIds.{other}
 use Rattle.h3_connection.specs.PeerReading.{nothing_read}
 use Rattle.h3_connection.specs.Endpoint.{new_endpoint}
@@ -57,11 +57,12 @@ decoder_at : (setup : Setup) (side : Side) → [] ≡ replies_unread (are_settin
 decoder_at setup side = rw (no_settings setup (other side)) refl
 
 -- One new endpoint.
-pub begins_at : (setup : Setup) (side : Side) → StandsAt setup (empty_world setup) side (new_endpoint side (announced_at setup side))
-begins_at setup Client =
+pub begins_at : (setup : Setup) (side : Side) → TakesAnyLength (announced_at setup side) → StandsAt setup (empty_world setup) side (new_endpoint side (announced_at setup side))
+begins_at setup Client any =
     record {
       side_is = refl;
       announced = refl;
+      any = any;
       no_fault = refl;
       nothing_kept = refl;
       own = refl;
@@ -74,10 +75,11 @@ begins_at setup Client =
       incoming = λ id. rw (none_open setup Client id) tt;
       distinct = tt;
     }
-begins_at setup Server =
+begins_at setup Server any =
     record {
       side_is = refl;
       announced = refl;
+      any = any;
       no_fault = refl;
       nothing_kept = refl;
       own = refl;
@@ -105,11 +107,11 @@ nothing_sent setup Server id = by (is_request_stream id)
     by false = tt
 
 -- Both of them.
-pub begins : (setup : Setup) → IsSoundWorld setup (empty_world setup) → Stands setup (empty_world setup) (new_ends setup)
-begins setup sound =
+pub begins : (setup : Setup) → JudgesPlainly setup → IsSoundWorld setup (empty_world setup) → Stands setup (empty_world setup) (new_ends setup)
+begins setup plain sound =
     record {
-      at_client = begins_at setup Client;
-      at_server = begins_at setup Server;
+      at_client = begins_at setup Client (plain Client).1;
+      at_server = begins_at setup Server (plain Server).1;
       next_id = refl;
       few = omega arith;
       sound = sound;

@@ -13,7 +13,7 @@ use Rattle.h3_connection.specs.Lasts.{last_id}
 use Rattle.h3_connection.specs.OwnIds.{other}
 use Rattle.std.proofs.lemmas.List.{take-append-le}
 use Rattle.h3_headline.specs.ControlStreamLaws.{goaways_behind, goaways_front, goaways_read, last_of_none, less_of, rest_unfinished, settings_read, settings_wait, waits}
-use Rattle.h3_headline.specs.PeerStreams.{Announces, Reads, behind_type, new_bytes, no_fault, peer_by, settings_frame_of}
+use Rattle.h3_headline.specs.PeerStreams.{Announces, Reads, behind_type, new_bytes, no_fault, no_limit, peer_by, settings_frame_of}
 use Rattle.h3_headline.specs.Standing.{AreGoaways, with_meaning}
 use Rattle.h3_headline.specs.UnitLaws.{drop_past, front_is, goes_on, none_whole, take_both, take_past}
 use Rattle.h3_headline.specs.WritesMoreLaws.{goaways_some, type_of_control}
@@ -35,7 +35,7 @@ few_goaways : (ids : List ℕ) → length ids ≤ length (flat_map goaway_encodi
 few_goaways [] = omega arith
 few_goaways (id ∷ ids) = omega (arith, few_goaways ids, goaways_some.some id, length-append (goaway_encoding id) (flat_map goaway_encoding ids))
 
-peer_within : (side : Side) (p : Peer) (bytes : List ℕ) → read_peer side (with_unread p bytes) ≡ read_within (length bytes) side (with_unread p bytes)
+peer_within : (side : Side) (p : Peer) (bytes : List ℕ) → read_peer no_limit side (with_unread p bytes) ≡ read_within (length bytes) no_limit side (with_unread p bytes)
 unfolding read_peer
 peer_within side p bytes = refl
 
@@ -68,7 +68,7 @@ known_before writer a came count gs all fits =
     let last : AreGoaways writer (last_id p.goaways) behind = subst (λ o. AreGoaways writer o behind) (last_of_none p.goaways) later in
     let enough : length ids ≤ length (flat_map goaway_encoding ids ++ rest) = omega (arith, few_goaways ids, length-append (flat_map goaway_encoding ids) rest) in
     peer_within (other writer) p (rest_in goaway_encoding few gs ++ bytes)
-    ∙ ap (λ l. read_within (length l) (other writer) (with_unread p l)) cut
+    ∙ ap (λ l. read_within (length l) no_limit (other writer) (with_unread p l)) cut
     ∙ goaways_read ids (length (flat_map goaway_encoding ids ++ rest)) writer p (with_meaning a.settings) rest refl enough
     (goaways_front writer (last_id p.goaways) (whole_in goaway_encoding g.count behind) behind last) (rest_unfinished behind g.count writer (last_id p.goaways) last)
     ∙ ap (λ l. no_fault (record p { goaways = l; unread = rest })) (sym g.whole)
@@ -108,7 +108,7 @@ still_unknown writer a came count gs h short =
     joined a came count G (omega (arith, short)) ∙ take-append-le many S G (omega (arith, less)) in
     let same : came - length (settings_bytes a) ≡ came + count - length (settings_bytes a) = omega (arith, short) in
     peer_within (other writer) p (p.unread ++ new_bytes writer a came count gs)
-    ∙ ap (λ l. read_within (length l) (other writer) (with_unread p l)) all
+    ∙ ap (λ l. read_within (length l) no_limit (other writer) (with_unread p l)) all
     ∙ waits (length (take many S)) (other writer) p (take many S) (settings_wait a many h less)
     ∙ ap (λ l. no_fault (with_unread p l)) (sym (settings_front a (came + count)))
     ∙ ap (λ n. no_fault (record p { unread = drop 1 (take (came + count) (settings_bytes a)); goaways = take (whole_in goaway_encoding n gs) gs })) same
@@ -136,8 +136,8 @@ now_known writer a came count gs h all short fits =
     let none = no_goaways a came gs short in
     let first : AreGoaways writer (last_id q.goaways) ids = subst (λ l. AreGoaways writer (last_id l) ids) (sym none) (goaways_front writer None (whole_in goaway_encoding n gs) gs all) in
     peer_within (other writer) p (p.unread ++ new_bytes writer a came count gs)
-    ∙ ap (λ l. read_within (length l) (other writer) (with_unread p l)) cut
-    ∙ ap (λ m. read_within m (other writer) (with_unread p (S ++ more))) fuel
+    ∙ ap (λ l. read_within (length l) no_limit (other writer) (with_unread p l)) cut
+    ∙ ap (λ m. read_within m no_limit (other writer) (with_unread p (S ++ more))) fuel
     ∙ settings_read most (other writer) p a more h refl
     ∙ goaways_read ids most writer q (with_meaning a.settings) rest refl enough first (rest_unfinished gs n writer None all)
     ∙ ap (λ l. no_fault (record q { goaways = l ++ ids; unread = rest })) none

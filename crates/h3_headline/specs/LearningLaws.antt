@@ -6,7 +6,7 @@ use Rattle.h3_field.specs.Instruction.EncoderInstruction.{SetCapacity}
 use Rattle.h3_proto.specs.Settings.{value_of}
 use Rattle.h3_qpack.specs.EncoderHistory.{using_table, EncoderHistory, encoder_after_all}
 use Rattle.h3_connection.specs.Control.{with_table, learned, listened_to, read_decoder, after_peer, read_control}
-use Rattle.h3_connection.specs.Endpoint.{EndpointHistory, goaway_encoding, is_second}
+use Rattle.h3_connection.specs.Endpoint.{EndpointHistory, limit_of, goaway_encoding, is_second}
 use Rattle.h3_connection.specs.declared.setup.Announced.{Announced}
 use Rattle.h3_world.specs.Setup.{has_table, announced_at}
 use Rattle.std.proofs.lemmas.List.{take-append-drop}
@@ -29,9 +29,10 @@ use Rattle.h3_connection.specs.Unidirectional.Role.{Untold, Control}
 use Rattle.h3_headline.specs.AcceptedLaws.{accepted_front, accepted_limited}
 use Rattle.h3_headline.specs.Cited.{StreamLaws}
 use Rattle.h3_headline.specs.ControlLaws.{length_settings, peer_came}
+use Rattle.h3_headline.specs.ControlStreamLaws.{without_limit}
 use Rattle.h3_headline.specs.FlowLaws.{other-other}
 use Rattle.h3_headline.specs.ListeningLaws.{no_sum, no_sum_too}
-use Rattle.h3_headline.specs.PeerStreams.{Announces, MayListen, after_control, behind_type, controlling, knowing, learned_encoder, limited_by, peer_by, peer_of, role_by, settings_frame_of, settled, with_role, without_fault}
+use Rattle.h3_headline.specs.PeerStreams.{Announces, MayListen, after_control, behind_type, controlling, knowing, learned_encoder, limited_by, no_limit, peer_by, peer_of, role_by, settings_frame_of, settled, with_role, without_fault}
 use Rattle.h3_headline.specs.RoleLaws.{is_first}
 use Rattle.h3_headline.specs.Standing.{HasControl, came_on, replies_unread, with_meaning}
 
@@ -133,11 +134,12 @@ control_came laws setup side e came count gs replies_came replies stream h m = b
         let on = record first { control_on = Some id } in
         let before = peer_by a knew came gs in
         let is = peer_is setup side came gs stream e.control_on e.peer h in
-        let reads : read_peer side (with_unread before (before.unread ++ bytes)) ≡ (peer, None) =
-        subst (λ s. read_peer s (with_unread before (before.unread ++ bytes)) ≡ (peer, None)) (other-other side) (peer_came (other side) a came count gs m.announces m.goaways knew knows refl refl) in
+        let reads : read_peer no_limit side (with_unread before (before.unread ++ bytes)) ≡ (peer, None) =
+        subst (λ s. read_peer no_limit s (with_unread before (before.unread ++ bytes)) ≡ (peer, None)) (other-other side) (peer_came (other side) a came count gs m.announces m.goaways knew knows refl refl) in
         ap (λ b. unless_second b first (read_control on bytes)) (ap (λ x. is_second x id) h.is_on ∙ is_first came id)
-        ∙ ap (λ s. after_peer on (read_peer s (with_unread e.peer (e.peer.unread ++ bytes)))) m.side_is
-        ∙ ap (λ p. after_peer on (read_peer side (with_unread p (p.unread ++ bytes)))) is
+        ∙ ap (after_peer on) (without_limit (limit_of e) e.side (with_unread e.peer (e.peer.unread ++ bytes)) m.any)
+        ∙ ap (λ s. after_peer on (read_peer no_limit s (with_unread e.peer (e.peer.unread ++ bytes)))) m.side_is
+        ∙ ap (λ p. after_peer on (read_peer no_limit side (with_unread p (p.unread ++ bytes)))) is
         ∙ ap (after_peer on) reads
         ∙ settles laws a (controlling e id (with_role Control) (Some id) peer) e.peer.settings knew knows replies_came replies m.announces h.settings refl m.left m.written m.accepted (λ t. still L came (came + count) t (omega arith))
 

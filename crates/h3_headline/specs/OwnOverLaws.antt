@@ -8,7 +8,7 @@ use Rattle.std.proofs.Common.{◌≡◌, ℕ, Option, Some, None, ap, ◌∙◌,
 use Rattle.h3_connection.specs.Endpoint.{EndpointHistory, bytes_waiting, own_waiting, Own, goaway_encoding}
 use Rattle.h3_connection.specs.Outgoing.{Outgoing, part_bytes_waiting}
 use Rattle.h3_connection.specs.StreamSets.{stream_at}
-use Rattle.h3_world.specs.Setup.{announced_at, IsMadeSetup}
+use Rattle.h3_world.specs.Setup.{TakesAnyLength, announced_at, IsMadeSetup}
 use Rattle.h3_connection.specs.OwnIds.{control_id, encoder_id, decoder_id, other}
 use Rattle.h3_connection.specs.declared.setup.Announced.{Announced}
 use Rattle.h3_world.specs.OwnStreams.{settings_bytes}
@@ -207,7 +207,7 @@ control_over laws setup w side count e made sound writable h =
     record {
       after = f;
       arrived = control_delivered laws setup side e own.control_taken count own.goaways own.decoder_taken replies (takes setup w side e h) h.control
-          (record { side_is = h.side_is; announces = announces_at setup (other side) made; goaways = writable.goaways; left = h.decoder_stream.left; written = writable.replies; accepted = fits });
+          (record { side_is = h.side_is; any = subst TakesAnyLength (sym h.announced) h.any; announces = announces_at setup (other side) made; goaways = writable.goaways; left = h.decoder_stream.left; written = writable.replies; accepted = fits });
       stands = controlling_stands setup w v side e count knew knows h (streams_after setup w (other side) id count) refl refl order f refl there (ap (λ (q : Party). q.own) now) (ap (λ (q : Party). q.encoder) now);
       next_id = same_next knew knows x a.limits own.decoder_taken replies;
     }

@@ -28,7 +28,7 @@ use Rattle.h3_qpack.specs.Hearing.{Heard}
 use Rattle.h3_connection.specs.Codes.{encoder_stream_error}
 use Rattle.h3_qpack.specs.EncoderHistory.{EncoderHistory, encoder_after_all, using_table}
 use Rattle.h3_connection.specs.declared.setup.Limits.{Limits}
-use Rattle.h3_world.specs.Setup.{has_table, announced_at}
+use Rattle.h3_world.specs.Setup.{TakesAnyLength, has_table, announced_at}
 use Rattle.h3_field.specs.Instruction.EncoderInstruction.{SetCapacity}
 use Rattle.std.specs.List.{AllByRecursion}
 use Rattle.h3_field.specs.InstructionAnswer.{IsReply}
@@ -102,6 +102,10 @@ peer_by a there n goaways =
       most_pushes = None;
     }
 
+-- no frame is too long
+abbrev pub no_limit : ℕ
+no_limit = 2 ^ 62 - 1
+
 abbrev pub no_fault : Peer → PeerFound
 no_fault p = (p, None)
 
@@ -111,7 +115,7 @@ module _ (writer : Side) (a : Announced) (came count : ℕ) (gs : List ℕ) wher
   new_bytes = behind_type came count (settings_frame_of a ++ flat_map goaway_encoding gs)
 
   abbrev pub Reads : Bool → Bool → Type 0
-  Reads b c = read_peer (other writer) (with_unread (peer_by a b came gs) ((peer_by a b came gs).unread ++ new_bytes)) ≡ no_fault (peer_by a c (came + count) gs)
+  Reads b c = read_peer no_limit (other writer) (with_unread (peer_by a b came gs) ((peer_by a b came gs).unread ++ new_bytes)) ≡ no_fault (peer_by a c (came + count) gs)
 
 abbrev pub having_read : Peer → List ℕ → List ℕ → Peer
 having_read p ids rest = record p { goaways = p.goaways ++ ids; unread = rest }
@@ -195,6 +199,7 @@ peer_of unread settings goaways most_pushes = record { unread = unread; settings
 -- What is said of the endpoint before.
 pub record MayListen (setup : Setup) (side : Side) (e : EndpointHistory) (came : ℕ) (gs : List ℕ) (replies_came : ℕ) (replies : List DecoderInstruction) : Type 0 where
   pub side_is : e.side ≡ side
+  pub any : TakesAnyLength e.announced
   pub announces : Announces (announced_at setup (other side))
   pub goaways : AreGoaways (other side) None gs
   pub left : e.decoder_unread ≡ replies_unread (nat_le (length (settings_bytes (announced_at setup (other side)))) came) replies_came replies

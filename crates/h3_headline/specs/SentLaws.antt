@@ -58,6 +58,7 @@ counted_stands setup w side n e f h =
       here = record {
         side_is = h.here.side_is;
         announced = h.here.announced;
+        any = h.here.any;
         no_fault = h.here.no_fault;
         nothing_kept = h.here.nothing_kept;
         own = h.here.own;

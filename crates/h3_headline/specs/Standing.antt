@@ -15,7 +15,7 @@ use Rattle.h3_connection.specs.Unidirectional.{Unidirectional, Role, untold}
 use Rattle.h3_connection.specs.Unidirectional.Role.{Untold, Control, Encoder, Decoder}
 use Rattle.h3_proto.specs.declared.stream.Side.{Side}
 use Rattle.h3_world.specs.declared.setup.Setup.{Setup}
-use Rattle.h3_world.specs.Setup.{announced_at}
+use Rattle.h3_world.specs.Setup.{TakesAnyLength, announced_at}
 use Rattle.h3_world.specs.OwnStreams.{settings_bytes}
 use Rattle.h3_qpack.specs.WholeInstructions.{rest_in, whole_in}
 use Rattle.h3_connection.specs.Endpoint.{goaway_encoding, EndpointHistory, Own}
@@ -172,6 +172,8 @@ HasDecoderStreamOf setup side own e =
 pub record StandsAt (setup : Setup) (w : World) (side : Side) (e : EndpointHistory) : Type 0 where
   pub side_is : e.side ≡ side
   pub announced : e.announced ≡ announced_at setup side
+  -- it takes what is sent, however long
+  pub any : TakesAnyLength (announced_at setup side)
   pub no_fault : e.closed ≡ None
   pub nothing_kept : e.kept ≡ []
   pub own : e.own ≡ (party w side).own

@@ -4,7 +4,7 @@ use Rattle.std.specs.Prelude.{is_some}
 use Rattle.h3_qpack.specs.Hearing.{listen}
 use Rattle.h3_connection.specs.declared.arrival.Arrival.{Arrival}
 use Rattle.h3_connection.specs.Control.{Found, listened_to, read_decoder, read_control, after_peer, then_decoder, if_learned, learned, is_table_usable, with_table}
-use Rattle.h3_connection.specs.Endpoint.{EndpointHistory}
+use Rattle.h3_connection.specs.Endpoint.{EndpointHistory, limit_of}
 use Rattle.h3_connection.specs.Incoming.{Incoming}
 use Rattle.h3_connection.specs.PeerReading.{Peer, PeerFound, with_unread, read_peer}
 use Rattle.h3_connection.specs.StreamSets.{Streams}
@@ -64,8 +64,8 @@ module _ (mine : List Delivery) (incoming : Streams Incoming) (kept : List Arriv
   pub control_ahead : (held : Held) (behind : EndpointHistory) (bytes : List ℕ) → (behind.peer.settings ≡ None → held.decoder ≡ [])
       → read_control (ahead behind mine held incoming kept) bytes ≡ over (record held { control = [] }) (read_control behind (held.control ++ bytes))
   control_ahead held behind bytes none =
-      ap (λ l. after_peer (ahead behind mine held incoming kept) (read_peer behind.side (with_unread behind.peer l))) (append_assoc behind.peer.unread held.control bytes)
-      ∙ after_ahead (read_peer behind.side (with_unread behind.peer (behind.peer.unread ++ (held.control ++ bytes))))
+      ap (λ l. after_peer (ahead behind mine held incoming kept) (read_peer (limit_of behind) behind.side (with_unread behind.peer l))) (append_assoc behind.peer.unread held.control bytes)
+      ∙ after_ahead (read_peer (limit_of behind) behind.side (with_unread behind.peer (behind.peer.unread ++ (held.control ++ bytes))))
     where
       f : EndpointHistory
       f = ahead behind mine held incoming kept

@@ -7,7 +7,7 @@ use Rattle.h3_wire.specs.Fronts.{IsUnfinishedFront}
 use Rattle.h3_connection.specs.declared.arrival.Arrival.{Arrival}
 use Rattle.h3_connection.specs.declared.arrival.Arrival.TheVariants.{BytesCame}
 use Rattle.h3_connection.specs.Control.{Found, after_peer, if_learned, is_table_usable, learned, then_decoder, with_table}
-use Rattle.h3_connection.specs.Endpoint.{EndpointHistory}
+use Rattle.h3_connection.specs.Endpoint.{EndpointHistory, limit_of}
 use Rattle.h3_connection.specs.Keeping.{read_arrival}
 use Rattle.h3_connection.specs.OwnIds.{other, control_id, decoder_id}
 use Rattle.h3_connection.specs.PartReading.{PeerReadsPart, after_frames, early, early_if, early_arrival}
@@ -17,11 +17,12 @@ use Rattle.h3_connection.specs.Unidirectional.Role.{Control}
 use Rattle.h3_world.specs.Refused.{held_back}
 use Rattle.h3_world.specs.declared.setup.Setup.{Setup}
 use Rattle.h3_world.specs.Came.{settings_came}
-use Rattle.h3_world.specs.Setup.{IsMadeSetup}
+use Rattle.h3_world.specs.Setup.{IsMadeSetup, TakesAnyLength}
 use Rattle.h3_world.specs.World.{World, party}
 use Rattle.h3_headline.specs.AnnouncedLaws.{announces_at}
 use Rattle.h3_headline.specs.Cited.{Laws}
-use Rattle.h3_headline.specs.ControlStreamLaws.{waits}
+use Rattle.h3_headline.specs.ControlStreamLaws.{waits, without_limit}
+use Rattle.h3_headline.specs.PeerStreams.{no_limit}
 use Rattle.h3_headline.specs.Standing.{StandsAt, are_settings_there, came_on, replies_unread}
 use Rattle.h3_memory.specs.Kept.{Delivery, Bytes, End, Reset, held_bytes, HoldsBack}
 use Rattle.h3_memory.specs.Keeping.{Held, ahead, came_of, held_of}
@@ -45,7 +46,7 @@ use Rattle.h3_memory.proofs.Unfinished.{control_unfinished}
 abbrev no_code : Peer → PeerFound
 no_code p = (p, None)
 
-within_all : (side : Side) (p : Peer) (bytes : List ℕ) → read_peer side (with_unread p bytes) ≡ read_within (length bytes) side (with_unread p bytes)
+within_all : (side : Side) (p : Peer) (bytes : List ℕ) → read_peer no_limit side (with_unread p bytes) ≡ read_within (length bytes) no_limit side (with_unread p bytes)
 unfolding read_peer
 within_all side p bytes = refl
 
@@ -133,7 +134,7 @@ module _ (qpack : KeptLaws) (laws : Laws) (setup : Setup) (made : IsMadeSetup se
         (subst (λ x. PartStep setup w side mine (Bytes q count ∷ ds) x g (BytesCame id [] ∷ early f f.peer ++ more)) (sym (learned_same f.peer.settings f))
         (subst (λ l. PartStep setup w side mine (Bytes q count ∷ ds) f g (BytesCame id [] ∷ l ++ more)) (sym (early_same f.peer.settings f.decoder_on)) (stays setup w side mine (Bytes q count ∷ ds) f g (BytesCame id [] ∷ more) z)))
 
-    module _ (read rest : List ℕ) (P : Peer) (is_held : z.here.held.control ≡ read ++ rest) (reads : read_peer z.er.side (with_unread z.er.peer (z.er.peer.unread ++ read)) ≡ no_code P) where
+    module _ (read rest : List ℕ) (P : Peer) (is_held : z.here.held.control ≡ read ++ rest) (reads : read_peer (limit_of z.er) z.er.side (with_unread z.er.peer (z.er.peer.unread ++ read)) ≡ no_code P) where
       abbrev p : Peer
       p = with_unread P (P.unread ++ rest)
 
@@ -173,11 +174,12 @@ module _ (qpack : KeptLaws) (laws : Laws) (setup : Setup) (made : IsMadeSetup se
         after_is = ap (λ o. if_learned o P.settings (record f { peer = p })) (settings_is ∙ unknown) ∙ ap (λ o. if_learned None o (record f { peer = p })) known
 
         -- what one that has nothing of the decoder stream reads
-        reads_settings : (x : EndpointHistory) → x.peer ≡ z.er.peer → x.side ≡ z.er.side → x.decoder_unread ≡ [] → IsReadAs x q Control x.control_on → read_arrival x (BytesCame q read) ≡ found_as (L x)
-        reads_settings x peer side_is nothing role =
+        reads_settings : (x : EndpointHistory) → x.peer ≡ z.er.peer → x.side ≡ z.er.side → limit_of x ≡ limit_of z.er → x.decoder_unread ≡ [] → IsReadAs x q Control x.control_on → read_arrival x (BytesCame q read) ≡ found_as (L x)
+        reads_settings x peer side_is limit_is nothing role =
             control_reads x q read role
-            ∙ ap (λ t. after_peer x (read_peer t (with_unread x.peer (x.peer.unread ++ read)))) side_is
-            ∙ ap (λ y. after_peer x (read_peer z.er.side (with_unread y (y.unread ++ read)))) peer
+            ∙ ap (λ n. after_peer x (read_peer n x.side (with_unread x.peer (x.peer.unread ++ read)))) limit_is
+            ∙ ap (λ t. after_peer x (read_peer (limit_of z.er) t (with_unread x.peer (x.peer.unread ++ read)))) side_is
+            ∙ ap (λ y. after_peer x (read_peer (limit_of z.er) z.er.side (with_unread y (y.unread ++ read)))) peer
             ∙ ap (after_peer x) reads
             ∙ ap (λ o. then_decoder o P.settings (if_learned o P.settings (record x { peer = P })) None) (ap (λ (y : Peer). y.settings) peer ∙ unknown)
             ∙ ap (λ o. then_decoder None o (if_learned None o (record x { peer = P })) None) known
@@ -190,7 +192,7 @@ module _ (qpack : KeptLaws) (laws : Laws) (setup : Setup) (made : IsMadeSetup se
             (sym (ap (λ o. early_if o P.settings f.decoder_on) (settings_is ∙ unknown) ∙ ap (λ o. early_if None o f.decoder_on) known ∙ ap early_arrival (decoder_is ∙ none)))
             (own_part qpack laws setup w side mine f g made (after_frames f p) q count ds id read rest more (control_own s) some_came z held_is
             (after_is ∙ ap (λ (x : EndpointHistory). learned (record x { peer = p }) pairs) z.here.is ∙ learned_ahead mine z.here.incoming [] left_held (record z.er { peer = P }) pairs
-            ∙ ap (λ (x : Found). ahead x.0 mine left_held z.here.incoming []) (sym (reads_settings z.er refl refl nothing read_as))
+            ∙ ap (λ (x : Found). ahead x.0 mine left_held z.here.incoming []) (sym (reads_settings z.er refl refl refl nothing read_as))
             ∙ ap (λ h. ahead (read_arrival z.er (BytesCame q read)).0 mine h z.here.incoming []) (sym (control_holding s z.here.held rest))))
           where
             nothing : z.er.decoder_unread ≡ []
@@ -241,9 +243,9 @@ module _ (qpack : KeptLaws) (laws : Laws) (setup : Setup) (made : IsMadeSetup se
                 (control_held s (back_held z.here.held z.er.decoder_unread) ∙ is_held)
                 (after_is ∙ ap (λ y. learned y pairs) real_is
                 ∙ learned_ahead mine z.here.incoming [] (record (back_held z.here.held z.er.decoder_unread) { control = rest }) (record (back_reader z.er) { peer = P }) pairs
-                ∙ ap (λ (y : Found). ahead y.0 mine (record (back_held z.here.held z.er.decoder_unread) { control = rest }) z.here.incoming []) (sym (reads_settings (back_reader z.er) refl refl refl role))
+                ∙ ap (λ (y : Found). ahead y.0 mine (record (back_held z.here.held z.er.decoder_unread) { control = rest }) z.here.incoming []) (sym (reads_settings (back_reader z.er) refl refl refl refl role))
                 ∙ ap (λ h. ahead (read_arrival (back_reader z.er) (BytesCame q read)).0 mine h z.here.incoming []) (sym (control_holding s (back_held z.here.held z.er.decoder_unread) rest)))
-                (λ none. absurd (known_now (sym (ap (λ (y : Found). y.0.peer.settings) (reads_settings (back_reader z.er) refl refl refl role) ∙ ap (λ (y : Peer). y.settings) (learned_peer (record (back_reader z.er) { peer = P }) pairs) ∙ known) ∙ none)))
+                (λ none. absurd (known_now (sym (ap (λ (y : Found). y.0.peer.settings) (reads_settings (back_reader z.er) refl refl refl refl role) ∙ ap (λ (y : Peer). y.settings) (learned_peer (record (back_reader z.er) { peer = P }) pairs) ∙ known) ∙ none)))
               where
                 known_now : Some pairs ≡ None → ⊥
                 known_now e = cc
@@ -259,20 +261,20 @@ module _ (qpack : KeptLaws) (laws : Laws) (setup : Setup) (made : IsMadeSetup se
       settled (Same learned_none then_none early_none) = same_settings learned_none then_none early_none
       settled (New pairs unknown known) = new_settings pairs unknown known z.er.decoder_on refl
 
-    at : (p : Peer) → PeerReadsPart f.side f.peer p → Goes count ds id more p
+    at : (p : Peer) → PeerReadsPart (limit_of f) f.side f.peer p → Goes count ds id more p
     at p h = by_split (splits z.er.peer.unread z.here.held.control h.front h.rest (sym (ap (λ (x : EndpointHistory). x.peer.unread) z.here.is) ∙ h.cut))
       where
-        reads_behind : read_peer z.er.side (with_unread z.er.peer h.front) ≡ no_code h.read
-        reads_behind = sym (ap (λ (x : EndpointHistory). read_peer x.side (with_unread x.peer h.front)) z.here.is) ∙ h.reads
+        reads_behind : read_peer (limit_of z.er) z.er.side (with_unread z.er.peer h.front) ≡ no_code h.read
+        reads_behind = sym (ap (λ (x : EndpointHistory). read_peer (limit_of x) x.side (with_unread x.peer h.front)) z.here.is) ∙ h.reads
 
         by_split : Splits z.er.peer.unread z.here.held.control h.front h.rest → Goes count ds id more p
         by_split (Beyond read is more_is) =
             subst (Goes count ds id more) (sym h.left)
-            (settled read h.rest h.read more_is (ap (λ l. read_peer z.er.side (with_unread z.er.peer l)) (sym is) ∙ reads_behind) (learns z.er.peer.settings h.read.settings))
+            (settled read h.rest h.read more_is (ap (λ l. read_peer (limit_of z.er) z.er.side (with_unread z.er.peer l)) (sym is) ∙ reads_behind) (learns z.er.peer.settings h.read.settings))
         by_split (Within left is more_is) =
             let unfinished : IsUnfinishedFront h.front = control_unfinished setup s (party w s).own.control_taken (party w s).own.goaways h.front left (announces_at setup s made) z.two.both.writes_there.goaways (sym e.control.unread ∙ is) in
             let nothing : no_code h.read ≡ no_code (with_unread z.er.peer h.front) =
-            sym reads_behind ∙ within_all z.er.side z.er.peer h.front ∙ waits (length h.front) z.er.side z.er.peer h.front unfinished in
+            sym reads_behind ∙ without_limit (limit_of z.er) z.er.side (with_unread z.er.peer h.front) (subst TakesAnyLength (sym e.announced) e.any) ∙ within_all z.er.side z.er.peer h.front ∙ waits (length h.front) z.er.side z.er.peer h.front unfinished in
             nothing_read p
             (h.left ∙ ap (λ (x : PeerFound). with_unread x.0 (x.0.unread ++ h.rest)) nothing ∙ sym (ap (λ (x : EndpointHistory). with_unread x.peer (h.front ++ h.rest)) z.here.is) ∙ ap (λ l. with_unread f.peer l) (sym h.cut))
 

@@ -91,6 +91,7 @@ module _ (setup : Setup) (w : World) (side : Side) where
       record {
         side_is = h.side_is;
         announced = h.announced;
+        any = h.any;
         no_fault = h.no_fault;
         nothing_kept = h.nothing_kept;
         own = h.own ∙ sym (ap (λ (p : Party). p.own) reader_is);
@@ -116,6 +117,7 @@ module _ (setup : Setup) (w : World) (side : Side) where
       record {
         side_is = h.side_is;
         announced = h.announced;
+        any = h.any;
         no_fault = h.no_fault;
         nothing_kept = h.nothing_kept;
         own = ap (λ (o : Own). record o { decoder_taken = min 1 o.decoder_taken }) h.own ∙ sym (ap (λ (p : Party). p.own) writer_is);

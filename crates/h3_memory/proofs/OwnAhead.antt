@@ -9,7 +9,7 @@ use Rattle.h3_connection.specs.declared.arrival.Arrival.{Arrival}
 use Rattle.h3_connection.specs.declared.arrival.Arrival.TheVariants.{BytesCame}
 use Rattle.h3_connection.specs.Control.{Found, read_control, read_encoder, read_decoder, listened_to, after_peer, then_decoder, if_learned, learned, is_table_usable, with_table}
 use Rattle.h3_connection.specs.Delivering.{bytes_at, heard_as, unless_second, read_unidirectional, with_unidirectional, unidirectional_at}
-use Rattle.h3_connection.specs.Endpoint.{EndpointHistory, goaway_encoding, is_second, kind_of}
+use Rattle.h3_connection.specs.Endpoint.{EndpointHistory, limit_of, goaway_encoding, is_second, kind_of}
 use Rattle.h3_connection.specs.Endpoint.Kind.{PeerUnidirectional}
 use Rattle.h3_connection.specs.Incoming.{Incoming}
 use Rattle.h3_connection.specs.Keeping.{read_arrival}
@@ -131,7 +131,7 @@ heard_leaves e id Control bytes = by_test (is_second e.control_on id)
   where
     by_test : (b : Bool) → streams_of (unless_second b e (read_control (record e { control_on = Some id }) bytes)).0 ≡ streams_of e
     by_test true = refl
-    by_test false = peer_leaves (record e { control_on = Some id }) (read_peer e.side (with_unread e.peer (e.peer.unread ++ bytes)))
+    by_test false = peer_leaves (record e { control_on = Some id }) (read_peer (limit_of e) e.side (with_unread e.peer (e.peer.unread ++ bytes)))
 heard_leaves e id Encoder bytes = by_test (is_second e.encoder_on id)
   where
     by_test : (b : Bool) → streams_of (unless_second b e (read_encoder (record e { encoder_on = Some id }) bytes)).0 ≡ streams_of e

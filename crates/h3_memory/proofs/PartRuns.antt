@@ -3,7 +3,7 @@ use Rattle.std.proofs.Common.{◌≡◌, ℕ, List, [], ◌∷◌, ◌++◌, ref
 use Rattle.h3_proto.specs.declared.stream.Side.{Side}
 use Rattle.h3_connection.specs.declared.arrival.Arrival.{Arrival}
 use Rattle.h3_connection.specs.declared.arrival.Arrival.TheVariants.{BytesCame}
-use Rattle.h3_connection.specs.Endpoint.{EndpointHistory}
+use Rattle.h3_connection.specs.Endpoint.{EndpointHistory, limit_of}
 use Rattle.h3_connection.specs.Keeping.{keeping}
 use Rattle.h3_connection.specs.OwnIds.{other}
 use Rattle.h3_connection.specs.PartReading as reading
@@ -23,7 +23,7 @@ use Rattle.h3_memory.proofs.ReadingState.{Reading}
 abbrev pub ReadsFramesOn : Setup → Type 0
 ReadsFramesOn setup =
     (w : World) (side : Side) (mine ds : List Delivery) (f g : EndpointHistory) (id : ℕ) (p : Rattle.h3_connection.specs.PeerReading.Peer) (more : List Arrival) → Reading setup w side mine ds f g (BytesCame id [] ∷ more) → f.control_on ≡ Some id
-    → PeerReadsPart f.side f.peer p → PartStep setup w side mine ds (after_frames f p) g (BytesCame id [] ∷ early f p ++ more)
+    → PeerReadsPart (limit_of f) f.side f.peer p → PartStep setup w side mine ds (after_frames f p) g (BytesCame id [] ∷ early f p ++ more)
 
 pub on_step : (qpack : KeptLaws) (laws : Laws) (setup : Setup) (made : IsMadeSetup setup) (frames : ReadsFramesOn setup) (w : World) (side : Side) (mine ds : List Delivery) (g : EndpointHistory) {f next : EndpointHistory} {arrivals more : List Arrival}
     → ReadsOn f arrivals next more → Reading setup w side mine ds f g arrivals → PartStep setup w side mine ds next g more

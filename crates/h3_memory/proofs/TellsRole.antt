@@ -7,7 +7,7 @@ use Rattle.h3_qpack.specs.Hearing.{hear, listen}
 use Rattle.h3_connection.specs.declared.arrival.Arrival.TheVariants.{BytesCame}
 use Rattle.h3_connection.specs.Control.{Found, increment, read_control, read_encoder, read_decoder, listened_to, after_peer, then_decoder, if_learned}
 use Rattle.h3_connection.specs.Delivering.{bytes_at, heard_as, unless_second, read_unidirectional, with_unidirectional}
-use Rattle.h3_connection.specs.Endpoint.{EndpointHistory, is_second, kind_of}
+use Rattle.h3_connection.specs.Endpoint.{EndpointHistory, limit_of, is_second, kind_of}
 use Rattle.h3_connection.specs.Endpoint.Kind.{PeerUnidirectional}
 use Rattle.h3_connection.specs.Keeping.{read_arrival}
 use Rattle.h3_connection.specs.PeerReading.{Peer, read_peer, with_unread}
@@ -105,13 +105,13 @@ no_bytes_listened laws e none = by_settings (is_some e.peer.settings)
     by_settings true = ap (λ l. listened_to e (listen e.encoder (l ++ []))) none ∙ ap (listened_to e) (laws.listened_fronts e.encoder [] 0 tt tt) ∙ ap (λ l. (record e { decoder_unread = l }, None)) (sym none)
     by_settings false = ap (λ l. (record e { decoder_unread = l }, None)) (append-nil e.decoder_unread)
 
-no_frames : (side : Side) (p : Peer) → read_peer side (with_unread p []) ≡ (with_unread p [], None)
+no_frames : (limit : ℕ) (side : Side) (p : Peer) → read_peer limit side (with_unread p []) ≡ (with_unread p [], None)
 unfolding read_peer
 no_frames side p = refl
 
 pub no_bytes_controlled : (e : EndpointHistory) → e.peer.unread ≡ [] → read_control e [] ≡ (e, None)
 no_bytes_controlled e none =
-    ap (λ l. after_peer e (read_peer e.side (with_unread e.peer (l ++ [])))) none ∙ ap (after_peer e) (no_frames e.side e.peer)
+    ap (λ l. after_peer e (read_peer (limit_of e) e.side (with_unread e.peer (l ++ [])))) none ∙ ap (after_peer e) (no_frames (limit_of e) e.side e.peer)
     ∙ ap (λ l. after_peer e (with_unread e.peer l, None)) (sym none) ∙ by_settings e.peer.settings
   where
     by_settings : (o : Option (List (ℕ × ℕ))) → then_decoder o o (if_learned o o e) None ≡ (e, None)

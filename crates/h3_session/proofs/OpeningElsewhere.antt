@@ -3,7 +3,7 @@ use Rattle.std.proofs.Common.{◌≡◌, ℕ, Bool, true, false, if◌then◌els
 use Rattle.std.specs.Prelude.{◌≢◌, is_some}
 use Rattle.h3_connection.specs.Control.{Found, listened_to, read_decoder, with_table, if_learned, then_decoder, read_control}
 use Rattle.h3_connection.specs.Delivering.{unidirectional_at, with_unidirectional, unless_second, heard_as, read_unidirectional}
-use Rattle.h3_connection.specs.Endpoint.{EndpointHistory, Kind, is_second}
+use Rattle.h3_connection.specs.Endpoint.{EndpointHistory, limit_of, Kind, is_second}
 use Rattle.h3_connection.specs.Endpoint.Kind.{Request, ServerOpened, OwnUnidirectional, PeerUnidirectional}
 use Rattle.h3_connection.specs.Incoming.{Incoming}
 use Rattle.h3_connection.specs.Outgoing.{Outgoing}
@@ -72,7 +72,7 @@ peer_by e (Some first) (Some pairs) None = nothing_found e None
 
 control_elsewhere : (e : EndpointHistory) (bytes : List ℕ) → LooksElsewhere e (read_control e bytes) (λ ins outs. read_control (with_requests e ins outs) bytes)
 control_elsewhere e bytes =
-    let found = read_peer e.side (with_unread e.peer (e.peer.unread ++ bytes)) in
+    let found = read_peer (limit_of e) e.side (with_unread e.peer (e.peer.unread ++ bytes)) in
     let h = peer_by (record e { peer = found.0 }) e.peer.settings found.0.settings found.1 in
     record { apart = h.apart; side = h.side; kept = h.kept }
 

@@ -6,7 +6,7 @@ use Rattle.h3_connection.specs.declared.arrival.Arrival.TheVariants.{BytesCame}
 use Rattle.h3_connection.specs.Calls.{Sets}
 use Rattle.h3_connection.specs.Control.{read_control, after_peer}
 use Rattle.h3_connection.specs.Delivering.{bytes_at, heard_as, read_unidirectional, unless_second, unidirectional_at, with_unidirectional}
-use Rattle.h3_connection.specs.Endpoint.{EndpointHistory, is_second, kind_of}
+use Rattle.h3_connection.specs.Endpoint.{EndpointHistory, limit_of, is_second, kind_of}
 use Rattle.h3_connection.specs.Endpoint.Kind.{PeerUnidirectional}
 use Rattle.h3_connection.specs.Keeping.{read_arrival}
 use Rattle.h3_connection.specs.PeerReading.{with_unread, read_peer}
@@ -35,12 +35,12 @@ own_id id = grind (arith, common_steps)
 as_control : (e : EndpointHistory) (id : ℕ) → (unidirectional_at e id).role ≡ Control → bytes_at e id [] PeerUnidirectional ≡ heard_as (with_unidirectional e id (record (unidirectional_at e id) { role = Control })) id Control []
 as_control e id role = ap (λ r. read_unidirectional e id (unidirectional_at e id) (role_after r [])) role
 
-pub nothing_more : (e : EndpointHistory) (id : ℕ) → kind_of e.side id ≡ PeerUnidirectional → (unidirectional_at e id).role ≡ Control → e.control_on ≡ Some id → read_peer e.side e.peer ≡ (e.peer, None)
+pub nothing_more : (e : EndpointHistory) (id : ℕ) → kind_of e.side id ≡ PeerUnidirectional → (unidirectional_at e id).role ≡ Control → e.control_on ≡ Some id → read_peer (limit_of e) e.side e.peer ≡ (e.peer, None)
     → read_arrival e (BytesCame id []) ≡ (touched e id, None)
 nothing_more e id kind role on done =
     let first : is_second e.control_on id ≡ false = ap (λ o. is_second o id) on ∙ own_id id in
     let f = touched e id in
-    let read : read_peer e.side (with_unread e.peer (e.peer.unread ++ [])) ≡ (e.peer, None) = ap (λ l. read_peer e.side (with_unread e.peer l)) (append-nil e.peer.unread) ∙ done in
+    let read : read_peer (limit_of e) e.side (with_unread e.peer (e.peer.unread ++ [])) ≡ (e.peer, None) = ap (λ l. read_peer (limit_of e) e.side (with_unread e.peer l)) (append-nil e.peer.unread) ∙ done in
     ap (λ k. bytes_at e id [] k) kind ∙ as_control e id role
     ∙ ap (λ b. unless_second b (with_unidirectional e id (record (unidirectional_at e id) { role = Control })) (read_control f [])) first
     ∙ ap (after_peer f) read ∙ then_same e.peer.settings f None

@@ -9,8 +9,8 @@ use Rattle.h3_unidirectional.specs.Learned.{capacity_of, blocked_of, usable_capa
 use Rattle.h3_connection.specs.PeerReadingLaws.{nothing_read_on}
 
 -- nothing was read
-pub nothing_read : (side : Side) (p : Peer) → PeerReadsPart side p p
-nothing_read side p = record { front = []; rest = p.unread; cut = refl; read = with_unread p []; reads = nothing_read_on side p; left = refl }
+pub nothing_read : (limit : ℕ) (side : Side) (p : Peer) → PeerReadsPart limit side p p
+nothing_read limit side p = record { front = []; rest = p.unread; cut = refl; read = with_unread p []; reads = nothing_read_on limit side p; left = refl }
 
 -- the capacity of a table that may be used is small
 usable_by : (b : Bool) (most : ℕ) (pairs : List (ℕ × ℕ)) (capacity : ℕ) → b ≡ is_table_usable most (capacity_of pairs) (blocked_of pairs)

@@ -59,21 +59,21 @@ read_by s x e id bytes n fault false h told unknown (same, none) =
 
 pub decoder_read : (x : StreamsState) (id : ℕ) (bytes : List ℕ) (n : Encoding) (fault : Option ℕ) (known : Bool) → false ≡ is_second x.decoder_on id → known ≡ is_some x.peer.settings
     → ListensIf known bytes x.encoding n fault
-    → (s : EndpointState) (e : EndpointHistory) (side : Side) → IsRead s x e side id Decoder → Reads s fault (record x { decoder_on = Some id; encoding = n }) (heard_as e id Decoder bytes)
-decoder_read x id bytes n fault known first knows listens s e side r =
+    → (s : EndpointState) (e : EndpointHistory) (side : Side) (limit : ℕ) → IsRead s x e side limit id Decoder → Reads s fault (record x { decoder_on = Some id; encoding = n }) (heard_as e id Decoder bytes)
+decoder_read x id bytes n fault known first knows listens s e side limit r =
     let h = r.stands in
     let here : is_second e.decoder_on id ≡ false = ap (λ o. is_second o id) (sym h.decoder_on) ∙ sym first in
     let knows' : is_some e.peer.settings ≡ known = ap (λ p. is_some p.settings) (sym h.peer) ∙ sym knows in
     let f = record e { decoder_on = Some id } in
     subst (Reads s fault (record x { decoder_on = Some id; encoding = n })) (sym (first_found (read_decoder f bytes) e.decoder_on e id here))
-    (rw knows' (read_by s x e id bytes n fault known h (told_peer s x e side id Decoder refl r) knows' listens))
+    (rw knows' (read_by s x e id bytes n fault known h (told_peer s x e side limit id Decoder refl r) knows' listens))
 
 -- a front of them was read
 decoder_held : (x : StreamsState) (id : ℕ) (bytes : List ℕ) (n : Encoding) (left : List Arrival) → false ≡ is_second x.decoder_on id → true ≡ is_some x.peer.settings
     → ((t : EncoderHistory) → x.encoding.encoder ≡ encoder_state t → StopsListening t (record x.encoding { unread = x.encoding.unread ++ bytes }) n) → left ≡ BytesCame id [] ∷ []
-    → (s : EndpointState) (e : EndpointHistory) (side : Side) → IsRead s x e side id Decoder
+    → (s : EndpointState) (e : EndpointHistory) (side : Side) (limit : ℕ) → IsRead s x e side limit id Decoder
     → Stops Decoder s x (record x { decoder_on = Some id; encoding = n }) e id bytes left
-decoder_held x id bytes n left first knows stopped is s e side r =
+decoder_held x id bytes n left first knows stopped is s e side limit r =
     let h = r.stands in
     let y = record x { decoder_on = Some id; encoding = n } in
     let here : is_second e.decoder_on id ≡ false = ap (λ o. is_second o id) (sym h.decoder_on) ∙ sym first in
@@ -84,7 +84,7 @@ decoder_held x id bytes n left first knows stopped is s e side r =
     let stops : StopsAt s y (held_as e id (Decoder, bytes)) (BytesCame id [] ∷ []) (BytesCame id [] ∷ []) = record {
       after = record e { decoder_on = Some id; encoder = l.after; decoder_unread = n.unread };
       reads = λ more. ReadsSome.Steps (ReadsOn.Listens refl pairs.1 part) ReadsSome.Stays;
-      stands = stands_decoder s x e id n l.after h (told_peer s x e side id Decoder refl r) l.state (λ unknown. absurd (known_not_none e.peer.settings known unknown));
+      stands = stands_decoder s x e id n l.after h (told_peer s x e side limit id Decoder refl r) l.state (λ unknown. absurd (known_not_none e.peer.settings known unknown));
       kinds = one_peer e.side id [] r.kind;
     } in
     Stops.Held here (subst (StopsAt s y (held_as e id (Decoder, bytes)) (BytesCame id [] ∷ [])) (sym is) stops)
@@ -92,11 +92,11 @@ decoder_held x id bytes n left first knows stopped is s e side r =
 -- the reading was refused memory
 pub decoder_stopped : (x : StreamsState) (id : ℕ) (bytes : List ℕ) (n : Encoding) (left : Left) (known : Bool) (stop : Stop) → false ≡ is_second x.decoder_on id
     → known ≡ is_some x.peer.settings → ListenedPart stop known bytes x.encoding n → left ≡ left_by stop id
-    → (s : EndpointState) (e : EndpointHistory) (side : Side) → IsRead s x e side id Decoder
+    → (s : EndpointState) (e : EndpointHistory) (side : Side) (limit : ℕ) → IsRead s x e side limit id Decoder
     → Stops Decoder s x (record x { decoder_on = Some id; encoding = n }) e id bytes (left_arrivals left)
-decoder_stopped x id bytes n left known Held first knows (is_known, part) is s e side r =
-    decoder_held x id bytes n (left_arrivals left) first (sym is_known ∙ knows) part (ap left_arrivals is) s e side r
-decoder_stopped x id bytes n left known (Unheld back) first knows (same, kept) is s e side r =
+decoder_stopped x id bytes n left known Held first knows (is_known, part) is s e side limit r =
+    decoder_held x id bytes n (left_arrivals left) first (sym is_known ∙ knows) part (ap left_arrivals is) s e side limit r
+decoder_stopped x id bytes n left known (Unheld back) first knows (same, kept) is s e side limit r =
     let new = record x { decoder_on = Some id; encoding = n } in
     let with_id : new ≡ record x { decoder_on = Some id } = ap (λ q. record x { decoder_on = Some id; encoding = q }) kept in
     Stops.Unheld (ap (λ o. is_second o id) (sym r.stands.decoder_on) ∙ sym first) (ap left_arrivals is ∙ ap (λ l. BytesCame id l ∷ []) same) with_id

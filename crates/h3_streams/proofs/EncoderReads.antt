@@ -40,8 +40,8 @@ pub first_found : (role_found : Found) (on : Option ℕ) (e : EndpointHistory) (
 first_found found on e id first = ap (λ b. unless_second b e found) first
 
 pub encoder_read : (x : StreamsState) (id : ℕ) (bytes : List ℕ) (d : Decoding) (fault : Option ℕ) (after : List ℕ) → false ≡ is_second x.encoder_on id → Hears x.decoding d bytes fault x.own.decoder after
-    → (s : EndpointState) (e : EndpointHistory) (side : Side) → IsRead s x e side id Encoder → Reads s fault (record x { encoder_on = Some id; decoding = d; own = record x.own { decoder = after } }) (heard_as e id Encoder bytes)
-encoder_read x id bytes d fault after first hears s e side r =
+    → (s : EndpointState) (e : EndpointHistory) (side : Side) (limit : ℕ) → IsRead s x e side limit id Encoder → Reads s fault (record x { encoder_on = Some id; decoding = d; own = record x.own { decoder = after } }) (heard_as e id Encoder bytes)
+encoder_read x id bytes d fault after first hears s e side limit r =
     let h = r.stands in
     let y = record x { encoder_on = Some id; decoding = d; own = record x.own { decoder = after } } in
     let f = record e { encoder_on = Some id } in
@@ -49,15 +49,15 @@ encoder_read x id bytes d fault after first hears s e side r =
     let k = subst (λ o. Hears o d bytes fault x.own.decoder after) h.decoding hears in
     let all = heard_more e.decoding bytes in
     let stands = subst (λ q. StandsFor (placed s (record x { encoder_on = Some id; decoding = q; own = record x.own { decoder = after } })) (read_encoder f bytes).0) (sym k.table)
-    (with_increment s x e id (insertions_heard e.decoding all) (after_hearing all) after h (told_peer s x e side id Encoder refl r) k.increment) in
+    (with_increment s x e id (insertions_heard e.decoding all) (after_hearing all) after h (told_peer s x e side limit id Encoder refl r) k.increment) in
     subst (Reads s fault y) (sym (first_found (read_encoder f bytes) e.encoder_on e id here)) (k.fault, stands)
 
 -- a front of them was read
 encoder_held : (x : StreamsState) (id : ℕ) (bytes : List ℕ) (d : Decoding) (after : List ℕ) (left : List Arrival) → false ≡ is_second x.encoder_on id
     → HearsPart (record x.decoding { unread = x.decoding.unread ++ bytes }) d → after ≡ x.own.decoder ++ increment_for (d.decoder.table.inserted - x.decoding.decoder.table.inserted) → left ≡ BytesCame id [] ∷ []
-    → (s : EndpointState) (e : EndpointHistory) (side : Side) → IsRead s x e side id Encoder
+    → (s : EndpointState) (e : EndpointHistory) (side : Side) (limit : ℕ) → IsRead s x e side limit id Encoder
     → Stops Encoder s x (record x { encoder_on = Some id; decoding = d; own = record x.own { decoder = after } }) e id bytes left
-encoder_held x id bytes d after left first part wrote is s e side r =
+encoder_held x id bytes d after left first part wrote is s e side limit r =
     let h = r.stands in
     let y = record x { encoder_on = Some id; decoding = d; own = record x.own { decoder = after } } in
     let here : is_second e.encoder_on id ≡ false = ap (λ o. is_second o id) (sym h.encoder_on) ∙ sym first in
@@ -68,7 +68,7 @@ encoder_held x id bytes d after left first part wrote is s e side r =
     let stops : StopsAt s y (held_as e id (Encoder, bytes)) (BytesCame id [] ∷ []) (BytesCame id [] ∷ []) = record {
       after = new;
       reads = λ more. ReadsSome.Steps (ReadsOn.Hears refl part') ReadsSome.Stays;
-      stands = with_increment s x e id n d after h (told_peer s x e side id Encoder refl r) wrote';
+      stands = with_increment s x e id n d after h (told_peer s x e side limit id Encoder refl r) wrote';
       kinds = one_peer e.side id [] r.kind;
     } in
     Stops.Held here (subst (StopsAt s y (held_as e id (Encoder, bytes)) (BytesCame id [] ∷ [])) (sym is) stops)
@@ -76,10 +76,10 @@ encoder_held x id bytes d after left first part wrote is s e side r =
 -- the reading was refused memory
 pub encoder_stopped : (x : StreamsState) (id : ℕ) (bytes : List ℕ) (d : Decoding) (after : List ℕ) (left : Left) (stop : Stop) → false ≡ is_second x.encoder_on id
     → HeardPart stop bytes x.decoding d x.own.decoder after → left ≡ left_by stop id
-    → (s : EndpointState) (e : EndpointHistory) (side : Side) → IsRead s x e side id Encoder
+    → (s : EndpointState) (e : EndpointHistory) (side : Side) (limit : ℕ) → IsRead s x e side limit id Encoder
     → Stops Encoder s x (record x { encoder_on = Some id; decoding = d; own = record x.own { decoder = after } }) e id bytes (left_arrivals left)
-encoder_stopped x id bytes d after left Held first (part, wrote) is s e side r = encoder_held x id bytes d after (left_arrivals left) first part wrote (ap left_arrivals is) s e side r
-encoder_stopped x id bytes d after left (Unheld back) first (same, kept, nothing) is s e side r =
+encoder_stopped x id bytes d after left Held first (part, wrote) is s e side limit r = encoder_held x id bytes d after (left_arrivals left) first part wrote (ap left_arrivals is) s e side limit r
+encoder_stopped x id bytes d after left (Unheld back) first (same, kept, nothing) is s e side limit r =
     let new = record x { encoder_on = Some id; decoding = d; own = record x.own { decoder = after } } in
     let with_id : new ≡ record x { encoder_on = Some id } = ap (λ q. record x { encoder_on = Some id; decoding = q; own = record x.own { decoder = after } }) kept
     ∙ ap (λ l. record x { encoder_on = Some id; own = record x.own { decoder = l } }) nothing in

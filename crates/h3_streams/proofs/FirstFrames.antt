@@ -11,7 +11,7 @@ use Rattle.h3_connection.specs.declared.arrival.Arrival.{Arrival}
 use Rattle.h3_connection.specs.declared.arrival.Arrival.TheVariants.{BytesCame}
 use Rattle.h3_connection.specs.Control.{after_peer, if_learned, then_decoder, is_table_usable, with_table}
 use Rattle.h3_connection.specs.Delivering.{unidirectional_at}
-use Rattle.h3_connection.specs.Endpoint.{EndpointHistory, kind_of}
+use Rattle.h3_connection.specs.Endpoint.{EndpointHistory, limit_of, kind_of}
 use Rattle.h3_connection.specs.Endpoint.Kind.{PeerUnidirectional}
 use Rattle.h3_connection.specs.Listeners.{Encoding}
 use Rattle.h3_connection.specs.PartReading.{ReadsOn, PeerReadsPart, early_if, early_arrival}
@@ -88,12 +88,12 @@ then_fault (Some pairs) None e code = refl
 then_fault (Some pairs) (Some others) e code = refl
 
 -- a fault
-pub first_fault : (x : StreamsState) (side : Side) (id : ℕ) (p : Peer) (n : Encoding) (out : List ℕ) (code : ℕ) → x.peer.settings ≡ None → read_peer side x.peer ≡ (p, Some code)
+pub first_fault : (x : StreamsState) (side : Side) (limit id : ℕ) (p : Peer) (n : Encoding) (out : List ℕ) (code : ℕ) → x.peer.settings ≡ None → read_peer limit side x.peer ≡ (p, Some code)
     → Learns x.encoding n x.own.encoder out p.settings
-    → ReadsHeld x (record x { peer = p; encoding = n; own = record x.own { encoder = out } }) side id (Some code)
-first_fault x side id p n out code unknown read l s e r on =
+    → ReadsHeld x (record x { peer = p; encoding = n; own = record x.own { encoder = out } }) side limit id (Some code)
+first_fault x side limit id p n out code unknown read l s e r on =
     let h = r.stands in
-    let found = peer_found s x e side (p, Some code) h r.side_is read in
+    let found = peer_found s x e side limit (p, Some code) h r.side_is r.limit_is read in
     let y = record x { peer = p; encoding = n; own = record x.own { encoder = out } } in
     let f = record e { peer = p } in
     subst (Reads s (Some code) y)
@@ -101,12 +101,12 @@ first_fault x side id p n out code unknown read l s e r on =
     (refl, first_stands s x e id p n out h on unknown l)
 
 -- none, and then what the decoder said is read
-pub first_read : (x new : StreamsState) (side : Side) (id : ℕ) (p : Peer) (n : Encoding) (out : List ℕ) (fault : Option ℕ) → x.peer.settings ≡ None → read_peer side x.peer ≡ (p, None)
+pub first_read : (x new : StreamsState) (side : Side) (limit id : ℕ) (p : Peer) (n : Encoding) (out : List ℕ) (fault : Option ℕ) → x.peer.settings ≡ None → read_peer limit side x.peer ≡ (p, None)
     → Learns x.encoding n x.own.encoder out p.settings
-    → ReadsEarly (record x { peer = p; encoding = n; own = record x.own { encoder = out } }) new fault → ReadsHeld x new side id fault
-first_read x new side id p n out fault unknown read l early s e r on =
+    → ReadsEarly (record x { peer = p; encoding = n; own = record x.own { encoder = out } }) new fault → ReadsHeld x new side limit id fault
+first_read x new side limit id p n out fault unknown read l early s e r on =
     let h = r.stands in
-    let found = peer_found s x e side (p, None) h r.side_is read in
+    let found = peer_found s x e side limit (p, None) h r.side_is r.limit_is read in
     let f = record e { peer = p } in
     let g = if_learned None p.settings f in
     let peer : g.peer ≡ p = ap (λ (q : EndpointHistory). q.peer) (learned_is p.settings f) in
@@ -124,19 +124,19 @@ early_peer : (side : Side) (q : Option (List (ℕ × ℕ))) (on : Option ℕ) �
 early_peer side None on h = tt
 early_peer side (Some pairs) on h = h
 
-frames_on : (e : EndpointHistory) (id : ℕ) (p : Peer) → e.peer.settings ≡ None → e.control_on ≡ Some id → PeerReadsPart e.side e.peer p
+frames_on : (e : EndpointHistory) (id : ℕ) (p : Peer) → e.peer.settings ≡ None → e.control_on ≡ Some id → PeerReadsPart (limit_of e) e.side e.peer p
     → (more : List Arrival) → ReadsOn e (BytesCame id [] ∷ more) (if_learned None p.settings (record e { peer = p })) (BytesCame id [] ∷ early_if None p.settings e.decoder_on ++ more)
 frames_on e id p unknown on part more =
     subst (λ o. ReadsOn e (BytesCame id [] ∷ more) (if_learned o p.settings (record e { peer = p })) (BytesCame id [] ∷ early_if o p.settings e.decoder_on ++ more)) unknown (ReadsOn.ReadsFrames on part)
 
 -- the reading of the frames was refused memory
-pub first_stopped : (x : StreamsState) (side : Side) (id : ℕ) (p : Peer) (n : Encoding) (out : List ℕ) (left : Left) → x.peer.settings ≡ None → PeerReadsPart side x.peer p
+pub first_stopped : (x : StreamsState) (side : Side) (limit id : ℕ) (p : Peer) (n : Encoding) (out : List ℕ) (left : Left) → x.peer.settings ≡ None → PeerReadsPart limit side x.peer p
     → Learns x.encoding n x.own.encoder out p.settings → left ≡ record { id = id; bytes = []; early = early_of p.settings x.decoder_on }
-    → StopsHeld x (record x { peer = p; encoding = n; own = record x.own { encoder = out } }) side id (left_arrivals left)
-first_stopped x side id p n out left unknown part l is s e r on =
+    → StopsHeld x (record x { peer = p; encoding = n; own = record x.own { encoder = out } }) side limit id (left_arrivals left)
+first_stopped x side limit id p n out left unknown part l is s e r on =
     let h = r.stands in
     let y = record x { peer = p; encoding = n; own = record x.own { encoder = out } } in
-    let part' = peer_part s x e side p h r.side_is part in
+    let part' = peer_part s x e side limit p h r.side_is r.limit_is part in
     let arrivals : BytesCame id [] ∷ early_if None p.settings e.decoder_on ≡ left_arrivals left =
     ap (λ o. BytesCame id [] ∷ early_if None p.settings o) (sym h.decoder_on) ∙ ap (λ q. BytesCame id [] ∷ q) (sym (early_left p.settings x.decoder_on)) ∙ sym (ap left_arrivals is) in
     let peers = subst (λ t. IfSome x.decoder_on (λ d. kind_of t d ≡ PeerUnidirectional)) (sym r.side_is) r.early in
@@ -149,34 +149,35 @@ first_stopped x side id p n out left unknown part l is s e r on =
     }
 
 -- all frames were read
-whole_part : (side : Side) (old new : Peer) → read_peer side old ≡ (new, None) → PeerReadsPart side old new
-whole_part side old new read =
+whole_part : (limit : ℕ) (side : Side) (old new : Peer) → read_peer limit side old ≡ (new, None) → PeerReadsPart limit side old new
+whole_part limit side old new read =
     record { front = old.unread; rest = []; cut = sym (append-nil old.unread); read = new; reads = read; left = sym (ap (λ l. with_unread new l) (append-nil new.unread)) }
 
 -- the reading of what the decoder said before was refused memory
-pub early_stopped : (x new : StreamsState) (side : Side) (id : ℕ) (p : Peer) (n : Encoding) (out : List ℕ) (left : List Arrival) → x.peer.settings ≡ None → read_peer side x.peer ≡ (p, None)
+pub early_stopped : (x new : StreamsState) (side : Side) (limit id : ℕ) (p : Peer) (n : Encoding) (out : List ℕ) (left : List Arrival) → x.peer.settings ≡ None → read_peer limit side x.peer ≡ (p, None)
     → Learns x.encoding n x.own.encoder out p.settings
-    → StopsEarly (record x { peer = p; encoding = n; own = record x.own { encoder = out } }) new side left → StopsHeld x new side id left
-early_stopped x new side id p n out left unknown read l early s e r on =
+    → StopsEarly (record x { peer = p; encoding = n; own = record x.own { encoder = out } }) new side left → StopsHeld x new side limit id left
+early_stopped x new side limit id p n out left unknown read l early s e r on =
     let h = r.stands in
-    let found = peer_found s x e side (p, None) h r.side_is read in
+    let found = peer_found s x e side limit (p, None) h r.side_is r.limit_is read in
     let f = record e { peer = p } in
     let g = if_learned None p.settings f in
     let is = learned_is p.settings f in
     let peer : g.peer ≡ p = ap (λ (q : EndpointHistory). q.peer) is in
     let side_is : g.side ≡ e.side = ap (λ (q : EndpointHistory). q.side) is in
+    let limit_is : limit_of g ≡ limit_of e = ap limit_of is in
     let control : g.control_on ≡ Some id = ap (λ (q : EndpointHistory). q.control_on) is ∙ on in
     let decoder : g.decoder_on ≡ e.decoder_on = ap (λ (q : EndpointHistory). q.decoder_on) is in
     let role : (unidirectional_at g id).role ≡ Control = ap (λ (q : EndpointHistory). (unidirectional_at q id).role) is ∙ r.role_is in
     let kind : kind_of g.side id ≡ PeerUnidirectional = ap (λ t. kind_of t id) side_is ∙ r.kind in
-    let again : read_peer e.side p ≡ (p, None) = ap (λ (q : PeerFound). read_peer e.side q.0) (sym found) ∙ read_again e.side e.peer (ap (λ (q : PeerFound). q.1) found) ∙ ap (λ (q : PeerFound). (q.0, None)) found in
-    let done : read_peer g.side g.peer ≡ (g.peer, None) = ap (λ t. read_peer t g.peer) side_is ∙ subst (λ q. read_peer e.side q ≡ (q, None)) (sym peer) again in
+    let again : read_peer (limit_of e) e.side p ≡ (p, None) = ap (λ (q : PeerFound). read_peer (limit_of e) e.side q.0) (sym found) ∙ read_again (limit_of e) e.side e.peer (ap (λ (q : PeerFound). q.1) found) ∙ ap (λ (q : PeerFound). (q.0, None)) found in
+    let done : read_peer (limit_of g) g.side g.peer ≡ (g.peer, None) = ap (λ n. read_peer n g.side g.peer) limit_is ∙ ap (λ t. read_peer (limit_of e) t g.peer) side_is ∙ subst (λ q. read_peer (limit_of e) e.side q ≡ (q, None)) (sym peer) again in
     let there = first_stands s x e id p n out h on unknown l in
     let stops = early s (touched g id) (touched_stands s _ g id there role control) (side_is ∙ r.side_is) r.early in
     let arrivals : early_if None g.peer.settings g.decoder_on ≡ early_if None p.settings e.decoder_on = ap (λ (q : Peer). early_if None q.settings g.decoder_on) peer ∙ ap (λ o. early_if None p.settings o) decoder in
     record {
       after = stops.after;
-      reads = λ more. ReadsSome.Steps (frames_on e id p (unknown_before s x e h unknown) on (whole_part e.side e.peer p found) more)
+      reads = λ more. ReadsSome.Steps (frames_on e id p (unknown_before s x e h unknown) on (whole_part (limit_of e) e.side e.peer p found) more)
           (ReadsSome.Steps (ReadsOn.ReadsWhole (nothing_more g id kind role control done)) (subst (λ a. ReadsSome (touched g id) (a ++ more) stops.after (left ++ more)) arrivals (stops.reads more)));
       stands = stops.stands;
       kinds = subst (λ t. All (IsPeers t) left) side_is stops.kinds;

@@ -1,7 +1,8 @@
 -- A control stream that was read whole, without a fault, gives nothing more; and settings that came stay.
-use Rattle.std.proofs.Common.{◌≡◌, ℕ, zero, suc, ◌<◌, Bool, true, false, if◌then◌else◌, List, length, Option, Some, None, refl, ap, sym, subst, arith}
+use Rattle.std.proofs.Common.{◌≡◌, ℕ, zero, suc, ◌<◌, Bool, true, false, if◌then◌else◌, List, length, Option, Some, None, refl, ap, sym, ◌∙◌, subst, arith}
 use Rattle.h3_proto.specs.declared.stream.Side.{Side}
 use Rattle.h3_proto.specs.declared.stream.Side.TheVariants.{Client, Server}
+use Rattle.h3_wire.specs.ExcessiveFrames.{is_excessive}
 use Rattle.h3_wire.specs.Frames.{Front, Whole, Unknown, Refused, Unfinished, frame_at}
 use Rattle.h3_wire.specs.Known.{known, IsWaiting}
 use Rattle.h3_wire.specs.KnownLaws.{known_is, known_known}
@@ -10,7 +11,7 @@ use Rattle.h3_wire.specs.declared.proto.frame.PayloadLen.{PayloadLen}
 use Rattle.h3_wire.specs.declared.proto.frame.Frame.{Frame}
 use Rattle.h3_wire.specs.declared.proto.frame.Frame.TheVariants as frame
 use Rattle.h3_connection.specs.PeerReading.{Peer, PeerFound, with_unread, read_max_push, read_frame, unless_fault, at_front, read_peer}
-use Rattle.h3_connection.specs.PeerReadingLaws.{peer_step, frame_keeps}
+use Rattle.h3_connection.specs.PeerReadingLaws.{peer_step, step_excessive, step_within, frame_keeps}
 use Rattle.h3_connection.specs.SkippingLaws.{rest_shorter}
 use Rattle.h3_unidirectional.specs.PeerLaws.{peer_waits}
 
@@ -58,34 +59,42 @@ kept_behind : (p : Peer) (x : PeerFound) (go : Peer → PeerFound) → Keeps p x
 kept_behind p (q, Some code) go h k = h
 kept_behind p (q, None) go h k = λ later. h (k later)
 
-settings_front : (side : Side) (p : Peer) (x : Front) → frame_at (known p.unread) ≡ x → ((q : Peer) → length q.unread < length p.unread → Keeps q (read_peer side q))
-    → Keeps p (at_front (read_peer side) side p (known p.unread) x)
-settings_front side p (Whole f rest) is each =
-    kept_behind p (read_frame side (with_unread p rest) p.settings f) (read_peer side) (settings_kept side (with_unread p rest) f p.settings refl)
+settings_front : (limit : ℕ) (side : Side) (p : Peer) (x : Front) → frame_at (known p.unread) ≡ x → ((q : Peer) → length q.unread < length p.unread → Keeps q (read_peer limit side q))
+    → Keeps p (at_front (read_peer limit side) side p (known p.unread) x)
+settings_front limit side p (Whole f rest) is each =
+    kept_behind p (read_frame side (with_unread p rest) p.settings f) (read_peer limit side) (settings_kept side (with_unread p rest) f p.settings refl)
     (each (read_frame side (with_unread p rest) p.settings f).0 (fewer_after side p f rest is))
-settings_front side p (Unknown kind rest) is each = λ h. h
-settings_front side p (Refused e) is each = λ h. h
-settings_front side p (Unfinished least) is each = λ h. h
+settings_front limit side p (Unknown kind rest) is each = λ h. h
+settings_front limit side p (Refused e) is each = λ h. h
+settings_front limit side p (Unfinished least) is each = λ h. h
 
 -- Settings that came stay.
-pub settings_stay : (side : Side) (p : Peer) → (read_peer side p).0.settings ≡ None → p.settings ≡ None
-settings_stay side = along (λ p. Keeps p (read_peer side p)) (λ p each. rw (peer_step side p) (settings_front side p (frame_at (known p.unread)) refl each))
+pub settings_stay : (limit : ℕ) (side : Side) (p : Peer) → (read_peer limit side p).0.settings ≡ None → p.settings ≡ None
+settings_stay limit side =
+    along (λ p. Keeps p (read_peer limit side p))
+    (λ p each. rw (peer_step limit side p) (if_both (Keeps p) (is_excessive limit (known p.unread)) _ _ (λ h. h) (settings_front limit side p (frame_at (known p.unread)) refl each)))
 
-abbrev Again : Side → PeerFound → Type 0
-Again side x = x.1 ≡ None → read_peer side x.0 ≡ (x.0, None)
+abbrev Again : ℕ → Side → PeerFound → Type 0
+Again limit side x = x.1 ≡ None → read_peer limit side x.0 ≡ (x.0, None)
 
-again_behind : (side : Side) (x : PeerFound) → Again side (read_peer side x.0) → Again side (unless_fault x (read_peer side))
-again_behind side (q, Some code) h = λ none. absurd (cc)
-again_behind side (q, None) h = h
+again_behind : (limit : ℕ) (side : Side) (x : PeerFound) → Again limit side (read_peer limit side x.0) → Again limit side (unless_fault x (read_peer limit side))
+again_behind limit side (q, Some code) h = λ none. absurd (cc)
+again_behind limit side (q, None) h = h
 
-again_front : (side : Side) (p : Peer) (x : Front) → frame_at (known p.unread) ≡ x → ((q : Peer) → length q.unread < length p.unread → Again side (read_peer side q))
-    → Again side (at_front (read_peer side) side p (known p.unread) x)
-again_front side p (Whole f rest) is each =
-    again_behind side (read_frame side (with_unread p rest) p.settings f) (each (read_frame side (with_unread p rest) p.settings f).0 (fewer_after side p f rest is))
-again_front side p (Unknown kind rest) is each = λ none. absurd (subst IsKnown is (known_is p.unread))
-again_front side p (Refused e) is each = λ none. absurd (cc)
-again_front side p (Unfinished least) is each = λ none. peer_waits side (with_unread p (known p.unread)) (known p.unread) (sym (known_known p.unread)) (subst IsWaiting (sym is) tt)
+again_front : (limit : ℕ) (side : Side) (p : Peer) (x : Front) → frame_at (known p.unread) ≡ x → is_excessive limit (known p.unread) ≡ false
+    → ((q : Peer) → length q.unread < length p.unread → Again limit side (read_peer limit side q)) → Again limit side (at_front (read_peer limit side) side p (known p.unread) x)
+again_front limit side p (Whole f rest) is small each =
+    again_behind limit side (read_frame side (with_unread p rest) p.settings f) (each (read_frame side (with_unread p rest) p.settings f).0 (fewer_after side p f rest is))
+again_front limit side p (Unknown kind rest) is small each = λ none. absurd (subst IsKnown is (known_is p.unread))
+again_front limit side p (Refused e) is small each = λ none. absurd (cc)
+again_front limit side p (Unfinished least) is small each =
+    λ none. peer_waits limit side (with_unread p (known p.unread)) (known p.unread) (ap (is_excessive limit) (known_known p.unread) ∙ small) (sym (known_known p.unread)) (subst IsWaiting (sym is) tt)
+
+again_by : (large : Bool) (limit : ℕ) (side : Side) (p : Peer) → is_excessive limit (known p.unread) ≡ large → ((q : Peer) → length q.unread < length p.unread → Again limit side (read_peer limit side q))
+    → Again limit side (read_peer limit side p)
+again_by true limit side p e each = rw (step_excessive limit side p e) (λ none. absurd (cc))
+again_by false limit side p e each = rw (step_within limit side p e) (again_front limit side p (frame_at (known p.unread)) refl e each)
 
 -- What was read whole gives nothing more.
-pub read_again : (side : Side) (p : Peer) → (read_peer side p).1 ≡ None → read_peer side (read_peer side p).0 ≡ ((read_peer side p).0, None)
-read_again side = along (λ p. Again side (read_peer side p)) (λ p each. rw (peer_step side p) (again_front side p (frame_at (known p.unread)) refl each))
+pub read_again : (limit : ℕ) (side : Side) (p : Peer) → (read_peer limit side p).1 ≡ None → read_peer limit side (read_peer limit side p).0 ≡ ((read_peer limit side p).0, None)
+read_again limit side = along (λ p. Again limit side (read_peer limit side p)) (λ p each. again_by (is_excessive limit (known p.unread)) limit side p refl each)

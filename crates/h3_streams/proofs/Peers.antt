@@ -33,8 +33,8 @@ peer_on side streams (Some d) h = h.0
 pub told_by : (side : Side) (streams : Streams Unidirectional) (on : Option ℕ) (id : ℕ) → on ≡ Some id → IfSome on (IsToldPeer side streams) → IsToldPeer side streams id
 told_by side streams on id is h = subst (λ o. IfSome o (IsToldPeer side streams)) is h
 
-pub told_peer : (s : EndpointState) (x : StreamsState) (e : EndpointHistory) (side : Side) (id : ℕ) (r : Role) → is_critical r ≡ true → IsRead s x e side id r → IsToldPeer e.side e.unidirectional id
-told_peer s x e side id r critical read = (read.kind, ap is_critical read.role_is ∙ critical)
+pub told_peer : (s : EndpointState) (x : StreamsState) (e : EndpointHistory) (side : Side) (limit id : ℕ) (r : Role) → is_critical r ≡ true → IsRead s x e side limit id r → IsToldPeer e.side e.unidirectional id
+told_peer s x e side limit id r critical read = (read.kind, ap is_critical read.role_is ∙ critical)
 
 -- a stream that is read, and no second one, is this
 pub same_reader : (other id : ℕ) → is_second (Some other) id ≡ false → other ≡ id

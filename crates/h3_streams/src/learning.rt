@@ -51,7 +51,7 @@ fn use_settings(peer: &PeerControl, encoding: &mut Encoding, out: &mut Vec<u8>)
     put_capacity(capacity, out);
 }
 
-/// Reads the peer's control stream while its settings have not come. As soon as they are read the table that they allow is used, and
+/// Reads the peer's control stream, of frames up to `most`, while its settings have not come. As soon as they are read the table that they allow is used, and
 /// its capacity written on `out`: the room for that is taken before, so that no want of memory comes between. The fault is that of
 /// the reading. Where memory is refused a front of the frames was read.
 #[tactic(auto, using(crate::proofs::Allowed::nothing_read))]
@@ -61,10 +61,11 @@ pub(crate) fn read_first(
     out: &mut Vec<u8>,
     alloc: Global,
     side: Side,
+    most: u64,
 ) -> Result<Option<Code>, AllocError>
     requires unknown { peer.old.settings ≡ None }
-    ensures ok { IfOk result (λ fault. read_peer side peer.old ≡ (peer.new, fault)) }
-    ensures err { OnErr result (PeerReadsPart side peer.old peer.new) }
+    ensures ok { IfOk result (λ fault. read_peer most side peer.old ≡ (peer.new, fault)) }
+    ensures err { OnErr result (PeerReadsPart most side peer.old peer.new) }
     ensures learns { Learns encoding.old encoding.new out.old.items out.new.items peer.new.settings }
 {
     // (not reached: before the settings came nothing was inserted)
@@ -74,7 +75,7 @@ pub(crate) fn read_first(
     let Ok(()) = out.reserve(CAPACITY_LEN) else {
         return Err(AllocError);
     };
-    let outcome = peer.read(alloc, side);
+    let outcome = peer.read(alloc, side, most);
     use_settings(peer, encoding, out);
     outcome
 }

@@ -1,5 +1,5 @@
 //! Bytes for the connection's own streams of the peer: its control, encoder and decoder stream.
-ghost use Rattle.std.specs.Prelude.{◌≡◌, Some, IfOk, IfErr};
+ghost use Rattle.std.specs.Prelude.{◌≡◌, ℕ, Some, IfOk, IfErr};
 ghost use Rattle.h3_proto.specs.declared.stream.Side.{Side};
 ghost use Rattle.h3_connection.specs.Delivering.{heard_as};
 ghost use Rattle.h3_connection.specs.Endpoint.{EndpointHistory};
@@ -31,8 +31,8 @@ fn is_second(first: Option<StreamId>, id: StreamId) -> bool
 impl ConnectionStreams {
     /// Bytes for the encoder stream: of the first such stream, whose role was told before or is told now. A second one is a fault.
     pub(crate) fn encoder_bytes(&mut self, id: StreamId, bytes: Bytes) -> Result<Option<Code>, Left>
-        ensures ok { IfOk result (λ fault. (s : EndpointState) (e : EndpointHistory) (side : Side) → IsRead s self.old e side id Encoder → Reads s fault self.new (heard_as e id Encoder bytes)) }
-        ensures err { IfErr result (λ left. (s : EndpointState) (e : EndpointHistory) (side : Side) → IsRead s self.old e side id Encoder → Stops Encoder s self.old self.new e id bytes (left_arrivals left)) }
+        ensures ok { IfOk result (λ fault. (s : EndpointState) (e : EndpointHistory) (side : Side) (most : ℕ) → IsRead s self.old e side most id Encoder → Reads s fault self.new (heard_as e id Encoder bytes)) }
+        ensures err { IfErr result (λ left. (s : EndpointState) (e : EndpointHistory) (side : Side) (most : ℕ) → IsRead s self.old e side most id Encoder → Stops Encoder s self.old self.new e id bytes (left_arrivals left)) }
     {
         if is_second(self.encoder_on, id) {
             return Ok(Some(Code::H3_STREAM_CREATION_ERROR));
@@ -47,8 +47,8 @@ impl ConnectionStreams {
 
     /// Bytes for the decoder stream: of the first such stream, whose role was told before or is told now. A second one is a fault.
     pub(crate) fn decoder_bytes(&mut self, id: StreamId, bytes: Bytes) -> Result<Option<Code>, Left>
-        ensures ok { IfOk result (λ fault. (s : EndpointState) (e : EndpointHistory) (side : Side) → IsRead s self.old e side id Decoder → Reads s fault self.new (heard_as e id Decoder bytes)) }
-        ensures err { IfErr result (λ left. (s : EndpointState) (e : EndpointHistory) (side : Side) → IsRead s self.old e side id Decoder → Stops Decoder s self.old self.new e id bytes (left_arrivals left)) }
+        ensures ok { IfOk result (λ fault. (s : EndpointState) (e : EndpointHistory) (side : Side) (most : ℕ) → IsRead s self.old e side most id Decoder → Reads s fault self.new (heard_as e id Decoder bytes)) }
+        ensures err { IfErr result (λ left. (s : EndpointState) (e : EndpointHistory) (side : Side) (most : ℕ) → IsRead s self.old e side most id Decoder → Stops Decoder s self.old self.new e id bytes (left_arrivals left)) }
     {
         if is_second(self.decoder_on, id) {
             return Ok(Some(Code::H3_STREAM_CREATION_ERROR));
@@ -61,16 +61,18 @@ impl ConnectionStreams {
         Err(stop.left(id))
     }
 
-    /// Bytes for the control stream: of the first such stream, whose role was told before or is told now. A second one is a fault.
+    /// Bytes for the control stream: of the first such stream, whose role was told before or is told now. A second one is a fault, and so is
+    /// a frame that says a length above `most`.
     pub(crate) fn control_bytes(
         &mut self,
         alloc: Global,
         side: Side,
+        most: u64,
         id: StreamId,
         bytes: Bytes,
     ) -> Result<Option<Code>, Left>
-        ensures ok { IfOk result (λ fault. (s : EndpointState) (e : EndpointHistory) → IsRead s self.old e side id Control → Reads s fault self.new (heard_as e id Control bytes)) }
-        ensures err { IfErr result (λ left. (s : EndpointState) (e : EndpointHistory) → IsRead s self.old e side id Control → Stops Control s self.old self.new e id bytes (left_arrivals left)) }
+        ensures ok { IfOk result (λ fault. (s : EndpointState) (e : EndpointHistory) → IsRead s self.old e side most id Control → Reads s fault self.new (heard_as e id Control bytes)) }
+        ensures err { IfErr result (λ left. (s : EndpointState) (e : EndpointHistory) → IsRead s self.old e side most id Control → Stops Control s self.old self.new e id bytes (left_arrivals left)) }
     {
         if is_second(self.control_on, id) {
             return Ok(Some(Code::H3_STREAM_CREATION_ERROR));
@@ -80,18 +82,24 @@ impl ConnectionStreams {
             Ok(()) => {}
             Err(back) => return Err(Left::of(id, back)),
         }
-        self.frames(alloc, side, id)
+        self.frames(alloc, side, most, id)
     }
 
     /// Reads what is held of the control stream.
-    fn frames(&mut self, alloc: Global, side: Side, id: StreamId) -> Result<Option<Code>, Left>
-        ensures ok { IfOk result (λ fault. ReadsHeld self.old self.new side id fault) }
-        ensures err { IfErr result (λ left. StopsHeld self.old self.new side id (left_arrivals left)) }
+    fn frames(
+        &mut self,
+        alloc: Global,
+        side: Side,
+        most: u64,
+        id: StreamId,
+    ) -> Result<Option<Code>, Left>
+        ensures ok { IfOk result (λ fault. ReadsHeld self.old self.new side most id fault) }
+        ensures err { IfErr result (λ left. StopsHeld self.old self.new side most id (left_arrivals left)) }
     {
         if !self.peer.has_settings() {
-            return self.first_frames(alloc, side, id);
+            return self.first_frames(alloc, side, most, id);
         }
-        let Ok(fault) = self.peer.read(alloc, side) else {
+        let Ok(fault) = self.peer.read(alloc, side, most) else {
             return Err(Left::held(id));
         };
         Ok(fault)
@@ -103,14 +111,15 @@ impl ConnectionStreams {
         &mut self,
         alloc: Global,
         side: Side,
+        most: u64,
         id: StreamId,
     ) -> Result<Option<Code>, Left>
         requires { self.old.peer.settings ≡ None }
-        ensures ok { IfOk result (λ fault. ReadsHeld self.old self.new side id fault) }
-        ensures err { IfErr result (λ left. StopsHeld self.old self.new side id (left_arrivals left)) }
+        ensures ok { IfOk result (λ fault. ReadsHeld self.old self.new side most id fault) }
+        ensures err { IfErr result (λ left. StopsHeld self.old self.new side most id (left_arrivals left)) }
     {
         let out = self.own.encoder.bytes_mut();
-        match read_first(&mut self.peer, &mut self.encoding, out, alloc, side) {
+        match read_first(&mut self.peer, &mut self.encoding, out, alloc, side, most) {
             Ok(Some(code)) => Ok(Some(code)),
             Ok(None) => self.early_replies(),
             Err(_) => Err(Left {

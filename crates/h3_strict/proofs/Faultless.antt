@@ -1,4 +1,4 @@
--- New ends in a schedule in which no pull judges a message: no pull finds a fault.
+-- New ends in a schedule in which no event judges: no answer tells of a fault.
 use Rattle.std.proofs.Common.{◌≡◌, ℕ, Bool, true, false, if◌then◌else◌, List, [], ◌∷◌, ◌++◌, refl, ap, sym, ◌∙◌, subst, Option, Some, None}
 use Rattle.std.specs.Prelude.{◌||◌, ◌&&◌, ◌==◌, nat_lt, not, take}
 use Rattle.std.specs.List.{AllByRecursion, list_any}
@@ -23,6 +23,7 @@ use Rattle.h3_connection.specs.declared.event.Fault.TheVariants as fault
 use Rattle.h3_connection.specs.declared.event.Pull.{Pull}
 use Rattle.h3_connection.specs.declared.event.Pull.TheVariants as pull
 use Rattle.h3_connection.specs.declared.event.Refusal.{Refusal}
+use Rattle.h3_connection.specs.declared.event.Refusal.TheVariants as refusal
 use Rattle.h3_world.specs.Delivering.{reset_code}
 use Rattle.h3_world.specs.Ends.{Ends, answered, answers_of_ends, done, end_at, ends_after, new_ends, was_offered, was_pulled}
 use Rattle.h3_world.specs.Headline.{is_connection_fault}
@@ -34,23 +35,29 @@ use Rattle.h3_world.specs.declared.event.Event.{Event}
 use Rattle.h3_world.specs.declared.event.Event.TheVariants as event
 use Rattle.h3_world.specs.declared.setup.Setup.{Setup}
 use Rattle.h3_strict.specs.PlainEnds.{NoneJudges, finds_fault, judges}
-use Rattle.h3_strict.specs.Plainly.{is_judged, judged_as, judged_at, judged_open, tells_fault, tells_malformed}
+use Rattle.h3_strict.specs.Plainly.{exceeds, is_judged, judged_as, judged_at, judged_open, tells_fault, tells_malformed}
 use Rattle.h3_strict.proofs.PlainHeadlines.{RunInWorlds, runs_in_a_world}
 use Rattle.h3_strict.proofs.PlainRuns.{neither, none_more, runs_plainly}
 
 -- what does not pull finds none
-done_finds : (ends : Ends) (side : Side) (success : Answer) (x : Option Refusal × EndpointHistory) → finds_fault success ≡ false → finds_fault (done ends side success x).0 ≡ false
-done_finds ends side success (None, e) h = h
-done_finds ends side success (Some r, e) h = refl
+abbrev NoFault : Answer → Type 0
+NoFault a = is_connection_fault a ≡ false → finds_fault a ≡ false
 
-offered_finds : (ends : Ends) (writer : Side) (id count : ℕ) (x : Option Refusal × EndpointHistory) → finds_fault (was_offered ends writer id count x).0 ≡ false
-offered_finds ends writer id count (None, e) = refl
-offered_finds ends writer id count (Some r, e) = refl
+refused_finds : (r : Refusal) → NoFault (answer.Refused r)
+refused_finds (refusal.Connection code) h = absurd (cc)
+refused_finds r h = refl
 
-tested_finds : (ends : Ends) (b c : Bool) (instead : Answer) (x : Answer × Ends) → finds_fault instead ≡ false → finds_fault x.0 ≡ false
-    → finds_fault (if b then (answer.NoStream, ends) else (if c then (instead, ends) else x)).0 ≡ false
-tested_finds ends true c instead x h k = refl
-tested_finds ends false true instead x h k = h
+done_finds : (ends : Ends) (side : Side) (success : Answer) (x : Option Refusal × EndpointHistory) → finds_fault success ≡ false → NoFault (done ends side success x).0
+done_finds ends side success (None, e) h = λ whole. h
+done_finds ends side success (Some r, e) h = refused_finds r
+
+offered_finds : (ends : Ends) (writer : Side) (id count : ℕ) (x : Option Refusal × EndpointHistory) → NoFault (was_offered ends writer id count x).0
+offered_finds ends writer id count (None, e) = λ whole. refl
+offered_finds ends writer id count (Some r, e) = refused_finds r
+
+tested_finds : (ends : Ends) (b c : Bool) (instead : Answer) (x : Answer × Ends) → finds_fault instead ≡ false → NoFault x.0 → NoFault (if b then (answer.NoStream, ends) else (if c then (instead, ends) else x)).0
+tested_finds ends true c instead x h k = λ whole. refl
+tested_finds ends false true instead x h k = λ whole. h
 tested_finds ends false false instead x h k = k
 
 -- streams of the other kinds
@@ -131,35 +138,35 @@ module _ (e : EndpointHistory) (id : ℕ) where
   -- where nothing is kept
   pulls_finds : e.kept ≡ [] → is_judged e id ≡ false → FindsNone (pulls e id)
   pulls_finds kept none =
-      subst (λ k. FindsNone (pulls_behind k e id)) (sym kept) (open_finds e.closed (sym (ap (λ k. judged_open e.closed (read_all k (unkept e)).0 id) kept) ∙ none))
+      subst (λ k. FindsNone (pulls_behind k e id)) (sym kept) (open_finds e.closed (sym (ap (λ k. exceeds e (read_all k (unkept e)).1 || judged_open e.closed (read_all k (unkept e)).0 id) kept) ∙ none))
 
 was_pulled_finds : (ends : Ends) (side : Side) (x : Pull × EndpointHistory) → FindsNone x → is_connection_fault (was_pulled ends side x).0 ≡ false → finds_fault (was_pulled ends side x).0 ≡ false
 was_pulled_finds ends side (p, e) h fault = h fault
 
 -- any event at ends that keep nothing
 module _ (ends : Ends) (kept : (side : Side) → (end_at ends side).kept ≡ []) where
-  told_event : (b c : Bool) (reader : Side) (x : Option Refusal × EndpointHistory) → finds_fault (if b then (answer.NoStream, ends) else (if c then (answer.Early, ends) else done ends reader answer.Done x)).0 ≡ false
+  told_event : (b c : Bool) (reader : Side) (x : Option Refusal × EndpointHistory) → NoFault (if b then (answer.NoStream, ends) else (if c then (answer.Early, ends) else done ends reader answer.Done x)).0
   told_event b c reader x = tested_finds ends b c answer.Early (done ends reader answer.Done x) refl (done_finds ends reader answer.Done x refl)
 
   step_finds : (e : Event) → judges ends e ≡ false → is_connection_fault (answered ends e).0 ≡ false → finds_fault (answered ends e).0 ≡ false
-  step_finds (event.OpenRequest side) none h = done_finds ends side (answer.Opened (end_at ends side).next_id) (sender.open_request (end_at ends side)) refl
-  step_finds (event.Head side id head) none h = done_finds ends side answer.Done (sender.send_head (end_at ends side) id head) refl
-  step_finds (event.Body side id bytes) none h = done_finds ends side answer.Done (sender.send_body (end_at ends side) id bytes) refl
-  step_finds (event.Trailer side id trailer) none h = done_finds ends side answer.Done (sender.send_trailer (end_at ends side) id trailer) refl
-  step_finds (event.Finish side id) none h = done_finds ends side answer.Done (sender.finish (end_at ends side) id) refl
-  step_finds (event.Reset side id) none h = done_finds ends side answer.Done (sender.reset (end_at ends side) id) refl
-  step_finds (event.Cancel side id) none h = done_finds ends side answer.Done (sender.cancel (end_at ends side) id) refl
-  step_finds (event.Goaway side id) none h = done_finds ends side answer.Done (sender.goaway (end_at ends side) id) refl
+  step_finds (event.OpenRequest side) none h = done_finds ends side (answer.Opened (end_at ends side).next_id) (sender.open_request (end_at ends side)) refl h
+  step_finds (event.Head side id head) none h = done_finds ends side answer.Done (sender.send_head (end_at ends side) id head) refl h
+  step_finds (event.Body side id bytes) none h = done_finds ends side answer.Done (sender.send_body (end_at ends side) id bytes) refl h
+  step_finds (event.Trailer side id trailer) none h = done_finds ends side answer.Done (sender.send_trailer (end_at ends side) id trailer) refl h
+  step_finds (event.Finish side id) none h = done_finds ends side answer.Done (sender.finish (end_at ends side) id) refl h
+  step_finds (event.Reset side id) none h = done_finds ends side answer.Done (sender.reset (end_at ends side) id) refl h
+  step_finds (event.Cancel side id) none h = done_finds ends side answer.Done (sender.cancel (end_at ends side) id) refl h
+  step_finds (event.Goaway side id) none h = done_finds ends side answer.Done (sender.goaway (end_at ends side) id) refl h
   step_finds (event.Deliver side id count) none h =
       let e = end_at ends side in
       let came = arrives (end_at ends (other side)) (BytesCame id (take count (bytes_waiting e id))) in
-      tested_finds ends (not (has_outgoing e id)) (nat_lt (waiting e id) count) (answer.Short (waiting e id)) (was_offered ends side id count came) refl (offered_finds ends side id count came)
+      tested_finds ends (not (has_outgoing e id)) (nat_lt (waiting e id) count) (answer.Short (waiting e id)) (was_offered ends side id count came) refl (offered_finds ends side id count came) h
   step_finds (event.DeliverEnd side id) none h =
       let e = end_at ends side in
-      told_event (not (has_outgoing e id)) (not (is_finished e id && (waiting e id == 0))) (other side) (arrives (end_at ends (other side)) (EndCame id))
+      told_event (not (has_outgoing e id)) (not (is_finished e id && (waiting e id == 0))) (other side) (arrives (end_at ends (other side)) (EndCame id)) h
   step_finds (event.DeliverReset side id) none h =
       let e = end_at ends side in
-      told_event (not (has_outgoing e id)) (not (is_reset e id)) (other side) (arrives (end_at ends (other side)) (ResetCame id reset_code))
+      told_event (not (has_outgoing e id)) (not (is_reset e id)) (other side) (arrives (end_at ends (other side)) (ResetCame id reset_code)) h
   step_finds (event.Pull side id) none h = was_pulled_finds ends side (pulls (end_at ends side) id) (pulls_finds (end_at ends side) id (kept side) none) h
   step_finds (event.Show side) none h = refl
 

@@ -9,7 +9,7 @@ use Rattle.h3_connection.specs.declared.arrival.Arrival.TheVariants.{BytesCame, 
 use Rattle.h3_connection.specs.declared.arrival.Arrival.{Arrival}
 use Rattle.h3_connection.specs.Control.{Found, after_peer, if_learned, is_table_usable, listened_to, read_control, read_decoder, then_decoder, with_table}
 use Rattle.h3_connection.specs.Delivering.{bytes_at, closed_by, delivery_refusal, end_at, given_up_by, given_up_once, heard_as, incoming_at, kept, opened, opened_at, read_unidirectional, reset_at, taken, unidirectional_at, unless_second, with_end}
-use Rattle.h3_connection.specs.Endpoint.{EndpointHistory, Kind, is_second, kind_of}
+use Rattle.h3_connection.specs.Endpoint.{EndpointHistory, limit_of, Kind, is_second, kind_of}
 use Rattle.h3_connection.specs.Endpoint.Kind.{OwnUnidirectional, PeerUnidirectional, Request, ServerOpened}
 use Rattle.h3_connection.specs.Incoming.{Incoming, nothing_came}
 use Rattle.h3_connection.specs.Keeping.{arrives, arrives_behind, read_arrival}
@@ -120,7 +120,7 @@ after_peer_same e (p, fault) =
     then_same e f _ (then_same e (record e { peer = p }) f first (if_learned_same e.peer.settings p.settings (record e { peer = p }))) (then_decoder_same e.peer.settings p.settings f fault)
 
 control_same : (e : EndpointHistory) (bytes : List ℕ) → SameStreams e (read_control e bytes).0
-control_same e bytes = after_peer_same e (read_peer e.side (with_unread e.peer (e.peer.unread ++ bytes)))
+control_same e bytes = after_peer_same e (read_peer (limit_of e) e.side (with_unread e.peer (e.peer.unread ++ bytes)))
 
 second_same : (b : Bool) (e : EndpointHistory) (x : Found) → SameStreams e x.0 → SameStreams e (unless_second b e x).0
 second_same true e x h = same_streams e
@@ -264,6 +264,10 @@ arrival_keeps : (e : EndpointHistory) (a : Arrival) → KeepsBut (lost_by a) e (
 arrival_keeps e (BytesCame id bytes) = bytes_keep e id bytes (kind_of e.side id)
 arrival_keeps e (EndCame id) = end_keeps e id (kind_of e.side id)
 arrival_keeps e (ResetCame id code) = resets_keep e id code (kind_of e.side id)
+
+-- what was announced stays
+pub arrival_announced : (e : EndpointHistory) (a : Arrival) → (read_arrival e a).0.announced ≡ e.announced
+arrival_announced e a = (arrival_keeps e a).announced
 
 -- **What comes, with nothing kept.**
 pub arrives_keep : (e : EndpointHistory) (a : Arrival) → e.kept ≡ [] → KeepsBut (lost_by a) e (arrives e a).1

@@ -2,11 +2,14 @@
 use Rattle.std.proofs.Common.{◌≡◌, inl, ℕ, Bool, true, false, List, [], ◌∷◌, ◌++◌, refl, sym, ap, ◌∙◌, subst, arith, if◌then◌else◌}
 use Rattle.std.specs.Prelude.{◌==◌, ◌&&◌}
 use Rattle.std.specs.List.{AllByRecursion}
+use Rattle.std.proofs.lemmas.Bool.{and_right}
 use Rattle.h3_messages.specs.declared.content.Content.{Content}
 use Rattle.h3_messages.specs.declared.content.Content.TheVariants.{Unsaid}
 use Rattle.h3_proto.specs.declared.stream.Side.{Side}
 use Rattle.h3_proto.specs.declared.stream.Side.TheVariants.{Client, Server}
+use Rattle.h3_proto.specs.Config.{is_limit}
 use Rattle.h3_connection.specs.Delivering.{incoming_at}
+use Rattle.h3_connection.specs.Endpoint.{limit_of}
 use Rattle.h3_connection.specs.Incoming.{nothing_came}
 use Rattle.h3_connection.specs.Keeping.{pulls}
 use Rattle.h3_connection.specs.Outgoing.{nothing_sent}
@@ -15,13 +18,13 @@ use Rattle.h3_connection.specs.Pulling.{is_client}
 use Rattle.h3_connection.specs.Sending.{outgoing_at}
 use Rattle.h3_connection.specs.declared.setup.Announced.{Announced}
 use Rattle.h3_proto.specs.StreamIds.{is_request_stream}
-use Rattle.h3_world.specs.Ends.{Ends, answered, answers_of_ends, end_at, ends_after, new_ends}
+use Rattle.h3_world.specs.Ends.{Ends, answered, answers_of_ends, delivery, end_at, end_delivery, ends_after, new_ends, reset_delivery}
 use Rattle.h3_world.specs.Flow.{Flow, unused}
 use Rattle.h3_world.specs.Headline.{Happens}
 use Rattle.h3_world.specs.Refusals.{next_id}
 use Rattle.h3_world.specs.Run.{Run}
 use Rattle.h3_world.specs.Sendable.{IsSendable}
-use Rattle.h3_world.specs.Setup.{IsMadeSetup, announced_at}
+use Rattle.h3_world.specs.Setup.{IsMadeSetup, TakesAnyLength, announced_at}
 use Rattle.h3_world.specs.Streams.{flow}
 use Rattle.h3_world.specs.World.{World, empty_world, no_exchange}
 use Rattle.h3_world.specs.declared.event.Answer.{Answer}
@@ -38,8 +41,9 @@ use Rattle.h3_strict.proofs.PullEvents.{not_judged}
 use Rattle.h3_strict.proofs.PullTally.{pull_tally}
 use Rattle.h3_strict.proofs.QuietEvents.{cancel_event, deliver_event, end_event, goaway_event, lost_event, open_event, reset_event}
 use Rattle.h3_strict.proofs.SameWorlds.{answers_more, ends_more, run_last, run_same}
-use Rattle.h3_strict.specs.PlainEnds.{Alike, Judges, NoneJudges, RefusesMalformed, StepsPlainly, is_malformed_refusal, judges, plain_ends, plain_setup}
+use Rattle.h3_strict.specs.PlainEnds.{Alike, Judges, NoneJudges, RefusesMalformed, StepsPlainly, is_malformed_refusal, judges, plain_ends, plain_setup, refused_by, was_too_long}
 use Rattle.h3_headline.specs.Messages.{is_done}
+use Rattle.h3_strict.specs.Plainly.{is_excess}
 use Rattle.h3_strict.specs.ServerKnows.{AnswersKnowing, ServerKnows, ServerKnowsFrom, hands_head, is_server, knows_behind, tells_head}
 use Rattle.h3_strict.specs.Tallies.{Tallies, TalliesFlow, JudgesStrictly, awaited_of, has_head}
 
@@ -73,6 +77,10 @@ module _ (laws : Laws) (setup : Setup) (made : IsMadeSetup (plain_setup setup)) 
       (pull_tally laws setup made w ends known h t strict s i v step.step step.no_connection_fault g)
   event_tally (event.Show s) w v ends known h g step knows t = subst (λ u. Tallies setup u ends known) (sym step.step.1) t
 
+  -- what comes is never too long
+  none_too_long : (s : Side) (ends : Ends) → (end_at ends s).announced ≡ announced_at setup s → TakesAnyLength (announced_at setup s) → (a : Answer) → was_too_long ends s a ≡ false
+  none_too_long s ends same any a = and_right (is_excess (refused_by a)) (is_limit (limit_of (end_at ends s))) (subst TakesAnyLength (sym same) any)
+
   none_here : (e : Event) (w : World) (ends : Ends) (known : ℕ → Bool) → Stands (plain_setup setup) w (plain_ends ends) → Tallies setup w ends known → judges ends e ≡ false
   none_here (event.Pull s i) w ends known h t = not_judged laws setup made w ends known h t strict s i
   none_here (event.OpenRequest s) w ends known h t = refl
@@ -83,9 +91,9 @@ module _ (laws : Laws) (setup : Setup) (made : IsMadeSetup (plain_setup setup)) 
   none_here (event.Reset s i) w ends known h t = refl
   none_here (event.Cancel s i) w ends known h t = refl
   none_here (event.Goaway s i) w ends known h t = refl
-  none_here (event.Deliver s i count) w ends known h t = refl
-  none_here (event.DeliverEnd s i) w ends known h t = refl
-  none_here (event.DeliverReset s i) w ends known h t = refl
+  none_here (event.Deliver s i count) w ends known h t = none_too_long (other s) ends (t.announced (other s)) (strict (other s)).1 (delivery ends s i count).0
+  none_here (event.DeliverEnd s i) w ends known h t = none_too_long (other s) ends (t.announced (other s)) (strict (other s)).1 (end_delivery ends s i).0
+  none_here (event.DeliverReset s i) w ends known h t = none_too_long (other s) ends (t.announced (other s)) (strict (other s)).1 (reset_delivery ends s i).0
   none_here (event.Show s) w ends known h t = refl
 
   -- A send that was refused as malformed tells nothing of what is known.

@@ -1,10 +1,12 @@
 -- A pull of any stream: it judges a message, or is answered as without strict messages.
 use Rattle.std.proofs.Common.{◌≡◌, ℕ, Bool, true, false, if◌then◌else◌, List, [], ◌∷◌, refl, ap, sym, ◌∙◌, subst, Option, Some, None}
 use Rattle.std.specs.Prelude.{◌||◌, is_some, nat_lt, option_map}
+use Rattle.h3_proto.specs.Config.{is_limit}
+use Rattle.h3_connection.specs.Codes.{excessive_load}
 use Rattle.h3_connection.specs.declared.arrival.Arrival.{Arrival}
 use Rattle.h3_connection.specs.Control.{Found}
 use Rattle.h3_connection.specs.Delivering.{with_incoming}
-use Rattle.h3_connection.specs.Endpoint.{EndpointHistory, Kind, kind_of, replied, heads_waiting}
+use Rattle.h3_connection.specs.Endpoint.{EndpointHistory, limit_of, Kind, kind_of, replied, heads_waiting}
 use Rattle.h3_connection.specs.Endpoint.Kind.{Request, ServerOpened, OwnUnidirectional, PeerUnidirectional}
 use Rattle.h3_connection.specs.Incoming.{Incoming}
 use Rattle.h3_connection.specs.Keeping.{is_settled_request, pulled_after, pulls, pulls_behind, read_all, settles, settles_at, unkept}
@@ -17,10 +19,10 @@ use Rattle.h3_connection.specs.declared.event.Item.TheVariants as item
 use Rattle.h3_connection.specs.declared.event.Pull.{Pull}
 use Rattle.h3_connection.specs.declared.event.Pull.TheVariants as answer
 use Rattle.h3_connection.specs.declared.event.StreamFault.{StreamFault}
-use Rattle.h3_strict.specs.Plainly.{is_judged, judged_as, judged_at, judged_open, plain, plain_incoming, plainly, tells_fault, tells_malformed}
+use Rattle.h3_strict.specs.Plainly.{exceeds, is_judged, judged_as, judged_at, judged_open, plain, plain_incoming, plainly, tells_fault, tells_malformed}
 use Rattle.h3_strict.proofs.PlainCalls.{plain_result}
 use Rattle.h3_strict.proofs.PlainPulls.{PullsPlainly, Judged, Same, plain_pulled, pull_plain}
-use Rattle.h3_strict.proofs.PlainReading.{all_plain, plain_found}
+use Rattle.h3_strict.proofs.PlainReading.{IsTooLong, ReadsAlike, ReadsPlainly, all_plain, plain_found}
 use Rattle.h3_strict.proofs.PlainStreams.{at_each, set_each, count_each}
 
 pub data PulledPlainly (judged : Bool) (x y : Pull × EndpointHistory) : Type 0 where
@@ -139,14 +141,26 @@ found_plain : (id : ℕ) (x : Found) → PulledPlainly (judged_as x.0 id (kind_o
 found_plain id (f, Some code) = IsAlike refl
 found_plain id (f, None) = kind_plain f id (kind_of f.side id)
 
-open_plain : (closed : Option ℕ) (e f : EndpointHistory) (id : ℕ) (x y : Pull × EndpointHistory) → PulledPlainly (judged_as f id (kind_of f.side id)) x y
-    → PulledPlainly (judged_open closed f id) (pull_unless closed e x) (pull_unless closed (plainly e) y)
-open_plain (Some code) e f id x y h = IsAlike refl
-open_plain None e f id x y h = h
+open_plain : (closed : Option ℕ) (long : Bool) (e f : EndpointHistory) (id : ℕ) (x y : Pull × EndpointHistory) → PulledPlainly (long || judged_as f id (kind_of f.side id)) x y
+    → PulledPlainly (long || judged_open closed f id) (pull_unless closed e x) (pull_unless closed (plainly e) y)
+open_plain (Some code) long e f id x y h = IsAlike refl
+open_plain None long e f id x y h = h
 
-kept_plain : (kept : List Arrival) (e : EndpointHistory) (id : ℕ) → PulledPlainly (judged_open e.closed (read_all kept (unkept e)).0 id) (pulls_behind kept e id) (pulls_behind kept (plainly e) id)
-kept_plain [] e id = open_plain e.closed e (unkept e) id _ _ (kind_plain e id (kind_of e.side id))
-kept_plain (k ∷ kept) e id = open_plain e.closed e (read_all (k ∷ kept) (unkept e)).0 id _ _ (subst If (sym (settles_alike e id kind)) (by_test (settles e id) refl))
+-- what is kept may be too long, too
+or_judged : (long b : Bool) (x y : Pull × EndpointHistory) → PulledPlainly b x y → PulledPlainly (long || b) x y
+or_judged true b x y (IsJudged judged told) = IsJudged refl told
+or_judged false b x y (IsJudged judged told) = IsJudged judged told
+or_judged long b x y (IsAlike same) = IsAlike same
+
+long_told : (id : ℕ) (x : Found) → x.1 ≡ Some excessive_load → tells_fault (pulled_after x id).0 ≡ true
+long_told id (f, fault) is = ap (λ o. tells_fault (pulled_after (let x : Found = (f, o) in x) id).0) is
+
+is_long : (e : EndpointHistory) (fault : Option ℕ) (b : Bool) → fault ≡ Some excessive_load → is_limit (limit_of e) ≡ true → (exceeds e fault || b) ≡ true
+is_long e fault b is limit = ap (λ o. exceeds e o || b) is ∙ ap (λ on. on || b) limit
+
+kept_plain : (kept : List Arrival) (e : EndpointHistory) (id : ℕ) → PulledPlainly (exceeds e (read_all kept (unkept e)).1 || judged_open e.closed (read_all kept (unkept e)).0 id) (pulls_behind kept e id) (pulls_behind kept (plainly e) id)
+kept_plain [] e id = open_plain e.closed false e (unkept e) id _ _ (kind_plain e id (kind_of e.side id))
+kept_plain (k ∷ kept) e id = open_plain e.closed (exceeds e (read_all (k ∷ kept) (unkept e)).1) e (read_all (k ∷ kept) (unkept e)).0 id _ _ (subst If (sym (settles_alike e id kind)) (by_test (settles e id) refl))
   where
     kind : Kind
     kind = kind_of e.side id
@@ -155,7 +169,7 @@ kept_plain (k ∷ kept) e id = open_plain e.closed e (read_all (k ∷ kept) (unk
     x = read_all (k ∷ kept) (unkept e)
 
     judged : Bool
-    judged = judged_as x.0 id (kind_of x.0.side id)
+    judged = exceeds e x.1 || judged_as x.0 id (kind_of x.0.side id)
 
     y : Found
     y = read_all (k ∷ kept) (unkept (plainly e))
@@ -163,9 +177,15 @@ kept_plain (k ∷ kept) e id = open_plain e.closed e (read_all (k ∷ kept) (unk
     If : Bool → Type 0
     If b = PulledPlainly judged (if settles e id then pull_at e id kind else pulled_after x id) (if b then pull_at (plainly e) id kind else pulled_after y id)
 
+    by_reading : ReadsPlainly (limit_of (unkept e)) x y → PulledPlainly judged (pulled_after x id) (pulled_after y id)
+    by_reading (IsTooLong limit long) = IsJudged (is_long e x.1 (judged_as x.0 id (kind_of x.0.side id)) long limit) (long_told id x long)
+    by_reading (ReadsAlike same) =
+        subst (λ z. PulledPlainly judged (pulled_after x id) (pulled_after z id)) (sym same)
+        (or_judged (exceeds e x.1) (judged_as x.0 id (kind_of x.0.side id)) (pulled_after x id) (pulled_after (plain_found x) id) (found_plain id x))
+
     by_test : (b : Bool) → settles e id ≡ b → PulledPlainly judged (if b then pull_at e id kind else pulled_after x id) (if b then pull_at (plainly e) id kind else pulled_after y id)
     by_test true is = IsAlike (settled_kind e id kind is)
-    by_test false is = subst (λ z. PulledPlainly judged (pulled_after x id) (pulled_after z id)) (sym (all_plain (k ∷ kept) (unkept e))) (found_plain id x)
+    by_test false is = by_reading (all_plain (k ∷ kept) (unkept e))
 
 -- what comes next on a stream
 pub pulls_plainly : (e : EndpointHistory) (id : ℕ) → PulledPlainly (is_judged e id) (pulls e id) (pulls (plainly e) id)

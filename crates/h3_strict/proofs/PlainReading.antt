@@ -1,24 +1,36 @@
 -- What comes, beside the same without strict messages.
-use Rattle.std.proofs.Common.{◌≡◌, ℕ, Bool, true, false, if◌then◌else◌, List, [], ◌∷◌, ◌++◌, refl, ap, sym, ◌∙◌, subst, Option, Some, None}
+use Rattle.std.proofs.Common.{◌≡◌, ℕ, zero, suc, length, Bool, true, false, if◌then◌else◌, List, [], ◌∷◌, ◌++◌, refl, ap, sym, ◌∙◌, subst, Option, Some, None}
 use Rattle.std.specs.Prelude.{is_some, option_map}
+use Rattle.std.proofs.lemmas.Bool.{and_parts}
+use Rattle.h3_coding.specs.Varint.{varint_at}
+use Rattle.h3_proto.specs.Config.{is_limit}
 use Rattle.h3_proto.specs.declared.stream.Side.{Side}
 use Rattle.h3_proto.specs.declared.stream.Side.TheVariants.{Client, Server}
 use Rattle.h3_qpack.specs.Hearing.{listen}
+use Rattle.h3_wire.specs.ExcessiveFrames.{is_excessive, says_too_much}
+use Rattle.h3_wire.specs.Frames.{Front, Whole, Unknown, Refused, Unfinished, frame_at}
+use Rattle.h3_wire.specs.Known.{known}
 use Rattle.h3_connection.specs.Arrivals.{stream_of, is_closed_in}
 use Rattle.h3_connection.specs.declared.arrival.Arrival.{Arrival}
 use Rattle.h3_connection.specs.declared.arrival.Arrival.TheVariants.{BytesCame, EndCame, ResetCame}
-use Rattle.h3_connection.specs.Control.{Found, listened_to, read_decoder, with_table, if_learned, then_decoder, after_peer, read_control}
+use Rattle.h3_connection.specs.Codes.{excessive_load}
+use Rattle.h3_connection.specs.Control.{Found, listened_to, read_encoder, read_decoder, with_table, if_learned, then_decoder, after_peer, read_control}
 use Rattle.h3_connection.specs.Delivering.{request_refusal, refusal_at, delivery_refusal, opened_at, opened, incoming_at, with_incoming, unidirectional_at, with_unidirectional, unless_second, heard_as, read_unidirectional, kept, with_end, bytes_at, end_at, give_up, reset_at, taken}
-use Rattle.h3_connection.specs.Endpoint.{EndpointHistory, Kind, is_second, kind_of}
+use Rattle.h3_connection.specs.Endpoint.{EndpointHistory, limit_of, Kind, is_second, kind_of}
 use Rattle.h3_connection.specs.Endpoint.Kind.{Request, ServerOpened, OwnUnidirectional, PeerUnidirectional}
 use Rattle.h3_connection.specs.Incoming.{Incoming}
 use Rattle.h3_connection.specs.Keeping.{read_arrival, unless_faulty, read_all, unkept, refused_behind, arrival_refusal, arrives_behind, arrives}
-use Rattle.h3_connection.specs.PeerReading.{PeerFound, with_unread, read_peer}
+use Rattle.h3_connection.specs.PeerReading.{Peer, PeerFound, with_unread, read_frame, unless_fault, at_front, read_within, read_peer}
 use Rattle.h3_connection.specs.StreamSets.{Streams, stream_at}
 use Rattle.h3_connection.specs.Unidirectional.{Unidirectional, Role, role_after, with_bytes}
 use Rattle.h3_connection.specs.Unidirectional.Role.{Untold, Control, Encoder, Decoder, Session, Push, Ignored}
+use Rattle.h3_connection.specs.declared.event.Refusal.{Refusal}
+use Rattle.h3_connection.specs.declared.event.Refusal.TheVariants as refusal
 use Rattle.h3_connection.specs.declared.event.StreamFault.TheVariants as stream_fault
+use Rattle.h3_connection.specs.declared.setup.Announced.{Announced}
+use Rattle.h3_headline.specs.PeerStreams.{no_limit}
 use Rattle.h3_strict.specs.Plainly.{plain_incoming, plainly}
+use Rattle.h3_strict.proofs.KeepsCounts.{arrival_announced}
 use Rattle.h3_strict.proofs.PlainCalls.{CallsPlainly, taken_plainly}
 use Rattle.h3_strict.proofs.PlainSends.{gives_up_plainly, opens_as}
 use Rattle.h3_strict.proofs.PlainStreams.{at_each, set_each, in_at}
@@ -57,27 +69,67 @@ after_plain e (p, fault) =
     ap (λ g. then_decoder e.peer.settings p.settings g fault) (learned_plain e.peer.settings p.settings f)
     ∙ then_plain e.peer.settings p.settings (if_learned e.peer.settings p.settings f) fault
 
-control_plain : (e : EndpointHistory) (bytes : List ℕ) → read_control (plainly e) bytes ≡ plain_found (read_control e bytes)
-control_plain e bytes = after_plain e (read_peer e.side (with_unread e.peer (e.peer.unread ++ bytes)))
+-- what is found is the same at the endpoint without a limit, or what came is too long
+data PeerPlainly (limit : ℕ) (x y : PeerFound) : Type 0 where
+  IsLong : is_limit limit ≡ true → x.1 ≡ Some excessive_load → PeerPlainly limit x y
+  ReadsSame : y ≡ x → PeerPlainly limit x y
 
-second_plain : (b : Bool) (e : EndpointHistory) (x y : Found) → y ≡ plain_found x → unless_second b (plainly e) y ≡ plain_found (unless_second b e x)
-second_plain true e x y is = refl
-second_plain false e x y is = is
+pub data ReadsPlainly (limit : ℕ) (x y : Found) : Type 0 where
+  IsTooLong : is_limit limit ≡ true → x.1 ≡ Some excessive_load → ReadsPlainly limit x y
+  ReadsAlike : y ≡ plain_found x → ReadsPlainly limit x y
 
-heard_plain : (e : EndpointHistory) (id : ℕ) (role : Role) (bytes : List ℕ) → heard_as (plainly e) id role bytes ≡ plain_found (heard_as e id role bytes)
-heard_plain e id (Untold front) bytes = refl
+behind_fault : (limit : ℕ) (x : PeerFound) (go both : Peer → PeerFound) → ((q : Peer) → PeerPlainly limit (go q) (both q)) → PeerPlainly limit (unless_fault x go) (unless_fault x both)
+behind_fault limit (q, Some code) go both h = ReadsSame refl
+behind_fault limit (q, None) go both h = h q
+
+front_plain : (limit : ℕ) (go both : Peer → PeerFound) (side : Side) (p : Peer) (bytes : List ℕ) (x : Front) → ((q : Peer) → PeerPlainly limit (go q) (both q)) → PeerPlainly limit (at_front go side p bytes x) (at_front both side p bytes x)
+front_plain limit go both side p bytes (Whole f rest) h = behind_fault limit (read_frame side (with_unread p rest) p.settings f) go both h
+front_plain limit go both side p bytes (Unknown kind rest) h = ReadsSame refl
+front_plain limit go both side p bytes (Refused e) h = ReadsSame refl
+front_plain limit go both side p bytes (Unfinished least) h = ReadsSame refl
+
+long_or : (limit : ℕ) (large : Bool) (bytes : List ℕ) (p : Peer) (x y : PeerFound) → is_excessive limit bytes ≡ large → PeerPlainly limit x y → PeerPlainly limit (if large then (with_unread p [], Some excessive_load) else x) y
+long_or limit true bytes p x y e h = IsLong (and_parts (is_limit limit) (says_too_much limit (varint_at bytes)) e).0 refl
+long_or limit false bytes p x y e h = h
+
+within_plain : (most limit : ℕ) (side : Side) (p : Peer) → PeerPlainly limit (read_within most limit side p) (read_within most no_limit side p)
+within_plain zero limit side p = ReadsSame refl
+within_plain (suc most) limit side p =
+    long_or limit (is_excessive limit (known p.unread)) (known p.unread) p _ _ refl
+    (front_plain limit (read_within most limit side) (read_within most no_limit side) side p (known p.unread) (frame_at (known p.unread)) (λ q. within_plain most limit side q))
+
+peer_plain : (limit : ℕ) (side : Side) (p : Peer) → PeerPlainly limit (read_peer limit side p) (read_peer no_limit side p)
+unfolding read_peer
+peer_plain limit side p = within_plain (length p.unread) limit side p
+
+control_found : (e : EndpointHistory) (x y : PeerFound) → PeerPlainly (limit_of e) x y → ReadsPlainly (limit_of e) (after_peer e x) (after_peer (plainly e) y)
+control_found e (p, fault) y (IsLong limit is) =
+    IsTooLong limit (ap (λ o. (then_decoder e.peer.settings p.settings (if_learned e.peer.settings p.settings (record e { peer = p })) o).1) is)
+control_found e x y (ReadsSame same) = ReadsAlike (ap (after_peer (plainly e)) same ∙ after_plain e x)
+
+control_plain : (e : EndpointHistory) (bytes : List ℕ) → ReadsPlainly (limit_of e) (read_control e bytes) (read_control (plainly e) bytes)
+control_plain e bytes = control_found e _ _ (peer_plain (limit_of e) e.side (with_unread e.peer (e.peer.unread ++ bytes)))
+
+second_plain : (limit : ℕ) (b : Bool) (e : EndpointHistory) (x y : Found) → ReadsPlainly limit x y → ReadsPlainly limit (unless_second b e x) (unless_second b (plainly e) y)
+second_plain limit true e x y h = ReadsAlike refl
+second_plain limit false e x y h = h
+
+heard_plain : (e : EndpointHistory) (id : ℕ) (role : Role) (bytes : List ℕ) → ReadsPlainly (limit_of e) (heard_as e id role bytes) (heard_as (plainly e) id role bytes)
+heard_plain e id (Untold front) bytes = ReadsAlike refl
 heard_plain e id Control bytes =
     let g : EndpointHistory = record e { control_on = Some id } in
-    second_plain (is_second e.control_on id) e (read_control g bytes) (read_control (plainly g) bytes) (control_plain g bytes)
-heard_plain e id Encoder bytes = second_plain (is_second e.encoder_on id) e _ _ refl
+    second_plain (limit_of e) (is_second e.control_on id) e (read_control g bytes) (read_control (plainly g) bytes) (control_plain g bytes)
+heard_plain e id Encoder bytes =
+    let g : EndpointHistory = record e { encoder_on = Some id } in
+    second_plain (limit_of e) (is_second e.encoder_on id) e (read_encoder g bytes) (read_encoder (plainly g) bytes) (ReadsAlike refl)
 heard_plain e id Decoder bytes =
     let g : EndpointHistory = record e { decoder_on = Some id } in
-    second_plain (is_second e.decoder_on id) e (read_decoder g bytes) (read_decoder (plainly g) bytes) (decoder_plain (is_some e.peer.settings) g bytes)
-heard_plain e id (Session n) bytes = refl
-heard_plain e id (Push n) bytes = refl
-heard_plain e id Ignored bytes = refl
+    second_plain (limit_of e) (is_second e.decoder_on id) e (read_decoder g bytes) (read_decoder (plainly g) bytes) (ReadsAlike (decoder_plain (is_some e.peer.settings) g bytes))
+heard_plain e id (Session n) bytes = ReadsAlike refl
+heard_plain e id (Push n) bytes = ReadsAlike refl
+heard_plain e id Ignored bytes = ReadsAlike refl
 
-unidirectional_plain : (e : EndpointHistory) (id : ℕ) (o : Unidirectional) (x : Role × List ℕ) → read_unidirectional (plainly e) id o x ≡ plain_found (read_unidirectional e id o x)
+unidirectional_plain : (e : EndpointHistory) (id : ℕ) (o : Unidirectional) (x : Role × List ℕ) → ReadsPlainly (limit_of e) (read_unidirectional e id o x) (read_unidirectional (plainly e) id o x)
 unidirectional_plain e id o (role, bytes) = heard_plain (with_unidirectional e id (with_bytes o (role, bytes))) id role bytes
 
 -- a receiver changes
@@ -96,10 +148,10 @@ module _ (e : EndpointHistory) (id : ℕ) where
       ∙ ap (λ i. with_incoming (plainly (opened e id)) id (g i)) (in_at e id) ∙ ap (λ i. with_incoming (plainly (opened e id)) id i) (same (incoming_at e id))
       ∙ with_in (opened e id) (g (incoming_at e id))
 
-  bytes_plain : (bytes : List ℕ) (k : Kind) → bytes_at (plainly e) id bytes k ≡ plain_found (bytes_at e id bytes k)
-  bytes_plain bytes Request = ap (λ f. let x : Found = (f, None) in x) (changes (λ i. kept i bytes) (λ i. refl))
-  bytes_plain bytes ServerOpened = refl
-  bytes_plain bytes OwnUnidirectional = refl
+  bytes_plain : (bytes : List ℕ) (k : Kind) → ReadsPlainly (limit_of e) (bytes_at e id bytes k) (bytes_at (plainly e) id bytes k)
+  bytes_plain bytes Request = ReadsAlike (ap (λ f. let x : Found = (f, None) in x) (changes (λ i. kept i bytes) (λ i. refl)))
+  bytes_plain bytes ServerOpened = ReadsAlike refl
+  bytes_plain bytes OwnUnidirectional = ReadsAlike refl
   bytes_plain bytes PeerUnidirectional = unidirectional_plain e id (unidirectional_at e id) (role_after (unidirectional_at e id).role bytes)
 
   end_plain : (k : Kind) → end_at (plainly e) id k ≡ plain_found (end_at e id k)
@@ -134,28 +186,54 @@ module _ (e : EndpointHistory) (id : ℕ) where
   refused_plain : delivery_refusal (plainly e) id ≡ delivery_refusal e id
   refused_plain = refused_at (kind_of e.side id)
 
-arrival_plain : (e : EndpointHistory) (a : Arrival) → read_arrival (plainly e) a ≡ plain_found (read_arrival e a)
+arrival_plain : (e : EndpointHistory) (a : Arrival) → ReadsPlainly (limit_of e) (read_arrival e a) (read_arrival (plainly e) a)
 arrival_plain e (BytesCame id bytes) = bytes_plain e id bytes (kind_of e.side id)
-arrival_plain e (EndCame id) = end_plain e id (kind_of e.side id)
-arrival_plain e (ResetCame id code) = reset_plain e id code (kind_of e.side id)
+arrival_plain e (EndCame id) = ReadsAlike (end_plain e id (kind_of e.side id))
+arrival_plain e (ResetCame id code) = ReadsAlike (reset_plain e id code (kind_of e.side id))
 
-unless_plain : (go : EndpointHistory → Found) (x : Found) → ((f : EndpointHistory) → go (plainly f) ≡ plain_found (go f)) → unless_faulty go (plain_found x) ≡ plain_found (unless_faulty go x)
-unless_plain go (f, Some code) goes = refl
-unless_plain go (f, None) goes = goes f
+-- what is read behind it, at the same limit
+then_plain_all : (limit : ℕ) (go : EndpointHistory → Found) (x : Found) → limit_of x.0 ≡ limit → ((f : EndpointHistory) → limit_of f ≡ limit → ReadsPlainly limit (go f) (go (plainly f)))
+    → ReadsPlainly limit (unless_faulty go x) (unless_faulty go (plain_found x))
+then_plain_all limit go (f, Some code) same goes = ReadsAlike refl
+then_plain_all limit go (f, None) same goes = goes f same
+
+unless_plain : (limit : ℕ) (go : EndpointHistory → Found) (x y : Found) → limit_of x.0 ≡ limit → ((f : EndpointHistory) → limit_of f ≡ limit → ReadsPlainly limit (go f) (go (plainly f)))
+    → ReadsPlainly limit x y → ReadsPlainly limit (unless_faulty go x) (unless_faulty go y)
+unless_plain limit go (f, fault) y same goes (IsTooLong limited is) = IsTooLong limited (ap (λ o. (unless_faulty go (let x : Found = (f, o) in x)).1) is)
+unless_plain limit go x y same goes (ReadsAlike is) = subst (λ z. ReadsPlainly limit (unless_faulty go x) (unless_faulty go z)) (sym is) (then_plain_all limit go x same goes)
+
+all_within : (limit : ℕ) (arrivals : List Arrival) (e : EndpointHistory) → limit_of e ≡ limit → ReadsPlainly limit (read_all arrivals e) (read_all arrivals (plainly e))
+all_within limit [] e same = ReadsAlike refl
+all_within limit (a ∷ arrivals) e same =
+    unless_plain limit (read_all arrivals) (read_arrival e a) (read_arrival (plainly e) a) (ap (λ (own : Announced). own.choices.unfinished_limit) (arrival_announced e a) ∙ same)
+    (λ f at. all_within limit arrivals f at) (subst (λ n. ReadsPlainly n (read_arrival e a) (read_arrival (plainly e) a)) same (arrival_plain e a))
 
 -- all that is kept is read
-pub all_plain : (arrivals : List Arrival) (e : EndpointHistory) → read_all arrivals (plainly e) ≡ plain_found (read_all arrivals e)
-all_plain [] e = refl
-all_plain (a ∷ arrivals) e = ap (unless_faulty (read_all arrivals)) (arrival_plain e a) ∙ unless_plain (read_all arrivals) (read_arrival e a) (all_plain arrivals)
+pub all_plain : (arrivals : List Arrival) (e : EndpointHistory) → ReadsPlainly (limit_of e) (read_all arrivals e) (read_all arrivals (plainly e))
+all_plain arrivals e = all_within (limit_of e) arrivals e refl
 
-behind_plain : (kept : List Arrival) (e : EndpointHistory) (a : Arrival) → CallsPlainly e (arrives_behind kept e a) (arrives_behind kept (plainly e) a)
+-- What came is answered as without strict messages, or it is too long.
+pub data ArrivesPlainly (e : EndpointHistory) (x y : Option Refusal × EndpointHistory) : Type 0 where
+  Exceeds : is_limit (limit_of e) ≡ true → x.0 ≡ Some (refusal.Connection excessive_load) → ArrivesPlainly e x y
+  Otherwise : CallsPlainly e x y → ArrivesPlainly e x y
+
+closed_too_long : (x : Found) → x.1 ≡ Some excessive_load → (closed_by x).0 ≡ Some (refusal.Connection excessive_load)
+closed_too_long (f, fault) is = ap (λ o. (closed_by (let x : Found = (f, o) in x)).0) is
+
+takes_plainly : (closed : Option ℕ) (r : Option Refusal) (e : EndpointHistory) (x y : Found) → ReadsPlainly (limit_of e) x y → ArrivesPlainly e (taken closed r e x) (taken closed r (plainly e) y)
+takes_plainly (Some code) r e x y h = Otherwise (taken_plainly (Some code) r e x (plain_found x) refl)
+takes_plainly None (Some r) e x y h = Otherwise (taken_plainly None (Some r) e x (plain_found x) refl)
+takes_plainly None None e x y (IsTooLong limit is) = Exceeds limit (closed_too_long x is)
+takes_plainly None None e x y (ReadsAlike is) = Otherwise (taken_plainly None None e x y is)
+
+behind_plain : (kept : List Arrival) (e : EndpointHistory) (a : Arrival) → ArrivesPlainly e (arrives_behind kept e a) (arrives_behind kept (plainly e) a)
 behind_plain [] e a =
-    subst (λ r. CallsPlainly e (arrives_behind [] e a) (taken e.closed r (plainly e) (read_arrival (plainly e) a))) (sym (refused_plain e (stream_of a)))
-    (taken_plainly e.closed (delivery_refusal e (stream_of a)) e (read_arrival e a) (read_arrival (plainly e) a) (arrival_plain e a))
+    subst (λ r. ArrivesPlainly e (arrives_behind [] e a) (taken e.closed r (plainly e) (read_arrival (plainly e) a))) (sym (refused_plain e (stream_of a)))
+    (takes_plainly e.closed (delivery_refusal e (stream_of a)) e (read_arrival e a) (read_arrival (plainly e) a) (arrival_plain e a))
 behind_plain (k ∷ kept) e a =
-    subst (λ r. CallsPlainly e (arrives_behind (k ∷ kept) e a) (taken e.closed (refused_behind (is_closed_in e.kept (stream_of a)) r) (plainly e) (read_all (k ∷ kept ++ a ∷ []) (unkept (plainly e))))) (sym (refused_plain e (stream_of a)))
-    (taken_plainly e.closed (arrival_refusal e (stream_of a)) e (read_all (k ∷ kept ++ a ∷ []) (unkept e)) _ (all_plain (k ∷ kept ++ a ∷ []) (unkept e)))
+    subst (λ r. ArrivesPlainly e (arrives_behind (k ∷ kept) e a) (taken e.closed (refused_behind (is_closed_in e.kept (stream_of a)) r) (plainly e) (read_all (k ∷ kept ++ a ∷ []) (unkept (plainly e))))) (sym (refused_plain e (stream_of a)))
+    (takes_plainly e.closed (arrival_refusal e (stream_of a)) e (read_all (k ∷ kept ++ a ∷ []) (unkept e)) _ (all_plain (k ∷ kept ++ a ∷ []) (unkept e)))
 
 -- what comes
-pub arrives_plainly : (e : EndpointHistory) (a : Arrival) → CallsPlainly e (arrives e a) (arrives (plainly e) a)
+pub arrives_plainly : (e : EndpointHistory) (a : Arrival) → ArrivesPlainly e (arrives e a) (arrives (plainly e) a)
 arrives_plainly e a = behind_plain e.kept e a

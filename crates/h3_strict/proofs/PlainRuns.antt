@@ -69,7 +69,7 @@ runs_faultless ends (e ∷ events) h =
     let parts = neither (finds_fault (answered ends e).0) (list_any finds_fault (answers_of_ends (answered ends e).1 events)) h in
     step_on ends e events (λ judged told. not_both (finds_fault (answered ends e).0) parts.0 told) (every_step ends e) (runs_faultless (answered ends e).1 events parts.1)
 
--- a schedule in which no pull judges a message
+-- a schedule in which no event judges
 pub runs_plainly : (ends : Ends) (events : List Event) → NoneJudges ends events → RunsPlainly ends events
 runs_plainly ends [] h = record { answers = refl; leads = refl }
 runs_plainly ends (e ∷ events) h = step_on ends e events (λ judged told. not_both (judges ends e) h.0 judged) (every_step ends e) (runs_plainly (answered ends e).1 events h.1)

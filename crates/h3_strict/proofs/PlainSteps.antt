@@ -3,27 +3,32 @@ use Rattle.std.proofs.Common.{◌≡◌, ℕ, Bool, true, false, if◌then◌els
 use Rattle.std.specs.Prelude.{◌==◌, ◌&&◌, ◌||◌, not, nat_lt, is_some, option_map, unwrap_or}
 use Rattle.h3_proto.specs.declared.stream.Side.{Side}
 use Rattle.h3_proto.specs.declared.stream.Side.TheVariants.{Client, Server}
-use Rattle.h3_connection.specs.Endpoint.{EndpointHistory, bytes_waiting, own_waiting}
+use Rattle.std.proofs.lemmas.Bool.{and_parts}
+use Rattle.h3_proto.specs.Config.{is_limit}
+use Rattle.h3_connection.specs.Codes.{excessive_load}
+use Rattle.h3_connection.specs.Endpoint.{EndpointHistory, limit_of, bytes_waiting, own_waiting}
 use Rattle.h3_connection.specs.Keeping.{arrives, pulls}
 use Rattle.h3_connection.specs.Outgoing.{Outgoing, part_bytes_waiting}
 use Rattle.h3_connection.specs.OwnIds.{is_own, other}
 use Rattle.h3_connection.specs.Sending as sender
 use Rattle.h3_connection.specs.Shown.{has_outgoing, is_finished, is_reset, peer_limits, table_sizes, waiting, waiting_heads}
 use Rattle.h3_connection.specs.StreamSets.{stream_at}
+use Rattle.h3_connection.specs.declared.arrival.Arrival.{Arrival}
 use Rattle.h3_connection.specs.declared.arrival.Arrival.TheVariants.{BytesCame, EndCame, ResetCame}
 use Rattle.h3_connection.specs.declared.event.Pull.{Pull}
 use Rattle.h3_connection.specs.declared.event.Refusal.{Refusal}
+use Rattle.h3_connection.specs.declared.event.Refusal.TheVariants as refusal
 use Rattle.h3_world.specs.Delivering.{reset_code}
 use Rattle.h3_world.specs.Ends.{Ends, answered, delivery, done, end_at, end_delivery, reset_delivery, was_offered, was_pulled, with_end}
 use Rattle.h3_world.specs.declared.event.Answer.{Answer}
 use Rattle.h3_world.specs.declared.event.Answer.TheVariants as answer
 use Rattle.h3_world.specs.declared.event.Event.{Event}
 use Rattle.h3_world.specs.declared.event.Event.TheVariants as event
-use Rattle.h3_strict.specs.PlainEnds.{StepsPlainly, Alike, Judges, RefusesMalformed, finds_fault, is_malformed_refusal, plain_ends}
-use Rattle.h3_strict.specs.Plainly.{is_judged, plain_outgoing, plainly}
+use Rattle.h3_strict.specs.PlainEnds.{StepsPlainly, Alike, Judges, RefusesMalformed, finds_fault, is_malformed_refusal, judges, plain_ends, refused_by, was_too_long}
+use Rattle.h3_strict.specs.Plainly.{exceeds, is_excess, is_judged, plain_outgoing, plainly}
 use Rattle.h3_strict.proofs.PlainCalls.{CallsPlainly, Malforms, Does, tells}
 use Rattle.h3_strict.proofs.PlainPulled.{IsAlike, IsJudged, PulledPlainly, pulls_plainly}
-use Rattle.h3_strict.proofs.PlainReading.{arrives_plainly}
+use Rattle.h3_strict.proofs.PlainReading.{ArrivesPlainly, Exceeds, Otherwise, arrives_plainly}
 use Rattle.h3_strict.proofs.PlainSends.{advances_plainly, bodies_plainly, cancels_plainly, ends_plainly, goaways_plainly, heads_plainly, opens_plainly, resets_plainly, trailers_plainly}
 use Rattle.h3_strict.proofs.PlainStreams.{at_each, count_each}
 
@@ -119,11 +124,28 @@ module _ (e : EndpointHistory) (id : ℕ) where
       same None = refl
       same (Some o) = refl
 
+-- What came is too long for its reader, or it is so.
+data Delivers (ends : Ends) (reader : Side) (x y : Answer × Ends) : Type 0 where
+  IsExcess : was_too_long ends reader x.0 ≡ true → Delivers ends reader x y
+  IsBeside : Beside ends x y → Delivers ends reader x y
+
+excess_told : (a : Answer) → is_excess (refused_by a) ≡ true → finds_fault a ≡ true
+excess_told (answer.Pulled p) is = absurd (cc)
+excess_told a is = is
+
+delivers_steps : (ends : Ends) (reader : Side) (e : Event) → judges ends e ≡ was_too_long ends reader (answered ends e).0 → Delivers ends reader (answered ends e) (answered (plain_ends ends) e) → StepsPlainly ends e
+delivers_steps ends reader e judged (IsExcess long) = Judges (judged ∙ long) (excess_told (answered ends e).0 (and_parts (is_excess (refused_by (answered ends e).0)) (is_limit (limit_of (end_at ends reader))) long).0)
+delivers_steps ends reader e judged (IsBeside h) = steps ends e h
+
+-- the fault of an end that limits it
+too_long : (ends : Ends) (reader : Side) (a : Answer) → refused_by a ≡ Some excessive_load → is_limit (limit_of (end_at ends reader)) ≡ true → was_too_long ends reader a ≡ true
+too_long ends reader a is limit = ap (exceeds (end_at ends reader)) is ∙ limit
+
 -- a test that comes out alike
-by_test : (ends : Ends) (b c : Bool) (x v y w : Answer × Ends) → c ≡ b → Beside ends x v → Beside ends y w → Beside ends (if b then x else y) (if c then v else w)
-by_test ends b c x v y w same h k = subst (λ d. Beside ends (if b then x else y) (if d then v else w)) (sym same) (of b)
+by_test : (ends : Ends) (reader : Side) (b c : Bool) (x v y w : Answer × Ends) → c ≡ b → Delivers ends reader x v → Delivers ends reader y w → Delivers ends reader (if b then x else y) (if c then v else w)
+by_test ends reader b c x v y w same h k = subst (λ d. Delivers ends reader (if b then x else y) (if d then v else w)) (sym same) (of b)
   where
-    of : (d : Bool) → Beside ends (if d then x else y) (if d then v else w)
+    of : (d : Bool) → Delivers ends reader (if d then x else y) (if d then v else w)
     of true = h
     of false = k
 
@@ -148,26 +170,49 @@ module _ (ends : Ends) (id : ℕ) where
           ∙ ap (λ v. with_end v (other writer) (plainly e)) (sets_end ends writer new)
           ∙ sets_end (with_end ends writer new) (other writer) e))
 
-  as_is : (a : Answer) → is_malformed_refusal a ≡ false → Beside ends (a, ends) (a, plain_ends ends)
-  as_is a told = Goes told refl
+  offered_long : (writer : Side) (count : ℕ) (x : Option Refusal × EndpointHistory) → x.0 ≡ Some (refusal.Connection excessive_load) → refused_by (was_offered ends writer id count x).0 ≡ Some excessive_load
+  offered_long writer count (r, e) is = ap (λ o. refused_by (was_offered ends writer id count (let x : Option Refusal × EndpointHistory = (o, e) in x)).0) is
+
+  offers : (writer : Side) (count : ℕ) (x y : Option Refusal × EndpointHistory) → ArrivesPlainly (end_at ends (other writer)) x y
+      → Delivers ends (other writer) (was_offered ends writer id count x) (was_offered (plain_ends ends) writer id count y)
+  offers writer count x y (Exceeds limit is) = IsExcess (too_long ends (other writer) (was_offered ends writer id count x).0 (offered_long writer count x is) limit)
+  offers writer count x y (Otherwise h) = IsBeside (offered writer count x y h)
+
+  done_long : (reader : Side) (x : Option Refusal × EndpointHistory) → x.0 ≡ Some (refusal.Connection excessive_load) → refused_by (done ends reader answer.Done x).0 ≡ Some excessive_load
+  done_long reader (r, e) is = ap (λ o. refused_by (done ends reader answer.Done (let x : Option Refusal × EndpointHistory = (o, e) in x)).0) is
+
+  -- an end or a reset
+  closes : (reader : Side) (a : Arrival) → Delivers ends reader (done ends reader answer.Done (arrives (end_at ends reader) a)) (done (plain_ends ends) reader answer.Done (arrives (end_at (plain_ends ends) reader) a))
+  closes reader a =
+      subst (λ f. Delivers ends reader (done ends reader answer.Done (arrives (end_at ends reader) a)) (done (plain_ends ends) reader answer.Done (arrives f a))) (sym (at_end ends reader))
+      (by_arrival (arrives_plainly (end_at ends reader) a))
+    where
+      by_arrival : {y : Option Refusal × EndpointHistory} → ArrivesPlainly (end_at ends reader) (arrives (end_at ends reader) a) y
+          → Delivers ends reader (done ends reader answer.Done (arrives (end_at ends reader) a)) (done (plain_ends ends) reader answer.Done y)
+      by_arrival (Exceeds limit is) = IsExcess (too_long ends reader (done ends reader answer.Done (arrives (end_at ends reader) a)).0 (done_long reader (arrives (end_at ends reader) a) is) limit)
+      by_arrival (Otherwise h) = IsBeside (done_beside ends reader answer.Done _ _ refl h)
+
+  as_is : (reader : Side) (a : Answer) → is_malformed_refusal a ≡ false → Delivers ends reader (a, ends) (a, plain_ends ends)
+  as_is reader a told = IsBeside (Goes told refl)
 
   -- the tests of the writer
   tests : (writer : Side) (b c : EndpointHistory → Bool) (short : EndpointHistory → Answer) (x y : Answer × Ends)
       → ((e : EndpointHistory) → b (plainly e) ≡ b e) → ((e : EndpointHistory) → c (plainly e) ≡ c e) → ((e : EndpointHistory) → short (plainly e) ≡ short e) → is_malformed_refusal (short (end_at ends writer)) ≡ false
-      → Beside ends x y
-      → Beside ends (if b (end_at ends writer) then (answer.NoStream, ends) else (if c (end_at ends writer) then (short (end_at ends writer), ends) else x))
+      → Delivers ends (other writer) x y
+      → Delivers ends (other writer) (if b (end_at ends writer) then (answer.NoStream, ends) else (if c (end_at ends writer) then (short (end_at ends writer), ends) else x))
       (if b (end_at (plain_ends ends) writer) then (answer.NoStream, plain_ends ends) else (if c (end_at (plain_ends ends) writer) then (short (end_at (plain_ends ends) writer), plain_ends ends) else y))
   tests writer b c short x y same_b same_c same_short told h =
       let e = end_at ends writer in
       let at = at_end ends writer in
-      by_test ends (b e) _ _ _ _ _ (ap b at ∙ same_b e) (as_is answer.NoStream refl)
-      (by_test ends (c e) _ _ _ _ _ (ap c at ∙ same_c e) (subst (λ a. Beside ends (short e, ends) (a, plain_ends ends)) (sym (ap short at ∙ same_short e)) (as_is (short e) told)) h)
+      by_test ends (other writer) (b e) _ _ _ _ _ (ap b at ∙ same_b e) (as_is (other writer) answer.NoStream refl)
+      (by_test ends (other writer) (c e) _ _ _ _ _ (ap c at ∙ same_c e)
+      (subst (λ a. Delivers ends (other writer) (short e, ends) (a, plain_ends ends)) (sym (ap short at ∙ same_short e)) (as_is (other writer) (short e) told)) h)
 
-  delivers : (writer : Side) (count : ℕ) → Beside ends (delivery ends writer id count) (delivery (plain_ends ends) writer id count)
+  delivers : (writer : Side) (count : ℕ) → Delivers ends (other writer) (delivery ends writer id count) (delivery (plain_ends ends) writer id count)
   delivers writer count =
       tests writer (λ e. not (has_outgoing e id)) (λ e. nat_lt (waiting e id) count) (λ e. answer.Short (waiting e id)) _ _
       (λ e. ap not (has_one e id)) (λ e. ap (λ l. nat_lt (length l) count) (waits e id)) (λ e. ap (λ l. answer.Short (length l)) (waits e id)) refl
-      (offered writer count _ _ (subst (λ z. CallsPlainly reader (arrives reader (BytesCame id (take count (bytes_waiting e id)))) z) (sym arrives_is) (arrives_plainly reader (BytesCame id (take count (bytes_waiting e id))))))
+      (offers writer count _ _ (subst (λ z. ArrivesPlainly reader (arrives reader (BytesCame id (take count (bytes_waiting e id)))) z) (sym arrives_is) (arrives_plainly reader (BytesCame id (take count (bytes_waiting e id))))))
     where
       e : EndpointHistory
       e = end_at ends writer
@@ -180,17 +225,17 @@ module _ (ends : Ends) (id : ℕ) where
           ap (λ f. arrives f (BytesCame id (take count (bytes_waiting (end_at (plain_ends ends) writer) id)))) (at_end ends (other writer))
           ∙ ap (λ l. arrives (plainly reader) (BytesCame id (take count l))) (ap (λ f. bytes_waiting f id) (at_end ends writer) ∙ waits e id)
 
-  delivers_end : (writer : Side) → Beside ends (end_delivery ends writer id) (end_delivery (plain_ends ends) writer id)
+  delivers_end : (writer : Side) → Delivers ends (other writer) (end_delivery ends writer id) (end_delivery (plain_ends ends) writer id)
   delivers_end writer =
       tests writer (λ e. not (has_outgoing e id)) (λ e. not (is_finished e id && (waiting e id == 0))) (λ e. answer.Early) _ _
       (λ e. ap not (has_one e id)) (λ e. ap (λ b. not (b && (waiting (plainly e) id == 0))) (finished e id) ∙ ap (λ l. not (is_finished e id && (length l == 0))) (waits e id)) (λ e. refl) refl
-      (calls ends (other writer) (λ e. answer.Done) (λ e. arrives e (EndCame id)) refl refl (λ e. arrives_plainly e (EndCame id)))
+      (closes (other writer) (EndCame id))
 
-  delivers_reset : (writer : Side) → Beside ends (reset_delivery ends writer id) (reset_delivery (plain_ends ends) writer id)
+  delivers_reset : (writer : Side) → Delivers ends (other writer) (reset_delivery ends writer id) (reset_delivery (plain_ends ends) writer id)
   delivers_reset writer =
       tests writer (λ e. not (has_outgoing e id)) (λ e. not (is_reset e id)) (λ e. answer.Early) _ _
       (λ e. ap not (has_one e id)) (λ e. ap not (was_reset e id)) (λ e. refl) refl
-      (calls ends (other writer) (λ e. answer.Done) (λ e. arrives e (ResetCame id reset_code)) refl refl (λ e. arrives_plainly e (ResetCame id reset_code)))
+      (closes (other writer) (ResetCame id reset_code))
 
 shows : (ends : Ends) (side : Side) → Beside ends (answered ends (event.Show side)) (answered (plain_ends ends) (event.Show side))
 shows ends side = Goes refl (ap (λ a. let z : Answer × Ends = (a, plain_ends ends) in z) (ap shown (at_end ends side) ∙ ap (λ n. answer.Shown (peer_limits e) (table_sizes e) n) (count_each e.decoding.decoder.table.inserted e.incoming)))
@@ -211,8 +256,8 @@ every_step ends (event.Finish side id) = steps ends _ (calls ends side (λ e. an
 every_step ends (event.Reset side id) = steps ends _ (calls ends side (λ e. answer.Done) (λ e. sender.reset e id) refl refl (λ e. resets_plainly e id))
 every_step ends (event.Cancel side id) = steps ends _ (calls ends side (λ e. answer.Done) (λ e. sender.cancel e id) refl refl (λ e. cancels_plainly e id))
 every_step ends (event.Goaway side id) = steps ends _ (calls ends side (λ e. answer.Done) (λ e. sender.goaway e id) refl refl (λ e. goaways_plainly e id))
-every_step ends (event.Deliver side id count) = steps ends _ (delivers ends id side count)
-every_step ends (event.DeliverEnd side id) = steps ends _ (delivers_end ends id side)
-every_step ends (event.DeliverReset side id) = steps ends _ (delivers_reset ends id side)
+every_step ends (event.Deliver side id count) = delivers_steps ends (other side) (event.Deliver side id count) refl (delivers ends id side count)
+every_step ends (event.DeliverEnd side id) = delivers_steps ends (other side) (event.DeliverEnd side id) refl (delivers_end ends id side)
+every_step ends (event.DeliverReset side id) = delivers_steps ends (other side) (event.DeliverReset side id) refl (delivers_reset ends id side)
 every_step ends (event.Pull side id) = pull_steps ends side id
 every_step ends (event.Show side) = steps ends _ (shows ends side)

@@ -1,6 +1,6 @@
 -- A pull at a strict end finds no message malformed, and leaves that both ends count alike.
 use Rattle.std.proofs.Common.{◌≡◌, ℕ, Bool, true, false, refl, sym, ap, ◌∙◌, subst, Option, Some, None, if◌then◌else◌}
-use Rattle.std.specs.Prelude.{unwrap_or, option_map}
+use Rattle.std.specs.Prelude.{◌||◌, unwrap_or, option_map}
 use Rattle.h3_proto.specs.declared.stream.Side.{Side}
 use Rattle.h3_proto.specs.declared.stream.Side.TheVariants.{Client}
 use Rattle.h3_connection.specs.Delivering.{incoming_at}
@@ -38,7 +38,7 @@ use Rattle.h3_strict.proofs.PlainStreams.{at_each}
 use Rattle.h3_strict.proofs.SentTallies.{side_of, stands_at}
 use Rattle.h3_strict.proofs.StrictStreams.{pull_counts}
 use Rattle.h3_strict.specs.PlainEnds.{plain_ends, plain_setup}
-use Rattle.h3_strict.specs.Plainly.{is_judged, judged_as, judged_at, judged_open, plain_incoming, plainly, tells_malformed}
+use Rattle.h3_strict.specs.Plainly.{exceeds, is_judged, judged_as, judged_at, judged_open, plain_incoming, plainly, tells_malformed}
 use Rattle.h3_strict.specs.StrictPull.{CountsFlow, PullsOn}
 use Rattle.h3_strict.specs.Tallies.{IsFine, JudgesStrictly, Tallies, TalliesFlow, awaited_of}
 
@@ -134,8 +134,8 @@ module _ (laws : Laws) (setup : Setup) (made : IsMadeSetup (plain_setup setup)) 
 
   pub not_judged : is_judged puller id ≡ false
   not_judged =
-      ap (λ c. judged_open c (read_all puller.kept (unkept puller)).0 id) puller_stands.no_fault
-      ∙ ap (λ k. judged_open None (read_all k (unkept puller)).0 id) puller_stands.nothing_kept
+      ap (λ c. exceeds puller (read_all puller.kept (unkept puller)).1 || judged_open c (read_all puller.kept (unkept puller)).0 id) puller_stands.no_fault
+      ∙ ap (λ k. exceeds puller (read_all k (unkept puller)).1 || judged_open None (read_all k (unkept puller)).0 id) puller_stands.nothing_kept
       ∙ kind_not_judged (kind_of puller.side id)
 
   -- What the pull leaves of a stream that is not open, or was given up, or is over: nothing changes.

@@ -1,12 +1,15 @@
 -- Two endpoints without strict messages, and what is left of a schedule without the sends that were refused as malformed.
-use Rattle.std.specs.Prelude.{◌≡◌, Bool, true, false, List, [], ◌∷◌, ◌++◌, if◌then◌else◌}
-use Rattle.h3_world.specs.Ends.{Ends, answered, answers_of_ends, end_at, ends_after}
+use Rattle.std.specs.Prelude.{◌≡◌, ℕ, Bool, true, false, List, [], ◌∷◌, ◌++◌, if◌then◌else◌, Option, Some, None}
+use Rattle.h3_proto.specs.declared.stream.Side.{Side}
+use Rattle.h3_connection.specs.OwnIds.{other}
+use Rattle.h3_connection.specs.declared.event.Refusal.TheVariants as refusal
+use Rattle.h3_world.specs.Ends.{Ends, answered, answers_of_ends, delivery, end_at, end_delivery, ends_after, reset_delivery}
 use Rattle.h3_world.specs.declared.event.Answer.{Answer}
 use Rattle.h3_world.specs.declared.event.Answer.TheVariants as answer
 use Rattle.h3_world.specs.declared.event.Event.{Event}
 use Rattle.h3_world.specs.declared.event.Event.TheVariants as event
 use Rattle.h3_world.specs.declared.setup.Setup.{Setup}
-use Rattle.h3_strict.specs.Plainly.{is_judged, is_malformed, plain, plainly, tells_fault}
+use Rattle.h3_strict.specs.Plainly.{exceeds, is_excess, is_judged, is_malformed, plain, plainly, tells_fault}
 
 abbrev pub plain_setup : Setup → Setup
 plain_setup setup = record { client = plain setup.client; server = plain setup.server }
@@ -28,9 +31,22 @@ abbrev pub without_malformed : List Event → List Answer → List Event
 without_malformed (e ∷ events) (a ∷ answers) = if is_malformed_refusal a then without_malformed events answers else e ∷ without_malformed events answers
 without_malformed _ _ = []
 
--- The event is a pull that judges a message: it finds it malformed, or a frame of it at the wrong place.
+-- the code of the fault of the connection that what came was answered by
+abbrev pub refused_by : Answer → Option ℕ
+refused_by (answer.Refused (refusal.Connection code)) = Some code
+refused_by _ = None
+
+-- what came was too long for a reader that limits what is unfinished
+abbrev pub was_too_long : Ends → Side → Answer → Bool
+was_too_long ends reader a = exceeds (end_at ends reader) (refused_by a)
+
+-- The event is a pull that judges a message: it finds it malformed, or a frame of it at the wrong place, or too long. Or it is a delivery that
+-- is answered so, at an end that limits what is unfinished.
 abbrev pub judges : Ends → Event → Bool
 judges ends (event.Pull side id) = is_judged (end_at ends side) id
+judges ends (event.Deliver writer id count) = was_too_long ends (other writer) (delivery ends writer id count).0
+judges ends (event.DeliverEnd writer id) = was_too_long ends (other writer) (end_delivery ends writer id).0
+judges ends (event.DeliverReset writer id) = was_too_long ends (other writer) (reset_delivery ends writer id).0
 judges ends _ = false
 
 -- None of the events does, each at the ends that those before lead to.
@@ -38,19 +54,19 @@ abbrev pub NoneJudges : Ends → List Event → Type 0
 NoneJudges ends [] = Unit {0}
 NoneJudges ends (e ∷ events) = (judges ends e ≡ false) × NoneJudges (answered ends e).1 events
 
--- a pull was answered by a malformed message, or by a fault of the connection
+-- a pull was answered by a malformed message, or by a fault of the connection; or what came, by the fault of what is too long
 abbrev pub finds_fault : Answer → Bool
 finds_fault (answer.Pulled p) = tells_fault p
-finds_fault _ = false
+finds_fault a = is_excess (refused_by a)
 
 -- One event at the two ends, beside the same ends without strict messages: a send was refused as malformed, with nothing changed; or a pull
--- judges a message, and its answer tells of a fault; or it is answered alike, and leads to the same ends without strict messages.
+-- judges a message, or a delivery finds it too long, and the answer tells of a fault; or it is answered alike, and leads to the same ends without strict messages.
 pub data StepsPlainly (ends : Ends) (e : Event) : Type 0 where
   RefusesMalformed : is_malformed_refusal (answered ends e).0 ≡ true → (answered ends e).1 ≡ ends → StepsPlainly ends e
   Judges : judges ends e ≡ true → finds_fault (answered ends e).0 ≡ true → StepsPlainly ends e
   Alike : is_malformed_refusal (answered ends e).0 ≡ false → answered (plain_ends ends) e ≡ ((answered ends e).0, plain_ends (answered ends e).1) → StepsPlainly ends e
 
--- So it is over a whole schedule in which no pull judges a message: the answers, without the sends that were refused as malformed, are those of
+-- So it is over a whole schedule in which none judges a message: the answers, without the sends that were refused as malformed, are those of
 -- the ends without strict messages over the other events, which lead to the same ends without strict messages.
 pub record RunsPlainly (ends : Ends) (events : List Event) : Type 0 where
   pub answers : answers_without_malformed (answers_of_ends ends events) ≡ answers_of_ends (plain_ends ends) (without_malformed events (answers_of_ends ends events))

@@ -1,9 +1,10 @@
 -- What an endpoint that asks for strict messages, or limits what is unfinished, is without that: the same endpoint, which does neither and
 -- counts no content.
-use Rattle.std.specs.Prelude.{ℕ, Bool, true, false, [], ◌∷◌, Option, Some, None, ◌==◌, ◌||◌, ◌^◌, ◌-◌}
+use Rattle.std.specs.Prelude.{ℕ, Bool, true, false, [], ◌∷◌, Option, Some, None, ◌==◌, ◌||◌, ◌&&◌, ◌^◌, ◌-◌}
+use Rattle.h3_proto.specs.Config.{is_limit}
 use Rattle.h3_messages.specs.declared.content.Content.TheVariants.{Unsaid}
 use Rattle.h3_connection.specs.Codes.{excessive_load, frame_unexpected}
-use Rattle.h3_connection.specs.Endpoint.{EndpointHistory, Kind, kind_of}
+use Rattle.h3_connection.specs.Endpoint.{EndpointHistory, limit_of, Kind, kind_of}
 use Rattle.h3_connection.specs.Endpoint.Kind.{Request}
 use Rattle.h3_connection.specs.Incoming.{Incoming}
 use Rattle.h3_connection.specs.Keeping.{read_all, unkept}
@@ -77,6 +78,14 @@ abbrev pub judged_open : Option ℕ → EndpointHistory → ℕ → Bool
 judged_open (Some code) e id = false
 judged_open None e id = judged_as e id (kind_of e.side id)
 
--- A pull of the stream judges the message on it, once all that is kept was read.
+-- what is read is too long for an endpoint that limits what is unfinished
+abbrev pub is_excess : Option ℕ → Bool
+is_excess None = false
+is_excess (Some code) = code == excessive_load
+
+abbrev pub exceeds : EndpointHistory → Option ℕ → Bool
+exceeds e fault = is_excess fault && is_limit (limit_of e)
+
+-- A pull of the stream judges the message on it, once all that is kept was read; or too long a frame is kept.
 abbrev pub is_judged : EndpointHistory → ℕ → Bool
-is_judged e id = judged_open e.closed (read_all e.kept (unkept e)).0 id
+is_judged e id = let x = read_all e.kept (unkept e) in exceeds e x.1 || judged_open e.closed x.0 id

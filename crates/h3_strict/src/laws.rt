@@ -21,16 +21,16 @@ pub fn new_ends_are_plain()
 {}
 
 /// Each event at two ends, beside the same ends without strict messages: a send is refused as malformed, and nothing has changed; or it is a
-/// pull that finds a message malformed, or a trailer in a tunnel; or it is answered alike, and the ends after it are the same without strict
-/// messages.
+/// pull that finds a message malformed, a trailer in a tunnel or a frame too long, or a delivery that is too long for a reader with a limit; or
+/// it is answered alike, and the ends after it are the same without strict messages.
 pub fn each_event_steps_plainly()
     ensures { (ends : Ends) (e : Event) → StepsPlainly ends e }
 {}
 
-/// A schedule in which no pull finds a message malformed is answered, without the sends that were refused as malformed, as by the ends without
+/// A schedule in which no event judges so is answered, without the sends that were refused as malformed, as by the ends without
 /// strict messages over the other events (`all`). By its answers alone: so is each in which no pull was answered by a malformed message or a
-/// fault of the connection (`faultless`). So is every schedule up to the first pull that finds a message malformed (`front`): these events are
-/// a front of it, and their answers one of its answers.
+/// fault of the connection, and no delivery by that of what is too long (`faultless`). So is every schedule up to the first event that
+/// judges (`front`): these events are a front of it, and their answers one of its answers.
 pub fn whole_runs_are_plain()
     ensures all { (ends : Ends) (events : List Event) → NoneJudges ends events → RunsPlainly ends events }
     ensures faultless { (ends : Ends) (events : List Event) → list_any finds_fault (answers_of_ends ends events) ≡ false → RunsPlainly ends events }
@@ -80,7 +80,7 @@ pub fn strict_endpoints_hand_out_what_was_sent()
     h3_headline::parts::endpoints_hand_out_what_was_sent();
 }
 
-/// In such a schedule of new ends, where no pull judges a message, no pull is answered by a malformed message or a fault of the connection: so
+/// In such a schedule of new ends, where no event judges, no pull is answered by a malformed message or a fault of the connection: so
 /// what is judged is told by the answers alone.
 pub fn schedules_that_judge_nothing_find_no_fault()
     ensures { (setup : Setup) (events : List Event) → IsMadeSetup setup → AllByRecursion IsSendable events → NoneJudges (new_ends setup) events → list_any finds_fault (answers_of_ends (new_ends setup) events) ≡ false }

@@ -3,20 +3,23 @@ use Rattle.std.proofs.Common.{◌≡◌, ℕ, ◌<◌, Bool, true, false, if◌t
 use Rattle.std.specs.Prelude.{OnOk}
 use Rattle.h3_proto.specs.declared.stream.Side.{Side}
 use Rattle.h3_proto.specs.declared.stream.Side.TheVariants.{Client, Server}
+use Rattle.h3_wire.specs.ExcessiveFrames.{is_excessive}
+use Rattle.h3_wire.specs.ExcessiveLaws.{excessive_more}
 use Rattle.h3_wire.specs.Frames.{Front, Whole, Unknown, Refused, Unfinished, frame_at}
 use Rattle.h3_wire.specs.Known.{known, Gives}
 use Rattle.h3_wire.specs.declared.frame.errors.FrameStreamError.{FrameStreamError}
 use Rattle.h3_wire.specs.declared.frame.errors.FrameStreamError.TheVariants as stream
 use Rattle.h3_wire.specs.KnownLaws.{known-other}
-use Rattle.h3_wire.specs.Fronts.{IsKnown}
+use Rattle.h3_wire.specs.Fronts.{IsFinished, IsKnown}
 use Rattle.h3_wire.specs.declared.proto.frame.PayloadLen.{PayloadLen}
 use Rattle.h3_wire.specs.declared.proto.frame.Frame.{Frame}
 use Rattle.h3_wire.specs.declared.proto.frame.Frame.TheVariants as frame
-use Rattle.h3_connection.specs.PeerReading.{Peer, PeerFound, with_unread, read_max_push, read_frame, at_front, read_peer}
+use Rattle.h3_connection.specs.Codes.{excessive_load}
+use Rattle.h3_connection.specs.PeerReading.{Peer, PeerFound, with_unread, read_max_push, read_frame, at_front, unless_excessive, read_peer}
 use Rattle.h3_unidirectional.proofs.PeerLaws.{peer_frame, peer_fault, peer_less}
 use Rattle.h3_unidirectional.specs.Fronts.{ReadsFront, StopsReading}
 use Rattle.h3_unidirectional.proofs.FrameFronts.{Precedes, followed_by, frame_front, unknown_front}
-use Rattle.h3_connection.specs.PeerReadingLaws.{frame_keeps, peer_step, nothing_read_on}
+use Rattle.h3_connection.specs.PeerReadingLaws.{frame_keeps, peer_step, step_excessive, nothing_read_on}
 
 -- the same finding, over other bytes
 abbrev over : PeerFound → List ℕ → PeerFound
@@ -58,80 +61,90 @@ front_over go side p a b bytes (Refused e) = refl
 front_over go side p a b bytes (Unfinished least) = refl
 
 -- unknown frames at the front do not matter
-known_alike : (side : Side) (p : Peer) (a b : List ℕ) → known a ≡ known b → read_peer side (with_unread p a) ≡ read_peer side (with_unread p b)
-known_alike side p a b e =
-    peer_step side (with_unread p a) ∙ ap (λ l. at_front (read_peer side) side (with_unread p a) l (frame_at l)) e
-    ∙ front_over (read_peer side) side p a b (known b) (frame_at (known b)) ∙ sym (peer_step side (with_unread p b))
+known_alike : (limit : ℕ) (side : Side) (p : Peer) (a b : List ℕ) → known a ≡ known b → read_peer limit side (with_unread p a) ≡ read_peer limit side (with_unread p b)
+known_alike limit side p a b e =
+    peer_step limit side (with_unread p a) ∙ ap (λ l. unless_excessive limit l p (at_front (read_peer limit side) side (with_unread p a) l (frame_at l))) e
+    ∙ ap (unless_excessive limit (known b) p) (front_over (read_peer limit side) side p a b (known b) (frame_at (known b))) ∙ sym (peer_step limit side (with_unread p b))
 
 -- a front, by what it leaves to whatever follows
-pub from_front : (side : Side) (old new : Peer) (front : List ℕ) → old.unread ≡ front ++ new.unread
-    → ((more : List ℕ) → read_peer side (with_unread old (front ++ more)) ≡ read_peer side (with_unread new more)) → ReadsFront side old new
-from_front side old new front split goes_on =
+pub from_front : (limit : ℕ) (side : Side) (old new : Peer) (front : List ℕ) → old.unread ≡ front ++ new.unread
+    → ((more : List ℕ) → read_peer limit side (with_unread old (front ++ more)) ≡ read_peer limit side (with_unread new more)) → ReadsFront limit side old new
+from_front limit side old new front split goes_on =
     record {
       front = front;
       split = split;
-      read = ap (λ l. read_peer side (with_unread old l)) (sym (append-nil front)) ∙ goes_on [] ∙ nothing_read_on side new;
+      read = ap (λ l. read_peer limit side (with_unread old l)) (sym (append-nil front)) ∙ goes_on [] ∙ nothing_read_on limit side new;
       goes_on = goes_on;
     }
 
 -- nothing is read
-pub no_front : (side : Side) (p : Peer) → ReadsFront side p p
-no_front side p = from_front side p p [] refl (λ more. refl)
+pub no_front : (limit : ℕ) (side : Side) (p : Peer) → ReadsFront limit side p p
+no_front limit side p = from_front limit side p p [] refl (λ more. refl)
 
 -- unknown frames are passed
-pub unknown_passed : (side : Side) (p : Peer) (left : List ℕ) → left ≡ known p.unread → ReadsFront side p (with_unread p left)
-unknown_passed side p left is =
+pub unknown_passed : (limit : ℕ) (side : Side) (p : Peer) (left : List ℕ) → left ≡ known p.unread → ReadsFront limit side p (with_unread p left)
+unknown_passed limit side p left is =
     let u = unknown_front p.unread in
-    from_front side p (with_unread p left) u.front (u.split ∙ ap (λ l. u.front ++ l) (sym is)) (λ more. known_alike side p (u.front ++ more) more (u.alike more))
+    from_front limit side p (with_unread p left) u.front (u.split ∙ ap (λ l. u.front ++ l) (sym is)) (λ more. known_alike limit side p (u.front ++ more) more (u.alike more))
+
+-- the head of a whole frame says its length, whatever follows
+front_small : (limit : ℕ) (front rest more : List ℕ) (f : Frame PayloadLen) → front ++ [] ≡ front → frame_at (front ++ []) ≡ Whole f [] → is_excessive limit (front ++ rest) ≡ false → is_excessive limit (front ++ more) ≡ false
+front_small limit front rest more f same whole small =
+    let there : IsFinished (frame_at front) = subst IsFinished (sym (ap frame_at (sym same) ∙ whole)) tt in
+    excessive_more limit front more there ∙ sym (excessive_more limit front rest there) ∙ small
 
 -- a frame is read
-pub frame_read : (side : Side) (p new : Peer) (f : Frame PayloadLen) (rest : List ℕ) → frame_at (known p.unread) ≡ Whole f rest → read_frame side (with_unread p rest) p.settings f ≡ (new, None) → ReadsFront side p new
-frame_read side p new f rest gives does =
+pub frame_read : (limit : ℕ) (side : Side) (p new : Peer) (f : Frame PayloadLen) (rest : List ℕ) → is_excessive limit (known p.unread) ≡ false → frame_at (known p.unread) ≡ Whole f rest → read_frame side (with_unread p rest) p.settings f ≡ (new, None) → ReadsFront limit side p new
+frame_read limit side p new f rest small gives does =
     let u = unknown_front p.unread in
     let w = frame_front (known p.unread) rest (subst (λ x. Precedes x rest) (sym gives) refl) in
+    let whole_of : (more : List ℕ) → frame_at (w.front ++ more) ≡ Whole f more = λ more. w.alike more ∙ ap (λ x. followed_by x more) gives in
     let keeps : new.unread ≡ rest = ap (λ (x : PeerFound). x.0.unread) (sym does) ∙ frame_keeps side (with_unread p rest) p.settings f in
-    from_front side p new (u.front ++ w.front)
+    from_front limit side p new (u.front ++ w.front)
     (u.split ∙ ap (λ l. u.front ++ l) (w.split ∙ ap (λ l. w.front ++ l) (sym keeps)) ∙ sym (append_assoc u.front w.front new.unread))
     (λ more.
-    let whole : frame_at (w.front ++ more) ≡ Whole f more = w.alike more ∙ ap (λ x. followed_by x more) gives in
-    let here : frame_at (known (w.front ++ more)) ≡ Whole f more = ap frame_at (known-other (w.front ++ more) (subst IsKnown (sym whole) tt)) ∙ whole in
+    let whole = whole_of more in
+    let alone : known (w.front ++ more) ≡ w.front ++ more = known-other (w.front ++ more) (subst IsKnown (sym whole) tt) in
+    let here : frame_at (known (w.front ++ more)) ≡ Whole f more = ap frame_at alone ∙ whole in
+    let short : is_excessive limit (known (w.front ++ more)) ≡ false =
+    ap (is_excessive limit) alone ∙ front_small limit w.front rest more f (append-nil w.front) (whole_of []) (ap (is_excessive limit) (sym w.split) ∙ small) in
     let again : read_frame side (with_unread p more) p.settings f ≡ (with_unread new more, None) = frame_over side (with_unread p rest) p.settings f more ∙ ap (λ x. over x more) does in
-    known_alike side p ((u.front ++ w.front) ++ more) (w.front ++ more) (ap known (append_assoc u.front w.front more) ∙ u.alike (w.front ++ more))
-    ∙ peer_frame side (with_unread p (w.front ++ more)) f more (with_unread new more, None) here again)
+    known_alike limit side p ((u.front ++ w.front) ++ more) (w.front ++ more) (ap known (append_assoc u.front w.front more) ∙ u.alike (w.front ++ more))
+    ∙ peer_frame limit side (with_unread p (w.front ++ more)) f more (with_unread new more, None) short here again)
 
 -- one front behind the other
-pub then_front : (side : Side) (old mid new : Peer) → ReadsFront side old mid → ReadsFront side mid new → ReadsFront side old new
-then_front side old mid new a b =
-    from_front side old new (a.front ++ b.front)
+pub then_front : (limit : ℕ) (side : Side) (old mid new : Peer) → ReadsFront limit side old mid → ReadsFront limit side mid new → ReadsFront limit side old new
+then_front limit side old mid new a b =
+    from_front limit side old new (a.front ++ b.front)
     (a.split ∙ ap (λ l. a.front ++ l) b.split ∙ sym (append_assoc a.front b.front new.unread))
-    (λ more. ap (λ l. read_peer side (with_unread old l)) (append_assoc a.front b.front more) ∙ a.goes_on (b.front ++ more) ∙ b.goes_on more)
+    (λ more. ap (λ l. read_peer limit side (with_unread old l)) (append_assoc a.front b.front more) ∙ a.goes_on (b.front ++ more) ∙ b.goes_on more)
 
 -- the whole is read as what is left
-pub behind_front : (side : Side) (old mid : Peer) → ReadsFront side old mid → read_peer side mid ≡ read_peer side old
-behind_front side old mid a = sym (ap (λ l. read_peer side (with_unread old l)) a.split ∙ a.goes_on mid.unread)
+pub behind_front : (limit : ℕ) (side : Side) (old mid : Peer) → ReadsFront limit side old mid → read_peer limit side mid ≡ read_peer limit side old
+behind_front limit side old mid a = sym (ap (λ l. read_peer limit side (with_unread old l)) a.split ∙ a.goes_on mid.unread)
 
 -- room for another GOAWAY frame changes none
 same_goaways : (side : Side) (p : Peer) (goaways rest : List ℕ) (f : Frame PayloadLen) (x : PeerFound) → goaways ≡ p.goaways → read_frame side (record p { unread = rest; goaways = goaways }) p.settings f ≡ x → read_frame side (with_unread p rest) p.settings f ≡ x
 same_goaways side p goaways rest f x same does = subst (λ g. read_frame side (record p { unread = rest; goaways = g }) p.settings f ≡ x) same does
 
 -- a frame is read, and fewer bytes are left
-pub one_read : (side : Side) (p new : Peer) (goaways rest : List ℕ) (f : Frame PayloadLen) → goaways ≡ p.goaways → frame_at (known p.unread) ≡ Whole f rest
-    → read_frame side (record p { unread = rest; goaways = goaways }) p.settings f ≡ (new, None) → ReadsFront side p new × (length new.unread < length p.unread)
-one_read side p new goaways rest f same gives does =
+pub one_read : (limit : ℕ) (side : Side) (p new : Peer) (goaways rest : List ℕ) (f : Frame PayloadLen) → is_excessive limit (known p.unread) ≡ false → goaways ≡ p.goaways → frame_at (known p.unread) ≡ Whole f rest
+    → read_frame side (record p { unread = rest; goaways = goaways }) p.settings f ≡ (new, None) → ReadsFront limit side p new × (length new.unread < length p.unread)
+one_read limit side p new goaways rest f small same gives does =
     let here = same_goaways side p goaways rest f (new, None) same does in
-    (frame_read side p new f rest gives here, peer_less side p new f rest None gives here)
+    (frame_read limit side p new f rest small gives here, peer_less side p new f rest None gives here)
 
 -- a frame is a fault
-pub one_fault : (side : Side) (p new : Peer) (goaways rest : List ℕ) (f : Frame PayloadLen) (code : ℕ) → goaways ≡ p.goaways → frame_at (known p.unread) ≡ Whole f rest
-    → read_frame side (record p { unread = rest; goaways = goaways }) p.settings f ≡ (new, Some code) → read_peer side p ≡ (new, Some code)
-one_fault side p new goaways rest f code same gives does = peer_fault side p new f rest code gives (same_goaways side p goaways rest f (new, Some code) same does)
+pub one_fault : (limit : ℕ) (side : Side) (p new : Peer) (goaways rest : List ℕ) (f : Frame PayloadLen) (code : ℕ) → is_excessive limit (known p.unread) ≡ false → goaways ≡ p.goaways → frame_at (known p.unread) ≡ Whole f rest
+    → read_frame side (record p { unread = rest; goaways = goaways }) p.settings f ≡ (new, Some code) → read_peer limit side p ≡ (new, Some code)
+one_fault limit side p new goaways rest f code small same gives does = peer_fault limit side p new f rest code small gives (same_goaways side p goaways rest f (new, Some code) same does)
 
 -- a GOAWAY frame is read
-pub goaway_read : (side : Side) (p : Peer) (goaways after rest : List ℕ) (id : ℕ) (f : Frame PayloadLen) → goaways ≡ p.goaways → after ≡ goaways ++ id ∷ [] → frame_at (known p.unread) ≡ Whole f rest
+pub goaway_read : (limit : ℕ) (side : Side) (p : Peer) (goaways after rest : List ℕ) (id : ℕ) (f : Frame PayloadLen) → is_excessive limit (known p.unread) ≡ false → goaways ≡ p.goaways → after ≡ goaways ++ id ∷ [] → frame_at (known p.unread) ≡ Whole f rest
     → read_frame side (record p { unread = rest; goaways = goaways }) p.settings f ≡ (record p { unread = rest; goaways = goaways ++ id ∷ [] }, None)
-    → ReadsFront side p (record p { unread = rest; goaways = after }) × (length rest < length p.unread)
-goaway_read side p goaways after rest id f same more gives does =
-    one_read side p (record p { unread = rest; goaways = after }) goaways rest f same gives (subst (λ g. read_frame side (record p { unread = rest; goaways = goaways }) p.settings f ≡ (record p { unread = rest; goaways = g }, None)) (sym more) does)
+    → ReadsFront limit side p (record p { unread = rest; goaways = after }) × (length rest < length p.unread)
+goaway_read limit side p goaways after rest id f small same more gives does =
+    one_read limit side p (record p { unread = rest; goaways = after }) goaways rest f small same gives (subst (λ g. read_frame side (record p { unread = rest; goaways = goaways }) p.settings f ≡ (record p { unread = rest; goaways = g }, None)) (sym more) does)
 
 left_known : (e : FrameStreamError) (old new : List ℕ) → Gives (Err e) old new → new ≡ known old
 left_known (stream.Proto e) old new h = h.0
@@ -139,21 +152,28 @@ left_known stream.OutOfMemory old new h = h.0
 left_known (stream.Quic e) old new h = absurd h
 left_known stream.UnexpectedEnd old new h = absurd h
 
+-- a frame is too long: what came is let go
+pub one_excessive : (limit : ℕ) (side : Side) (p : Peer) (goaways left : List ℕ) → is_excessive limit (known p.unread) ≡ true → goaways ≡ p.goaways → left ≡ []
+    → read_peer limit side p ≡ (record p { unread = left; goaways = goaways }, Some excessive_load)
+one_excessive limit side p goaways left large same none =
+    step_excessive limit side p large ∙ ap (λ g. (record p { unread = []; goaways = g }, Some excessive_load)) (sym same)
+    ∙ ap (λ l. (record p { unread = l; goaways = goaways }, Some excessive_load)) (sym none)
+
 -- where memory is refused, unknown frames alone are passed
-pub refused_front : (side : Side) (p : Peer) (goaways left : List ℕ) (e : FrameStreamError) → goaways ≡ p.goaways → Gives (Err e) p.unread left → ReadsFront side p (record p { unread = left; goaways = goaways })
-refused_front side p goaways left e same gives =
-    subst (λ g. ReadsFront side p (record p { unread = left; goaways = g })) (sym same) (unknown_passed side p left (left_known e p.unread left gives))
+pub refused_front : (limit : ℕ) (side : Side) (p : Peer) (goaways left : List ℕ) (e : FrameStreamError) → goaways ≡ p.goaways → Gives (Err e) p.unread left → ReadsFront limit side p (record p { unread = left; goaways = goaways })
+refused_front limit side p goaways left e same gives =
+    subst (λ g. ReadsFront limit side p (record p { unread = left; goaways = g })) (sym same) (unknown_passed limit side p left (left_known e p.unread left gives))
 
 -- where memory is refused, what was read stands
-pub stops_reading : (side : Side) (old new : Peer) → ReadsFront side old new → StopsReading side old new
-stops_reading side old new h =
+pub stops_reading : (limit : ℕ) (side : Side) (old new : Peer) → ReadsFront limit side old new → StopsReading limit side old new
+stops_reading limit side old new h =
     record {
       part = record { front = h.front; rest = new.unread; cut = h.split; read = with_unread new []; reads = h.read; left = refl };
-      resumes = λ more. sym (ap (λ l. read_peer side (with_unread old (l ++ more))) h.split ∙ ap (λ l. read_peer side (with_unread old l)) (append_assoc h.front new.unread more) ∙ h.goes_on (new.unread ++ more));
+      resumes = λ more. sym (ap (λ l. read_peer limit side (with_unread old (l ++ more))) h.split ∙ ap (λ l. read_peer limit side (with_unread old l)) (append_assoc h.front new.unread more) ∙ h.goes_on (new.unread ++ more));
     }
 
-pub stops_later : (side : Side) (old mid new : Peer) → ReadsFront side old mid → ReadsFront side mid new → StopsReading side old new
-stops_later side old mid new a b = stops_reading side old new (then_front side old mid new a b)
+pub stops_later : (limit : ℕ) (side : Side) (old mid new : Peer) → ReadsFront limit side old mid → ReadsFront limit side mid new → StopsReading limit side old new
+stops_later limit side old mid new a b = stops_reading limit side old new (then_front limit side old mid new a b)
 
 -- more bytes are kept behind what is unread
 pub kept_more : {A E : Type 0} (r : Result A E) (stored p : Peer) (unread bytes : List ℕ) → stored ≡ p → OnOk r (unread ≡ stored.unread ++ bytes) → OnOk r (with_unread stored unread ≡ with_unread p (p.unread ++ bytes))

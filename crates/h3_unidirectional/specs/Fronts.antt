@@ -8,17 +8,17 @@ use Rattle.h3_connection.specs.Listeners.{Decoding, Encoding, heard_more}
 use Rattle.h3_connection.specs.PartReading.{PeerReadsPart, HearsPart, ListensPart}
 use Rattle.h3_connection.specs.PeerReading.{Peer, with_unread, read_peer}
 
--- The peer's control stream: whatever follows the front, it is read on from there.
-pub record ReadsFront (side : Side) (old new : Peer) : Type 0 where
+-- The peer's control stream, where frames are taken up to this limit: whatever follows the front, it is read on from there.
+pub record ReadsFront (limit : ℕ) (side : Side) (old new : Peer) : Type 0 where
   pub front : List ℕ
   pub split : old.unread ≡ front ++ new.unread
-  pub read : read_peer side (with_unread old front) ≡ (with_unread new [], None)
-  pub goes_on : (more : List ℕ) → read_peer side (with_unread old (front ++ more)) ≡ read_peer side (with_unread new more)
+  pub read : read_peer limit side (with_unread old front) ≡ (with_unread new [], None)
+  pub goes_on : (more : List ℕ) → read_peer limit side (with_unread old (front ++ more)) ≡ read_peer limit side (with_unread new more)
 
 -- A front of it was read, and a later reading gives what one of the whole would have given, whatever comes behind.
-pub record StopsReading (side : Side) (old new : Peer) : Type 0 where
-  pub part : PeerReadsPart side old new
-  pub resumes : (more : List ℕ) → read_peer side (with_unread new (new.unread ++ more)) ≡ read_peer side (with_unread old (old.unread ++ more))
+pub record StopsReading (limit : ℕ) (side : Side) (old new : Peer) : Type 0 where
+  pub part : PeerReadsPart limit side old new
+  pub resumes : (more : List ℕ) → read_peer limit side (with_unread new (new.unread ++ more)) ≡ read_peer limit side (with_unread old (old.unread ++ more))
 
 -- The same of the peer's encoder stream.
 pub record HearsFront (old new : Decoding) : Type 0 where

@@ -1,5 +1,5 @@
 -- What a frame of the peer's control stream does.
-use Rattle.std.specs.Prelude.{◌≡◌, ◌<◌, [], ◌∷◌, ◌++◌, length, Some, None}
+use Rattle.std.specs.Prelude.{◌≡◌, ℕ, ◌<◌, [], ◌∷◌, ◌++◌, length, Some, None}
 use Rattle.h3_proto.specs.declared.stream.Side.{Side}
 use Rattle.h3_connection.specs.PeerReading.{Peer, PeerFound, read_peer}
 use Rattle.h3_unidirectional.specs.Fronts.{ReadsFront}
@@ -15,6 +15,6 @@ done p (MaxPushId id) = (record p { most_pushes = Some id }, None)
 done p (Fault code) = (p, Some code)
 
 -- a frame was read, and fewer bytes are left; or all was read
-abbrev pub ReadsOne : Side → Peer → Peer → Progress → Type 0
-ReadsOne side old new GoesOn = ReadsFront side old new × (length new.unread < length old.unread)
-ReadsOne side old new (Ends fault) = read_peer side old ≡ (new, fault)
+abbrev pub ReadsOne : ℕ → Side → Peer → Peer → Progress → Type 0
+ReadsOne limit side old new GoesOn = ReadsFront limit side old new × (length new.unread < length old.unread)
+ReadsOne limit side old new (Ends fault) = read_peer limit side old ≡ (new, fault)

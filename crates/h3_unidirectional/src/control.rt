@@ -236,12 +236,17 @@ impl PeerControl {
         }
     }
 
-    /// Reads the next frame. Where memory is refused only unknown frames are passed.
+    /// Reads the next frame, unless it says a length above `most`: then what came is let go. Where memory is refused only unknown frames are
+    /// passed.
     #[tactic(auto, using(crate::specs::PeerLaws::peer_waits, crate::proofs::ControlFronts::no_front, crate::proofs::ControlFronts::unknown_passed))]
-    fn read_one(&mut self, alloc: Global, side: Side) -> Result<Progress, AllocError>
-        ensures ok { IfOk result (λ progress. ReadsOne side self.old self.new progress) }
-        ensures refused { OnErr result (ReadsFront side self.old self.new) }
+    fn read_one(&mut self, alloc: Global, side: Side, most: u64) -> Result<Progress, AllocError>
+        ensures ok { IfOk result (λ progress. ReadsOne most side self.old self.new progress) }
+        ensures refused { OnErr result (ReadsFront most side self.old self.new) }
     {
+        if self.unread.is_excessive(most) {
+            self.unread = FrameBuffer::new(alloc);
+            return Ok(Progress::Ends(Some(Code::H3_EXCESSIVE_LOAD)));
+        }
         self.goaways.reserve(1)?;
         match self.unread.next_frame(alloc) {
             Ok(None) => Ok(Progress::Ends(None)),
@@ -265,15 +270,16 @@ impl PeerControl {
         }
     }
 
-    /// Reads all whole frames, up to the first fault, and answers that fault. Where memory is refused the frames that were
-    /// read stand, and the others stay unread: the next reading goes on with them, and answers what this one would have.
+    /// Reads all whole frames, up to the first fault, and answers that fault. One that says a length above `most` is a fault, whether its
+    /// payload came or not (RFC 9114, section 10.5). Where memory is refused the frames that were read stand, and the others stay unread:
+    /// the next reading goes on with them, and answers what this one would have.
     #[tactic(auto, using(crate::proofs::ControlFronts::no_front, crate::proofs::ControlFronts::then_front, crate::proofs::ControlFronts::behind_front, crate::proofs::ControlFronts::stops_later))]
-    pub fn read(&mut self, alloc: Global, side: Side) -> Result<Option<Code>, AllocError>
-        ensures ok { IfOk result (λ fault. read_peer side self.old ≡ (self.new, fault)) }
-        ensures refused { OnErr result (StopsReading side self.old self.new) }
+    pub fn read(&mut self, alloc: Global, side: Side, most: u64) -> Result<Option<Code>, AllocError>
+        ensures ok { IfOk result (λ fault. read_peer most side self.old ≡ (self.new, fault)) }
+        ensures refused { OnErr result (StopsReading most side self.old self.new) }
     {
         loop {
-            match self.read_one(alloc, side) {
+            match self.read_one(alloc, side, most) {
                 Ok(Progress::Ends(fault)) => return Ok(fault),
                 Ok(Progress::GoesOn) => {}
                 Err(e) => return Err(e),

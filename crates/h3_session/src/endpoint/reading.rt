@@ -134,7 +134,8 @@ impl Endpoint {
         ensures reads { ReadsEach self.old (BytesCame id bytes) result self.new }
         ensures kept { self.new.kept ≡ self.old.kept }
     {
-        let left = match self.streams.bytes(self.alloc, self.side, id, bytes) {
+        let most = self.announced.choices.unfinished_limit;
+        let left = match self.streams.bytes(self.alloc, self.side, most, id, bytes) {
             Ok(fault) => return Ok(fault),
             Err(left) => left,
         };

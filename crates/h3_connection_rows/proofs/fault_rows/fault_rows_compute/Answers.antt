@@ -126,3 +126,19 @@ returns-clause-bad_name_of_an_unfinished_instruction c = refl
 pub returns-clause-body_behind_an_interim_head : goal.returns-clause-body_behind_an_interim_head
 unfolding encoding static_field static_name chars encode varint_at split_of bits code_word octets huffman static_table frame_at frame_of known is_token_byte is_utf8 kind_of head_of unhuffman hear listen fields_in decode_section skipped read_peer pull_stream
 returns-clause-body_behind_an_interim_head c = refl
+
+pub returns-clause-settings_above_the_limit : goal.returns-clause-settings_above_the_limit
+unfolding encoding static_field static_name chars encode varint_at split_of bits code_word octets huffman static_table frame_at frame_of known is_token_byte is_utf8 kind_of head_of unhuffman hear listen fields_in decode_section skipped read_peer pull_stream
+returns-clause-settings_above_the_limit c = refl
+
+pub returns-clause-settings_above_the_limit_in_two : goal.returns-clause-settings_above_the_limit_in_two
+unfolding encoding static_field static_name chars encode varint_at split_of bits code_word octets huffman static_table frame_at frame_of known is_token_byte is_utf8 kind_of head_of unhuffman hear listen fields_in decode_section skipped read_peer pull_stream
+returns-clause-settings_above_the_limit_in_two c = refl
+
+pub returns-clause-goaway_above_the_limit : goal.returns-clause-goaway_above_the_limit
+unfolding encoding static_field static_name chars encode varint_at split_of bits code_word octets huffman static_table frame_at frame_of known is_token_byte is_utf8 kind_of head_of unhuffman hear listen fields_in decode_section skipped read_peer pull_stream
+returns-clause-goaway_above_the_limit c = refl
+
+pub returns-clause-settings_at_the_limit : goal.returns-clause-settings_at_the_limit
+unfolding encoding static_field static_name chars encode varint_at split_of bits code_word octets huffman static_table frame_at frame_of known is_token_byte is_utf8 kind_of head_of unhuffman hear listen fields_in decode_section skipped read_peer pull_stream
+returns-clause-settings_at_the_limit c = refl

@@ -1,4 +1,4 @@
-use Rattle.std.proofs.Common.{sym}
+use Rattle.std.proofs.Common.{sym, ◌∙◌}
 use Rattle.h3_unidirectional.proofs.PeerLaws.{peer_refused}
 use Rattle.h3_unidirectional.proofs.ControlFronts.{one_read, one_fault, goaway_read, refused_front}
 use Rattle.h3_unidirectional.proofs.control.PeerControl.read_one.Goals as goal
@@ -6,27 +6,27 @@ use Rattle.h3_unidirectional.proofs.control.PeerControl.read_one.Goals as goal
 pub returns-in-Settings-clause-ok : goal.returns-in-Settings-clause-ok
 returns-in-Settings-clause-ok c =
     let gives = rw c.in-Ok-Some.field-0-is at c.in-Ok-Some.ensures.gives in
-    rw (sym c.self.view_is) (one_read _ _ _ _ _ _ c.reserve.ensures.items gives c.in-Settings.ensures)
+    rw (sym c.self.view_is) (one_read _ _ _ _ _ _ _ (sym c.is_excessive.ensures ∙ c.if-is_excessive.false) c.reserve.ensures.items gives c.in-Settings.ensures)
 
 pub returns-in-Goaway-clause-ok : goal.returns-in-Goaway-clause-ok
 returns-in-Goaway-clause-ok c =
     let gives = rw c.in-Ok-Some.field-0-is at c.in-Ok-Some.ensures.gives in
-    rw (sym c.self.view_is) (goaway_read _ _ _ _ _ _ _ c.reserve.ensures.items c.push_reserved.ensures.items gives c.in-Goaway.ensures)
+    rw (sym c.self.view_is) (goaway_read _ _ _ _ _ _ _ _ (sym c.is_excessive.ensures ∙ c.if-is_excessive.false) c.reserve.ensures.items c.push_reserved.ensures.items gives c.in-Goaway.ensures)
 
 pub returns-in-MaxPushId-clause-ok : goal.returns-in-MaxPushId-clause-ok
 returns-in-MaxPushId-clause-ok c =
     let gives = rw c.in-Ok-Some.field-0-is at c.in-Ok-Some.ensures.gives in
-    rw (sym c.self.view_is) (one_read _ _ _ _ _ _ c.reserve.ensures.items gives c.in-MaxPushId.ensures)
+    rw (sym c.self.view_is) (one_read _ _ _ _ _ _ _ (sym c.is_excessive.ensures ∙ c.if-is_excessive.false) c.reserve.ensures.items gives c.in-MaxPushId.ensures)
 
 pub returns-in-Fault-clause-ok : goal.returns-in-Fault-clause-ok
 returns-in-Fault-clause-ok c =
     let gives = rw c.in-Ok-Some.field-0-is at c.in-Ok-Some.ensures.gives in
-    rw (sym c.self.view_is) (one_fault _ _ _ _ _ _ _ c.reserve.ensures.items gives c.in-Fault.ensures)
+    rw (sym c.self.view_is) (one_fault _ _ _ _ _ _ _ _ (sym c.is_excessive.ensures ∙ c.if-is_excessive.false) c.reserve.ensures.items gives c.in-Fault.ensures)
 
 pub returns-in-Err-Proto-clause-ok : goal.returns-in-Err-Proto-clause-ok
 returns-in-Err-Proto-clause-ok c =
     let gives = rw c.in-Err-Proto.field-0-is at c.in-Err-Proto.ensures.gives in
-    rw (sym c.self.view_is, c.reserve.ensures.items, c.refused.ensures, c.in-Err-Proto.e-is) (peer_refused _ _ _ _ gives.0 gives.1)
+    rw (sym c.self.view_is, c.reserve.ensures.items, c.refused.ensures, c.in-Err-Proto.e-is) (peer_refused _ _ _ _ _ (sym c.is_excessive.ensures ∙ c.if-is_excessive.false) gives.0 gives.1)
 
 pub returns-in-Err : goal.returns-in-Err
-returns-in-Err c = record { ok = tt; refused = rw (sym c.self.view_is) (refused_front _ _ _ _ _ c.reserve.ensures.items c.in-Err.ensures.gives) }
+returns-in-Err c = record { ok = tt; refused = rw (sym c.self.view_is) (refused_front _ _ _ _ _ _ c.reserve.ensures.items c.in-Err.ensures.gives) }
