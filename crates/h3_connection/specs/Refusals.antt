@@ -48,7 +48,8 @@ refusal_of_body s is_too_much = first_of (
     (not (takes_body s.outgoing), refusal.OutOfOrder) ∷
     (is_too_much, refusal.Malformed malformation.ContentLength) ∷ [])
 
--- So does a trailer, which has no pseudo-header fields (RFC 9114, section 4.3). A strict sender refuses one that is early or malformed.
+-- A trailer comes behind a head, and once. It has no pseudo-header fields (RFC 9114, section 4.3). A strict sender refuses one that is early or
+-- malformed.
 abbrev pub refusal_of_trailer : Sender → Option Malformation → Option Malformation → Head → Option Refusal
 refusal_of_trailer s early broken trailer = first_of (
     (not s.is_open, refusal.NotOpen) ∷

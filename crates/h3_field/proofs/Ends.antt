@@ -1,5 +1,5 @@
 -- Ends of a prefix, and of all that is there.
-use Rattle.std.proofs.Common.{◌≡◌, ℕ, ◌+◌, List, [], ◌∷◌, ◌++◌, refl, ap, sym, arith}
+use Rattle.std.proofs.Common.{◌≡◌, ℕ, List, [], ◌∷◌, ◌++◌, refl, ap, sym, arith}
 use Rattle.h3_field.specs.IntegerReading.{integer}
 use Rattle.h3_field.specs.PrefixReading.{prefix}
 use Rattle.h3_field.specs.Ends.{LeavesEnds, IsEndOf}

@@ -1,9 +1,9 @@
 -- Only an encoding of a number in range is read as an integer.
-use Rattle.std.proofs.Common.{◌≡◌, ℕ, ◌+◌, ◌*◌, ◌-◌, ◌/◌, ◌%◌, ◌^◌, ◌<◌, List, [], ◌∷◌, ◌++◌, refl, ap, sym, ◌∙◌, arith, inl, inr}
+use Rattle.std.proofs.Common.{◌≡◌, ℕ, ◌+◌, ◌*◌, ◌/◌, ◌%◌, ◌^◌, ◌<◌, List, [], ◌∷◌, ◌++◌, refl, ap, sym, ◌∙◌, arith, inl, inr}
 use Rattle.std.proofs.lemmas.Bool.{lt-ltb, le-ltb, cases_lt, lt-leb, le-leb}
 use Rattle.std.proofs.lemmas.Nat.{pow_pos, shr_split, mod_below}
 use Rattle.std.proofs.lemmas.Grind.{pow_more}
-use Rattle.h3_field.specs.Integer.{ones, groups}
+use Rattle.h3_field.specs.Integer.{ones}
 use Rattle.h3_field.specs.Reading.{Reading, Whole, Unfinished, Bad, then_read}
 use Rattle.h3_field.specs.IntegerReading.{integer, groups_reading, integer_limit, groups_worth, AreGroups, IsInteger, InPrefix, Behind}
 use Rattle.h3_field.specs.IntegerSteps.{Encoded}

@@ -1,5 +1,5 @@
 -- What is read of an integer, and what is still to be written of one.
-use Rattle.std.specs.Prelude.{◌≡◌, ℕ, ◌+◌, ◌<◌, List, ◌++◌, suc, ◌^◌, ◌∷◌}
+use Rattle.std.specs.Prelude.{◌≡◌, ℕ, ◌<◌, List, ◌++◌, suc, ◌^◌, ◌∷◌}
 use Rattle.h3_field.specs.IntegerReading.{integer_limit, IsInteger}
 use Rattle.h3_field.specs.Integer.{groups}
 

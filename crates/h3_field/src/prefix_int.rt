@@ -1,5 +1,5 @@
 //! Prefixed integers (RFC 9204, section 4.1.1; RFC 7541, section 5.1).
-ghost use Rattle.std.specs.Prelude.{◌≡◌, ◌+◌, ◌-◌, ◌^◌, ◌<◌, ◌≤◌, ◌++◌, OnOk, OnErr, IfOk, Result, length, MatchOption, ◌*◌, ◌∷◌, take, Some};
+ghost use Rattle.std.specs.Prelude.{◌≡◌, ◌+◌, ◌-◌, ◌^◌, ◌<◌, ◌≤◌, ◌++◌, OnOk, OnErr, IfOk, Result, length, MatchOption, ◌*◌, ◌∷◌, Some, vec_len, vec_capacity};
 ghost use Rattle.h3_field.specs.Ends.{IsEndOf};
 ghost use Rattle.h3_field.specs.ErrorTexts.{integer_text};
 ghost use Rattle.h3_field.specs.Integer.{prefixed, ones, groups};
@@ -119,20 +119,39 @@ fn first_byte(size: u8, flags: u8, low: u64) -> u8
     (top + low) as u8
 }
 
-/// Appends a first byte of all ones, and the groups of the rest.
-fn put_groups(first: u8, rest: u64, buf: &mut Vec<u8>) -> Result<(), AllocError>
-    requires { rest < 2 ^ 63 }
-    ensures ok { OnOk result (buf.new.items ≡ buf.old.items ++ first ∷ groups 9 rest) }
-    ensures err { OnErr result (take (length buf.old.items) buf.new.items ≡ buf.old.items) }
+/// The most bytes that an integer takes.
+const LONGEST: usize = 10;
+
+/// Appends a first byte of all ones, and the groups of the rest, where there is room for them.
+fn put_groups(first: u8, rest: u64, buf: &mut Vec<u8>)
+    requires rest { rest < 2 ^ 63 }
+    requires room { vec_len buf.old + length (first ∷ groups 9 rest) ≤ vec_capacity buf.old }
+    ensures { buf.new.items ≡ buf.old.items ++ first ∷ groups 9 rest }
 {
-    buf.push(first)?;
+    buf.push_reserved(first);
     let mut left = rest;
     while left >= 128 {
-        buf.push((128 + left % 128) as u8)?;
+        buf.push_reserved((128 + left % 128) as u8);
         left /= 128;
     }
-    buf.push(left as u8)?;
-    Ok(())
+    buf.push_reserved(left as u8);
+}
+
+/// Appends the shortest encoding of `value` in the low `size` bits of a byte below `flags`, where there is room for it.
+pub fn put(size: u8, flags: u8, value: u64, buf: &mut Vec<u8>)
+    requires least { 1 ≤ size }
+    requires most { size ≤ 8 }
+    requires flags { flags < 2 ^ (8 - size) }
+    requires value { value < integer_limit size }
+    requires room { vec_len buf.old + length (prefixed size flags value) ≤ vec_capacity buf.old }
+    ensures { buf.new.items ≡ buf.old.items ++ prefixed size flags value }
+{
+    let ones = greatest(size);
+    if value < ones {
+        buf.push_reserved(first_byte(size, flags, value));
+    } else {
+        put_groups(first_byte(size, flags, ones), value - ones, buf);
+    }
 }
 
 /// Appends the shortest encoding of `value` in the low `size` bits of a byte below `flags`. A refusal
@@ -150,10 +169,7 @@ pub fn encode(size: u8, flags: u8, value: u64, buf: &mut Vec<u8>) -> Result<(), 
         buf.push(first_byte(size, flags, value))?;
         return Ok(());
     }
-    let start = buf.len();
-    let appended = put_groups(first_byte(size, flags, ones), value - ones, buf);
-    if appended.is_err() {
-        buf.truncate(start);
-    }
-    appended
+    buf.reserve(LONGEST)?;
+    put_groups(first_byte(size, flags, ones), value - ones, buf);
+    Ok(())
 }

@@ -14,6 +14,9 @@ use httparse::is_header_value;
 use marks::{are_host_bytes, are_name_bytes, are_plain_path_bytes, are_plain_query_bytes};
 use std::str;
 
+/// The longest name that a `HeaderMap` takes.
+const MOST_NAME_BYTES: usize = 65535;
+
 // As in `[FEDC:BA98:7654:3210:FEDC:BA98:7654:3210]:80`.
 const MOST_COLONS: u32 = 8;
 
@@ -34,7 +37,7 @@ fn are_token_bytes(text: &[u8]) -> bool
 pub(crate) fn is_header_name(text: &[u8]) -> bool
     ensures { result ≡ is_header_name text.now }
 {
-    !text.is_empty() && text.len() <= 65535 && are_name_bytes(text)
+    !text.is_empty() && text.len() <= MOST_NAME_BYTES && are_name_bytes(text)
 }
 
 /// Whether the text may be a field's value (RFC 9110, 5.5).

@@ -9,5 +9,5 @@ pub mod laws;
 
 pub use ext::{InvalidProtocol, Protocol};
 pub use headers::{
-    BadPart, FieldKind, Header, HeaderError, HeaderIter, field_kind, first_bad_part,
+    BadPart, FieldKind, Header, HeaderError, HeaderIter, MOST_NAMES, field_kind, first_bad_part,
 };

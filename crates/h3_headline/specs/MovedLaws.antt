@@ -247,9 +247,9 @@ pull_moves setup w new side i p writer id h step = by_settled (settled w side i)
     next : (p : Pull) → IsThere w i → is_over (flow w (other side) i) ≡ false → PullsNext setup w side i p new → Goes setup w side i writer id p new
     next (pull.Item it) there over step = subst (Goes setup w side i writer id (pull.Item it)) (sym step.1) (item_moves setup w side i it writer id h there over step.0)
     next pull.Pending there over step =
-        subst (Goes setup w side i writer id pull.Pending) (sym step.1) (nothing_moves most w (paused w side i 0) side i pull.Pending writer id (pauses w side i 0 there) refl (λ e. absurd (differ e)))
+        subst (Goes setup w side i writer id pull.Pending) (sym step) (nothing_moves most w (paused w side i 0) side i pull.Pending writer id (pauses w side i 0 there) refl (λ e. absurd (differ e)))
     next (pull.Waiting count) there over step =
-        subst (Goes setup w side i writer id (pull.Waiting count)) (sym step.1) (nothing_moves most w (paused w side i count) side i (pull.Waiting count) writer id (pauses w side i count there) refl (λ e. absurd (differ e)))
+        subst (Goes setup w side i writer id (pull.Waiting count)) (sym step) (nothing_moves most w (paused w side i count) side i (pull.Waiting count) writer id (pauses w side i count there) refl (λ e. absurd (differ e)))
     next (pull.Fault fault) there over step = absurd step
     next pull.NoMessages there over step = absurd step
 

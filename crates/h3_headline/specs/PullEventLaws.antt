@@ -16,19 +16,16 @@ use Rattle.h3_world.specs.World.{World, party, Party, with_party}
 use Rattle.std.specs.Prelude.{MatchOption, ◌==◌}
 use Rattle.h3_world.specs.Came.{insertions_came}
 use Rattle.h3_world.specs.Order.{next_part, is_over}
-use Rattle.h3_world.specs.Pauses.{pause_before, pause_of, PauseAllowed, paused}
+use Rattle.h3_world.specs.Pauses.{pause_before, pause_of, paused}
 use Rattle.h3_world.specs.Streams.{flow, is_open}
 use Rattle.h3_proto.specs.declared.stream.Side.TheVariants.{Client, Server}
 use Rattle.h3_world.specs.Setup.{announced_at, IsMadeSetup, JudgesPlainly}
 use Rattle.h3_world.specs.Shown.{streams_waiting, limits_shown, sizes_shown}
-use Rattle.h3_world.specs.Step.{IsWithinLimits, Step, IsExact}
+use Rattle.h3_world.specs.Step.{IsWithinLimits}
 use Rattle.std.proofs.lemmas.Bool.{le-ltb}
 use Rattle.h3_connection.specs.declared.setup.Announced.{Announced}
-use Rattle.h3_connection.specs.Announcing.{section_of}
 use Rattle.h3_connection.specs.declared.event.Fault.{Fault}
 use Rattle.h3_connection.specs.declared.event.Item.{Item}
-use Rattle.h3_world.specs.Machine.{served, pull_settled, pull_next, item_there, count_waited_for}
-use Rattle.h3_world.specs.Sound.{IsSoundWorld}
 use Rattle.std.specs.List.{AllByRecursion}
 use Rattle.h3_field.specs.Instruction.DecoderInstruction.{Acknowledge}
 use Rattle.h3_field.specs.InstructionAnswer.{IsReply}
@@ -103,32 +100,6 @@ ends_within laws setup w ends side h =
     let same = ap (λ (x : Announced). x.limits.blocked) b.here.announced in
     le-ltb e.announced.limits.blocked (heads_waiting e.decoding.decoder e.incoming) (omega (arith, waits, bound, same))
 
--- Where the next part is not there the machine of the world pauses, as it may.
-pauses_allowed : (laws : Laws) (setup : Setup) (w : World) (side : Side) (id : ℕ) → IsSoundWorld setup w → settled w side id ≡ None → (q : Pull)
-    → pause_before (flow w (other side) id) (insertions_came (party w (other side))) (next_part (flow w (other side) id)) ≡ Some q
-    → PauseAllowed (flow w (other side) id) (party w (other side)).own.encoder_taken (next_part (flow w (other side) id))
-pauses_allowed laws setup w side id sound is q pause =
-    let f = flow w (other side) id in
-    let m = laws.worlds.machine setup w (event.Pull side id) sound in
-    let there = item_there (section_of (announced_at setup side)) f (next_part f) in
-    let after = paused w side id (count_waited_for q) in
-    let serves : served setup w (event.Pull side id) ≡ (answer.Pulled q, after) =
-    ap (λ o. pull_settled w o (pull_next w side id (pause_before f (insertions_came (party w (other side))) (next_part f)) there)) is
-    ∙ ap (λ o. pull_next w side id o there) pause in
-    let step : Pulls setup w side id q after = subst (λ x. Step setup w (event.Pull side id) x.0 x.1) serves m.0 in
-    let exact : PausesExactly w side id q = subst (λ x. IsExact w (event.Pull side id) x.0) serves m.1 in
-    let next : PullsNext setup w side id q after = subst (λ o. MatchOption o (PullsNext setup w side id q after) (λ x. (q ≡ x) × (after ≡ w))) is step in
-    let told : pause_of q ≡ pause_before f (insertions_came (party w (other side))) (next_part f) =
-    subst (λ o. MatchOption o (pause_of q ≡ pause_before f (insertions_came (party w (other side))) (next_part f)) (λ x. Unit {0})) is exact in
-    by_pull q after (told ∙ pause) next
-  where
-    by_pull : (q : Pull) (new : World) → pause_of q ≡ Some q → PullsNext setup w side id q new → PauseAllowed (flow w (other side) id) (party w (other side)).own.encoder_taken (next_part (flow w (other side) id))
-    by_pull pull.Pending new told next = next.0
-    by_pull (pull.Waiting count) new told next = next.0
-    by_pull (pull.Item i) new told next = cc
-    by_pull (pull.Fault fault) new told next = absurd next
-    by_pull pull.NoMessages new told next = absurd next
-
 -- An acknowledgment is a reply where the stream's id is one.
 acknowledgment_is_reply : (id count : ℕ) → id < 2 ^ 62 → AllByRecursion IsReply (acknowledgment id count)
 acknowledgment_is_reply id count small = by_test (count == 0)
@@ -188,8 +159,8 @@ pulled_both setup w new side id e f after q b there small here other_side next =
         }
 
     by_pull : (q : Pull) → PullsNext setup w side id q new → Pulled setup w new side after f
-    by_pull pull.Pending next = pauses 0 next.1
-    by_pull (pull.Waiting count) next = pauses count next.1
+    by_pull pull.Pending next = pauses 0 next
+    by_pull (pull.Waiting count) next = pauses count next
     by_pull (pull.Item i) next = hands_out i next.1
     by_pull (pull.Fault fault) next = absurd next
     by_pull pull.NoMessages next = absurd next
@@ -228,7 +199,6 @@ open_on laws setup w ends side id made plain h there alive more =
     (insertions_read setup w side e b.here)
     (endpoint_decodes laws.streams laws.lists setup w side id e made b.here h.sound there alive)
     (next_readable laws.lists side (announced_at setup side) id (insertions_came (party w (other side))) e.decoding.decoder (flow w (other side) id) (b.sends_there id))
-    (pauses_allowed laws setup w side id h.sound none)
     (λ replies. decoder_stream_more (other side) (are_settings_there setup (other (other side)) own.control_taken) own.decoder_taken own.replies replies (stream_at f.unidirectional (decoder_id (other (other side)))) f.decoder_on f.decoder_unread
     (sound_party setup w side h.sound).writer.decoder (hears setup w side f b.there).decoder_stream)
     (λ a new step exact. limited a new step exact) in

@@ -2,7 +2,7 @@
 use Rattle.std.proofs.Common.{◌≡◌, ap, subst, Option, Some, ℕ, Bool, true, false, refl, nat_lt, if◌then◌else◌, None, List, sym, ◌∙◌, [], arith, ◌%◌, ◌+◌, length, ◌≤◌}
 use Rattle.std.specs.Prelude.{unwrap_or, ◌==◌, not, MatchOption}
 use Rattle.h3_connection.specs.declared.event.Pull.{Pull}
-use Rattle.h3_world.specs.Pauses.{pause_of, section_pause, pause_before, paused, PauseAllowed}
+use Rattle.h3_world.specs.Pauses.{pause_of, section_pause, pause_before, paused}
 use Rattle.h3_connection.specs.declared.event.Pull.TheVariants as pull
 use Rattle.h3_world.specs.Flow.{Flow, Section, Part}
 use Rattle.h3_world.specs.Flow.Part.{Interim, Head, Body, Trailer, End}
@@ -146,12 +146,10 @@ pub pull_stands : (lists : ListsAreTheirValue) (setup : Setup) (w : World) (side
     → er.decoding.decoder.table.inserted ≡ insertions_came (party w (other side))
     → DecodesNext lists side (announced_at setup side) id er.decoding.decoder (insertions_came (party w (other side))) (next_part (flow w (other side) id))
     → IsReadableNext lists side (announced_at setup side) id er.decoding.decoder (insertions_came (party w (other side))) (next_part (flow w (other side) id))
-    → ((q : Pull) → pause_before (flow w (other side) id) (insertions_came (party w (other side))) (next_part (flow w (other side) id)) ≡ Some q
-    → PauseAllowed (flow w (other side) id) (party w (other side)).own.encoder_taken (next_part (flow w (other side) id)))
     → ((more : List DecoderInstruction) → HasDecoderStreamOf setup (other side) (saying (party w side).own more) ew)
     → ((a : Pull) (new : World) → Pulls setup w side id a new → PausesExactly w side id a → streams_waiting new side ≤ er.announced.limits.blocked)
     → PullStands setup w side id er ew
-pull_stands lists setup w side id er ew plain hr hw sound there alive more inserted decodes readable allowed heard limits =
+pull_stands lists setup w side id er ew plain hr hw sound there alive more inserted decodes readable heard limits =
     let f = flow w (other side) id in
     let came = insertions_came (party w (other side)) in
     let i = incoming_there setup w side id er hr there in
@@ -224,8 +222,8 @@ pull_stands lists setup w side id er ew plain hr hw sound there alive more inser
         by_pull : (q : Pull) → pause_before (flow w (other side) id) (insertions_came (party w (other side))) (next_part (flow w (other side) id)) ≡ Some q
             → (nat_lt er.announced.limits.blocked (heads_waiting er.decoding.decoder (set_stream er.incoming id p.incoming)) ≡ false → pulls er id ≡ after_answer q (replied (with_incoming er id p.incoming) [])) → ReceivesFlow (record (flow w (other side) id) { waits_for = count_waited_for q }) p.incoming → pause_of q ≡ Some q
             → PullStands setup w side id er ew
-        by_pull pull.Pending pause is keeps told = waits pull.Pending 0 pause is keeps told (allowed pull.Pending pause, refl)
-        by_pull (pull.Waiting count) pause is keeps told = waits (pull.Waiting count) count pause is keeps told (allowed (pull.Waiting count) pause, refl)
+        by_pull pull.Pending pause is keeps told = waits pull.Pending 0 pause is keeps told refl
+        by_pull (pull.Waiting count) pause is keeps told = waits (pull.Waiting count) count pause is keeps told refl
         by_pull (pull.Item i) pause is keeps told = cc
         by_pull (pull.Fault fault) pause is keeps told = cc
         by_pull pull.NoMessages pause is keeps told = cc

@@ -14,13 +14,10 @@ ghost use Rattle.h3_incoming.specs.declared.outline.ListRead.TheVariants as read
 
 use h3_connection::event::Malformation;
 use h3_field::HeaderField;
-use h3_header::{BadPart, FieldKind, Header, HeaderError, field_kind, first_bad_part};
+use h3_header::{BadPart, FieldKind, Header, HeaderError, MOST_NAMES, field_kind, first_bad_part};
 use h3_proto::stream::Side;
 use http::StatusCode;
 use std::alloc::{AllocError, Global};
-
-// So many names a header's map has room for: of a list of no more fields it is told without memory whether it is a header's.
-const MOST_NAMES: usize = 24576;
 
 /// What of a header tells where it may stand in a message (RFC 9114, sections 4.1 and 4.3).
 #[derive(Clone, Copy)]

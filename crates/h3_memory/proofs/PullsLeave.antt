@@ -114,8 +114,8 @@ pull_leaves setup w v side id (answer.Pulled p) step = by_settled (settled w sid
   where
     next : (p : Pull) → IsThere w id → PullsNext setup w side id p v → LeavesKept setup w v
     next (pull.Item i) there step = subst (LeavesKept setup w) (sym step.1) (item_leaves setup w side id i there)
-    next pull.Pending there step = subst (LeavesKept setup w) (sym step.1) (pause_leaves setup w side id 0 there)
-    next (pull.Waiting count) there step = subst (LeavesKept setup w) (sym step.1) (pause_leaves setup w side id count there)
+    next pull.Pending there step = subst (LeavesKept setup w) (sym step) (pause_leaves setup w side id 0 there)
+    next (pull.Waiting count) there step = subst (LeavesKept setup w) (sym step) (pause_leaves setup w side id count there)
     next (pull.Fault fault) there step = absurd step
     next pull.NoMessages there step = absurd step
 

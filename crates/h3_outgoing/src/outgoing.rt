@@ -12,6 +12,7 @@ use crate::frames::WaitingFrames;
 use crate::room::FrameRoom;
 use crate::section::EncodedSection;
 use bytes::{Buf, Bytes};
+use h3_connection::arrival::MOST_HELD;
 use h3_connection::event::Malformation;
 use h3_connection::place::SendPlace;
 use h3_messages::Content;
@@ -97,7 +98,7 @@ impl OutgoingStream {
         ensures room { IsTrue result → (payload < 2 ^ 61) × (length (bytes_of self.now.pieces) < 2 ^ 61) }
         ensures none { result ≡ false → 2 ^ 61 ≤ length (bytes_of self.now.pieces) + payload }
     {
-        payload < 1 << 61 && self.frames.waiting() < 1 << 61
+        payload < MOST_HELD && self.frames.waiting() < MOST_HELD
     }
 
     /// The HEADERS frame of an encoded field section goes out, for which room was taken, and the message is at that place then. An `Err`

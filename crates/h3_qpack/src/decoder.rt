@@ -18,9 +18,9 @@ ghost use Rattle.h3_qpack.specs.Instructions.{HasRead, BeginsBad};
 ghost use Rattle.h3_qpack.specs.Hearing.{heard, hear};
 
 use crate::dynamic::DynamicTable;
-use crate::increment::{INCREMENT_LEN, put_increment};
 use crate::lines::{Lines, relative, relative_name_room};
 use crate::listing::SectionSummary;
+use crate::reserved::{INCREMENT_LEN, put_increment};
 use crate::within::DecodedWithin;
 use h3_field::block::HeaderPrefix;
 use h3_field::dynamic::Error;

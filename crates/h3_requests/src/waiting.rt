@@ -15,6 +15,9 @@ const STEP: u64 = 4;
 /// How many streams share a word.
 const WORD: u64 = 64;
 
+/// So many words have the bits of all request streams.
+const WORDS: u64 = 1 << 54;
+
 /// Of 64 streams, one behind the other, which have a place, and on which something waits.
 #[derive(Clone, Copy)]
 struct Word {
@@ -50,7 +53,7 @@ fn stream_at(number: u64, place: u64) -> Option<StreamId>
     ensures some { IfSome result (λ id. (id ≡ number * 256 + place * 4) × (id < 2 ^ 62)) }
     ensures none { IfNone result (2 ^ 62 ≤ number * 256 + place * 4) }
 {
-    if number >= 1 << 54 {
+    if number >= WORDS {
         return None;
     }
     let Ok(id) = StreamId::try_from((number * WORD + place) * STEP) else {

@@ -1,39 +1,16 @@
 //! The peer's settings, and the table that they allow (RFC 9204, sections 3.2.3 and 4.3.1).
-ghost use Rattle.std.specs.Prelude.{◌≡◌, ◌+◌, ◌≤◌, ◌<◌, ◌^◌, ◌++◌, None, vec_len, IfOk, OnErr};
+ghost use Rattle.std.specs.Prelude.{◌≡◌, ◌+◌, ◌≤◌, None, vec_len, IfOk, OnErr};
 ghost use Rattle.std.specs.Vec.{vec_capacity};
-ghost use Rattle.h3_field.specs.Instruction.{encoder_bytes};
-ghost use Rattle.h3_field.specs.Instruction.EncoderInstruction.{SetCapacity};
 ghost use Rattle.h3_connection.specs.PartReading.{PeerReadsPart};
 ghost use Rattle.h3_connection.specs.PeerReading.{read_peer};
 ghost use Rattle.h3_streams.specs.Stopping.{Learns};
 
 use h3_proto::error::Code;
 use h3_proto::stream::Side;
+use h3_qpack::reserved::{CAPACITY_LEN, put_capacity};
 use h3_unidirectional::control::PeerControl;
 use h3_unidirectional::encoding::Encoding;
 use std::alloc::{AllocError, Global};
-
-/// The most bytes that the instruction for a capacity takes.
-const CAPACITY_LEN: usize = 6;
-
-/// Appends the instruction for a capacity, where there is room for it.
-fn put_capacity(capacity: u64, out: &mut Vec<u8>)
-    requires small { capacity < 2 ^ 30 }
-    requires room { vec_len out.old + 6 ≤ vec_capacity out.old }
-    ensures { out.new.items ≡ out.old.items ++ encoder_bytes (SetCapacity capacity) }
-{
-    if capacity < 31 {
-        out.push_reserved((32 + capacity) as u8);
-        return;
-    }
-    out.push_reserved(63);
-    let mut left = capacity - 31;
-    while left >= 128 {
-        out.push_reserved((128 + left % 128) as u8);
-        left /= 128;
-    }
-    out.push_reserved(left as u8);
-}
 
 /// Where the settings came, the table that they allow is used from now on, and its capacity written on `out`.
 #[tactic(auto, using(crate::proofs::Allowed::usable_small))]

@@ -197,8 +197,8 @@ pulled_flow setup w v side id awaited known p opened good step = by_answer p.ans
           fault = item_fault (flow w (other side) id) (next_part (flow w (other side) id)) it;
           counts = subst (λ x. CountsFlow side awaited (flow_after (flow w (other side) id) x) p.incoming) is good.counts;
         }
-    by_answer pull.Pending is step = waits 0 step.1 (ap (flow_after (flow w (other side) id)) is)
-    by_answer (pull.Waiting count) is step = waits count step.1 (ap (flow_after (flow w (other side) id)) is)
+    by_answer pull.Pending is step = waits 0 step (ap (flow_after (flow w (other side) id)) is)
+    by_answer (pull.Waiting count) is step = waits count step (ap (flow_after (flow w (other side) id)) is)
     by_answer (pull.Fault x) is step = absurd step
     by_answer pull.NoMessages is step = absurd step
 

@@ -26,8 +26,8 @@ given_same a v w x h k = ap (λ (y : Answer × World). y.1) (h ∙ sym k)
 
 next_same : (setup : Setup) (u : World) (side : Side) (id : ℕ) (q : Pull) (v w : World) → PullsNext setup u side id q v → PullsNext setup u side id q w → v ≡ w
 next_same setup u side id (pull.Item i) v w h k = h.1 ∙ sym k.1
-next_same setup u side id pull.Pending v w h k = h.1 ∙ sym k.1
-next_same setup u side id (pull.Waiting count) v w h k = h.1 ∙ sym k.1
+next_same setup u side id pull.Pending v w h k = h ∙ sym k
+next_same setup u side id (pull.Waiting count) v w h k = h ∙ sym k
 next_same setup u side id (pull.Fault fault) v w h k = absurd h
 next_same setup u side id pull.NoMessages v w h k = absurd h
 

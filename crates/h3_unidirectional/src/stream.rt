@@ -10,6 +10,7 @@ ghost use Rattle.h3_unidirectional.specs.Kinds.{role_of, is_told_kind, is_untold
 use bytes::{Buf, Bytes};
 use h3_coding::coding::BufExt;
 use h3_connection::event::{Fault, Item, Pull, StreamFault};
+use h3_proto::stream::StreamType;
 use h3_proto::webtransport::SessionId;
 use h3_wire::buf::BufList;
 use std::alloc::Global;
@@ -83,20 +84,20 @@ impl Model for UnidirectionalStream {
 pub(crate) fn read_kind<B: Buf>(buf: &mut B) -> Option<Kind>
     ensures { Tells (B.unread buf.old) (B.unread buf.new) result }
 {
-    let Ok(kind) = buf.get_var() else {
+    let Ok(number) = buf.get_var() else {
         return None;
     };
-    match kind {
-        0 => Some(Kind::Control),
-        1 => {
+    match StreamType::from_value(number) {
+        StreamType::CONTROL => Some(Kind::Control),
+        StreamType::PUSH => {
             let Ok(id) = buf.get_var() else {
                 return None;
             };
             Some(Kind::Push(id))
         }
-        2 => Some(Kind::Encoder),
-        3 => Some(Kind::Decoder),
-        0x54 => {
+        StreamType::ENCODER => Some(Kind::Encoder),
+        StreamType::DECODER => Some(Kind::Decoder),
+        StreamType::WEBTRANSPORT_UNI => {
             let Ok(id) = buf.get_var() else {
                 return None;
             };
@@ -115,7 +116,7 @@ fn may_be_session(front: &[u8]) -> bool
 {
     let mut ahead = front;
     match ahead.get_var() {
-        Ok(kind) => kind == 0x54,
+        Ok(number) => number == StreamType::WEBTRANSPORT_UNI.value(),
         Err(_) => true,
     }
 }

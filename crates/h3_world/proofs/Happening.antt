@@ -32,11 +32,12 @@ use Rattle.h3_world.specs.Refusals.{next_id, is_critical, open_refusal, head_ref
 use Rattle.h3_world.specs.Delivering.{delivered, delivered_end, delivered_reset, is_closed, may_end, delivery, end_delivery, reset_delivery}
 use Rattle.h3_world.specs.Order.{last_part, is_end, is_finished, is_over, is_sent_off, next_part, outgoing_of}
 use Rattle.h3_world.specs.Pauses.{PauseAllowed, pause_of}
-use Rattle.h3_world.specs.Pulling.{own_delivered, fault_or, settled, PullsNext, Pulls}
+use Rattle.h3_world.specs.Pulling.{own_delivered, fault_or, settled, PullsNext, Pulls, PausesExactly}
 use Rattle.h3_world.specs.Step.{Does, Step, IsExact}
 use Rattle.h3_world.specs.Headline.{IsDelivered, ComesOut, is_connection_fault, Happens}
 use Rattle.h3_world.specs.Sound.{IsSoundFlow, IsSoundWorld}
 use Rattle.h3_world.proofs.ComesOut.{all_there}
+use Rattle.h3_world.proofs.ExactPauses.{pause_allowed}
 use Rattle.h3_world.proofs.Grown.{session_is_sound}
 use Rattle.h3_world.proofs.QpackLaws.{QpackLaws}
 use Rattle.h3_world.proofs.SoundFlows.{flow_sound}
@@ -67,15 +68,6 @@ is_request_of w Server id h = first _ _ (first _ _ h)
     first true b e = refl
     first false b e = cc
 
--- what a pause says of the next part
-pause_allowed : (setup : Setup) (w : World) (side : Side) (id : ℕ) (p : Pull) (new : World) → PullsNext setup w side id p new → is_none (pause_of p) ≡ false
-    → PauseAllowed (flow w (other side) id) (party w (other side)).own.encoder_taken (next_part (flow w (other side) id))
-pause_allowed setup w side id pull.Pending new n h = n.0
-pause_allowed setup w side id (pull.Waiting count) new n h = n.0
-pause_allowed setup w side id (pull.Item i) new n h = absurd (differ h)
-pause_allowed setup w side id (pull.Fault fault) new n h = absurd n
-pause_allowed setup w side id pull.NoMessages new n h = absurd n
-
 finished_as : (f : Flow) → f.is_reset ≡ false → is_end (last_part f.sent) ≡ true → is_finished f ≡ true
 finished_as f r e = ap (λ b. not b && is_end (last_part f.sent)) r ∙ e
 
@@ -83,9 +75,9 @@ none_left : (n m : ℕ) → n - m ≡ 0 → n ≤ m
 none_left n m h = omega (arith, h)
 
 -- with everything delivered, a pause is at the end
-pull_comes_out : (setup : Setup) (w : World) (side : Side) (id : ℕ) (p : Pull) (new : World) → IsSoundWorld setup w → Pulls setup w side id p new → IsDelivered setup w (other side) id → settled w side id ≡ None
+pull_comes_out : (setup : Setup) (w : World) (side : Side) (id : ℕ) (p : Pull) → IsSoundWorld setup w → PausesExactly w side id p → IsDelivered setup w (other side) id → settled w side id ≡ None
     → is_none (pause_of p) ≡ false → next_part (flow w (other side) id) ≡ None
-pull_comes_out setup w side id p new h pulls given e pauses = by_part (next_part f) refl
+pull_comes_out setup w side id p h exact given e pauses = by_part (next_part f) refl
   where
     f : Flow
     f = flow w (other side) id
@@ -97,7 +89,7 @@ pull_comes_out setup w side id p new h pulls given e pauses = by_part (next_part
     sound = flow_sound w (other side) id h.exchanges
 
     allowed : PauseAllowed f sender.own.encoder_taken (next_part f)
-    allowed = pause_allowed setup w side id p new (subst (λ s. MatchOption s (PullsNext setup w side id p new) (λ answer. (p ≡ answer) × (new ≡ w))) e pulls) pauses
+    allowed = pause_allowed setup w side id p h e exact pauses
 
     request : is_request_stream id ≡ true
     request = is_request_of w side id (unsettled w side id e).0
@@ -116,28 +108,28 @@ pull_comes_out setup w side id p new h pulls given e pauses = by_part (next_part
     by_part (Some part) k =
         absurd (all_there sender f part sound k whole encoder (λ end. given.ended (finished_as f given.whole end)) (subst (PauseAllowed f sender.own.encoder_taken) k allowed))
 
-pub comes_out : (setup : Setup) (w new : World) (e : Event) (a : Answer) → IsSoundWorld setup w → Step setup w e a new → ComesOut setup w e a
-comes_out setup w new (event.Pull side id) (answer.Pulled p) h step = λ given settled_is pauses. pull_comes_out setup w side id p new h step given settled_is pauses
-comes_out setup w new (event.Pull side id) (answer.Opened n) h step = tt
-comes_out setup w new (event.Pull side id) answer.Done h step = tt
-comes_out setup w new (event.Pull side id) (answer.Delivered n) h step = tt
-comes_out setup w new (event.Pull side id) (answer.Short n) h step = tt
-comes_out setup w new (event.Pull side id) answer.NoStream h step = tt
-comes_out setup w new (event.Pull side id) answer.Early h step = tt
-comes_out setup w new (event.Pull side id) (answer.Shown l t n) h step = tt
-comes_out setup w new (event.Pull side id) (answer.Refused r) h step = tt
-comes_out setup w new (event.OpenRequest side) a h step = tt
-comes_out setup w new (event.Head side id head) a h step = tt
-comes_out setup w new (event.Body side id bytes) a h step = tt
-comes_out setup w new (event.Trailer side id trailer) a h step = tt
-comes_out setup w new (event.Finish side id) a h step = tt
-comes_out setup w new (event.Reset side id) a h step = tt
-comes_out setup w new (event.Cancel side id) a h step = tt
-comes_out setup w new (event.Goaway side id) a h step = tt
-comes_out setup w new (event.Deliver side id count) a h step = tt
-comes_out setup w new (event.DeliverEnd side id) a h step = tt
-comes_out setup w new (event.DeliverReset side id) a h step = tt
-comes_out setup w new (event.Show side) a h step = tt
+pub comes_out : (setup : Setup) (w : World) (e : Event) (a : Answer) → IsSoundWorld setup w → IsExact w e a → ComesOut setup w e a
+comes_out setup w (event.Pull side id) (answer.Pulled p) h exact = λ given settled_is pauses. pull_comes_out setup w side id p h exact given settled_is pauses
+comes_out setup w (event.Pull side id) (answer.Opened n) h exact = tt
+comes_out setup w (event.Pull side id) answer.Done h exact = tt
+comes_out setup w (event.Pull side id) (answer.Delivered n) h exact = tt
+comes_out setup w (event.Pull side id) (answer.Short n) h exact = tt
+comes_out setup w (event.Pull side id) answer.NoStream h exact = tt
+comes_out setup w (event.Pull side id) answer.Early h exact = tt
+comes_out setup w (event.Pull side id) (answer.Shown l t n) h exact = tt
+comes_out setup w (event.Pull side id) (answer.Refused r) h exact = tt
+comes_out setup w (event.OpenRequest side) a h exact = tt
+comes_out setup w (event.Head side id head) a h exact = tt
+comes_out setup w (event.Body side id bytes) a h exact = tt
+comes_out setup w (event.Trailer side id trailer) a h exact = tt
+comes_out setup w (event.Finish side id) a h exact = tt
+comes_out setup w (event.Reset side id) a h exact = tt
+comes_out setup w (event.Cancel side id) a h exact = tt
+comes_out setup w (event.Goaway side id) a h exact = tt
+comes_out setup w (event.Deliver side id count) a h exact = tt
+comes_out setup w (event.DeliverEnd side id) a h exact = tt
+comes_out setup w (event.DeliverReset side id) a h exact = tt
+comes_out setup w (event.Show side) a h exact = tt
 
 abbrev pub answer_of : Answer × World → Answer
 answer_of r = r.0
@@ -284,7 +276,7 @@ step_happens laws setup w new e a step exact h after =
     record {
       step = step;
       exact = exact;
-      comes_out = comes_out setup w new e a h step;
+      comes_out = comes_out setup w e a h exact;
       no_connection_fault = step_well setup w new e a step;
       within_limits = within_limits setup new after (session_is_sound laws.sound setup new Server after.server.session) (session_is_sound laws.sound setup new Client after.client.session);
     }

@@ -27,28 +27,17 @@ use Rattle.h3_world.specs.Came.{insertions_came}
 use Rattle.h3_world.specs.Streams.{flow}
 use Rattle.h3_world.specs.Order.{next_part}
 use Rattle.h3_world.specs.Items.{IsSectionItem, body_there, HasCome}
-use Rattle.h3_world.specs.Pauses.{PauseAllowed, section_pause, pause_before, pause_of, paused}
+use Rattle.h3_world.specs.Pauses.{section_pause, pause_before, pause_of, paused}
 use Rattle.h3_world.specs.Pulling.{settled, PullsNext, Pulls, PausesExactly}
 use Rattle.h3_world.specs.Step.{Does, Step, IsExact}
 use Rattle.h3_world.specs.Machine.{section_item, item_there, count_waited_for, pull_next, pull_settled, pulled, done, served}
 use Rattle.h3_world.specs.Sound.{IsSoundFlow, IsSoundWorld}
-use Rattle.h3_world.proofs.ComesOut.{each_ends}
-use Rattle.h3_world.proofs.ExactPauses.{IsSentNext, exact_is_allowed}
+use Rattle.h3_world.proofs.ExactPauses.{IsSentNext, sent_next}
 use Rattle.h3_world.proofs.SoundFlows.{flow_sound}
 
 does_done : (r : Option Refusal) (old : World) (success : Answer) (after : World) → Does r old success after (done r old success after).0 (done r old success after).1
 does_done None old success after = (refl, refl)
 does_done (Some refused) old success after = (refl, refl)
-
--- the next part of a sound flow is as it was sent
-pub sent_next : (p : Party) (f : Flow) → IsSoundFlow p f → IsSentNext p (next_part f)
-sent_next p f sound = by_part (next_part f) refl
-  where
-    by_part : (o : Option Part) → next_part f ≡ o → IsSentNext p o
-    by_part None e = tt
-    by_part (Some part) e =
-        let ends = each_ends p None 0 f.sent f.parts_out part sound.sent e in
-        (ends.end, ends.sent)
 
 -- a section whose pause is none has come
 own_came : (f : Flow) (came : ℕ) (s : Section) → section_pause f came s ≡ None → s.own_length ≤ f.delivered
@@ -168,13 +157,10 @@ pulled_next setup w side id sound unsettled (Some p) e = by_pull p e
     exact_as p e =
         subst (λ s. MatchOption s (pause_of p ≡ pause_before f (insertions_came sender) part) (λ answer. Unit {0})) (sym unsettled) (pauses f (insertions_came sender) part p e ∙ sym e)
 
-    allowed : (p : Pull) → pause_before f (insertions_came sender) part ≡ Some p → PauseAllowed f sender.own.encoder_taken part
-    allowed p e = exact_is_allowed sender f part p (sent_next sender f sound) e
-
     by_pull : (p : Pull) → pause_before f (insertions_came sender) part ≡ Some p
         → IsExactPull setup w side id (answer.Pulled p, paused w side id (count_waited_for p))
-    by_pull pull.Pending e = (none_settled pull.Pending _ (allowed pull.Pending e, refl), exact_as pull.Pending e)
-    by_pull (pull.Waiting count) e = (none_settled (pull.Waiting count) _ (allowed (pull.Waiting count) e, refl), exact_as (pull.Waiting count) e)
+    by_pull pull.Pending e = (none_settled pull.Pending _ refl, exact_as pull.Pending e)
+    by_pull (pull.Waiting count) e = (none_settled (pull.Waiting count) _ refl, exact_as (pull.Waiting count) e)
     by_pull (pull.Item i) e = absurd (no_pause (pauses f (insertions_came sender) part (pull.Item i) e))
       where
         no_pause : ◌≡◌ {A = Option Pull} None (Some (pull.Item i)) → ⊥

@@ -310,9 +310,9 @@ pull_sound setup w side id p new h pulls exact = by_settled (settled w side id) 
         let u = unsettled w side id e in
         subst (IsSoundWorld setup) (sym n.1) (item_sound setup w side id (section_of (announced_at setup side)) i h u.0 u.1 n.0
         (enough_came (flow w (other side) id) (insertions_came (party w (other side))) (next_part (flow w (other side) id)) (sym x)))
-    next pull.Pending e n x = subst (IsSoundWorld setup) (sym n.1) (paused_sound setup w side id 0 h (unsettled w side id e).0 (inl refl))
+    next pull.Pending e n x = subst (IsSoundWorld setup) (sym n) (paused_sound setup w side id 0 h (unsettled w side id e).0 (inl refl))
     next (pull.Waiting count) e n x =
-        subst (IsSoundWorld setup) (sym n.1) (paused_sound setup w side id count h (unsettled w side id e).0
+        subst (IsSoundWorld setup) (sym n) (paused_sound setup w side id count h (unsettled w side id e).0
         (inr (exact_waits (flow w (other side) id) (insertions_came (party w (other side))) count (next_part (flow w (other side) id)) (sym x))))
     next (pull.Fault fault) e n x = absurd n
     next pull.NoMessages e n x = absurd n

@@ -1,4 +1,4 @@
--- When a reader may be told to wait, and when exactly it is.
+-- When a reader is told to wait.
 use Rattle.std.specs.Prelude.{◌≡◌, ◌⊎◌, ℕ, ◌<◌, false, nat_lt, ◌==◌, if◌then◌else◌, Option, Some, None}
 use Rattle.h3_proto.specs.declared.stream.Side.{Side}
 use Rattle.h3_connection.specs.OwnIds.{other}
@@ -10,7 +10,7 @@ use Rattle.h3_world.specs.World.{World}
 use Rattle.h3_world.specs.Streams.{flow, with_flow}
 use Rattle.h3_world.specs.Items.{body_there}
 
--- Own bytes of the section are missing, or bytes that the encoder stream had once it was sent.
+-- For what a pause is, as laws say it: own bytes of the section are missing, or bytes that the encoder stream had once it was sent.
 abbrev pub IsMissing : Flow → ℕ → Section → Type 0
 IsMissing f encoder s = (f.delivered < s.own_length) ⊎ (encoder < s.encoder_length)
 

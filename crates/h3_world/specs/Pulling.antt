@@ -17,7 +17,7 @@ use Rattle.h3_world.specs.Came.{insertions_came}
 use Rattle.h3_world.specs.Streams.{flow, is_open}
 use Rattle.h3_world.specs.Order.{next_part, is_over}
 use Rattle.h3_world.specs.Items.{HasCome, handed_out}
-use Rattle.h3_world.specs.Pauses.{PauseAllowed, pause_before, pause_of, paused}
+use Rattle.h3_world.specs.Pauses.{pause_before, pause_of, paused}
 
 -- how much of a unidirectional stream of the side was delivered
 abbrev pub own_delivered : World → Side → ℕ → ℕ
@@ -49,17 +49,13 @@ settled w side id =
     if not (is_open w side id) then Some (pull_unopened side) else (
     fault_or f.fault (if is_over f then Some (pull.Item item.End) else None))))
 
--- The answer of a pull, with the next part in view.
+-- The answer of a pull, with the next part in view, and what a pause leaves: where there is one says `PausesExactly`.
 abbrev pub PullsNext : Setup → World → Side → ℕ → Pull → World → Type 0
 PullsNext setup w side id (pull.Item i) new =
     HasCome (section_of (announced_at setup side)) (flow w (other side) id) (next_part (flow w (other side) id)) i
     × (new ≡ handed_out w side id i)
-PullsNext setup w side id pull.Pending new =
-    PauseAllowed (flow w (other side) id) (party w (other side)).own.encoder_taken (next_part (flow w (other side) id))
-    × (new ≡ paused w side id 0)
-PullsNext setup w side id (pull.Waiting count) new =
-    PauseAllowed (flow w (other side) id) (party w (other side)).own.encoder_taken (next_part (flow w (other side) id))
-    × (new ≡ paused w side id count)
+PullsNext setup w side id pull.Pending new = new ≡ paused w side id 0
+PullsNext setup w side id (pull.Waiting count) new = new ≡ paused w side id count
 PullsNext setup w side id (pull.Fault fault) new = ⊥
 PullsNext setup w side id pull.NoMessages new = ⊥
 

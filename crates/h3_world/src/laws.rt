@@ -12,6 +12,23 @@ pub fn the_machine_answers_as_allowed()
     ensures { (setup : Setup) (w : World) (e : Event) → IsSoundWorld setup w → Step setup w e (served setup w e).0 (served setup w e).1 × IsExact w e (served setup w e).0 }
 {}
 
+ghost use Rattle.std.specs.Prelude.{◌≡◌, ℕ, false, None, is_none};
+ghost use Rattle.h3_proto.specs.declared.stream.Side.{Side};
+ghost use Rattle.h3_connection.specs.OwnIds.{other};
+ghost use Rattle.h3_connection.specs.declared.event.Pull.{Pull};
+ghost use Rattle.h3_world.specs.World.{party};
+ghost use Rattle.h3_world.specs.Streams.{flow};
+ghost use Rattle.h3_world.specs.Order.{next_part};
+ghost use Rattle.h3_world.specs.Pauses.{PauseAllowed, pause_of};
+ghost use Rattle.h3_world.specs.Pulling.{PausesExactly, settled};
+
+/// In a sound world a pause that is exact is for bytes that are missing: own bytes of the next part, or bytes that the encoder stream had
+/// once it was sent.
+pub fn pauses_wait_for_bytes()
+    ensures { (setup : Setup) (w : World) (side : Side) (id : ℕ) (p : Pull) → IsSoundWorld setup w → settled w side id ≡ None → PausesExactly w side id p → is_none (pause_of p) ≡ false →
+        PauseAllowed (flow w (other side) id) (party w (other side)).own.encoder_taken (next_part (flow w (other side) id)) }
+{}
+
 ghost use Rattle.h3_world.specs.World.{empty_world};
 ghost use Rattle.h3_world.specs.Headline.{Happens};
 ghost use Rattle.h3_world.specs.Sendable.{IsSendable};
@@ -47,7 +64,7 @@ pub fn every_schedule_runs()
     h3_qpack::laws::encoders_without_insertions_use_no_table();
 }
 
-ghost use Rattle.std.specs.Prelude.{◌≡◌, ℕ, ◌<◌, Bool, Ok};
+ghost use Rattle.std.specs.Prelude.{◌<◌, Bool, Ok};
 ghost use Rattle.h3_proto.specs.Config.{announced};
 ghost use Rattle.h3_proto.specs.declared.config.Config.{Config};
 ghost use Rattle.h3_connection.specs.Announcing.{announced_by};

@@ -13,8 +13,8 @@ use crate::grammar::{
 use h3_field::HeaderField;
 use http::StatusCode;
 
-// So many names a `HeaderMap` has room for: a list of no more fields is not refused for want of it.
-const MOST_NAMES: usize = 24576;
+/// So many names a `HeaderMap` has room for: of a list of no more fields it is told without memory whether it is a header's.
+pub const MOST_NAMES: usize = 24576;
 
 /// What is malformed of a field by itself (RFC 9114, 4.2 and 4.3).
 #[derive(Clone, Copy, Debug, PartialEq, Eq)]

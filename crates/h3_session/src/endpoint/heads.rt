@@ -40,6 +40,9 @@ const SHORT_FIELD: usize = 16;
 /// So many fields have room at first, at most.
 const MANY_FIELDS: usize = 64;
 
+/// No section of so many bytes fits into memory.
+const SIZE_LIMIT: u64 = 1 << 62;
+
 impl Endpoint {
     /// A head goes out on a stream: an encoded field section in a HEADERS frame (RFC 9114, section 4.3), and its insertions on the
     /// encoder stream. One with a status from 100 to 199 is not the last one. Refused are, in this order, every call after a
@@ -320,7 +323,7 @@ fn withdraw(streams: &mut ConnectionStreams, id: StreamId, count: usize)
     streams.encoding.withdraw(id, count);
 }
 
-/// The size of fields (RFC 9114, section 4.2.2), in bytes. No section of 2^62 bytes fits into memory.
+/// The size of fields (RFC 9114, section 4.2.2), in bytes, where it is below `SIZE_LIMIT`.
 fn section_size(fields: &[HeaderField]) -> Option<u64>
     ensures some { IfSome result (λ size. (size ≡ section_size fields.now) × (size < 2 ^ 62)) }
     ensures none { IfNone result (2 ^ 62 ≤ section_size fields.now) }
@@ -328,11 +331,11 @@ fn section_size(fields: &[HeaderField]) -> Option<u64>
     let mut size: u64 = 0;
     for field in fields {
         let more = field.mem_size() as u64;
-        if more >= 1 << 62 {
+        if more >= SIZE_LIMIT {
             return None;
         }
         size += more;
-        if size >= 1 << 62 {
+        if size >= SIZE_LIMIT {
             return None;
         }
     }

@@ -23,6 +23,9 @@ use h3_proto::stream::{Side, StreamId};
 use h3_streams::streams::ConnectionStreams;
 use std::alloc::{AllocError, Global};
 
+/// No endpoint sends so many bytes.
+const SENT_LIMIT: u64 = 1 << 56;
+
 impl Endpoint {
     /// Opens the next request stream. Refused are, in this order, every call after a connection fault, a server's, one after the
     /// peer's GOAWAY, and one beyond the last stream id.
@@ -68,7 +71,7 @@ impl Endpoint {
         if let Some(id) = self.streams.peer.last_goaway() {
             return Some(Refusal::GoingAway(StreamId::from(id)));
         }
-        if self.next_id >= 1 << 62 {
+        if self.next_id > VarInt::MAX.into_inner() {
             return Some(Refusal::IdsUsedUp);
         }
         None
@@ -125,14 +128,13 @@ impl Endpoint {
         Refusal::OutOfMemory
     }
 
-    // What was sent, in bytes and 64 for each field and call, with a call of this cost. No endpoint sends 2^56 bytes: such a sum
-    // is refused as want of memory.
+    // What was sent, in bytes and 64 for each field and call, with a call of this cost. A sum of `SENT_LIMIT` is refused as want of memory.
     pub(super) fn sent_with(&self, cost: u64) -> Option<u64>
         ensures some { IfSome result (λ sum. sum ≡ self.now.sent + cost + 64) }
         ensures none { IfNone result (2 ^ 56 ≤ self.now.sent + cost + 64) }
     {
         let sum = self.sent.checked_add(cost)?.checked_add(64)?;
-        if sum < 1 << 56 { Some(sum) } else { None }
+        if sum < SENT_LIMIT { Some(sum) } else { None }
     }
 
     /// The message on a stream is whole (RFC 9114, section 4.1). It takes no memory. Refused are, in this order, every call after a
