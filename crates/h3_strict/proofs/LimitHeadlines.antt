@@ -19,7 +19,7 @@ use Rattle.h3_headline.specs.Standing.{Stands}
 use Rattle.h3_strict.proofs.LimitSetups.{same_section, setup_unlimited, unlimited_plainly, unlimited_strictly}
 use Rattle.h3_strict.proofs.PlainHeadlines.{RunInWorlds}
 use Rattle.h3_strict.specs.Limits.{AsksForNone, AsksForStrict, RunsUnlimited, unlimited_ends, unlimited_setup}
-use Rattle.h3_strict.specs.PlainEnds.{NoneJudges, RunsPlainly, answers_without_malformed, plain_ends, without_malformed}
+use Rattle.h3_strict.specs.PlainEnds.{NoneJudges}
 use Rattle.h3_strict.specs.ServerKnows.{ServerKnows}
 use Rattle.h3_strict.specs.Tallies.{JudgesStrictly}
 
@@ -61,19 +61,11 @@ module _ (setup : Setup) (events : List Event) (made : IsMadeSetup setup) (none 
       subst (HandsAll (section_of (announced_at setup side)) side id events) (sym runs.answers)
       (subst (λ n. HandsAll n side id events (answers_of_ends (unlimited_ends (new_ends setup)) events)) (same_section setup side) (law (unlimited_setup setup) events side id (setup_unlimited setup made) (unlimited_plainly setup none) sendable))
 
--- A schedule that the same ends without limits answer as their plain ones is answered so.
-pub plain_too : (setup : Setup) (events : List Event) → RunsUnlimited (new_ends setup) events → RunsPlainly (unlimited_ends (new_ends setup)) events → RunsPlainly (new_ends setup) events
-plain_too setup events runs plain = record {
-  answers = ap answers_without_malformed runs.answers ∙ plain.answers ∙ ap (λ l. answers_of_ends (plain_ends (new_ends setup)) (without_malformed events l)) (sym runs.answers);
-  leads = ap plain_ends runs.leads ∙ plain.leads ∙ ap (λ l. ends_after (plain_ends (new_ends setup)) (without_malformed events l)) (sym runs.answers);
-}
-
 -- Two strict ends take what they send.
 abbrev pub NoneJudgeStrictly : Type 0
 NoneJudgeStrictly = (setup : Setup) (events : List Event) → IsMadeSetup setup → JudgesStrictly setup → AllByRecursion IsSendable events → ServerKnows events (answers_of_ends (new_ends setup) events) → NoneJudges (new_ends setup) events
 
-pub strict_plainly : (setup : Setup) (events : List Event) → IsMadeSetup setup → AsksForStrict setup → AllByRecursion IsSendable events → ServerKnows events (answers_of_ends (new_ends setup) events) → RunsUnlimited (new_ends setup) events
-    → NoneJudgeStrictly → ((e : _) (l : List Event) → NoneJudges e l → RunsPlainly e l) → RunsPlainly (new_ends setup) events
-strict_plainly setup events made strict sendable knows runs none plainly =
-    plain_too setup events runs (plainly (unlimited_ends (new_ends setup)) events
-    (none (unlimited_setup setup) events (setup_unlimited setup made) (unlimited_strictly setup strict) sendable (subst (ServerKnows events) runs.answers knows)))
+pub strict_none : (setup : Setup) (events : List Event) → IsMadeSetup setup → AsksForStrict setup → AllByRecursion IsSendable events → ServerKnows events (answers_of_ends (new_ends setup) events) → RunsUnlimited (new_ends setup) events
+    → NoneJudgeStrictly → NoneJudges (new_ends setup) events
+strict_none setup events made strict sendable knows runs none =
+    runs.judges (none (unlimited_setup setup) events (setup_unlimited setup made) (unlimited_strictly setup strict) sendable (subst (ServerKnows events) runs.answers knows))

@@ -22,7 +22,7 @@ use Rattle.h3_connection.specs.Delivering.{with_incoming}
 use Rattle.h3_connection.specs.Endpoint.{EndpointHistory, Kind, heads_waiting, kind_of, replied}
 use Rattle.h3_connection.specs.Endpoint.Kind.{OwnUnidirectional, PeerUnidirectional, Request, ServerOpened}
 use Rattle.h3_connection.specs.Incoming.{Incoming, is_body}
-use Rattle.h3_connection.specs.Keeping.{pulls, pulls_behind}
+use Rattle.h3_connection.specs.Keeping.{pulls, pulls_behind, read_all, unkept}
 use Rattle.h3_connection.specs.Pulling.{Pulled, acknowledgment, at_end, at_frame, at_payload, at_section, at_trailer, begun_section, between_frames, connection_fault, decoded, excess, framed, in_message, judged, just, left_with, malformed, new_section, next_frame, next_item, past_large, past_section, pull_stream, read_section, told_size, tried, with_content}
 use Rattle.h3_connection.specs.Sending.{after_answer, pull_at, pull_peer, pull_request, pull_unless, pulled, pulled_unidirectional, within_limit}
 use Rattle.h3_connection.specs.Skipping.{skipped}
@@ -41,6 +41,7 @@ use Rattle.h3_connection.specs.declared.place.Place.{Place}
 use Rattle.h3_connection.specs.declared.place.Place.TheVariants.{AfterTrailer, BeforeHead, InBody, InSession}
 use Rattle.h3_connection.specs.declared.setup.Announced.{Announced}
 use Rattle.h3_strict.specs.Limits.{limited, limited_end}
+use Rattle.h3_strict.specs.Plainly.{is_judged, judged_as, judged_at, judged_open, tells_malformed}
 
 -- a test with the same branches
 either : (b : Bool) (x y v w : Pulled) → v ≡ x → w ≡ y → (if b then v else w) ≡ (if b then x else y)
@@ -195,3 +196,23 @@ module _ (most : ℕ) (e : EndpointHistory) (id : ℕ) where
       ap (λ k. pulls_behind k (limited_end most e) id) none
       ∙ unless_same e.closed (pull_at e id (kind_of e.side id)) (pull_at (limited_end most e) id (kind_of e.side id)) (at_kind (kind_of e.side id) within)
       ∙ sym (ap (λ k. limited_result most (pulls_behind k e id)) none)
+
+  -- and whether it judges a message
+  judged_same : (o : Option Incoming) → ((i : Incoming) → o ≡ Some i → LooksAlike most e.announced.choices.unfinished_limit i) → judged_at (unkept (limited_end most e)) id o ≡ judged_at (unkept e) id o
+  judged_same None within = refl
+  judged_same (Some i) within = ap (λ (p : Pulled). tells_malformed p.answer) (pull_same most e.side e.announced id e.decoding.decoder i (within i refl))
+
+  kind_judged : (k : Kind) → ((i : Incoming) → stream_at e.incoming id ≡ Some i → LooksAlike most e.announced.choices.unfinished_limit i) → judged_as (unkept (limited_end most e)) id k ≡ judged_as (unkept e) id k
+  kind_judged Request within = judged_same (stream_at e.incoming id) within
+  kind_judged PeerUnidirectional within = refl
+  kind_judged ServerOpened within = refl
+  kind_judged OwnUnidirectional within = refl
+
+  open_judged : (closed : Option ℕ) → ((i : Incoming) → stream_at e.incoming id ≡ Some i → LooksAlike most e.announced.choices.unfinished_limit i) → judged_open closed (unkept (limited_end most e)) id ≡ judged_open closed (unkept e) id
+  open_judged (Some code) within = refl
+  open_judged None within = kind_judged (kind_of e.side id) within
+
+  pub judges_same : e.kept ≡ [] → ((i : Incoming) → stream_at e.incoming id ≡ Some i → LooksAlike most e.announced.choices.unfinished_limit i) → is_judged (limited_end most e) id ≡ is_judged e id
+  judges_same none within =
+      ap (λ k. judged_open e.closed (read_all k (unkept (limited_end most e))).0 id) none ∙ open_judged e.closed within
+      ∙ sym (ap (λ k. judged_open e.closed (read_all k (unkept e)).0 id) none)

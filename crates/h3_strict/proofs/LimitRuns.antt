@@ -24,10 +24,11 @@ use Rattle.h3_headline.specs.ComingLaws.{incoming_none, incoming_there, sound_fl
 use Rattle.h3_headline.specs.FlowLaws.{open_there, other-other}
 use Rattle.h3_headline.specs.Standing.{ReceivesFlow, StandsAt}
 use Rattle.h3_strict.proofs.LimitPulls.{LooksAlike, LooksWithin}
-use Rattle.h3_strict.proofs.LimitSteps.{PullsAlike, StepsAlike, limited_answer, step_same}
+use Rattle.h3_strict.proofs.LimitSteps.{PullsAlike, StepsAlike, judged_alike, limited_answer, step_same}
 use Rattle.h3_strict.proofs.SameWorlds.{answers_more, ends_more}
 use Rattle.h3_strict.proofs.TakenFronts.{PartsTaken, flow_within}
 use Rattle.h3_strict.proofs.TakenWorlds.{IsTakenWorld}
+use Rattle.h3_strict.specs.PlainEnds.{NoneJudges}
 use Rattle.h3_strict.specs.Limits.{RunsUnlimited, limit_at, limited_ends, unlimited_ends}
 
 -- An end that stands in a world whose sections its limit takes: its receivers find no frame too long.
@@ -130,14 +131,16 @@ module _ (setup : Setup) where
   }
 
   runs_from : (all past rest : List Event) (ends : Ends) → FindNone all → all ≡ past ++ rest → Behind past ends → RunsUnlimited ends rest
-  runs_from all past [] ends find is b = record { answers = refl; leads = refl }
+  runs_from all past [] ends find is b = record { answers = refl; leads = refl; judges = λ h. tt }
   runs_from all past (e ∷ rest) ends find is b =
       let within : EndsWithin setup (unlimited_ends ends) = subst (EndsWithin setup) (sym b.leads) (find past (e ∷ rest) is b.answers) in
-      let same : answered (unlimited_ends ends) e ≡ limited_answer (λ side. 2 ^ 62 - 1) (answered ends e) = step_same (λ side. 2 ^ 62 - 1) ends e (steps_alike ends e b.limits within) in
+      let alike = steps_alike ends e b.limits within in
+      let same : answered (unlimited_ends ends) e ≡ limited_answer (λ side. 2 ^ 62 - 1) (answered ends e) = step_same (λ side. 2 ^ 62 - 1) ends e alike in
       let more = runs_from all (past ++ e ∷ []) rest (answered ends e).1 find (is ∙ sym (append_assoc past (e ∷ []) rest)) (goes_on past ends e b within same) in
       record {
         answers = ap (λ l. (answered ends e).0 ∷ l) more.answers ∙ sym (ap (λ (x : Answer × Ends). x.0 ∷ answers_of_ends x.1 rest) same);
         leads = more.leads ∙ sym (ap (λ (x : Answer × Ends). ends_after x.1 rest) same);
+        judges = λ h. (sym (judged_alike (λ side. 2 ^ 62 - 1) ends e alike) ∙ h.0, more.judges (subst (λ (x : Answer × Ends). NoneJudges x.1 rest) same h.1));
       }
 
   limits_begin : (side : Side) → limits_of (new_ends setup) side ≡ limit_at setup side

@@ -24,7 +24,9 @@ use Rattle.h3_world.specs.declared.event.Answer.TheVariants as answer
 use Rattle.h3_world.specs.declared.event.Event.{Event}
 use Rattle.h3_world.specs.declared.event.Event.TheVariants as event
 use Rattle.h3_strict.specs.Limits.{limited_end, limited_ends}
-use Rattle.h3_strict.proofs.LimitPulls.{LooksAlike, limited_result, pulls_same}
+use Rattle.h3_strict.specs.PlainEnds.{judges}
+use Rattle.h3_strict.specs.Plainly.{is_judged}
+use Rattle.h3_strict.proofs.LimitPulls.{LooksAlike, judges_same, limited_result, pulls_same}
 use Rattle.h3_strict.proofs.LimitReading.{arrives_same}
 
 -- the same answer, and the ends after it with other limits
@@ -155,3 +157,19 @@ step_same most ends (event.DeliverEnd side id) alike = end_same most ends id sid
 step_same most ends (event.DeliverReset side id) alike = reset_same most ends id side
 step_same most ends (event.Pull side id) alike = pull_same most ends side id (pulls_same (most side) (end_at ends side) id alike.nothing_kept alike.looks)
 step_same most ends (event.Show side) alike = shows_same most ends side
+
+-- and it judges a message or not.
+pub judged_alike : (most : Side → ℕ) (ends : Ends) (e : Event) → StepsAlike most ends e → judges (limited_ends most ends) e ≡ judges ends e
+judged_alike most ends (event.Pull side id) alike = ap (λ f. is_judged f id) (at_end most ends side) ∙ judges_same (most side) (end_at ends side) id alike.nothing_kept alike.looks
+judged_alike most ends (event.OpenRequest side) alike = refl
+judged_alike most ends (event.Head side id head) alike = refl
+judged_alike most ends (event.Body side id bytes) alike = refl
+judged_alike most ends (event.Trailer side id trailer) alike = refl
+judged_alike most ends (event.Finish side id) alike = refl
+judged_alike most ends (event.Reset side id) alike = refl
+judged_alike most ends (event.Cancel side id) alike = refl
+judged_alike most ends (event.Goaway side id) alike = refl
+judged_alike most ends (event.Deliver side id count) alike = refl
+judged_alike most ends (event.DeliverEnd side id) alike = refl
+judged_alike most ends (event.DeliverReset side id) alike = refl
+judged_alike most ends (event.Show side) alike = refl

@@ -14,6 +14,7 @@ use Rattle.h3_world.specs.declared.event.Event.{Event}
 use Rattle.h3_world.specs.declared.event.Event.TheVariants as event
 use Rattle.h3_world.specs.declared.setup.Setup.{Setup}
 use Rattle.h3_headline.specs.Messages.{is_done}
+use Rattle.h3_strict.specs.PlainEnds.{NoneJudges}
 use Rattle.h3_qpack.specs.SectionSizes.{most_encoded}
 
 -- it announces and judges the same, and takes frames of at most this length
@@ -51,10 +52,12 @@ abbrev pub AreTaken : Setup → List Event → List Answer → Type 0
 AreTaken setup (e ∷ events) (a ∷ answers) = IsTaken setup e a × AreTaken setup events answers
 AreTaken setup _ _ = Unit {0}
 
--- A schedule is answered as by the ends without limits, and leads to the same ends without limits.
+-- A schedule is answered as by the ends without limits, and leads to the same ends without limits. No pull of it finds a frame too long: it judges a
+-- message only where it does without limits.
 pub record RunsUnlimited (ends : Ends) (events : List Event) : Type 0 where
   pub answers : answers_of_ends ends events ≡ answers_of_ends (unlimited_ends ends) events
   pub leads : unlimited_ends (ends_after ends events) ≡ ends_after (unlimited_ends ends) events
+  pub judges : NoneJudges (unlimited_ends ends) events → NoneJudges ends events
 
 -- neither side asks for strict messages
 abbrev pub AsksForNone : Setup → Type 0

@@ -15,7 +15,7 @@ ghost use Rattle.h3_world.specs.declared.setup.Setup.{Setup};
 ghost use Rattle.h3_headline.specs.Messages.{IsFrontOf, at_reader, has_finished, has_pulled_end, pulled, sent};
 ghost use Rattle.h3_headline.specs.Standing.{Stands};
 ghost use Rattle.h3_strict.specs.Limits.{AreTaken, AsksForNone, AsksForStrict, EarlyAreTaken, LimitsTakeWhatIsSent, RunsUnlimited, unlimited_ends, unlimited_setup};
-ghost use Rattle.h3_strict.specs.PlainEnds.{NoneJudges, RunsPlainly, answers_without_malformed, plain_ends, plain_setup, without_malformed};
+ghost use Rattle.h3_strict.specs.PlainEnds.{NoneJudges, answers_without_malformed, plain_ends, plain_setup, without_malformed};
 ghost use Rattle.h3_strict.specs.ServerKnows.{ServerKnows};
 
 /// Where each list of fields that a side sends is one whose encoding its reader takes, limits on what is unfinished change nothing: the schedule is
@@ -69,10 +69,10 @@ pub fn two_limited_endpoints_run_in_a_world()
 }
 
 /// And so do two endpoints that both ask for strict messages, where the server knows what was asked when it answers: no pull judges a message or
-/// finds a frame too long (`plainly`), and all of the above holds without the sends that were refused as malformed.
+/// finds a frame too long (`none`), and all of the above holds without the sends that were refused as malformed.
 pub fn two_strict_limited_endpoints_run_in_a_world()
-    ensures plainly { (setup : Setup) (events : List Event) → IsMadeSetup setup → AsksForStrict setup → AllByRecursion IsSendable events →
-        ServerKnows events (answers_of_ends (new_ends setup) events) → AreTaken setup events (answers_of_ends (new_ends setup) events) → RunsPlainly (new_ends setup) events }
+    ensures none { (setup : Setup) (events : List Event) → IsMadeSetup setup → AsksForStrict setup → AllByRecursion IsSendable events →
+        ServerKnows events (answers_of_ends (new_ends setup) events) → AreTaken setup events (answers_of_ends (new_ends setup) events) → NoneJudges (new_ends setup) events }
     ensures world { (setup : Setup) (events : List Event) → IsMadeSetup setup → AsksForStrict setup → AllByRecursion IsSendable events →
         ServerKnows events (answers_of_ends (new_ends setup) events) → AreTaken setup events (answers_of_ends (new_ends setup) events) →
         (w : World) × Run (Happens (plain_setup setup)) (empty_world (plain_setup setup)) (without_malformed events (answers_of_ends (new_ends setup) events)) (answers_without_malformed (answers_of_ends (new_ends setup) events)) w
