@@ -60,7 +60,6 @@ limit_set most ends Client = refl
 limit_set most ends Server = refl
 
 module _ (setup : Setup) where
-
   -- what the limits of an end were is what they are: an event is answered alike with any limits, so with its own
   own_alike : (ends : Ends) (e : Event) → EndsWithin setup (unlimited_ends ends) → StepsAlike (limits_of ends) ends e
   own_alike ends (event.Pull Client id) within = record { nothing_kept = (within Client).nothing_kept; looks = λ i is alive over none whole. refl }

@@ -71,7 +71,7 @@ head_within most kind number bytes more behind small few e within = and_right (i
     by_number k mid at (inl none) = ap (is_too_long most k) none
     by_number k mid at (inr (n, rest, there)) =
         let first = one_read k kind (mid ++ more) (encoding number ++ behind)
-            (sym (reads_more k bytes mid more at) ∙ ap varint_at (e ∙ append_assoc (encoding kind) (encoding number) behind) ∙ reads_shortest kind (encoding number ++ behind) small) in
+        (sym (reads_more k bytes mid more at) ∙ ap varint_at (e ∙ append_assoc (encoding kind) (encoding number) behind) ∙ reads_shortest kind (encoding number ++ behind) small) in
         let second = one_read n number (rest ++ more) behind (sym (reads_more n mid rest more there) ∙ ap varint_at first.1 ∙ reads_shortest number behind few) in
         ap (is_too_long most k) there ∙ ap (λ x. is_kept_whole x && nat_lt most n) first.0 ∙ ap (λ x. is_kept_whole kind && nat_lt most x) second.0 ∙ within
 
