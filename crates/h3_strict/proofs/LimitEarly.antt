@@ -69,7 +69,7 @@ module _ (setup : Setup) (limits : LimitsTakeWhatIsSent setup) where
 
   head_taken : (ends : Ends) (side : Side) (id : ℕ) (head : Head) → KnowsSettings setup ends → (b : Bool) → is_none (end_at ends side).peer.settings ≡ b → (b ≡ true → IsTaken setup (event.Head side id head) (answered ends (event.Head side id head)).0)
       → IsTaken setup (event.Head side id head) (answered ends (event.Head side id head)).0
-  head_taken ends side id head knows true is early = early refl
+  head_taken ends side id head knows true is early accepted = early refl accepted
   head_taken ends side id head knows false is early accepted =
       let e = end_at ends side in
       let rules = head_rules e id head (was_accepted ends side (sender.head_refusal e id head) e _ accepted) in
@@ -77,7 +77,7 @@ module _ (setup : Setup) (limits : LimitsTakeWhatIsSent setup) where
 
   trailer_taken : (ends : Ends) (side : Side) (id : ℕ) (trailer : Head) → KnowsSettings setup ends → (b : Bool) → is_none (end_at ends side).peer.settings ≡ b
       → (b ≡ true → IsTaken setup (event.Trailer side id trailer) (answered ends (event.Trailer side id trailer)).0) → IsTaken setup (event.Trailer side id trailer) (answered ends (event.Trailer side id trailer)).0
-  trailer_taken ends side id trailer knows true is early = early refl
+  trailer_taken ends side id trailer knows true is early accepted = early refl accepted
   trailer_taken ends side id trailer knows false is early accepted =
       let e = end_at ends side in
       let rules = trailer_rules e id trailer (was_accepted ends side (sender.trailer_refusal e id trailer) e _ accepted) in
