@@ -1,6 +1,6 @@
 -- Where each limit takes what its side announces, what a side sends is taken once it knows the other side's settings.
-use Rattle.std.proofs.Common.{◌≡◌, ℕ, ◌*◌, ◌≤◌, inl, inr, Bool, true, false, List, [], ◌∷◌, ◌++◌, Option, Some, None, refl, sym, ap, ◌∙◌, subst, arith, append_assoc, if◌then◌else◌, max}
-use Rattle.std.specs.Prelude.{is_none, nat_lt, unwrap_or}
+use Rattle.std.proofs.Common.{◌≡◌, ℕ, ◌≤◌, inl, inr, Bool, true, false, List, [], ◌∷◌, ◌++◌, Option, Some, None, refl, sym, ap, ◌∙◌, subst, arith, append_assoc, if◌then◌else◌}
+use Rattle.std.specs.Prelude.{is_none, nat_lt}
 use Rattle.std.specs.List.{AllByRecursion}
 use Rattle.std.proofs.lemmas.Bool.{cases_lt, lt-ltb}
 use Rattle.h3_field.specs.Field.{Field, section_size}
@@ -14,12 +14,10 @@ use Rattle.h3_connection.specs.Refusals.{is_too_large}
 use Rattle.h3_connection.specs.Sending as sender
 use Rattle.h3_connection.specs.Sending.{does}
 use Rattle.h3_connection.specs.declared.event.Refusal.{Refusal}
-use Rattle.h3_connection.specs.declared.setup.Announced.{Announced}
 use Rattle.h3_world.specs.Ends.{Ends, answered, answers_of_ends, done, end_at, ends_after, new_ends}
 use Rattle.h3_world.specs.Sendable.{IsSendable}
 use Rattle.h3_world.specs.Setup.{IsMadeSetup, announced_at}
 use Rattle.h3_world.specs.World.{World, party}
-use Rattle.h3_world.specs.declared.event.Answer.{Answer}
 use Rattle.h3_world.specs.declared.event.Answer.TheVariants as answer
 use Rattle.h3_world.specs.declared.event.Event.{Event}
 use Rattle.h3_world.specs.declared.event.Event.TheVariants as event
@@ -28,13 +26,13 @@ use Rattle.h3_headline.specs.Messages.{is_done}
 use Rattle.h3_headline.specs.SettingsLaws.{too_large_with_meaning}
 use Rattle.h3_headline.specs.Standing.{Stands, are_settings_there, with_meaning}
 use Rattle.h3_strict.proofs.LimitHeadlines.{loose_world}
-use Rattle.h3_strict.proofs.LimitSetups.{setup_unlimited, unlimited_plainly, unlimited_strictly}
-use Rattle.h3_strict.proofs.LimitWorlds.{RunStrictly, knows_front, loose_unlimited, sendable_front, strict_unlimited, taken_front}
+use Rattle.h3_strict.proofs.LimitSetups.{setup_unlimited, unlimited_strictly}
+use Rattle.h3_strict.proofs.LimitWorlds.{RunStrictly, knows_front, loose_unlimited, sendable_front, strict_unlimited}
 use Rattle.h3_strict.proofs.PlainHeadlines.{RunInWorlds}
 use Rattle.h3_strict.proofs.SameWorlds.{ends_more}
 use Rattle.h3_strict.proofs.SentLaws.{head_rules, trailer_rules}
 use Rattle.h3_strict.proofs.TakenWorlds.{SectionsAreShort}
-use Rattle.h3_strict.specs.Limits.{AreTaken, AsksForNone, AsksForStrict, EarlyAreTaken, IsTaken, LimitsTakeWhatIsSent, RunsUnlimited, is_early, limit_at, unlimited_ends, unlimited_setup}
+use Rattle.h3_strict.specs.Limits.{AreTaken, AsksForNone, AsksForStrict, EarlyAreTaken, IsTaken, LimitsTakeWhatIsSent, is_early, limit_at, unlimited_ends, unlimited_setup}
 use Rattle.h3_strict.specs.PlainEnds.{plain_ends, plain_setup}
 use Rattle.h3_qpack.specs.SectionSizes.{most_encoded}
 use Rattle.h3_strict.specs.ServerKnows.{ServerKnows}

@@ -1,5 +1,5 @@
 -- Two ends with limits in a world, and what they hand out, by what the same ends without limits do.
-use Rattle.std.proofs.Common.{◌≡◌, ℕ, true, false, List, refl, ap, sym, ◌∙◌, subst}
+use Rattle.std.proofs.Common.{◌≡◌, ℕ, true, false, List, ap, sym, ◌∙◌, subst}
 use Rattle.std.specs.Prelude.{map}
 use Rattle.std.specs.List.{AllByRecursion, list_any}
 use Rattle.h3_proto.specs.declared.stream.Side.{Side}

@@ -1,39 +1,34 @@
 -- A pull of a receiver is answered alike with another limit, where both find a frame too long or none.
-use Rattle.std.proofs.Common.{◌≡◌, ℕ, Bool, true, false, if◌then◌else◌, List, [], ◌∷◌, refl, ap, sym, ◌∙◌, subst, Option, Some, None}
-use Rattle.std.specs.Prelude.{◌==◌, ◌^◌, ◌-◌, nat_lt, option_map}
+use Rattle.std.proofs.Common.{◌≡◌, ℕ, Bool, true, false, if◌then◌else◌, List, [], ◌∷◌, refl, ap, sym, ◌∙◌, Option, Some, None}
+use Rattle.std.specs.Prelude.{nat_lt, option_map}
 use Rattle.std.specs.List.{concat}
 use Rattle.h3_field.specs.Field.{Field}
 use Rattle.h3_field.specs.Instruction.{DecoderInstruction}
 use Rattle.h3_header.specs.HeadRead.{head_of}
-use Rattle.h3_messages.specs.Content.{may_end, takes_trailer}
-use Rattle.h3_messages.specs.declared.violation.Violation.{Violation}
+use Rattle.h3_messages.specs.Content.{takes_trailer}
 use Rattle.h3_proto.specs.declared.stream.Side.{Side}
 use Rattle.h3_proto.specs.declared.stream.Side.TheVariants.{Client, Server}
 use Rattle.h3_qpack.specs.DecodedSection.{BadSection, DecodedSection, Fields, Missing, decode_section}
 use Rattle.h3_qpack.specs.DecoderState.{DecoderState}
 use Rattle.h3_wire.specs.ExcessiveFrames.{is_excessive}
-use Rattle.h3_wire.specs.ExcessiveLaws.{none_excessive}
 use Rattle.h3_wire.specs.Frames.{Front, Refused, Unfinished, Unknown, Whole, frame_at}
 use Rattle.h3_wire.specs.declared.proto.frame.Frame.{Frame}
 use Rattle.h3_wire.specs.declared.proto.frame.Frame.TheVariants as frame
 use Rattle.h3_wire.specs.declared.proto.frame.PayloadLen.{PayloadLen}
 use Rattle.h3_connection.specs.Announcing.{section_of}
 use Rattle.h3_connection.specs.Delivering.{with_incoming}
-use Rattle.h3_connection.specs.Endpoint.{EndpointHistory, Kind, heads_waiting, kind_of, replied}
+use Rattle.h3_connection.specs.Endpoint.{EndpointHistory, Kind, kind_of, replied}
 use Rattle.h3_connection.specs.Endpoint.Kind.{OwnUnidirectional, PeerUnidirectional, Request, ServerOpened}
 use Rattle.h3_connection.specs.Incoming.{Incoming, is_body}
 use Rattle.h3_connection.specs.Keeping.{pulls, pulls_behind, read_all, unkept}
-use Rattle.h3_connection.specs.Pulling.{Pulled, acknowledgment, at_end, at_frame, at_payload, at_section, at_trailer, begun_section, between_frames, connection_fault, decoded, excess, framed, in_message, judged, just, left_with, malformed, new_section, next_frame, next_item, past_large, past_section, pull_stream, read_section, told_size, tried, with_content}
+use Rattle.h3_connection.specs.Pulling.{Pulled, acknowledgment, at_end, at_frame, at_payload, at_section, at_trailer, begun_section, between_frames, decoded, excess, framed, in_message, judged, just, left_with, next_frame, next_item, past_section, pull_stream, read_section, told_size, with_content}
 use Rattle.h3_connection.specs.Sending.{after_answer, pull_at, pull_peer, pull_request, pull_unless, pulled, pulled_unidirectional, within_limit}
 use Rattle.h3_connection.specs.Skipping.{skipped}
 use Rattle.h3_connection.specs.StreamSets.{stream_at}
-use Rattle.h3_connection.specs.StrictMessages.{broken_rule, if_whole, malformation_by, violation_at}
+use Rattle.h3_connection.specs.StrictMessages.{if_whole, malformation_by, violation_at}
 use Rattle.h3_connection.specs.Unidirectional.{Unidirectional, pull_unidirectional}
-use Rattle.h3_connection.specs.declared.arrival.Arrival.{Arrival}
 use Rattle.h3_connection.specs.declared.event.Fault.TheVariants as fault
 use Rattle.h3_connection.specs.declared.event.Item.TheVariants as item
-use Rattle.h3_connection.specs.declared.event.Malformation.{Malformation}
-use Rattle.h3_connection.specs.declared.event.Malformation.TheVariants as malformation
 use Rattle.h3_connection.specs.declared.event.Pull.{Pull}
 use Rattle.h3_connection.specs.declared.event.Pull.TheVariants as pull
 use Rattle.h3_connection.specs.declared.event.StreamFault.{StreamFault}

@@ -1,10 +1,9 @@
 -- One event at two ends that limit what is unfinished, beside the same ends with other limits.
-use Rattle.std.proofs.Common.{◌≡◌, ℕ, Bool, true, false, if◌then◌else◌, List, [], ◌∷◌, length, take, refl, ap, sym, ◌∙◌, Option, Some, None}
+use Rattle.std.proofs.Common.{◌≡◌, ℕ, Bool, true, false, if◌then◌else◌, List, [], ◌∷◌, length, take, refl, ap, ◌∙◌, Option, Some, None}
 use Rattle.std.specs.Prelude.{◌==◌, ◌&&◌, not, nat_lt}
 use Rattle.h3_header.specs.Head.{Head}
 use Rattle.h3_proto.specs.declared.stream.Side.{Side}
 use Rattle.h3_proto.specs.declared.stream.Side.TheVariants.{Client, Server}
-use Rattle.h3_connection.specs.Delivering.{give_up, given_up_by, incoming_at}
 use Rattle.h3_connection.specs.Endpoint.{EndpointHistory, bytes_waiting}
 use Rattle.h3_connection.specs.Incoming.{Incoming}
 use Rattle.h3_connection.specs.Keeping.{arrives, pulls}

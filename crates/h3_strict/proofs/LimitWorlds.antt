@@ -1,28 +1,26 @@
 -- Two ends whose limits take what is sent: without limits they run in worlds whose sections these limits take.
-use Rattle.std.proofs.Common.{◌≡◌, ℕ, Bool, true, false, List, [], ◌∷◌, ◌++◌, Option, Some, None, refl, sym, ap, ◌∙◌, subst, if◌then◌else◌}
+use Rattle.std.proofs.Common.{◌≡◌, ℕ, Bool, true, false, List, [], ◌∷◌, ◌++◌, ap, ◌∙◌, subst, if◌then◌else◌}
 use Rattle.std.specs.Prelude.{option_map}
 use Rattle.std.specs.List.{AllByRecursion}
 use Rattle.h3_proto.specs.declared.stream.Side.{Side}
 use Rattle.h3_proto.specs.declared.stream.Side.TheVariants.{Client, Server}
-use Rattle.h3_connection.specs.Incoming.{Incoming}
-use Rattle.h3_connection.specs.StreamSets.{stream_at}
 use Rattle.h3_world.specs.Ends.{Ends, answered, answers_of_ends, end_at, ends_after, new_ends}
 use Rattle.h3_world.specs.Headline.{Happens}
 use Rattle.h3_world.specs.Run.{Run}
 use Rattle.h3_world.specs.Sendable.{IsSendable}
-use Rattle.h3_world.specs.Setup.{IsMadeSetup, JudgesPlainly}
+use Rattle.h3_world.specs.Setup.{IsMadeSetup}
 use Rattle.h3_world.specs.World.{World, empty_world}
 use Rattle.h3_world.specs.declared.event.Answer.{Answer}
 use Rattle.h3_world.specs.declared.event.Event.{Event}
 use Rattle.h3_world.specs.declared.setup.Setup.{Setup}
-use Rattle.h3_headline.specs.Standing.{Stands, StandsAt}
-use Rattle.h3_strict.proofs.LimitRuns.{EndWithin, EndsWithin, FindNone, looks_within, runs_unlimited}
+use Rattle.h3_headline.specs.Standing.{Stands}
+use Rattle.h3_strict.proofs.LimitRuns.{EndWithin, FindNone, looks_within, runs_unlimited}
 use Rattle.h3_strict.proofs.LimitSetups.{setup_unlimited, unlimited_plainly, unlimited_strictly}
 use Rattle.h3_strict.proofs.PlainHeadlines.{RunInWorlds}
 use Rattle.h3_strict.proofs.PlainStreams.{at_each}
 use Rattle.h3_strict.proofs.SentTallies.{stands_at}
 use Rattle.h3_strict.proofs.TakenWorlds.{IsTakenWorld, SectionsAreShort, run_from_nothing}
-use Rattle.h3_strict.specs.Limits.{AreTaken, AsksForNone, AsksForStrict, IsTaken, RunsUnlimited, limit_at, unlimited_ends, unlimited_setup}
+use Rattle.h3_strict.specs.Limits.{AreTaken, AsksForNone, AsksForStrict, RunsUnlimited, limit_at, unlimited_ends, unlimited_setup}
 use Rattle.h3_strict.specs.PlainEnds.{answers_without_malformed, is_malformed_refusal, plain_ends, plain_setup, without_malformed}
 use Rattle.h3_strict.specs.Plainly.{plain_incoming, plainly}
 use Rattle.h3_strict.specs.ServerKnows.{ServerKnows, ServerKnowsFrom, knows_behind}

@@ -1,6 +1,6 @@
 -- Where its reader takes each section that was sent, what came of a flow begins with no frame that is too long.
 use Rattle.std.proofs.Common.{◌≡◌, ◌⊎◌, inl, inr, ℕ, zero, suc, ◌+◌, ◌^◌, ◌<◌, ◌≤◌, lit<, Bool, true, false, List, [], ◌∷◌, ◌++◌, Option, Some, None, refl, sym, ap, ◌∙◌, subst, drop, length, nat_lt, arith, append_assoc}
-use Rattle.std.specs.Prelude.{◌&&◌, ◌==◌, unwrap_or}
+use Rattle.std.specs.Prelude.{◌&&◌, unwrap_or}
 use Rattle.std.specs.List.{AllByRecursion, concat, flat_map}
 use Rattle.std.proofs.lemmas.Bool.{and_right, cases_lt, le-ltb, lt-ltb, ne_eqb}
 use Rattle.h3_coding.specs.Encodings.{encoding}
@@ -14,7 +14,7 @@ use Rattle.h3_wire.specs.Frames.{frame_at}
 use Rattle.h3_wire.specs.declared.proto.frame.Frame.TheVariants as frame
 use Rattle.h3_connection.specs.Incoming.{Incoming, is_body}
 use Rattle.h3_connection.specs.Skipping.{skipped}
-use Rattle.h3_world.specs.Flow.{Flow, Part, Section, flow_bytes, part_bytes}
+use Rattle.h3_world.specs.Flow.{Flow, Part, flow_bytes, part_bytes}
 use Rattle.h3_world.specs.Flow.Part.{Body, End, Head, Interim, Trailer}
 use Rattle.h3_world.specs.Order.{next_part}
 use Rattle.h3_world.specs.Sound.{AreSent, IsSoundFlow}

@@ -1,7 +1,6 @@
 -- In a world that a schedule leads to in which each reader takes what is sent to it, each section is no longer than its reader takes.
-use Rattle.std.proofs.Common.{◌≡◌, ℕ, ◌+◌, ◌<◌, ◌≤◌, Bool, true, false, List, [], ◌∷◌, ◌++◌, Option, Some, None, MatchOption, refl, sym, ap, ◌∙◌, subst, length, arith, if◌then◌else◌}
+use Rattle.std.proofs.Common.{◌≡◌, ℕ, ◌+◌, ◌≤◌, Bool, true, false, List, [], ◌∷◌, ◌++◌, Option, Some, None, MatchOption, refl, sym, ap, ◌∙◌, subst, length, arith, if◌then◌else◌}
 use Rattle.std.specs.Prelude.{not, ◌||◌, is_some}
-use Rattle.std.specs.List.{AllByRecursion}
 use Rattle.h3_field.specs.Field.{Field, section_size}
 use Rattle.h3_header.specs.Head.{Head as Fields, has_pseudo, head_fields}
 use Rattle.h3_proto.specs.StreamIds.{is_request_stream}
@@ -41,7 +40,7 @@ use Rattle.h3_world.specs.declared.event.Event.TheVariants as event
 use Rattle.h3_world.specs.declared.setup.Setup.{Setup}
 use Rattle.h3_headline.specs.Contents.{KeepsParts}
 use Rattle.h3_headline.specs.FlowLaws.{flow-with_party, open_there, same_both, there-with_party}
-use Rattle.h3_headline.specs.KeepsPartsLaws.{flow_at, keeps_delivery, keeps_end, keeps_flows, keeps_given_up, keeps_reset, keeps_same, keeps_with_flow, keeps_with_party, same_flow}
+use Rattle.h3_headline.specs.KeepsPartsLaws.{flow_at, keeps_delivery, keeps_end, keeps_flows, keeps_given_up, keeps_reset, keeps_with_flow, keeps_with_party, same_flow}
 use Rattle.h3_headline.specs.Messages.{is_done, is_on}
 use Rattle.h3_headline.specs.OpeningLaws.{flow_opened}
 use Rattle.h3_headline.specs.PullLaws.{item_leaves}
