@@ -31,6 +31,7 @@ pub mod LineFields
 pub mod Sizes
 pub mod Hearing
 pub mod ShortRows
+pub mod SectionSizes
 pub mod ShortLaws
 pub mod ReasonLaws
 pub mod InstructionLaws

@@ -50,7 +50,8 @@ words_short : (plain : List ℕ) → length (flat_map code_word plain) ≤ 30 * 
 words_short [] = omega arith
 words_short (c ∷ cs) = omega (arith, words_short cs, word_short c, length-append (code_word c) (flat_map code_word cs))
 
-octets_few : (r : List ℕ) → length (octets r) ≤ length r
+-- eight bits a byte, and the last byte is filled up
+octets_few : (r : List ℕ) → 8 * length (octets r) ≤ length r + 7
 unfolding octets
 octets_few [] = omega arith
 octets_few (a ∷ []) = omega arith
@@ -62,12 +63,12 @@ octets_few (a ∷ b ∷ c ∷ d ∷ e ∷ f ∷ []) = omega arith
 octets_few (a ∷ b ∷ c ∷ d ∷ e ∷ f ∷ g ∷ []) = omega arith
 octets_few (a ∷ b ∷ c ∷ d ∷ e ∷ f ∷ g ∷ h ∷ rest) = omega (arith, octets_few rest)
 
-huffman_short : (plain : List ℕ) → length (huffman plain) ≤ 30 * length plain
+-- a code word has at most thirty bits (RFC 7541, appendix B)
+huffman_short : (plain : List ℕ) → length (huffman plain) ≤ 4 * length plain
 unfolding huffman
 huffman_short plain = omega (arith, octets_few (flat_map code_word plain), words_short plain)
 
--- a code word has at most thirty bits (RFC 7541, appendix B)
-pub string_short : (size flags : ℕ) (plain : List ℕ) → length (string_literal size flags plain) ≤ 10 + 30 * length plain
+pub string_short : (size flags : ℕ) (plain : List ℕ) → length (string_literal size flags plain) ≤ 10 + 4 * length plain
 string_short size flags plain =
     let p = prefixed (size - 1) (2 * flags + 1) (length (huffman plain)) in
     omega (arith, huffman_short plain, prefixed_short (size - 1) (2 * flags + 1) (length (huffman plain)), length-append p (huffman plain))

@@ -22,6 +22,7 @@ ghost use Rattle.h3_qpack.specs.DecodedSection.{DecodedSection, decode_section, 
 ghost use Rattle.h3_qpack.specs.Hearing.{Heard, heard, hear, heard_then, IsHeardAs, Listened, listened, listen, listened_then, IsListenedAs};
 ghost use Rattle.h3_qpack.specs.SectionEncoding.{Draft, draft_of, encoded_section, finds_room, found, having_inserted, held, instructions_for, is_insertable, is_insertable_ahead, marks_after, required_insert_count, sent_section};
 ghost use Rattle.h3_field.specs.Line.{FieldLine};
+ghost use Rattle.h3_qpack.specs.SectionSizes.{most_encoded};
 ghost use Rattle.h3_qpack.specs.Encodings.{decoder_of, HasInsertions, IsDecoderAt, IsWritten, IsWrittenInstruction, tried};
 ghost use Rattle.h3_field.specs.Prefix.{most_entries, IsRequiredCount};
 ghost use Rattle.h3_qpack.specs.Session.{Session, UndecodedSection, oldest, is_canceled, count_of, tracked_references, IsSound, DecodesTo};
@@ -146,6 +147,14 @@ pub fn sections_leave_their_counts()
     ensures sent { (s : EncoderHistory) (stream : ℕ) (fields : List Field) →
         (sent_section s stream fields).required_insert_counts ≡ s.required_insert_counts ++ required_insert_count (draft_of (writing_on s stream) fields) ∷ [] }
     ensures read { (s : EncoderHistory) (i : DecoderInstruction) → (encoder_after s i).required_insert_counts ≡ s.required_insert_counts }
+{}
+
+/// The encoding of a list of fields is no longer than four times the list's size, the sum of names, values and 32 for each field (RFC 9114,
+/// section 4.2.2), whatever its encoder did before, and that of an empty list takes two bytes. Every string is written in the Huffman code,
+/// whose words have up to thirty bits: so the encoding may be longer than the list's size.
+pub fn encoded_sections_are_short()
+    ensures short { (s : EncoderHistory) (fields : List Field) → length (encoded_section s fields) ≤ most_encoded fields }
+    ensures empty { (s : EncoderHistory) → length (encoded_section s []) ≡ 2 }
 {}
 
 /// Every run in bytes is a session, and answers what is expected of it: each decode exactly the fields that were encoded, or

@@ -26,6 +26,9 @@
 //!   (`strict_endpoints_run_in_a_world`, `strict_endpoints_hand_out_what_was_sent`, `schedules_that_judge_nothing_find_no_fault`). Between two
 //!   strict sides no pull finds one malformed, where the server knows what was asked before it answers (`strict_endpoints_take_what_they_send`,
 //!   `two_strict_endpoints_run_in_a_world`).
+//! - Limits on what is unfinished: where each takes what is sent to it they change nothing (`limits_that_take_what_is_sent_change_nothing`), and it
+//!   does where it is at least four times what its side announces (`limits_above_what_is_announced_take_what_is_sent`). So two such sides run in a
+//!   world (`two_limited_endpoints_run_in_a_world`, `two_strict_limited_endpoints_run_in_a_world`).
 //! - What `Setup::new` answers may be given to `run` (`setups_are_made`).
 //! - Lists: a head and a trailer are sent as the lists of their fields are (`heads_are_sent_as_their_lists`).
 ghost use Rattle.std.specs.Prelude.{◌≡◌, ℕ, List};
@@ -63,6 +66,10 @@ pub use h3_memory::laws::{
 pub use h3_strict::laws::{
     each_event_steps_plainly, schedules_that_judge_nothing_find_no_fault,
     strict_endpoints_hand_out_what_was_sent, strict_endpoints_run_in_a_world, whole_runs_are_plain,
+};
+pub use h3_strict::limits::{
+    limits_above_what_is_announced_take_what_is_sent, limits_that_take_what_is_sent_change_nothing,
+    two_limited_endpoints_run_in_a_world, two_strict_limited_endpoints_run_in_a_world,
 };
 pub use h3_strict::strict::{
     strict_endpoints_take_what_they_send, two_strict_endpoints_run_in_a_world,

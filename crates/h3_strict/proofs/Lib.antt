@@ -26,3 +26,13 @@ mod PullEvents
 mod PulledTallies
 mod PullTally
 mod NoneJudges
+mod LimitPulls
+mod LimitReading
+mod LimitSteps
+mod TakenFronts
+mod TakenWorlds
+mod LimitRuns
+mod LimitSetups
+mod LimitWorlds
+mod LimitHeadlines
+mod LimitEarly

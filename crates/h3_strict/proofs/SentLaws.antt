@@ -43,6 +43,7 @@ pub record TakesHead (e : EndpointHistory) (id : ℕ) (head : Head) : Type 0 whe
   pub takes : takes_head (outgoing_at e id) ≡ true
   pub fits : is_for (other e.side) head ≡ true
   pub rule : broken_head e.side e.announced e.peer.settings (head_fields head) ≡ None
+  pub small : is_too_large e.peer.settings (head_fields head) ≡ false
 
 pub head_rules : (e : EndpointHistory) (id : ℕ) (head : Head) → head_refusal e id head ≡ None → TakesHead e id head
 head_rules e id head done =
@@ -56,6 +57,7 @@ head_rules e id head done =
       takes = is_true (takes_head (outgoing_at e id)) (held (not (takes_head (outgoing_at e id))) refusal.OutOfOrder wrong there);
       fits = is_true (is_for (other e.side) head) (held (not (is_for (other e.side) head)) refusal.WrongSide (unless_malformed broken large) placed);
       rule = not_malformed broken large (passed (not (is_for (other e.side) head)) refusal.WrongSide (unless_malformed broken large) placed);
+      small = held (is_too_large e.peer.settings fields) (refusal.TooLarge (section_size fields)) [] (not_early broken large (passed (not (is_for (other e.side) head)) refusal.WrongSide (unless_malformed broken large) placed));
     }
 
 -- a body
@@ -77,6 +79,7 @@ pub record TakesTrailer (e : EndpointHistory) (id : ℕ) (trailer : Head) : Type
   pub takes : takes_body (outgoing_at e id) ≡ true
   pub early : early_trailer (outgoing_at e id).content ≡ None
   pub rule : broken_trailer e.announced (head_fields trailer) ≡ None
+  pub small : is_too_large e.peer.settings (head_fields trailer) ≡ false
 
 pub trailer_rules : (e : EndpointHistory) (id : ℕ) (trailer : Head) → trailer_refusal e id trailer ≡ None → TakesTrailer e id trailer
 trailer_rules e id trailer done =
@@ -92,6 +95,7 @@ trailer_rules e id trailer done =
       takes = is_true (takes_body (outgoing_at e id)) (held (not (takes_body (outgoing_at e id))) refusal.OutOfOrder pseudo there);
       early = not_malformed early (unless_malformed broken large) behind;
       rule = not_malformed broken large (not_early early (unless_malformed broken large) behind);
+      small = held (is_too_large e.peer.settings fields) (refusal.TooLarge (section_size fields)) [] (not_early broken large (not_early early (unless_malformed broken large) behind));
     }
 
 -- the end

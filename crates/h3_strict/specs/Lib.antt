@@ -5,3 +5,4 @@ pub mod ServerKnows
 pub mod StrictPull
 pub mod Tallies
 pub mod Unbroken
+pub mod Limits

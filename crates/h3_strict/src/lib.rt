@@ -2,5 +2,6 @@
 #![tactic(auto)]
 
 pub mod laws;
+pub mod limits;
 pub mod strict;
 pub mod worked;

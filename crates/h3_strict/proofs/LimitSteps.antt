@@ -1,0 +1,174 @@
+-- One event at two ends that limit what is unfinished, beside the same ends with other limits.
+use Rattle.std.proofs.Common.{◌≡◌, ℕ, Bool, true, false, if◌then◌else◌, List, [], ◌∷◌, length, take, refl, ap, ◌∙◌, Option, Some, None}
+use Rattle.std.specs.Prelude.{◌==◌, ◌&&◌, not, nat_lt}
+use Rattle.h3_header.specs.Head.{Head}
+use Rattle.h3_proto.specs.declared.stream.Side.{Side}
+use Rattle.h3_proto.specs.declared.stream.Side.TheVariants.{Client, Server}
+use Rattle.h3_connection.specs.Endpoint.{EndpointHistory, bytes_waiting}
+use Rattle.h3_connection.specs.Incoming.{Incoming}
+use Rattle.h3_connection.specs.Keeping.{arrives, pulls}
+use Rattle.h3_connection.specs.Outgoing.{Outgoing}
+use Rattle.h3_connection.specs.OwnIds.{other}
+use Rattle.h3_connection.specs.Sending as sender
+use Rattle.h3_connection.specs.Sending.{does}
+use Rattle.h3_connection.specs.Shown.{has_outgoing, is_finished, is_reset, waiting}
+use Rattle.h3_connection.specs.StreamSets.{stream_at}
+use Rattle.h3_connection.specs.declared.arrival.Arrival.TheVariants.{BytesCame, EndCame, ResetCame}
+use Rattle.h3_connection.specs.declared.event.Pull.{Pull}
+use Rattle.h3_connection.specs.declared.event.Refusal.{Refusal}
+use Rattle.h3_world.specs.Delivering.{reset_code}
+use Rattle.h3_world.specs.Ends.{Ends, answered, delivery, done, end_at, end_delivery, reset_delivery, was_offered, was_pulled, with_end}
+use Rattle.h3_world.specs.declared.event.Answer.{Answer}
+use Rattle.h3_world.specs.declared.event.Answer.TheVariants as answer
+use Rattle.h3_world.specs.declared.event.Event.{Event}
+use Rattle.h3_world.specs.declared.event.Event.TheVariants as event
+use Rattle.h3_strict.specs.Limits.{limited_end, limited_ends}
+use Rattle.h3_strict.specs.PlainEnds.{judges}
+use Rattle.h3_strict.specs.Plainly.{is_judged}
+use Rattle.h3_strict.proofs.LimitPulls.{LooksAlike, judges_same, limited_result, pulls_same}
+use Rattle.h3_strict.proofs.LimitReading.{arrives_same}
+
+-- the same answer, and the ends after it with other limits
+abbrev pub limited_answer : (Side → ℕ) → Answer × Ends → Answer × Ends
+limited_answer most x = (x.0, limited_ends most x.1)
+
+-- a call by its refusal
+does_same : (most : ℕ) (r : Option Refusal) (e f : EndpointHistory) → does r (limited_end most e) (limited_end most f) ≡ limited_result most (does r e f)
+does_same most None e f = refl
+does_same most (Some r) e f = refl
+
+sent_same : (most : ℕ) (e : EndpointHistory) (id : ℕ) (bytes : List ℕ) → sender.sent_bytes (limited_end most e) id bytes ≡ limited_end most (sender.sent_bytes e id bytes)
+sent_same most e id [] = refl
+sent_same most e id (byte ∷ bytes) = refl
+
+body_same : (most : ℕ) (e : EndpointHistory) (id : ℕ) (bytes : List ℕ) → sender.send_body (limited_end most e) id bytes ≡ limited_result most (sender.send_body e id bytes)
+body_same most e id bytes =
+    ap (λ f. does (sender.body_refusal e id (length bytes)) (limited_end most e) (sender.counted f (length bytes))) (sent_same most e id bytes)
+    ∙ does_same most (sender.body_refusal e id (length bytes)) e (sender.counted (sender.sent_bytes e id bytes) (length bytes))
+
+advance_same : (most : ℕ) (e : EndpointHistory) (id count : ℕ) → sender.advance (limited_end most e) id count ≡ limited_end most (sender.advance e id count)
+advance_same most e id count = by_stream (stream_at e.outgoing id)
+  where
+    by_stream : (o : Option Outgoing) → sender.advance_at (limited_end most e) id count o ≡ limited_end most (sender.advance_at e id count o)
+    by_stream None = refl
+    by_stream (Some o) = refl
+
+module _ (most : Side → ℕ) where
+  -- either end
+  at_end : (ends : Ends) (side : Side) → end_at (limited_ends most ends) side ≡ limited_end (most side) (end_at ends side)
+  at_end ends Client = refl
+  at_end ends Server = refl
+
+  sets_end : (ends : Ends) (side : Side) (e : EndpointHistory) → with_end (limited_ends most ends) side (limited_end (most side) e) ≡ limited_ends most (with_end ends side e)
+  sets_end ends Client e = refl
+  sets_end ends Server e = refl
+
+  module _ (ends : Ends) (side : Side) where
+    done_same : (success : Answer) (x : Option Refusal × EndpointHistory) → done (limited_ends most ends) side success (limited_result (most side) x) ≡ limited_answer most (done ends side success x)
+    done_same success (None, e) = ap (λ v. let z : Answer × Ends = (success, v) in z) (sets_end ends side e)
+    done_same success (Some r, e) = ap (λ v. let z : Answer × Ends = (answer.Refused r, v) in z) (sets_end ends side e)
+
+    -- by a call of an endpoint
+    calls : (success : EndpointHistory → Answer) (call : EndpointHistory → Option Refusal × EndpointHistory) → success (limited_end (most side) (end_at ends side)) ≡ success (end_at ends side)
+        → ((n : ℕ) (e : EndpointHistory) → call (limited_end n e) ≡ limited_result n (call e))
+        → done (limited_ends most ends) side (success (end_at (limited_ends most ends) side)) (call (end_at (limited_ends most ends) side)) ≡ limited_answer most (done ends side (success (end_at ends side)) (call (end_at ends side)))
+    calls success call same h =
+        ap (λ f. done (limited_ends most ends) side (success f) (call f)) (at_end ends side)
+        ∙ ap (λ a. done (limited_ends most ends) side a (call (limited_end (most side) (end_at ends side)))) same
+        ∙ ap (done (limited_ends most ends) side (success (end_at ends side))) (h (most side) (end_at ends side))
+        ∙ done_same (success (end_at ends side)) (call (end_at ends side))
+
+    pull_same : (id : ℕ) → pulls (limited_end (most side) (end_at ends side)) id ≡ limited_result (most side) (pulls (end_at ends side) id) → answered (limited_ends most ends) (event.Pull side id) ≡ limited_answer most (answered ends (event.Pull side id))
+    pull_same id same =
+        ap (λ f. was_pulled (limited_ends most ends) side (pulls f id)) (at_end ends side) ∙ ap (was_pulled (limited_ends most ends) side) same ∙ by_pulled (pulls (end_at ends side) id)
+      where
+        by_pulled : (x : Pull × EndpointHistory) → was_pulled (limited_ends most ends) side (limited_result (most side) x) ≡ limited_answer most (was_pulled ends side x)
+        by_pulled (a, e) = ap (λ v. let z : Answer × Ends = (answer.Pulled a, v) in z) (sets_end ends side e)
+
+  -- a test with the same branches
+  if_same : (b : Bool) (x y v w : Answer × Ends) → v ≡ limited_answer most x → w ≡ limited_answer most y → (if b then v else w) ≡ limited_answer most (if b then x else y)
+  if_same true x y v w h k = h
+  if_same false x y v w h k = k
+
+  -- deliveries, from one end to the other
+  module _ (ends : Ends) (id : ℕ) where
+    offered_same : (writer : Side) (count : ℕ) (x : Option Refusal × EndpointHistory) → was_offered (limited_ends most ends) writer id count (limited_result (most (other writer)) x) ≡ limited_answer most (was_offered ends writer id count x)
+    offered_same writer count (Some r, e) = ap (λ v. let z : Answer × Ends = (answer.Refused r, v) in z) (sets_end ends (other writer) e)
+    offered_same writer count (None, e) =
+        let new : EndpointHistory = sender.advance (end_at ends writer) id count in
+        ap (λ v. let z : Answer × Ends = (answer.Delivered count, v) in z) (
+        ap (λ f. with_end (with_end (limited_ends most ends) writer (sender.advance f id count)) (other writer) (limited_end (most (other writer)) e)) (at_end ends writer)
+        ∙ ap (λ f. with_end (with_end (limited_ends most ends) writer f) (other writer) (limited_end (most (other writer)) e)) (advance_same (most writer) (end_at ends writer) id count)
+        ∙ ap (λ v. with_end v (other writer) (limited_end (most (other writer)) e)) (sets_end ends writer new)
+        ∙ sets_end (with_end ends writer new) (other writer) e)
+
+    delivery_same : (writer : Side) (count : ℕ) → delivery (limited_ends most ends) writer id count ≡ limited_answer most (delivery ends writer id count)
+    delivery_same Client count =
+        if_same (not (has_outgoing ends.client id)) _ _ _ _ refl (if_same (nat_lt (waiting ends.client id) count) _ _ _ _ refl
+        (ap (was_offered (limited_ends most ends) Client id count) (arrives_same (most Server) ends.server (BytesCame id (take count (bytes_waiting ends.client id))))
+        ∙ offered_same Client count (arrives ends.server (BytesCame id (take count (bytes_waiting ends.client id))))))
+    delivery_same Server count =
+        if_same (not (has_outgoing ends.server id)) _ _ _ _ refl (if_same (nat_lt (waiting ends.server id) count) _ _ _ _ refl
+        (ap (was_offered (limited_ends most ends) Server id count) (arrives_same (most Client) ends.client (BytesCame id (take count (bytes_waiting ends.server id))))
+        ∙ offered_same Server count (arrives ends.client (BytesCame id (take count (bytes_waiting ends.server id))))))
+
+    end_same : (writer : Side) → end_delivery (limited_ends most ends) writer id ≡ limited_answer most (end_delivery ends writer id)
+    end_same Client =
+        if_same (not (has_outgoing ends.client id)) _ _ _ _ refl (if_same (not (is_finished ends.client id && (waiting ends.client id == 0))) _ _ _ _ refl
+        (calls ends Server (λ e. answer.Done) (λ e. arrives e (EndCame id)) refl (λ n e. arrives_same n e (EndCame id))))
+    end_same Server =
+        if_same (not (has_outgoing ends.server id)) _ _ _ _ refl (if_same (not (is_finished ends.server id && (waiting ends.server id == 0))) _ _ _ _ refl
+        (calls ends Client (λ e. answer.Done) (λ e. arrives e (EndCame id)) refl (λ n e. arrives_same n e (EndCame id))))
+
+    reset_same : (writer : Side) → reset_delivery (limited_ends most ends) writer id ≡ limited_answer most (reset_delivery ends writer id)
+    reset_same Client =
+        if_same (not (has_outgoing ends.client id)) _ _ _ _ refl (if_same (not (is_reset ends.client id)) _ _ _ _ refl
+        (calls ends Server (λ e. answer.Done) (λ e. arrives e (ResetCame id reset_code)) refl (λ n e. arrives_same n e (ResetCame id reset_code))))
+    reset_same Server =
+        if_same (not (has_outgoing ends.server id)) _ _ _ _ refl (if_same (not (is_reset ends.server id)) _ _ _ _ refl
+        (calls ends Client (λ e. answer.Done) (λ e. arrives e (ResetCame id reset_code)) refl (λ n e. arrives_same n e (ResetCame id reset_code))))
+
+  shows_same : (ends : Ends) (side : Side) → answered (limited_ends most ends) (event.Show side) ≡ limited_answer most (answered ends (event.Show side))
+  shows_same ends Client = refl
+  shows_same ends Server = refl
+
+-- The end that is pulled keeps nothing, and its receiver finds a frame too long with either limit or with none.
+pub record PullsAlike (most : ℕ) (e : EndpointHistory) (id : ℕ) : Type 0 where
+  pub nothing_kept : e.kept ≡ []
+  pub looks : (i : Incoming) → stream_at e.incoming id ≡ Some i → LooksAlike most e.announced.choices.unfinished_limit i
+
+abbrev pub StepsAlike : (Side → ℕ) → Ends → Event → Type 0
+StepsAlike most ends (event.Pull side id) = PullsAlike (most side) (end_at ends side) id
+StepsAlike most ends _ = Unit {0}
+
+-- **Any event.**
+pub step_same : (most : Side → ℕ) (ends : Ends) (e : Event) → StepsAlike most ends e → answered (limited_ends most ends) e ≡ limited_answer most (answered ends e)
+step_same most ends (event.OpenRequest side) alike = calls most ends side (λ e. answer.Opened e.next_id) sender.open_request refl (λ n e. does_same n (sender.open_refusal e) e _)
+step_same most ends (event.Head side id head) alike = calls most ends side (λ e. answer.Done) (λ e. sender.send_head e id head) refl (λ n e. does_same n (sender.head_refusal e id head) e _)
+step_same most ends (event.Body side id bytes) alike = calls most ends side (λ e. answer.Done) (λ e. sender.send_body e id bytes) refl (λ n e. body_same n e id bytes)
+step_same most ends (event.Trailer side id trailer) alike = calls most ends side (λ e. answer.Done) (λ e. sender.send_trailer e id trailer) refl (λ n e. does_same n (sender.trailer_refusal e id trailer) e _)
+step_same most ends (event.Finish side id) alike = calls most ends side (λ e. answer.Done) (λ e. sender.finish e id) refl (λ n e. does_same n (sender.finish_refusal e id) e _)
+step_same most ends (event.Reset side id) alike = calls most ends side (λ e. answer.Done) (λ e. sender.reset e id) refl (λ n e. does_same n (sender.reset_refusal e id) e _)
+step_same most ends (event.Cancel side id) alike = calls most ends side (λ e. answer.Done) (λ e. sender.cancel e id) refl (λ n e. does_same n (sender.cancel_refusal e id) e _)
+step_same most ends (event.Goaway side id) alike = calls most ends side (λ e. answer.Done) (λ e. sender.goaway e id) refl (λ n e. does_same n (sender.goaway_refusal e id) e _)
+step_same most ends (event.Deliver side id count) alike = delivery_same most ends id side count
+step_same most ends (event.DeliverEnd side id) alike = end_same most ends id side
+step_same most ends (event.DeliverReset side id) alike = reset_same most ends id side
+step_same most ends (event.Pull side id) alike = pull_same most ends side id (pulls_same (most side) (end_at ends side) id alike.nothing_kept alike.looks)
+step_same most ends (event.Show side) alike = shows_same most ends side
+
+-- and it judges a message or not.
+pub judged_alike : (most : Side → ℕ) (ends : Ends) (e : Event) → StepsAlike most ends e → judges (limited_ends most ends) e ≡ judges ends e
+judged_alike most ends (event.Pull side id) alike = ap (λ f. is_judged f id) (at_end most ends side) ∙ judges_same (most side) (end_at ends side) id alike.nothing_kept alike.looks
+judged_alike most ends (event.OpenRequest side) alike = refl
+judged_alike most ends (event.Head side id head) alike = refl
+judged_alike most ends (event.Body side id bytes) alike = refl
+judged_alike most ends (event.Trailer side id trailer) alike = refl
+judged_alike most ends (event.Finish side id) alike = refl
+judged_alike most ends (event.Reset side id) alike = refl
+judged_alike most ends (event.Cancel side id) alike = refl
+judged_alike most ends (event.Goaway side id) alike = refl
+judged_alike most ends (event.Deliver side id count) alike = refl
+judged_alike most ends (event.DeliverEnd side id) alike = refl
+judged_alike most ends (event.DeliverReset side id) alike = refl
+judged_alike most ends (event.Show side) alike = refl

@@ -1,0 +1,95 @@
+//! Laws over two endpoints that limit what is unfinished. These functions do nothing: their contracts are the laws.
+ghost use Rattle.std.specs.Prelude.{◌≡◌, ℕ, List, map, true, false};
+ghost use Rattle.std.specs.List.{AllByRecursion, list_any};
+ghost use Rattle.h3_proto.specs.declared.stream.Side.{Side};
+ghost use Rattle.h3_connection.specs.Announcing.{section_of};
+ghost use Rattle.h3_connection.specs.OwnIds.{other};
+ghost use Rattle.h3_world.specs.Ends.{answers_of_ends, ends_after, new_ends};
+ghost use Rattle.h3_world.specs.Headline.{Happens, is_connection_fault};
+ghost use Rattle.h3_world.specs.Run.{Run};
+ghost use Rattle.h3_world.specs.Sendable.{IsSendable};
+ghost use Rattle.h3_world.specs.Setup.{IsMadeSetup, announced_at};
+ghost use Rattle.h3_world.specs.World.{World, empty_world};
+ghost use Rattle.h3_world.specs.declared.event.Event.{Event};
+ghost use Rattle.h3_world.specs.declared.setup.Setup.{Setup};
+ghost use Rattle.h3_headline.specs.Messages.{IsFrontOf, at_reader, has_finished, has_pulled_end, pulled, sent};
+ghost use Rattle.h3_headline.specs.Standing.{Stands};
+ghost use Rattle.h3_strict.specs.Limits.{AreTaken, AsksForNone, AsksForStrict, EarlyAreTaken, LimitsTakeWhatIsSent, RunsUnlimited, unlimited_ends, unlimited_setup};
+ghost use Rattle.h3_strict.specs.PlainEnds.{NoneJudges, answers_without_malformed, plain_ends, plain_setup, without_malformed};
+ghost use Rattle.h3_strict.specs.ServerKnows.{ServerKnows};
+
+/// Where each list of fields that a side sends is one whose encoding its reader takes, limits on what is unfinished change nothing: the schedule is
+/// answered as by the same two endpoints without limits, and leads to the same ends. So it is where neither side asks for strict messages
+/// (`plain`), and where both do (`strict`).
+pub fn limits_that_take_what_is_sent_change_nothing()
+    ensures plain { (setup : Setup) (events : List Event) → IsMadeSetup setup → AsksForNone setup → AllByRecursion IsSendable events →
+        AreTaken setup events (answers_of_ends (new_ends setup) events) → RunsUnlimited (new_ends setup) events }
+    ensures strict { (setup : Setup) (events : List Event) → IsMadeSetup setup → AsksForStrict setup → AllByRecursion IsSendable events →
+        ServerKnows events (answers_of_ends (new_ends setup) events) → AreTaken setup events (answers_of_ends (new_ends setup) events) → RunsUnlimited (new_ends setup) events }
+{
+    h3_qpack::laws::encoded_sections_are_short();
+    h3_headline::laws::two_endpoints_run_in_a_world();
+    crate::strict::two_strict_endpoints_run_in_a_world();
+}
+
+/// A side that knows the other side's settings sends no list above the size that these announce. So where each limit takes every list of the size
+/// that its side announces, whatever its encoding, each limit takes what is sent to it, once the lists that were sent before the settings came are
+/// taken too.
+pub fn limits_above_what_is_announced_take_what_is_sent()
+    ensures plain { (setup : Setup) (events : List Event) → IsMadeSetup setup → AsksForNone setup → LimitsTakeWhatIsSent setup → AllByRecursion IsSendable events →
+        EarlyAreTaken setup (new_ends setup) events → AreTaken setup events (answers_of_ends (new_ends setup) events) }
+    ensures strict { (setup : Setup) (events : List Event) → IsMadeSetup setup → AsksForStrict setup → LimitsTakeWhatIsSent setup → AllByRecursion IsSendable events →
+        ServerKnows events (answers_of_ends (new_ends setup) events) → EarlyAreTaken setup (new_ends setup) events → AreTaken setup events (answers_of_ends (new_ends setup) events) }
+{
+    h3_qpack::laws::encoded_sections_are_short();
+    h3_headline::laws::two_endpoints_run_in_a_world();
+    crate::strict::two_strict_endpoints_run_in_a_world();
+}
+
+/// So two endpoints that ask for no strict messages run in a world whatever their limits, over every schedule of events that may be sent in which
+/// each limit takes what is sent to it: the answers are those of a run of the world of the setup without limits (`world`). By the answers alone, no
+/// answer tells of a connection fault (`fault`), what a side is handed out of a stream is a front of what the other side sent on it (`front`), and
+/// all of that with the end (`end`).
+pub fn two_limited_endpoints_run_in_a_world()
+    ensures world { (setup : Setup) (events : List Event) → IsMadeSetup setup → AsksForNone setup → AllByRecursion IsSendable events → AreTaken setup events (answers_of_ends (new_ends setup) events) →
+        (w : World) × Run (Happens (unlimited_setup setup)) (empty_world (unlimited_setup setup)) events (answers_of_ends (new_ends setup) events) w
+        × Stands (unlimited_setup setup) w (unlimited_ends (ends_after (new_ends setup) events)) }
+    ensures fault { (setup : Setup) (events : List Event) → IsMadeSetup setup → AsksForNone setup → AllByRecursion IsSendable events → AreTaken setup events (answers_of_ends (new_ends setup) events) →
+        list_any is_connection_fault (answers_of_ends (new_ends setup) events) ≡ false }
+    ensures front { (setup : Setup) (events : List Event) (side : Side) (id : ℕ) → IsMadeSetup setup → AsksForNone setup → AllByRecursion IsSendable events → AreTaken setup events (answers_of_ends (new_ends setup) events) →
+        IsFrontOf (pulled side id events (answers_of_ends (new_ends setup) events)) (map (at_reader (section_of (announced_at setup side))) (sent (other side) id events (answers_of_ends (new_ends setup) events))) }
+    ensures end { (setup : Setup) (events : List Event) (side : Side) (id : ℕ) → IsMadeSetup setup → AsksForNone setup → AllByRecursion IsSendable events → AreTaken setup events (answers_of_ends (new_ends setup) events) →
+        has_pulled_end side id events (answers_of_ends (new_ends setup) events) ≡ true →
+        (pulled side id events (answers_of_ends (new_ends setup) events) ≡ map (at_reader (section_of (announced_at setup side))) (sent (other side) id events (answers_of_ends (new_ends setup) events)))
+        × (has_finished (other side) id events (answers_of_ends (new_ends setup) events) ≡ true) }
+{
+    limits_that_take_what_is_sent_change_nothing();
+    h3_headline::laws::two_endpoints_run_in_a_world();
+    h3_headline::parts::endpoints_hand_out_what_was_sent();
+}
+
+/// And so do two endpoints that both ask for strict messages, where the server knows what was asked when it answers: no pull judges a message or
+/// finds a frame too long (`none`), and all of the above holds without the sends that were refused as malformed.
+pub fn two_strict_limited_endpoints_run_in_a_world()
+    ensures none { (setup : Setup) (events : List Event) → IsMadeSetup setup → AsksForStrict setup → AllByRecursion IsSendable events →
+        ServerKnows events (answers_of_ends (new_ends setup) events) → AreTaken setup events (answers_of_ends (new_ends setup) events) → NoneJudges (new_ends setup) events }
+    ensures world { (setup : Setup) (events : List Event) → IsMadeSetup setup → AsksForStrict setup → AllByRecursion IsSendable events →
+        ServerKnows events (answers_of_ends (new_ends setup) events) → AreTaken setup events (answers_of_ends (new_ends setup) events) →
+        (w : World) × Run (Happens (plain_setup setup)) (empty_world (plain_setup setup)) (without_malformed events (answers_of_ends (new_ends setup) events)) (answers_without_malformed (answers_of_ends (new_ends setup) events)) w
+        × Stands (plain_setup setup) w (plain_ends (ends_after (new_ends setup) events)) }
+    ensures fault { (setup : Setup) (events : List Event) → IsMadeSetup setup → AsksForStrict setup → AllByRecursion IsSendable events →
+        ServerKnows events (answers_of_ends (new_ends setup) events) → AreTaken setup events (answers_of_ends (new_ends setup) events) → list_any is_connection_fault (answers_of_ends (new_ends setup) events) ≡ false }
+    ensures front { (setup : Setup) (events : List Event) (side : Side) (id : ℕ) → IsMadeSetup setup → AsksForStrict setup → AllByRecursion IsSendable events →
+        ServerKnows events (answers_of_ends (new_ends setup) events) → AreTaken setup events (answers_of_ends (new_ends setup) events) →
+        IsFrontOf (pulled side id events (answers_of_ends (new_ends setup) events)) (map (at_reader (section_of (announced_at setup side))) (sent (other side) id events (answers_of_ends (new_ends setup) events))) }
+    ensures end { (setup : Setup) (events : List Event) (side : Side) (id : ℕ) → IsMadeSetup setup → AsksForStrict setup → AllByRecursion IsSendable events →
+        ServerKnows events (answers_of_ends (new_ends setup) events) → AreTaken setup events (answers_of_ends (new_ends setup) events) → has_pulled_end side id events (answers_of_ends (new_ends setup) events) ≡ true →
+        (pulled side id events (answers_of_ends (new_ends setup) events) ≡ map (at_reader (section_of (announced_at setup side))) (sent (other side) id events (answers_of_ends (new_ends setup) events)))
+        × (has_finished (other side) id events (answers_of_ends (new_ends setup) events) ≡ true) }
+{
+    limits_that_take_what_is_sent_change_nothing();
+    crate::strict::strict_endpoints_take_what_they_send();
+    crate::laws::whole_runs_are_plain();
+    crate::laws::strict_endpoints_run_in_a_world();
+    crate::laws::strict_endpoints_hand_out_what_was_sent();
+}
