@@ -3,6 +3,7 @@ use Rattle.std.proofs.Common.{◌≡◌, ℕ, ◌+◌, ◌-◌, ◌^◌, ◌<◌
 use Rattle.std.specs.Prelude.{min}
 use Rattle.std.specs.List.{list_all}
 use Rattle.std.proofs.Math.ListN.{set}
+use Rattle.std.proofs.lemmas.Bool.{lt-ltb}
 use Rattle.std.proofs.lemmas.List.{append_assoc, drop_all, drop_at, drop-drop, drop_more, drop-set-lt, length-set, length-take-le, take_at, take-append-drop, take_more_set}
 use Rattle.std.proofs.lemmas.Grind.{drop_more_same}
 use Rattle.h3_field.specs.Field.{Field}
@@ -126,6 +127,26 @@ short_next fields i f inside is all = both (is_short f) (list_all is_short (drop
     both true true h = (refl, refl)
     both true false h = absurd (cc)
     both false b h = absurd (cc)
+
+-- No size of a short row is long.
+pub short_within : (fields : List Field) (len : ℕ) → row_len fields ≤ len → len < 2 ^ 32 → list_all is_short fields ≡ true
+short_within fields len few small = short_row fields (by (length (row_of fields)) len (2 ^ 64 - 1) (omega arith) few small)
+  where
+    by : (n len most : ℕ) → 2 ^ 32 ≤ most → min n most ≤ len → len < 2 ^ 32 → n < 2 ^ 32
+    by n len most large few small = omega (arith, large, few, small)
+
+    both : (a b c : Bool) → a ≡ true → b ≡ true → c ≡ true → ((a && b) && c) ≡ true
+    both true true true x y z = refl
+    both false b c x y z = absurd (cc)
+    both true false c x y z = absurd (cc)
+    both true true false x y z = absurd (cc)
+
+    short_row : (fields : List Field) → length (row_of fields) < 2 ^ 32 → list_all is_short fields ≡ true
+    short_row [] h = refl
+    short_row (f ∷ fields) h =
+        let size : length (row_of (f ∷ fields)) ≡ length f.name + (length f.value + length (row_of fields)) =
+        length-append f.name (f.value ++ row_of fields) ∙ ap (λ n. length f.name + n) (length-append f.value (row_of fields)) in
+        both _ _ _ (lt-ltb (length f.name) (2 ^ 32) (omega (arith, size, h))) (lt-ltb (length f.value) (2 ^ 32) (omega (arith, size, h))) (short_row fields (omega (arith, size, h)))
 
 -- Of a row of so many bytes none was cut off in counting.
 pub row_is : (fields : List Field) (room : ℕ) → room < 2 ^ 64 - 1 → row_len fields ≤ room → length (row_of fields) ≤ room

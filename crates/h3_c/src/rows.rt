@@ -23,7 +23,7 @@ pub(crate) fn fields_at_once(
     if bytes_in(fields) > bytes.len() {
         return ROOM;
     }
-    if !are_short(fields) {
+    if !are_short_within(fields, bytes.len()) {
         return ROOM;
     }
     put_fields(fields, sizes, bytes);
@@ -41,6 +41,15 @@ pub(crate) fn bytes_in(fields: &[HeaderField]) -> usize
             .saturating_add(field.value().len());
     }
     len
+}
+
+// The same, where all names and values have so many bytes at most: no field is looked at where these are a number of 32 bits.
+#[tactic(auto, using(crate::proofs::RowLaws::short_within))]
+fn are_short_within(fields: &[HeaderField], len: usize) -> bool
+    requires { row_len fields.now ≤ len }
+    ensures { result ≡ list_all is_short fields.now }
+{
+    len < 1 << 32 || are_short(fields)
 }
 
 // Whether each size is a number of 32 bits.

@@ -382,7 +382,7 @@ impl DynamicTable {
         ensures missed { IfSome result (λ p. IsMissed self.now.table p.1 field.now) }
         ensures none { IfNone result (MayInsertAhead self.now section.now field.now → ⊥) }
     {
-        if !self.economical || self.limit != 0 {
+        if !self.economical || self.limit != 0 || size_of(field) > self.entries.capacity() {
             return None;
         }
         let evicted = self.entries.evicted();
