@@ -1,5 +1,6 @@
 pub mod Integers
 pub mod Strings
+pub mod Runs
 pub mod StaticEntries
 pub mod Prefixes
 pub mod Shaped

@@ -18,6 +18,7 @@ pub mod parse_error;
 mod part;
 pub mod prefix_int;
 pub mod prefix_string;
+mod same;
 mod shapes;
 pub mod static_;
 pub mod stream;

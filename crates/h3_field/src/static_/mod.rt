@@ -10,6 +10,7 @@ ghost use Rattle.h3_field.specs.declared.static_.Error.TheVariants.{Unknown};
 mod tables;
 
 use crate::field::HeaderField;
+use crate::same::is_same;
 use crate::static_::tables::{FIELD_SLOTS, NAME_SLOTS, NAME_STARTS, NAMES, VALUE_STARTS, VALUES};
 use std::fmt;
 
@@ -172,10 +173,10 @@ impl StaticTable {
         if slot >= COUNT {
             return None;
         }
-        if name_at(slot) != name {
+        if !is_same(name_at(slot), name) {
             return None;
         }
-        if value_at(slot) != value {
+        if !is_same(value_at(slot), value) {
             return None;
         }
         Some(slot)
@@ -193,7 +194,7 @@ impl StaticTable {
         if slot >= COUNT {
             return None;
         }
-        if name_at(slot) != name {
+        if !is_same(name_at(slot), name) {
             return None;
         }
         Some(slot)

@@ -1,3 +1,4 @@
+use Rattle.std.proofs.Common.{ap, not}
 use Rattle.h3_field.proofs.StaticEntries.{Sought, field_empty, field_free, field_other_name, field_other_value, field_here}
 use Rattle.h3_field.proofs.static_.StaticTable.find.Goals as goal
 
@@ -9,17 +10,17 @@ returns-then-slot-ge-COUNT-clause-entry c =
     let s : Sought c.args.field.now c.hash_of_field.result c.field_slot_at-slot.result = record { hash_is = rw (c.hash_of_name.ensures.value, c.name-name.ensures, c.value-value.ensures) at c.hash_of_field.ensures.value; slot_is = c.field_slot_at-slot.ensures } in
     field_free _ _ _ s c.if-slot-ge-COUNT.true
 
-pub returns-then-ne-clause-entry : goal.returns-then-ne-clause-entry
-returns-then-ne-clause-entry c =
+pub returns-then-not-is_same-clause-entry : goal.returns-then-not-is_same-clause-entry
+returns-then-not-is_same-clause-entry c =
     let s : Sought c.args.field.now c.hash_of_field.result c.field_slot_at-slot.result = record { hash_is = rw (c.hash_of_name.ensures.value, c.name-name.ensures, c.value-value.ensures) at c.hash_of_field.ensures.value; slot_is = c.field_slot_at-slot.ensures } in
-    field_other_name _ _ _ _ s c.name_at.ensures (rw c.name-name.ensures at c.if-ne.ensures)
+    field_other_name _ _ _ _ s c.name_at.ensures (ap not (rw c.name-name.ensures at c.if-not-is_same.ensures))
 
-pub returns-then-ne-2-clause-entry : goal.returns-then-ne-2-clause-entry
-returns-then-ne-2-clause-entry c =
+pub returns-then-not-is_same-2-clause-entry : goal.returns-then-not-is_same-2-clause-entry
+returns-then-not-is_same-2-clause-entry c =
     let s : Sought c.args.field.now c.hash_of_field.result c.field_slot_at-slot.result = record { hash_is = rw (c.hash_of_name.ensures.value, c.name-name.ensures, c.value-value.ensures) at c.hash_of_field.ensures.value; slot_is = c.field_slot_at-slot.ensures } in
-    field_other_value _ _ _ _ s c.value_at.ensures (rw c.value-value.ensures at c.if-ne-2.ensures)
+    field_other_value _ _ _ _ s c.value_at.ensures (ap not (rw c.value-value.ensures at c.if-not-is_same-2.ensures))
 
 pub returns-clause-entry : goal.returns-clause-entry
 returns-clause-entry c =
     let s : Sought c.args.field.now c.hash_of_field.result c.field_slot_at-slot.result = record { hash_is = rw (c.hash_of_name.ensures.value, c.name-name.ensures, c.value-value.ensures) at c.hash_of_field.ensures.value; slot_is = c.field_slot_at-slot.ensures } in
-    field_here _ _ _ _ _ s c.if-slot-ge-COUNT.false c.name_at.ensures (rw c.name-name.ensures at c.if-ne.ensures) c.value_at.ensures (rw c.value-value.ensures at c.if-ne-2.ensures)
+    field_here _ _ _ _ _ s c.if-slot-ge-COUNT.false c.name_at.ensures (ap not (rw c.name-name.ensures at c.if-not-is_same.ensures)) c.value_at.ensures (ap not (rw c.value-value.ensures at c.if-not-is_same-2.ensures))
