@@ -1,40 +1,22 @@
 -- What an endpoint announces where no setup is refused.
-use Rattle.std.proofs.Common.{◌≡◌, ℕ, ◌^◌, Bool, true, false, if◌then◌else◌, List, [], ◌∷◌, ◌++◌, refl, sym, ap, ◌∙◌, subst, nat_le, nat_lt, Result, Ok, Err}
+use Rattle.std.proofs.Common.{◌≡◌, ℕ, ◌^◌, Bool, true, false, if◌then◌else◌, List, refl, sym, ap, ◌∙◌, subst, nat_le, nat_lt, Result, Ok, Err}
 use Rattle.h3_proto.specs.declared.config.Choices.{Choices}
 use Rattle.h3_proto.specs.declared.frame.SettingsError.{SettingsError}
-use Rattle.h3_connection.specs.Announcing.{announced_by, is_below_section, unless_below, with_limits}
+use Rattle.h3_connection.specs.Announcing.{IsAnnounced, announced_by, announcing, is_below_section, unless_below, with_limits}
 use Rattle.h3_connection.specs.declared.setup.Announced.{Announced}
 use Rattle.h3_connection.specs.declared.setup.Limits.{Limits}
 use Rattle.h3_connection.specs.declared.setup.NewError.{NewError}
 use Rattle.h3_connection.specs.declared.setup.NewError.TheVariants.{BlockedLimit, TableLimit, UnfinishedLimit}
 
--- the settings of a configuration, with those of the table behind them
-abbrev pub announcing : List (ℕ × ℕ) → Limits → Choices → Announced
-announcing pairs limits choices = record { settings = pairs ++ (1, limits.table) ∷ (7, limits.blocked) ∷ []; limits = limits; choices = choices }
-
--- What was announced, and that none of the refusals holds.
-pub record IsAnnounced (settings : Result (List (ℕ × ℕ)) SettingsError) (limits : Limits) (choices : Choices) (a : Announced) : Type 0 where
-  pub pairs : List (ℕ × ℕ)
-  pub is : settings ≡ Ok pairs
-  pub table : nat_le (2 ^ 30) limits.table ≡ false
-  pub blocked : nat_lt 65535 limits.blocked ≡ false
-  pub announced : a ≡ announcing pairs limits choices
-  pub within : is_below_section a ≡ false
-
-announced_or : Announced → Result Announced NewError → Announced
-announced_or a (Ok made) = made
-announced_or a (Err e) = a
-
-unfolding_or : (made a : Announced) → ◌≡◌ {A = Result Announced NewError} (Ok made) (Ok a) → made ≡ a
-unfolding announced_or
-unfolding_or made a e = ap (announced_or made) e
+same_ok : {X E : Type 0} (x y : X) → ◌≡◌ {A = Result X E} (Ok x) (Ok y) → x ≡ y
+same_ok x y e = cc
 
 not_below : (made a : Announced) → unless_below made ≡ Ok a → (made ≡ a) × (is_below_section made ≡ false)
 not_below made a e = by_test (is_below_section made) refl e
   where
     by_test : (b : Bool) → is_below_section made ≡ b → ◌≡◌ {A = Result Announced NewError} (if b then Err UnfinishedLimit else Ok made) (Ok a) → (made ≡ a) × (is_below_section made ≡ false)
     by_test true k e = absurd (cc)
-    by_test false k e = (unfolding_or made a e, k)
+    by_test false k e = (same_ok made a e, k)
 
 pub announced_as : (settings : Result (List (ℕ × ℕ)) SettingsError) (limits : Limits) (choices : Choices) (a : Announced) → announced_by settings limits choices ≡ Ok a → IsAnnounced settings limits choices a
 announced_as settings limits choices a e = by_tests (nat_le (2 ^ 30) limits.table) refl (nat_lt 65535 limits.blocked) refl settings refl e

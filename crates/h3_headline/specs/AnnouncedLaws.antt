@@ -5,7 +5,6 @@ use Rattle.h3_proto.specs.Config.{announced, grease_pairs, own_pairs, table_pair
 use Rattle.h3_proto.specs.declared.config.Config.{Config}
 use Rattle.h3_proto.specs.declared.frame.SettingsError.{SettingsError}
 use Rattle.h3_proto.specs.declared.frame.SettingsError.TheVariants.{InvalidSettingValue}
-use Rattle.h3_proto.specs.declared.config.Choices.{Choices}
 use Rattle.h3_connection.specs.AnnouncingLaws.{announced_as}
 use Rattle.h3_connection.specs.declared.setup.Announced.{Announced}
 use Rattle.h3_world.specs.Setup.{IsMade, IsMadeSetup, announced_at}

@@ -4,7 +4,6 @@ use Rattle.h3_proto.specs.Config.{announced, grease_pairs, own_pairs, table_pair
 use Rattle.h3_proto.specs.declared.config.Config.{Config}
 use Rattle.h3_proto.specs.declared.config.Settings.{Settings}
 use Rattle.h3_connection.specs.declared.setup.Announced.{Announced}
-use Rattle.h3_proto.specs.declared.frame.SettingsError.{SettingsError}
 use Rattle.std.specs.Prelude.{unwrap_or, ◌==◌}
 use Rattle.h3_qpack.specs.Exchange as exchange
 use Rattle.h3_proto.specs.Pairs.{payload_of}

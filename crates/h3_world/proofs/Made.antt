@@ -1,5 +1,5 @@
 -- What `Setup::new` makes, some configurations announce.
-use Rattle.std.proofs.Common.{◌≡◌, ℕ, ◌<◌, ◌^◌, Bool, true, false, List, sym, ap, ◌∙◌, if◌then◌else◌, nat_lt, nat_le}
+use Rattle.std.proofs.Common.{◌≡◌, ℕ, ◌<◌, List, ap, ◌∙◌}
 use Rattle.std.specs.Prelude.{Result, Ok, Err}
 use Rattle.h3_proto.specs.Config.{announced}
 use Rattle.h3_proto.specs.declared.config.Choices.{Choices}
