@@ -201,6 +201,7 @@ enum h3_answer {
   H3_TABLE_LIMIT = 19,       /* `table` is above 2^30 - 1 */
   H3_BLOCKED_LIMIT = 20,     /* `blocked` is above 65535 */
   H3_SETTING = 21,           /* a setting cannot be announced, as one of 2^62 or more; detail: the setting's id */
+  H3_UNFINISHED_LIMIT = 28,  /* `unfinished_limit` is below `max_field_section_size` */
   /* of a list of fields that is handed in: the first field that is refused decides */
   H3_FIELD_NAME = 22,        /* a name is empty, not in lower case, or an unknown one that begins with ':' */
   H3_FIELD_VALUE = 23,       /* a value is not one of its name's grammar */
@@ -232,6 +233,7 @@ static inline const char *h3_answer_text(uint32_t answer) {
     case H3_FIELD_NAME: return "H3_FIELD_NAME"; case H3_FIELD_VALUE: return "H3_FIELD_VALUE";
     case H3_FIELD_COUNT: return "H3_FIELD_COUNT"; case H3_NONE: return "H3_NONE";
     case H3_ROOM: return "H3_ROOM"; case H3_MALFORMED: return "H3_MALFORMED";
+    case H3_UNFINISHED_LIMIT: return "H3_UNFINISHED_LIMIT";
     case H3_ARGUMENT: return "H3_ARGUMENT"; case H3_NO_ENDPOINT: return "H3_NO_ENDPOINT";
     default: return "an unknown answer";
   }
@@ -276,8 +278,9 @@ typedef struct {
   uint64_t unfinished_limit;          /* the greatest length, in bytes, that a frame may say which is kept until it is whole: any known one but DATA.
                                        * One that says more closes the connection with code 0x107 (H3_EXCESSIVE_LOAD), as soon as its type and
                                        * length came: on a request stream a pull tells, on the control stream the delivery. A field section as
-                                       * it is written is such a frame: let it be no less than max_field_section_size. 2^62 - 1 and more: there
-                                       * is no limit */
+                                       * it is written is such a frame: no less than max_field_section_size is taken. An encoder that writes
+                                       * every string in the Huffman code, as this library's, may need four times that. 2^62 - 1 and more:
+                                       * there is no limit */
 } h3_config;
 
 /* A client whose limits are fit for a peer that is not trusted: it takes field sections of at most 65,536 bytes, and has a dynamic table of 4,096
@@ -289,8 +292,8 @@ static inline void h3_config_default(h3_config *config);
 /* Makes an endpoint in *endpoint, which is overwritten: what it held before is not freed. Its control stream begins with the settings.
  * A config that is shorter than the library's, since the program was compiled with an older header, has the defaults of h3_config_default for
  * what it does not have. Refused, in this order: H3_ARGUMENT (the size is none: not that of a whole row of numbers, or of more than this
- * library or this header knows; grease out of range), H3_TABLE_LIMIT, H3_BLOCKED_LIMIT, H3_SETTING, H3_MEMORY. On a refusal
- * *endpoint holds none. */
+ * library or this header knows; grease out of range), H3_TABLE_LIMIT, H3_BLOCKED_LIMIT, H3_SETTING, H3_UNFINISHED_LIMIT, H3_MEMORY. On
+ * a refusal *endpoint holds none. */
 static inline uint32_t h3_new(h3_endpoint *endpoint, const h3_config *config, uint64_t *detail);
 
 /* Frees an endpoint and all that it keeps; *endpoint holds none then. Of none it does nothing. */

@@ -30,6 +30,7 @@ const (
 	TableLimit      Answer = C.H3_TABLE_LIMIT       // Table is above 2^30 - 1
 	BlockedLimit    Answer = C.H3_BLOCKED_LIMIT     // Blocked is above 65535
 	Setting         Answer = C.H3_SETTING           // a setting cannot be announced; detail: its id
+	UnfinishedLimit Answer = C.H3_UNFINISHED_LIMIT  // UnfinishedLimit is below MaxFieldSectionSize
 	FieldName       Answer = C.H3_FIELD_NAME        // a name is empty, not in lower case, or an unknown one that begins with ':'
 	FieldValue      Answer = C.H3_FIELD_VALUE       // a value is not one of its name's grammar
 	FieldCount      Answer = C.H3_FIELD_COUNT       // there are more different names than fit
@@ -63,6 +64,7 @@ var refusals = map[Answer]string{
 	TableLimit:      "the table is above its limit",
 	BlockedLimit:    "the count of blocked streams is above its limit",
 	Setting:         "a setting cannot be announced",
+	UnfinishedLimit: "the limit on what is unfinished is below the size of field sections",
 	FieldName:       "a field's name is none",
 	FieldValue:      "a field's value is none",
 	FieldCount:      "too many fields",

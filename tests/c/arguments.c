@@ -131,6 +131,9 @@ static void of_new(void) {
   IS(h3_new(&e, &c, &detail), H3_SETTING);
   HOLDS(!e.at && detail == 6);
   c.max_field_section_size--;
+  IS(h3_new(&e, &c, &detail), H3_UNFINISHED_LIMIT);
+  HOLDS(!e.at && detail == 0);
+  c.unfinished_limit = c.max_field_section_size;
   c.max_webtransport_sessions = FAR;
   IS(h3_new(&e, &c, &detail), H3_SETTING);
   HOLDS(detail == UINT64_C(0x2b603743));
@@ -734,6 +737,10 @@ static void of_unfinished_limits(void) {
     HOLDS(c.unfinished_limit == 65536);
     c.server = 1;
     c.unfinished_limit = of[i].most;
+    if (of[i].most < c.max_field_section_size) {
+      IS(h3_new(&e, &c, NULL), H3_UNFINISHED_LIMIT);
+      c.max_field_section_size = of[i].most;
+    }
     IS(h3_new(&e, &c, NULL), H3_OK);
     IS(h3_deliver(&e, 0, of[i].bytes, of[i].len, NULL), H3_OK);
     IS(h3_pull(&e, 0, &item), H3_OK);

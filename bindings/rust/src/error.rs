@@ -56,6 +56,8 @@ pub enum Error {
     BlockedLimit,
     /// The setting with this id cannot be announced.
     Setting(u64),
+    /// `unfinished_limit` is below `max_field_section_size`.
+    UnfinishedLimit,
     /// A name is empty, not in lower case, or an unknown one that begins with ':'.
     FieldName,
     /// A value is not one of its name's grammar.
@@ -100,6 +102,7 @@ impl Error {
             23 => Error::FieldValue,
             24 => Error::FieldCount,
             27 => Error::Malformed(Malformation::of(detail)),
+            28 => Error::UnfinishedLimit,
             32 => Error::Argument,
             other => Error::Other(other),
         }
@@ -145,6 +148,7 @@ impl fmt::Display for Error {
             Error::Memory => "memory was refused",
             Error::TableLimit => "the table is above its limit",
             Error::BlockedLimit => "the count of blocked streams is above its limit",
+            Error::UnfinishedLimit => "the limit on what is unfinished is below the size of field sections",
             Error::FieldName => "a field's name is none",
             Error::FieldValue => "a field's value is none",
             Error::FieldCount => "too many fields",

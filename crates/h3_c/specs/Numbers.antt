@@ -93,6 +93,7 @@ abbrev pub new_told : NewError → Told
 new_told new_error.TableLimit = number 19 0
 new_told new_error.BlockedLimit = number 20 0
 new_told (new_error.Settings e) = number 21 (setting_of e)
+new_told new_error.UnfinishedLimit = number 28 0
 new_told new_error.OutOfMemory = memory
 
 -- why a list of fields is no head

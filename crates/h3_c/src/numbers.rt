@@ -165,6 +165,7 @@ pub(crate) fn unmade(e: &NewError) -> Told
         NewError::TableLimit => plain(19),
         NewError::BlockedLimit => plain(20),
         NewError::Settings(e) => with(21, setting_of(e)),
+        NewError::UnfinishedLimit => plain(28),
         NewError::OutOfMemory => MEMORY,
     }
 }

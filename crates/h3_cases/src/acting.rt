@@ -50,6 +50,7 @@ fn begin(told: &mut Told, endpoint: &mut Option<Endpoint>, asked: (Side, Config)
         Err(NewError::TableLimit) => told.say("refused TableLimit"),
         Err(NewError::BlockedLimit) => told.say("refused BlockedLimit"),
         Err(NewError::Settings(_)) => told.say("refused Settings"),
+        Err(NewError::UnfinishedLimit) => told.say("refused UnfinishedLimit"),
         Err(NewError::OutOfMemory) => told.say("refused OutOfMemory"),
     }
 }

@@ -1,6 +1,7 @@
 pub mod Hearing
 pub mod DecodedSection
 pub mod Announcing
+pub mod AnnouncingLaws
 pub mod StrictMessages
 pub mod StrictSending
 pub mod Codes

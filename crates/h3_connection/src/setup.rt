@@ -1,7 +1,7 @@
 //! What an endpoint announces.
 ghost use Rattle.std.specs.Prelude.{◌≡◌, ◌<◌};
 ghost use Rattle.h3_proto.specs.Config.{announced};
-ghost use Rattle.h3_connection.specs.Announcing.{announced_by, connects, section_of};
+ghost use Rattle.h3_connection.specs.Announcing.{announced_by, connects, is_below_section, section_of};
 
 use h3_coding::varint::VarInt;
 use h3_proto::config::{Choices, Config, MAX_BLOCKED_STREAMS, MAX_TABLE_CAPACITY};
@@ -25,6 +25,8 @@ pub enum NewError {
     BlockedLimit,
     /// A setting cannot be announced.
     Settings(SettingsError),
+    /// The limit on what is unfinished is below the greatest size of a field section, or there is no greatest size.
+    UnfinishedLimit,
     /// Memory was refused.
     OutOfMemory,
 }
@@ -64,11 +66,23 @@ impl Announced {
         if let Err(e) = settings.insert(SettingId::QPACK_MAX_BLOCKED_STREAMS, limits.blocked) {
             return Err(NewError::Settings(e));
         }
-        Ok(Announced {
+        let announced = Announced {
             settings,
             limits,
             choices,
-        })
+        };
+        if announced.is_below_section() {
+            return Err(NewError::UnfinishedLimit);
+        }
+        Ok(announced)
+    }
+
+    /// Whether it limits what is unfinished to less than the field sections that it announces to take.
+    fn is_below_section(&self) -> bool
+        ensures { result ≡ is_below_section self.now }
+    {
+        let most = self.choices.unfinished_limit;
+        most < VarInt::MAX.into_inner() && most < self.section()
     }
 
     /// The greatest size of a field section that it takes (RFC 9114, section 4.2.2), in bytes.

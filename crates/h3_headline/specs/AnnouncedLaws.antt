@@ -5,11 +5,8 @@ use Rattle.h3_proto.specs.Config.{announced, grease_pairs, own_pairs, table_pair
 use Rattle.h3_proto.specs.declared.config.Config.{Config}
 use Rattle.h3_proto.specs.declared.frame.SettingsError.{SettingsError}
 use Rattle.h3_proto.specs.declared.frame.SettingsError.TheVariants.{InvalidSettingValue}
-use Rattle.h3_proto.specs.declared.config.Choices.{Choices}
-use Rattle.h3_connection.specs.Announcing.{with_limits}
+use Rattle.h3_connection.specs.AnnouncingLaws.{announced_as}
 use Rattle.h3_connection.specs.declared.setup.Announced.{Announced}
-use Rattle.h3_connection.specs.declared.setup.NewError.{NewError}
-use Rattle.h3_connection.specs.declared.setup.NewError.TheVariants.{TableLimit, BlockedLimit}
 use Rattle.h3_world.specs.Setup.{IsMade, IsMadeSetup, announced_at}
 use Rattle.std.proofs.lemmas.Bool.{ne_eqb}
 use Rattle.h3_proto.specs.Ids.{reserved}
@@ -28,7 +25,7 @@ use Rattle.h3_proto.specs.ReceivedLaws.{announced_received_with_table}
 use Rattle.h3_proto.specs.declared.stream.Side.{Side}
 use Rattle.h3_proto.specs.declared.stream.Side.TheVariants.{Client, Server}
 use Rattle.h3_world.specs.declared.setup.Setup.{Setup}
-use Rattle.h3_headline.specs.PeerStreams.{Announces, Configured, Parts, WithLimits}
+use Rattle.h3_headline.specs.PeerStreams.{Announces, Configured, Parts}
 use Rattle.h3_headline.specs.Standing.{with_meaning}
 
 same_ok : {X E : Type 0} (x y : X) → ◌≡◌ {A = Result X E} (Ok x) (Ok y) → x ≡ y
@@ -52,34 +49,23 @@ configured c grease pairs h = by_tests (nat_le (2 ^ 62) c.settings.max_field_sec
     by_tests false true h = absurd (cc)
     by_tests false false h = record { are = sym (same_ok (grease_pairs c.send_grease grease ++ own_pairs c.settings) pairs h) }
 
-with_limits_of : (settings : Result (List (ℕ × ℕ)) SettingsError) (choices : Choices) (a : Announced) → with_limits settings a.limits choices ≡ Ok a → WithLimits settings a
-with_limits_of (Ok pairs) choices a h =
-    record { pairs = pairs; is = refl; settings_are = ap (λ (x : Announced). x.settings) (sym (same_ok (record { settings = pairs ++ (1, a.limits.table) ∷ (7, a.limits.blocked) ∷ []; limits = a.limits; choices = choices }) a h)) }
-with_limits_of (Err e) choices a h = absurd (cc)
-
 parts_of : (a : Announced) → IsMade a → Parts a
-parts_of a made = by_tests (nat_le (2 ^ 30) a.limits.table) refl (nat_lt 65535 a.limits.blocked) refl made.made
-  where
-    by_tests : (x : Bool) → nat_le (2 ^ 30) a.limits.table ≡ x → (y : Bool) → nat_lt 65535 a.limits.blocked ≡ y
-        → ◌≡◌ {A = Result Announced NewError} (if x then Err TableLimit else (if y then Err BlockedLimit else with_limits (announced made.config made.grease) a.limits made.config.choices)) (Ok a) → Parts a
-    by_tests true e y f h = absurd (cc)
-    by_tests false e true f h = absurd (cc)
-    by_tests false e false f h =
-        let l = with_limits_of (announced made.config made.grease) made.config.choices a h in
-        let c = configured made.config made.grease l.pairs l.is in
-        let few = not_below 65535 a.limits.blocked f in
-        record {
-          send = made.config.send_grease;
-          grease = made.grease;
-          own = made.config.settings;
-          config = made.config;
-          low = made.small;
-          made = l.is ∙ ap (λ ps. Ok ps) c.are;
-          own_is = refl;
-          settings = l.settings_are ∙ ap (λ ps. ps ++ table_pairs a.limits.table a.limits.blocked) c.are;
-          table = not_above (2 ^ 30) a.limits.table e;
-          blocked = omega (arith, few);
-        }
+parts_of a made =
+    let is = announced_as (announced made.config made.grease) a.limits made.config.choices a made.made in
+    let c = configured made.config made.grease is.pairs is.is in
+    let few = not_below 65535 a.limits.blocked is.blocked in
+    record {
+      send = made.config.send_grease;
+      grease = made.grease;
+      own = made.config.settings;
+      config = made.config;
+      low = made.small;
+      made = is.is ∙ ap (λ ps. Ok ps) c.are;
+      own_is = refl;
+      settings = ap (λ (x : Announced). x.settings) is.announced ∙ ap (λ ps. ps ++ table_pairs a.limits.table a.limits.blocked) c.are;
+      table = not_above (2 ^ 30) a.limits.table is.table;
+      blocked = omega (arith, few);
+    }
 
 -- a reserved setting has no meaning
 reserved_unknown : (n : ℕ) → is_known (reserved n) ≡ false

@@ -1,10 +1,9 @@
 -- What an endpoint makes of the bytes of the other side's control, encoder and decoder streams.
-use Rattle.std.proofs.Common.{◌≡◌, ℕ, ◌+◌, ◌^◌, ◌<◌, Bool, ◌++◌, Ok, List, Result, length, min, ◌-◌, if◌then◌else◌, [], take, drop, ◌∷◌, Some, None, flat_map, Option, true, false, nat_le}
+use Rattle.std.proofs.Common.{◌≡◌, ℕ, ◌+◌, ◌^◌, ◌<◌, Bool, ◌++◌, Ok, List, length, min, ◌-◌, if◌then◌else◌, [], take, drop, ◌∷◌, Some, None, flat_map, Option, true, false, nat_le}
 use Rattle.h3_proto.specs.Config.{announced, grease_pairs, own_pairs, table_pairs}
 use Rattle.h3_proto.specs.declared.config.Config.{Config}
 use Rattle.h3_proto.specs.declared.config.Settings.{Settings}
 use Rattle.h3_connection.specs.declared.setup.Announced.{Announced}
-use Rattle.h3_proto.specs.declared.frame.SettingsError.{SettingsError}
 use Rattle.std.specs.Prelude.{unwrap_or, ◌==◌}
 use Rattle.h3_qpack.specs.Exchange as exchange
 use Rattle.h3_proto.specs.Pairs.{payload_of}
@@ -52,11 +51,6 @@ pub record Parts (a : Announced) : Type 0 where
 -- the pairs of a configuration
 pub record Configured (c : Config) (grease : ℕ) (pairs : List (ℕ × ℕ)) : Type 0 where
   pub are : pairs ≡ grease_pairs c.send_grease grease ++ own_pairs c.settings
-
-pub record WithLimits (settings : Result (List (ℕ × ℕ)) SettingsError) (a : Announced) : Type 0 where
-  pub pairs : List (ℕ × ℕ)
-  pub is : settings ≡ Ok pairs
-  pub settings_are : a.settings ≡ pairs ++ table_pairs a.limits.table a.limits.blocked
 
 -- What the other side makes of the announced settings.
 pub record Announces (a : Announced) : Type 0 where

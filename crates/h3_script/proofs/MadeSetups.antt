@@ -1,16 +1,15 @@
 -- The setup of a script is one that `Setup::new` makes, and judges messages as its first line says.
-use Rattle.std.proofs.Common.{◌≡◌, ◌⊎◌, inl, inr, ℕ, Bool, true, false, List, [], ◌∷◌, drop, codes, bytes_eq, nat_le, nat_lt, ◌^◌, Option, Some, None, unwrap_or, Result, Ok, Err, refl, sym, ◌∙◌, ap, subst, arith, if◌then◌else◌}
+use Rattle.std.proofs.Common.{◌≡◌, ◌⊎◌, inl, inr, ℕ, Bool, true, false, List, [], ◌∷◌, drop, codes, bytes_eq, Option, Some, None, unwrap_or, Result, Ok, Err, refl, sym, ◌∙◌, ap, subst, arith, if◌then◌else◌}
 use Rattle.std.specs.Result.{result_ok}
 use Rattle.h3_proto.specs.Config.{announced, is_limit}
 use Rattle.h3_proto.specs.declared.config.Choices.{Choices}
-use Rattle.h3_proto.specs.declared.frame.SettingsError.{SettingsError}
 use Rattle.h3_proto.specs.declared.stream.Side.{Side}
 use Rattle.h3_proto.specs.declared.stream.Side.TheVariants.{Client, Server}
-use Rattle.h3_connection.specs.Announcing.{announced_by, with_limits}
+use Rattle.h3_connection.specs.Announcing.{announced_by}
+use Rattle.h3_connection.specs.AnnouncingLaws.{announced_as}
 use Rattle.h3_connection.specs.declared.setup.Announced.{Announced}
 use Rattle.h3_connection.specs.declared.setup.Limits.{Limits}
 use Rattle.h3_connection.specs.declared.setup.NewError.{NewError}
-use Rattle.h3_connection.specs.declared.setup.NewError.TheVariants.{TableLimit, BlockedLimit}
 use Rattle.h3_world.specs.Setup.{both, announced_at, IsMade, IsMadeSetup, JudgesPlainly, TakesAnyLength}
 use Rattle.h3_world.specs.declared.setup.Setup.{Setup}
 use Rattle.h3_world.specs.declared.event.Event.{Event}
@@ -18,28 +17,15 @@ use Rattle.h3_script.specs.Words.{words_of, number_of}
 use Rattle.h3_script.specs.ScriptLine.{choices_of as told_choices, config_of, judging_of, setup_by, setup_of}
 use Rattle.h3_script.specs.Script.{lines_of, said, first_words, judging_words, AsksPlainly, SaysSoFar, IsScript}
 
-limits_of : (b d : Bool) (r : Result (List (ℕ × ℕ)) SettingsError) (limits : Limits) (choices : Choices) (a : Announced)
-    → (if b then Err TableLimit else (if d then Err BlockedLimit else with_limits r limits choices)) ≡ Ok a → a.limits ≡ limits
-limits_of true d r limits choices a h = cc
-limits_of false true r limits choices a h = cc
-limits_of false false (Err e) limits choices a h = cc
-limits_of false false (Ok pairs) limits choices a h = cc
-
-choices_of : (b d : Bool) (r : Result (List (ℕ × ℕ)) SettingsError) (limits : Limits) (choices : Choices) (a : Announced)
-    → (if b then Err TableLimit else (if d then Err BlockedLimit else with_limits r limits choices)) ≡ Ok a → a.choices ≡ choices
-choices_of true d r limits choices a h = cc
-choices_of false true r limits choices a h = cc
-choices_of false false (Err e) limits choices a h = cc
-choices_of false false (Ok pairs) limits choices a h = cc
-
 -- a side of a script: some configuration announces it, it judges as it was told, and has no limit on what is unfinished
 abbrev IsSide : Bool → Announced → Type 0
 IsSide strict a = IsMade a × (a.choices.strict_messages ≡ strict) × TakesAnyLength a
 
 side_by : (section : ℕ) (strict : Bool) (limits : Limits) (a : Announced) → announced_by (announced (config_of section strict) 0) limits (told_choices strict) ≡ Ok a → IsSide strict a
 side_by section strict limits a h =
-    let same : a.limits ≡ limits = limits_of (nat_le (2 ^ 30) limits.table) (nat_lt 65535 limits.blocked) (announced (config_of section strict) 0) limits (told_choices strict) a h in
-    let chosen : a.choices ≡ told_choices strict = choices_of (nat_le (2 ^ 30) limits.table) (nat_lt 65535 limits.blocked) (announced (config_of section strict) 0) limits (told_choices strict) a h in (
+    let made = announced_as (announced (config_of section strict) 0) limits (told_choices strict) a h in
+    let same : a.limits ≡ limits = ap (λ (x : Announced). x.limits) made.announced in
+    let chosen : a.choices ≡ told_choices strict = ap (λ (x : Announced). x.choices) made.announced in (
       record {
         config = config_of section strict;
         grease = 0;

@@ -1,32 +1,21 @@
 -- What `Setup::new` makes, some configurations announce.
-use Rattle.std.proofs.Common.{◌≡◌, ℕ, ◌<◌, ◌^◌, Bool, true, false, List, sym, ap, ◌∙◌, if◌then◌else◌, nat_lt, nat_le}
+use Rattle.std.proofs.Common.{◌≡◌, ℕ, ◌<◌, List, ap, ◌∙◌}
 use Rattle.std.specs.Prelude.{Result, Ok, Err}
 use Rattle.h3_proto.specs.Config.{announced}
 use Rattle.h3_proto.specs.declared.config.Choices.{Choices}
 use Rattle.h3_proto.specs.declared.config.Config.{Config}
 use Rattle.h3_proto.specs.declared.frame.SettingsError.{SettingsError}
-use Rattle.h3_connection.specs.Announcing.{announced_by, with_limits}
+use Rattle.h3_connection.specs.Announcing.{announced_by}
+use Rattle.h3_connection.specs.AnnouncingLaws.{announced_as}
 use Rattle.h3_connection.specs.declared.setup.Announced.{Announced}
 use Rattle.h3_connection.specs.declared.setup.Limits.{Limits}
 use Rattle.h3_connection.specs.declared.setup.NewError.{NewError}
-use Rattle.h3_connection.specs.declared.setup.NewError.TheVariants.{TableLimit, BlockedLimit}
 use Rattle.h3_world.specs.declared.setup.Setup.{Setup}
 use Rattle.h3_world.specs.Setup.{both, IsMade, IsMadeSetup}
 
-abbrev pub limits_or : Limits → Result Announced NewError → Limits
-limits_or limits (Ok a) = a.limits
-limits_or limits (Err e) = limits
-
 -- what is announced has these limits
 keeps_limits : (settings : Result (List (ℕ × ℕ)) SettingsError) (limits : Limits) (choices : Choices) (a : Announced) → announced_by settings limits choices ≡ Ok a → a.limits ≡ limits
-keeps_limits settings limits choices a e = by_tests (nat_le (2 ^ 30) limits.table) (nat_lt 65535 limits.blocked) settings e
-  where
-    by_tests : (b c : Bool) (settings : Result (List (ℕ × ℕ)) SettingsError)
-        → ◌≡◌ {A = Result Announced NewError} (if b then Err TableLimit else (if c then Err BlockedLimit else with_limits settings limits choices)) (Ok a) → a.limits ≡ limits
-    by_tests true c settings e = cc
-    by_tests false true settings e = cc
-    by_tests false false (Ok pairs) e = sym (ap (limits_or limits) e)
-    by_tests false false (Err why) e = cc
+keeps_limits settings limits choices a e = ap (λ (x : Announced). x.limits) (announced_as settings limits choices a e).announced
 
 side_made : (config : Config) (limits : Limits) (grease : ℕ) (a : Announced) → grease < 0x210842108421083 → announced_by (announced config grease) limits config.choices ≡ Ok a → IsMade a
 side_made config limits grease a small e =
