@@ -19,7 +19,7 @@ import sys
 import textwrap
 
 ROOT = os.path.dirname(os.path.dirname(os.path.dirname(os.path.realpath(__file__))))
-WHOLE = ["docs/RFC.md", "bench/RESULTS.md"]  # one table each, or nearly
+WHOLE = ["docs/RFC.md", "bench/RESULTS.md", "bench/COSTS.md"]  # one table each, or nearly
 WIDE_TABLES = ["docs/ARCHITECTURE.md", "docs/DIFFERENCES.md", "crates/h3_cases/README.md", "crates/h3_examples/README.md", "crates/h3_script/README.md",
                "crates/h3_session/README.md", "docs/model/connection.md", "SECURITY.md"]
 LONGEST = 140
