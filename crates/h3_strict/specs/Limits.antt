@@ -14,7 +14,8 @@ use Rattle.h3_world.specs.declared.event.Event.{Event}
 use Rattle.h3_world.specs.declared.event.Event.TheVariants as event
 use Rattle.h3_world.specs.declared.setup.Setup.{Setup}
 use Rattle.h3_headline.specs.Messages.{is_done}
-use Rattle.h3_strict.specs.PlainEnds.{NoneJudges}
+use Rattle.h3_strict.specs.PlainEnds.{NoneJudges, refused_by}
+use Rattle.h3_strict.specs.Plainly.{is_excess}
 use Rattle.h3_qpack.specs.SectionSizes.{most_encoded}
 
 -- it announces and judges the same, and takes frames of at most this length
@@ -41,10 +42,14 @@ unlimited_ends ends = limited_ends (λ side. 2 ^ 62 - 1) ends
 abbrev pub limit_at : Setup → Side → ℕ
 limit_at setup side = (announced_at setup side).choices.unfinished_limit
 
--- A head or a trailer that was accepted is one whose encoding its reader takes, whatever its encoder did before.
+-- A head or a trailer that was accepted is one whose encoding its reader takes, whatever its encoder did before. No delivery is answered by the
+-- fault of what is too long.
 abbrev pub IsTaken : Setup → Event → Answer → Type 0
 IsTaken setup (event.Head side id head) a = is_done a ≡ true → most_encoded (head_fields head) ≤ limit_at setup (other side)
 IsTaken setup (event.Trailer side id trailer) a = is_done a ≡ true → most_encoded (head_fields trailer) ≤ limit_at setup (other side)
+IsTaken setup (event.Deliver side id count) a = is_excess (refused_by a) ≡ false
+IsTaken setup (event.DeliverEnd side id) a = is_excess (refused_by a) ≡ false
+IsTaken setup (event.DeliverReset side id) a = is_excess (refused_by a) ≡ false
 IsTaken setup _ a = Unit {0}
 
 -- over a whole schedule, by its events and answers
