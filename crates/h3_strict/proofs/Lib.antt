@@ -35,4 +35,7 @@ mod LimitRuns
 mod LimitSetups
 mod LimitWorlds
 mod LimitHeadlines
+mod ControlTexts
+mod ControlTaken
+mod DeliveriesFit
 mod LimitEarly

@@ -25,6 +25,7 @@ use Rattle.h3_world.specs.declared.setup.Setup.{Setup}
 use Rattle.h3_headline.specs.Messages.{is_done}
 use Rattle.h3_headline.specs.SettingsLaws.{too_large_with_meaning}
 use Rattle.h3_headline.specs.Standing.{Stands, are_settings_there, with_meaning}
+use Rattle.h3_strict.proofs.DeliveriesFit.{Carries, delivery_fits, end_delivery_fits, reset_delivery_fits}
 use Rattle.h3_strict.proofs.LimitHeadlines.{loose_world}
 use Rattle.h3_strict.proofs.LimitSetups.{setup_unlimited, unlimited_strictly}
 use Rattle.h3_strict.proofs.LimitWorlds.{RunStrictly, knows_front, loose_unlimited, sendable_front, strict_unlimited}
