@@ -38,4 +38,5 @@ mod LimitHeadlines
 mod ControlTexts
 mod ControlTaken
 mod DeliveriesFit
+mod LimitCarries
 mod LimitEarly

@@ -52,7 +52,7 @@ abbrev pub EndsWithin : Setup → Ends → Type 0
 EndsWithin setup ends = (side : Side) → EndWithin (limit_at setup side) (end_at ends side)
 
 -- the limits of both ends
-abbrev limits_of : Ends → Side → ℕ
+abbrev pub limits_of : Ends → Side → ℕ
 limits_of ends side = (end_at ends side).announced.choices.unfinished_limit
 
 limit_set : (most : Side → ℕ) (ends : Ends) (side : Side) → limits_of (limited_ends most ends) side ≡ most side
@@ -155,3 +155,14 @@ module _ (setup : Setup) where
   -- **Over a whole schedule.**
   pub runs_unlimited : (events : List Event) → FindNone events → AreTaken setup events (answers_of_ends (new_ends setup) events) → RunsUnlimited (new_ends setup) events
   runs_unlimited events find taken = runs_from events [] events (new_ends setup) find refl (record { here = refl; leads = refl; answers = refl; limits = limits_begin }) taken
+
+  -- The limits of the ends stay what they were.
+  limits_from : (all past rest : List Event) (ends : Ends) → FindNone all → all ≡ past ++ rest → Behind past ends → AreTaken setup rest (answers_of_ends ends rest) → (side : Side) → limits_of (ends_after ends rest) side ≡ limit_at setup side
+  limits_from all past [] ends find is b taken side = b.limits side
+  limits_from all past (e ∷ rest) ends find is b taken side =
+      let within : EndsWithin setup (unlimited_ends ends) = subst (EndsWithin setup) (sym b.leads) (find past (e ∷ rest) is b.answers) in
+      let same : answered (unlimited_ends ends) e ≡ limited_answer (λ side. 2 ^ 62 - 1) (answered ends e) = step_same (λ side. 2 ^ 62 - 1) ends e (arrive_endless ends) (steps_alike ends e b.limits within taken.0) in
+      limits_from all (past ++ e ∷ []) rest (answered ends e).1 find (is ∙ sym (append_assoc past (e ∷ []) rest)) (goes_on past ends e b within taken.0 same) taken.1 side
+
+  pub limits_kept : (events : List Event) → FindNone events → AreTaken setup events (answers_of_ends (new_ends setup) events) → (side : Side) → limits_of (ends_after (new_ends setup) events) side ≡ limit_at setup side
+  limits_kept events find taken = limits_from events [] events (new_ends setup) find refl (record { here = refl; leads = refl; answers = refl; limits = limits_begin }) taken

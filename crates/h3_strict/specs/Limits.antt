@@ -1,6 +1,7 @@
 -- Two endpoints that limit what is unfinished, the same endpoints without limits, and schedules in which each limit takes what is sent to it.
-use Rattle.std.specs.Prelude.{◌≡◌, ℕ, ◌*◌, ◌-◌, ◌^◌, ◌≤◌, Bool, true, false, List, [], ◌∷◌, is_none, max}
+use Rattle.std.specs.Prelude.{◌≡◌, ℕ, ◌*◌, ◌-◌, ◌^◌, ◌≤◌, Bool, true, false, List, [], ◌∷◌, is_none, length, max}
 use Rattle.h3_header.specs.Head.{head_fields}
+use Rattle.h3_proto.specs.Pairs.{payload_of}
 use Rattle.h3_proto.specs.declared.stream.Side.{Side}
 use Rattle.h3_proto.specs.declared.stream.Side.TheVariants.{Client, Server}
 use Rattle.h3_connection.specs.Announcing.{section_of}
@@ -72,9 +73,11 @@ AsksForNone setup = (side : Side) → (announced_at setup side).choices.strict_m
 abbrev pub AsksForStrict : Setup → Type 0
 AsksForStrict setup = (side : Side) → (announced_at setup side).choices.strict_messages ≡ true
 
--- Each limit takes every section that its side announces to take (RFC 9114, section 4.2.2), whatever its encoding, and an empty one.
+-- Each limit takes every section that its side announces to take (RFC 9114, section 4.2.2), whatever its encoding; the other side's SETTINGS; and a
+-- GOAWAY, whose id takes at most eight bytes (RFC 9000, section 16), as an empty section takes two.
 abbrev pub LimitsTakeWhatIsSent : Setup → Type 0
-LimitsTakeWhatIsSent setup = (side : Side) → max 2 (4 * section_of (announced_at setup side)) ≤ limit_at setup side
+LimitsTakeWhatIsSent setup = (side : Side) →
+    max 8 (max (4 * section_of (announced_at setup side)) (length (payload_of (announced_at setup (other side)).settings))) ≤ limit_at setup side
 
 -- A side that knows the other's settings sends no more than these allow. Before they came it sends any list.
 abbrev pub is_early : Ends → Event → Bool
