@@ -58,8 +58,8 @@ abbrev pub AreTaken : Setup → List Event → List Answer → Type 0
 AreTaken setup (e ∷ events) (a ∷ answers) = IsTaken setup e a × AreTaken setup events answers
 AreTaken setup _ _ = Unit {0}
 
--- A schedule is answered as by the ends without limits, and leads to the same ends without limits. No pull of it finds a frame too long: it judges a
--- message only where it does without limits.
+-- A schedule is answered as by the ends without limits, and leads to the same ends without limits. No event of it finds a frame too long: it judges
+-- only where it does without limits.
 pub record RunsUnlimited (ends : Ends) (events : List Event) : Type 0 where
   pub answers : answers_of_ends ends events ≡ answers_of_ends (unlimited_ends ends) events
   pub leads : unlimited_ends (ends_after ends events) ≡ ends_after (unlimited_ends ends) events
