@@ -35,4 +35,8 @@ mod LimitRuns
 mod LimitSetups
 mod LimitWorlds
 mod LimitHeadlines
+mod ControlTexts
+mod ControlTaken
+mod DeliveriesFit
+mod LimitCarries
 mod LimitEarly

@@ -25,9 +25,11 @@ use Rattle.h3_world.specs.declared.setup.Setup.{Setup}
 use Rattle.h3_headline.specs.Messages.{is_done}
 use Rattle.h3_headline.specs.SettingsLaws.{too_large_with_meaning}
 use Rattle.h3_headline.specs.Standing.{Stands, are_settings_there, with_meaning}
+use Rattle.h3_strict.proofs.DeliveriesFit.{delivery_fits, end_delivery_fits, reset_delivery_fits}
+use Rattle.h3_strict.proofs.LimitCarries.{CarriesAt, loose_carries, strict_carries}
 use Rattle.h3_strict.proofs.LimitHeadlines.{loose_world}
 use Rattle.h3_strict.proofs.LimitSetups.{setup_unlimited, unlimited_strictly}
-use Rattle.h3_strict.proofs.LimitWorlds.{RunStrictly, knows_front, loose_unlimited, sendable_front, strict_unlimited}
+use Rattle.h3_strict.proofs.LimitWorlds.{RunStrictly, knows_front, loose_limits, loose_unlimited, sendable_front, strict_limits, strict_unlimited}
 use Rattle.h3_strict.proofs.PlainHeadlines.{RunInWorlds}
 use Rattle.h3_strict.proofs.SameWorlds.{ends_more}
 use Rattle.h3_strict.proofs.SentLaws.{head_rules, trailer_rules}
@@ -43,6 +45,11 @@ KnownAs setup side settings = (there : Bool) × (settings ≡ (if there then Som
 
 abbrev KnowsSettings : Setup → Ends → Type 0
 KnowsSettings setup ends = (side : Side) → KnownAs setup (other side) (end_at ends side).peer.settings
+
+-- and each sends on its own streams what the other takes
+record Sends (setup : Setup) (ends : Ends) : Type 0 where
+  knows : KnowsSettings setup ends
+  carries : (writer : Side) → CarriesAt setup ends writer
 
 -- a list that is not too large for them is within what was announced
 known_within : (setup : Setup) (side : Side) (settings : Option (List (ℕ × ℕ))) (fields : List Field) → KnownAs setup side settings → is_none settings ≡ false → is_too_large settings fields ≡ false
@@ -81,28 +88,28 @@ module _ (setup : Setup) (limits : LimitsTakeWhatIsSent setup) where
       let rules = trailer_rules e id trailer (was_accepted ends side (sender.trailer_refusal e id trailer) e _ accepted) in
       taken_by (other side) (head_fields trailer) (known_within setup (other side) e.peer.settings (head_fields trailer) (knows side) is rules.small)
 
-  event_taken : (ends : Ends) (e : Event) → KnowsSettings setup ends → (is_early ends e ≡ true → IsTaken setup e (answered ends e).0) → IsTaken setup e (answered ends e).0
-  event_taken ends (event.Head side id head) knows early = head_taken ends side id head knows (is_none (end_at ends side).peer.settings) refl early
-  event_taken ends (event.Trailer side id trailer) knows early = trailer_taken ends side id trailer knows (is_none (end_at ends side).peer.settings) refl early
-  event_taken ends (event.OpenRequest side) knows early = tt
-  event_taken ends (event.Body side id bytes) knows early = tt
-  event_taken ends (event.Finish side id) knows early = tt
-  event_taken ends (event.Reset side id) knows early = tt
-  event_taken ends (event.Cancel side id) knows early = tt
-  event_taken ends (event.Goaway side id) knows early = tt
-  event_taken ends (event.Deliver side id count) knows early = tt
-  event_taken ends (event.DeliverEnd side id) knows early = tt
-  event_taken ends (event.DeliverReset side id) knows early = tt
-  event_taken ends (event.Pull side id) knows early = tt
-  event_taken ends (event.Show side) knows early = tt
+  event_taken : (ends : Ends) (e : Event) → Sends setup ends → (is_early ends e ≡ true → IsTaken setup e (answered ends e).0) → IsTaken setup e (answered ends e).0
+  event_taken ends (event.Head side id head) sends early = head_taken ends side id head sends.knows (is_none (end_at ends side).peer.settings) refl early
+  event_taken ends (event.Trailer side id trailer) sends early = trailer_taken ends side id trailer sends.knows (is_none (end_at ends side).peer.settings) refl early
+  event_taken ends (event.OpenRequest side) sends early = tt
+  event_taken ends (event.Body side id bytes) sends early = tt
+  event_taken ends (event.Finish side id) sends early = tt
+  event_taken ends (event.Reset side id) sends early = tt
+  event_taken ends (event.Cancel side id) sends early = tt
+  event_taken ends (event.Goaway side id) sends early = tt
+  event_taken ends (event.Deliver side id count) sends early = let c = sends.carries side in delivery_fits ends side (announced_at setup side) (limit_at setup (other side)) c.0 c.1 id count
+  event_taken ends (event.DeliverEnd side id) sends early = let c = sends.carries side in end_delivery_fits ends side (announced_at setup side) (limit_at setup (other side)) c.0 c.1 id
+  event_taken ends (event.DeliverReset side id) sends early = let c = sends.carries side in reset_delivery_fits ends side (announced_at setup side) (limit_at setup (other side)) c.0 c.1 id
+  event_taken ends (event.Pull side id) sends early = tt
+  event_taken ends (event.Show side) sends early = tt
 
   taken_more : (ends : Ends) (past : List Event) (e : Event) → AreTaken setup past (answers_of_ends ends past) → IsTaken setup e (answered (ends_after ends past) e).0 → AreTaken setup (past ++ e ∷ []) (answers_of_ends ends (past ++ e ∷ []))
   taken_more ends [] e h last = (last, tt)
   taken_more ends (d ∷ past) e h last = (h.0, taken_more (answered ends d).1 past e h.1 last)
 
-  -- behind each front of which all is taken the settings are known as they were announced
+  -- behind each front of which all is taken the settings are known as they were announced, and the own streams carry what is taken
   abbrev KnownBehind : List Event → Type 0
-  KnownBehind all = (past rest : List Event) → all ≡ past ++ rest → AreTaken setup past (answers_of_ends (new_ends setup) past) → KnowsSettings setup (ends_after (new_ends setup) past)
+  KnownBehind all = (past rest : List Event) → all ≡ past ++ rest → AreTaken setup past (answers_of_ends (new_ends setup) past) → Sends setup (ends_after (new_ends setup) past)
 
   taken_from : (all past rest : List Event) → KnownBehind all → all ≡ past ++ rest → AreTaken setup past (answers_of_ends (new_ends setup) past) → EarlyAreTaken setup (ends_after (new_ends setup) past) rest
       → AreTaken setup rest (answers_of_ends (ends_after (new_ends setup) past) rest)
@@ -128,20 +135,28 @@ module _ (short : SectionsAreShort) (setup : Setup) (events : List Event) (made 
   pub loose_taken : RunInWorlds → AsksForNone setup → AreTaken setup events (answers_of_ends (new_ends setup) events)
   loose_taken headline none = taken_from setup limits events [] events known refl tt early
     where
-      known : (past rest : List Event) → events ≡ past ++ rest → AreTaken setup past (answers_of_ends (new_ends setup) past) → KnowsSettings setup (ends_after (new_ends setup) past)
+      known : (past rest : List Event) → events ≡ past ++ rest → AreTaken setup past (answers_of_ends (new_ends setup) past) → Sends setup (ends_after (new_ends setup) past)
       known past rest is taken =
           let sent = sendable_front past rest (subst (AllByRecursion IsSendable) is sendable) in
           let ran = loose_world setup past made none sent (loose_unlimited short setup past made sent taken headline none) headline in
-          loose_knows setup ran.0 (ends_after (new_ends setup) past) ran.2
+          record {
+            knows = loose_knows setup ran.0 (ends_after (new_ends setup) past) ran.2;
+            carries = loose_carries setup made limits ran.0 (ends_after (new_ends setup) past) (loose_limits short setup past made sent taken headline none) ran.2;
+          }
 
   -- **Both do.**
   pub strict_taken : RunStrictly → AsksForStrict setup → ServerKnows events (answers_of_ends (new_ends setup) events) → AreTaken setup events (answers_of_ends (new_ends setup) events)
   strict_taken headline strict knows = taken_from setup limits events [] events known refl tt early
     where
-      known : (past rest : List Event) → events ≡ past ++ rest → AreTaken setup past (answers_of_ends (new_ends setup) past) → KnowsSettings setup (ends_after (new_ends setup) past)
+      known : (past rest : List Event) → events ≡ past ++ rest → AreTaken setup past (answers_of_ends (new_ends setup) past) → Sends setup (ends_after (new_ends setup) past)
       known past rest is taken =
           let sent = sendable_front past rest (subst (AllByRecursion IsSendable) is sendable) in
           let asked : ServerKnows past (answers_of_ends (new_ends setup) past) = knows_front (λ id. false) (new_ends setup) past rest (subst (λ l. ServerKnows l (answers_of_ends (new_ends setup) l)) is knows) in
           let runs = strict_unlimited short setup past made sent taken headline strict asked in
           let ran = headline (unlimited_setup setup) past (setup_unlimited setup made) (unlimited_strictly setup strict) sent (subst (ServerKnows past) runs.answers asked) in
-          strict_knows setup ran.0 (ends_after (new_ends setup) past) (subst (λ x. Stands (plain_setup (unlimited_setup setup)) ran.0 (plain_ends x)) (sym runs.leads) ran.2)
+          let stands : Stands (plain_setup (unlimited_setup setup)) ran.0 (plain_ends (unlimited_ends (ends_after (new_ends setup) past))) =
+          subst (λ x. Stands (plain_setup (unlimited_setup setup)) ran.0 (plain_ends x)) (sym runs.leads) ran.2 in
+          record {
+            knows = strict_knows setup ran.0 (ends_after (new_ends setup) past) stands;
+            carries = strict_carries setup made limits ran.0 (ends_after (new_ends setup) past) (strict_limits short setup past made sent taken headline strict asked) stands;
+          }

@@ -1,6 +1,6 @@
 -- A pull of a receiver is answered alike with another limit, where both find a frame too long or none.
 use Rattle.std.proofs.Common.{◌≡◌, ℕ, Bool, true, false, if◌then◌else◌, List, [], ◌∷◌, refl, ap, sym, ◌∙◌, Option, Some, None}
-use Rattle.std.specs.Prelude.{nat_lt, option_map}
+use Rattle.std.specs.Prelude.{nat_lt, option_map, ◌||◌}
 use Rattle.std.specs.List.{concat}
 use Rattle.h3_field.specs.Field.{Field}
 use Rattle.h3_field.specs.Instruction.{DecoderInstruction}
@@ -16,6 +16,7 @@ use Rattle.h3_wire.specs.declared.proto.frame.Frame.{Frame}
 use Rattle.h3_wire.specs.declared.proto.frame.Frame.TheVariants as frame
 use Rattle.h3_wire.specs.declared.proto.frame.PayloadLen.{PayloadLen}
 use Rattle.h3_connection.specs.Announcing.{section_of}
+use Rattle.h3_connection.specs.Control.{Found}
 use Rattle.h3_connection.specs.Delivering.{with_incoming}
 use Rattle.h3_connection.specs.Endpoint.{EndpointHistory, Kind, kind_of, replied}
 use Rattle.h3_connection.specs.Endpoint.Kind.{OwnUnidirectional, PeerUnidirectional, Request, ServerOpened}
@@ -36,7 +37,7 @@ use Rattle.h3_connection.specs.declared.place.Place.{Place}
 use Rattle.h3_connection.specs.declared.place.Place.TheVariants.{AfterTrailer, BeforeHead, InBody, InSession}
 use Rattle.h3_connection.specs.declared.setup.Announced.{Announced}
 use Rattle.h3_strict.specs.Limits.{limited, limited_end}
-use Rattle.h3_strict.specs.Plainly.{is_judged, judged_as, judged_at, judged_open, tells_malformed}
+use Rattle.h3_strict.specs.Plainly.{exceeds, is_judged, judged_as, judged_at, judged_open, tells_malformed}
 
 -- a test with the same branches
 either : (b : Bool) (x y v w : Pulled) → v ≡ x → w ≡ y → (if b then v else w) ≡ (if b then x else y)
@@ -207,7 +208,10 @@ module _ (most : ℕ) (e : EndpointHistory) (id : ℕ) where
   open_judged (Some code) within = refl
   open_judged None within = kind_judged (kind_of e.side id) within
 
+  -- behind what is kept
+  abbrev judged_behind : Found → EndpointHistory → Bool
+  judged_behind x f = exceeds f x.1 || judged_open f.closed x.0 id
+
   pub judges_same : e.kept ≡ [] → ((i : Incoming) → stream_at e.incoming id ≡ Some i → LooksAlike most e.announced.choices.unfinished_limit i) → is_judged (limited_end most e) id ≡ is_judged e id
   judges_same none within =
-      ap (λ k. judged_open e.closed (read_all k (unkept (limited_end most e))).0 id) none ∙ open_judged e.closed within
-      ∙ sym (ap (λ k. judged_open e.closed (read_all k (unkept e)).0 id) none)
+      ap (λ k. judged_behind (read_all k (unkept (limited_end most e))) (limited_end most e)) none ∙ open_judged e.closed within ∙ sym (ap (λ k. judged_behind (read_all k (unkept e)) e) none)

@@ -1,15 +1,15 @@
--- What comes is read alike with another limit.
-use Rattle.std.proofs.Common.{◌≡◌, ℕ, Bool, true, false, if◌then◌else◌, List, [], ◌∷◌, ◌++◌, refl, ap, ◌∙◌, Option, Some, None}
+-- What comes is too long for its reader, or it is read alike without a limit.
+use Rattle.std.proofs.Common.{◌≡◌, ℕ, Bool, true, false, if◌then◌else◌, List, [], ◌∷◌, ◌++◌, refl, ap, sym, ◌∙◌, subst, Option, Some, None}
 use Rattle.std.specs.Prelude.{is_some}
 use Rattle.h3_qpack.specs.Hearing.{listen}
-use Rattle.h3_connection.specs.Arrivals.{stream_of}
-use Rattle.h3_connection.specs.Control.{Found, after_peer, if_learned, listened_to, read_control, read_decoder, then_decoder, with_table}
+use Rattle.h3_connection.specs.Arrivals.{is_closed_in, stream_of}
+use Rattle.h3_connection.specs.Codes.{excessive_load}
+use Rattle.h3_connection.specs.Control.{Found, after_peer, if_learned, listened_to, read_control, read_decoder, read_encoder, then_decoder, with_table}
 use Rattle.h3_connection.specs.Delivering.{bytes_at, closed_by, delivery_refusal, end_at, give_up, heard_as, incoming_at, kept, opened, opened_at, read_unidirectional, refusal_at, reset_at, taken, unidirectional_at, unless_second, with_end, with_incoming, with_unidirectional}
-use Rattle.h3_connection.specs.Endpoint.{EndpointHistory, Kind, is_second, kind_of}
+use Rattle.h3_connection.specs.Endpoint.{EndpointHistory, Kind, is_second, kind_of, limit_of}
 use Rattle.h3_connection.specs.Endpoint.Kind.{OwnUnidirectional, PeerUnidirectional, Request, ServerOpened}
 use Rattle.h3_connection.specs.Incoming.{Incoming}
 use Rattle.h3_connection.specs.Keeping.{arrival_refusal, arrives, arrives_behind, read_all, read_arrival, refused_behind, unkept, unless_faulty}
-use Rattle.h3_connection.specs.Arrivals.{is_closed_in}
 use Rattle.h3_connection.specs.PeerReading.{PeerFound, read_peer, with_unread}
 use Rattle.h3_connection.specs.StreamSets.{stream_at}
 use Rattle.h3_connection.specs.Unidirectional.{Role, Unidirectional, role_after, with_bytes}
@@ -17,134 +17,188 @@ use Rattle.h3_connection.specs.Unidirectional.Role.{Control, Decoder, Encoder, I
 use Rattle.h3_connection.specs.declared.arrival.Arrival.{Arrival}
 use Rattle.h3_connection.specs.declared.arrival.Arrival.TheVariants.{BytesCame, EndCame, ResetCame}
 use Rattle.h3_connection.specs.declared.event.Refusal.{Refusal}
+use Rattle.h3_connection.specs.declared.event.Refusal.TheVariants as refusal
 use Rattle.h3_connection.specs.declared.event.StreamFault.TheVariants as stream_fault
+use Rattle.h3_connection.specs.declared.setup.Announced.{Announced}
+use Rattle.h3_headline.specs.PeerStreams.{no_limit}
 use Rattle.h3_strict.specs.Limits.{limited_end}
+use Rattle.h3_strict.proofs.KeepsCounts.{arrival_announced}
 use Rattle.h3_strict.proofs.LimitPulls.{limited_result}
+use Rattle.h3_strict.proofs.PlainReading.{IsLong, PeerPlainly, ReadsSame, closed_too_long, peer_plain}
 
-module _ (most : ℕ) where
-  -- the same fault, at the endpoint with another limit
-  abbrev limited_found : Found → Found
-  limited_found x = (limited_end most x.0, x.1)
+abbrev endless : EndpointHistory → EndpointHistory
+endless e = limited_end no_limit e
 
-  -- the decoder stream, once the settings came and before
-  abbrev read_if : Bool → EndpointHistory → List ℕ → Found
-  read_if came e bytes = if came then listened_to e (listen e.encoder (e.decoder_unread ++ bytes)) else (record e { decoder_unread = e.decoder_unread ++ bytes }, None)
+-- the same fault, at the endpoint without a limit
+abbrev endless_found : Found → Found
+endless_found x = (endless x.0, x.1)
 
-  decoder_same : (came : Bool) (e : EndpointHistory) (bytes : List ℕ) → read_if came (limited_end most e) bytes ≡ limited_found (read_if came e bytes)
-  decoder_same true e bytes = refl
-  decoder_same false e bytes = refl
+-- What is read is too long, or it is read alike without a limit: of any stream.
+pub data ReadsWithin (x y : Found) : Type 0 where
+  IsTooLong : x.1 ≡ Some excessive_load → ReadsWithin x y
+  ReadsAlike : y ≡ endless_found x → ReadsWithin x y
 
-  then_same : (before after : Option (List (ℕ × ℕ))) (e : EndpointHistory) (fault : Option ℕ) → then_decoder before after (limited_end most e) fault ≡ limited_found (then_decoder before after e fault)
-  then_same before after e (Some code) = refl
-  then_same None (Some pairs) e None = decoder_same (is_some e.peer.settings) e []
-  then_same None None e None = refl
-  then_same (Some known) after e None = refl
+-- the decoder stream, once the settings came and before
+abbrev read_if : Bool → EndpointHistory → List ℕ → Found
+read_if came e bytes = if came then listened_to e (listen e.encoder (e.decoder_unread ++ bytes)) else (record e { decoder_unread = e.decoder_unread ++ bytes }, None)
 
-  table_same : (b : Bool) (e : EndpointHistory) (capacity blocked : ℕ) → (if b then with_table (limited_end most e) capacity blocked else limited_end most e) ≡ limited_end most (if b then with_table e capacity blocked else e)
-  table_same true e capacity blocked = refl
-  table_same false e capacity blocked = refl
+decoder_same : (came : Bool) (e : EndpointHistory) (bytes : List ℕ) → read_if came (endless e) bytes ≡ endless_found (read_if came e bytes)
+decoder_same true e bytes = refl
+decoder_same false e bytes = refl
 
-  learned_same : (before after : Option (List (ℕ × ℕ))) (e : EndpointHistory) → if_learned before after (limited_end most e) ≡ limited_end most (if_learned before after e)
-  learned_same None (Some pairs) e = table_same _ e _ _
-  learned_same None None e = refl
-  learned_same (Some known) after e = refl
+then_same : (before after : Option (List (ℕ × ℕ))) (e : EndpointHistory) (fault : Option ℕ) → then_decoder before after (endless e) fault ≡ endless_found (then_decoder before after e fault)
+then_same before after e (Some code) = refl
+then_same None (Some pairs) e None = decoder_same (is_some e.peer.settings) e []
+then_same None None e None = refl
+then_same (Some known) after e None = refl
 
-  after_same : (e : EndpointHistory) (x : PeerFound) → after_peer (limited_end most e) x ≡ limited_found (after_peer e x)
-  after_same e (p, fault) =
-      let f : EndpointHistory = record e { peer = p } in
-      ap (λ g. then_decoder e.peer.settings p.settings g fault) (learned_same e.peer.settings p.settings f)
-      ∙ then_same e.peer.settings p.settings (if_learned e.peer.settings p.settings f) fault
+table_same : (b : Bool) (e : EndpointHistory) (capacity blocked : ℕ) → (if b then with_table (endless e) capacity blocked else endless e) ≡ endless (if b then with_table e capacity blocked else e)
+table_same true e capacity blocked = refl
+table_same false e capacity blocked = refl
 
-  control_same : (e : EndpointHistory) (bytes : List ℕ) → read_control (limited_end most e) bytes ≡ limited_found (read_control e bytes)
-  control_same e bytes = after_same e (read_peer e.side (with_unread e.peer (e.peer.unread ++ bytes)))
+learned_same : (before after : Option (List (ℕ × ℕ))) (e : EndpointHistory) → if_learned before after (endless e) ≡ endless (if_learned before after e)
+learned_same None (Some pairs) e = table_same _ e _ _
+learned_same None None e = refl
+learned_same (Some known) after e = refl
 
-  second_same : (b : Bool) (e : EndpointHistory) (x y : Found) → y ≡ limited_found x → unless_second b (limited_end most e) y ≡ limited_found (unless_second b e x)
-  second_same true e x y is = refl
-  second_same false e x y is = is
+after_same : (e : EndpointHistory) (x : PeerFound) → after_peer (endless e) x ≡ endless_found (after_peer e x)
+after_same e (p, fault) =
+    let f : EndpointHistory = record e { peer = p } in
+    ap (λ g. then_decoder e.peer.settings p.settings g fault) (learned_same e.peer.settings p.settings f)
+    ∙ then_same e.peer.settings p.settings (if_learned e.peer.settings p.settings f) fault
 
-  heard_same : (e : EndpointHistory) (id : ℕ) (role : Role) (bytes : List ℕ) → heard_as (limited_end most e) id role bytes ≡ limited_found (heard_as e id role bytes)
-  heard_same e id (Untold front) bytes = refl
-  heard_same e id Control bytes =
-      let g : EndpointHistory = record e { control_on = Some id } in
-      second_same (is_second e.control_on id) e (read_control g bytes) (read_control (limited_end most g) bytes) (control_same g bytes)
-  heard_same e id Encoder bytes = second_same (is_second e.encoder_on id) e _ _ refl
-  heard_same e id Decoder bytes =
-      let g : EndpointHistory = record e { decoder_on = Some id } in
-      second_same (is_second e.decoder_on id) e (read_decoder g bytes) (read_decoder (limited_end most g) bytes) (decoder_same (is_some e.peer.settings) g bytes)
-  heard_same e id (Session n) bytes = refl
-  heard_same e id (Push n) bytes = refl
-  heard_same e id Ignored bytes = refl
+-- the control stream
+control_found : (e : EndpointHistory) (x y : PeerFound) → PeerPlainly (limit_of e) x y → ReadsWithin (after_peer e x) (after_peer (endless e) y)
+control_found e (p, fault) y (IsLong limit is) =
+    IsTooLong (ap (λ o. (then_decoder e.peer.settings p.settings (if_learned e.peer.settings p.settings (record e { peer = p })) o).1) is)
+control_found e x y (ReadsSame same) = ReadsAlike (ap (after_peer (endless e)) same ∙ after_same e x)
 
-  unidirectional_same : (e : EndpointHistory) (id : ℕ) (o : Unidirectional) (x : Role × List ℕ) → read_unidirectional (limited_end most e) id o x ≡ limited_found (read_unidirectional e id o x)
-  unidirectional_same e id o (role, bytes) = heard_same (with_unidirectional e id (with_bytes o (role, bytes))) id role bytes
+control_within : (e : EndpointHistory) (bytes : List ℕ) → ReadsWithin (read_control e bytes) (read_control (endless e) bytes)
+control_within e bytes = control_found e _ _ (peer_plain (limit_of e) e.side (with_unread e.peer (e.peer.unread ++ bytes)))
 
-  opens_same : (e : EndpointHistory) (id : ℕ) (o : Option Incoming) → opened_at (limited_end most e) id o ≡ limited_end most (opened_at e id o)
-  opens_same e id (Some i) = refl
-  opens_same e id None = refl
+second_within : (b : Bool) (e : EndpointHistory) (x y : Found) → ReadsWithin x y → ReadsWithin (unless_second b e x) (unless_second b (endless e) y)
+second_within true e x y h = ReadsAlike refl
+second_within false e x y h = h
 
-  module _ (e : EndpointHistory) (id : ℕ) where
-    changes : (i : Incoming) → with_incoming (opened (limited_end most e) id) id i ≡ limited_end most (with_incoming (opened e id) id i)
-    changes i = ap (λ f. with_incoming f id i) (opens_same e id (stream_at e.incoming id))
+heard_within : (e : EndpointHistory) (id : ℕ) (role : Role) (bytes : List ℕ) → ReadsWithin (heard_as e id role bytes) (heard_as (endless e) id role bytes)
+heard_within e id (Untold front) bytes = ReadsAlike refl
+heard_within e id Control bytes =
+    let g : EndpointHistory = record e { control_on = Some id } in
+    second_within (is_second e.control_on id) e (read_control g bytes) (read_control (endless g) bytes) (control_within g bytes)
+heard_within e id Encoder bytes =
+    let g : EndpointHistory = record e { encoder_on = Some id } in
+    second_within (is_second e.encoder_on id) e (read_encoder g bytes) (read_encoder (endless g) bytes) (ReadsAlike refl)
+heard_within e id Decoder bytes =
+    let g : EndpointHistory = record e { decoder_on = Some id } in
+    second_within (is_second e.decoder_on id) e (read_decoder g bytes) (read_decoder (endless g) bytes) (ReadsAlike (decoder_same (is_some e.peer.settings) g bytes))
+heard_within e id (Session n) bytes = ReadsAlike refl
+heard_within e id (Push n) bytes = ReadsAlike refl
+heard_within e id Ignored bytes = ReadsAlike refl
 
-    bytes_same : (bytes : List ℕ) (k : Kind) → bytes_at (limited_end most e) id bytes k ≡ limited_found (bytes_at e id bytes k)
-    bytes_same bytes Request = ap (λ f. let x : Found = (f, None) in x) (changes (kept (incoming_at e id) bytes))
-    bytes_same bytes ServerOpened = refl
-    bytes_same bytes OwnUnidirectional = refl
-    bytes_same bytes PeerUnidirectional = unidirectional_same e id (unidirectional_at e id) (role_after (unidirectional_at e id).role bytes)
+unidirectional_within : (e : EndpointHistory) (id : ℕ) (o : Unidirectional) (x : Role × List ℕ) → ReadsWithin (read_unidirectional e id o x) (read_unidirectional (endless e) id o x)
+unidirectional_within e id o (role, bytes) = heard_within (with_unidirectional e id (with_bytes o (role, bytes))) id role bytes
 
-    end_same : (k : Kind) → end_at (limited_end most e) id k ≡ limited_found (end_at e id k)
-    end_same Request = ap (λ f. let x : Found = (f, None) in x) (changes (with_end (incoming_at e id)))
-    end_same ServerOpened = refl
-    end_same OwnUnidirectional = refl
-    end_same PeerUnidirectional = refl
+opens_same : (e : EndpointHistory) (id : ℕ) (o : Option Incoming) → opened_at (endless e) id o ≡ endless (opened_at e id o)
+opens_same e id (Some i) = refl
+opens_same e id None = refl
 
-    reset_same : (code : ℕ) (k : Kind) → reset_at (limited_end most e) id code k ≡ limited_found (reset_at e id code k)
-    reset_same code Request =
-        ap (λ f. let x : Found = (give_up f id (record (incoming_at e id) { was_reset = true }) (stream_fault.Reset code), None) in x) (opens_same e id (stream_at e.incoming id))
-    reset_same code ServerOpened = refl
-    reset_same code OwnUnidirectional = refl
-    reset_same code PeerUnidirectional = refl
+module _ (e : EndpointHistory) (id : ℕ) where
+  changes : (i : Incoming) → with_incoming (opened (endless e) id) id i ≡ endless (with_incoming (opened e id) id i)
+  changes i = ap (λ f. with_incoming f id i) (opens_same e id (stream_at e.incoming id))
 
-    refused_at : (k : Kind) → refusal_at (limited_end most e) id k ≡ refusal_at e id k
-    refused_at Request = refl
-    refused_at ServerOpened = refl
-    refused_at OwnUnidirectional = refl
-    refused_at PeerUnidirectional = refl
+  bytes_within : (bytes : List ℕ) (k : Kind) → ReadsWithin (bytes_at e id bytes k) (bytes_at (endless e) id bytes k)
+  bytes_within bytes Request = ReadsAlike (ap (λ f. let x : Found = (f, None) in x) (changes (kept (incoming_at e id) bytes)))
+  bytes_within bytes ServerOpened = ReadsAlike refl
+  bytes_within bytes OwnUnidirectional = ReadsAlike refl
+  bytes_within bytes PeerUnidirectional = unidirectional_within e id (unidirectional_at e id) (role_after (unidirectional_at e id).role bytes)
 
-    refused_same : delivery_refusal (limited_end most e) id ≡ delivery_refusal e id
-    refused_same = refused_at (kind_of e.side id)
+  end_same : (k : Kind) → end_at (endless e) id k ≡ endless_found (end_at e id k)
+  end_same Request = ap (λ f. let x : Found = (f, None) in x) (changes (with_end (incoming_at e id)))
+  end_same ServerOpened = refl
+  end_same OwnUnidirectional = refl
+  end_same PeerUnidirectional = refl
 
-  arrival_same : (e : EndpointHistory) (a : Arrival) → read_arrival (limited_end most e) a ≡ limited_found (read_arrival e a)
-  arrival_same e (BytesCame id bytes) = bytes_same e id bytes (kind_of e.side id)
-  arrival_same e (EndCame id) = end_same e id (kind_of e.side id)
-  arrival_same e (ResetCame id code) = reset_same e id code (kind_of e.side id)
+  reset_same : (code : ℕ) (k : Kind) → reset_at (endless e) id code k ≡ endless_found (reset_at e id code k)
+  reset_same code Request =
+      ap (λ f. let x : Found = (give_up f id (record (incoming_at e id) { was_reset = true }) (stream_fault.Reset code), None) in x) (opens_same e id (stream_at e.incoming id))
+  reset_same code ServerOpened = refl
+  reset_same code OwnUnidirectional = refl
+  reset_same code PeerUnidirectional = refl
 
-  unless_same : (go : EndpointHistory → Found) (x : Found) → ((f : EndpointHistory) → go (limited_end most f) ≡ limited_found (go f)) → unless_faulty go (limited_found x) ≡ limited_found (unless_faulty go x)
-  unless_same go (f, Some code) goes = refl
-  unless_same go (f, None) goes = goes f
+  refused_at : (k : Kind) → refusal_at (endless e) id k ≡ refusal_at e id k
+  refused_at Request = refl
+  refused_at ServerOpened = refl
+  refused_at OwnUnidirectional = refl
+  refused_at PeerUnidirectional = refl
 
-  -- all that is kept is read
-  all_same : (arrivals : List Arrival) (e : EndpointHistory) → read_all arrivals (limited_end most e) ≡ limited_found (read_all arrivals e)
-  all_same [] e = refl
-  all_same (a ∷ arrivals) e = ap (unless_faulty (read_all arrivals)) (arrival_same e a) ∙ unless_same (read_all arrivals) (read_arrival e a) (all_same arrivals)
+  refused_same : delivery_refusal (endless e) id ≡ delivery_refusal e id
+  refused_same = refused_at (kind_of e.side id)
 
-  closed_same : (x : Found) → closed_by (limited_found x) ≡ limited_result most (closed_by x)
-  closed_same (f, None) = refl
-  closed_same (f, Some code) = refl
+arrival_within : (e : EndpointHistory) (a : Arrival) → ReadsWithin (read_arrival e a) (read_arrival (endless e) a)
+arrival_within e (BytesCame id bytes) = bytes_within e id bytes (kind_of e.side id)
+arrival_within e (EndCame id) = ReadsAlike (end_same e id (kind_of e.side id))
+arrival_within e (ResetCame id code) = ReadsAlike (reset_same e id code (kind_of e.side id))
 
-  taken_same : (closed : Option ℕ) (r : Option Refusal) (e : EndpointHistory) (x y : Found) → y ≡ limited_found x → taken closed r (limited_end most e) y ≡ limited_result most (taken closed r e x)
-  taken_same (Some code) r e x y is = refl
-  taken_same None (Some r) e x y is = refl
-  taken_same None None e x y is = ap closed_by is ∙ closed_same x
+-- what is read behind it
+then_within : (go : EndpointHistory → Found) (x : Found) → ((f : EndpointHistory) → ReadsWithin (go f) (go (endless f))) → ReadsWithin (unless_faulty go x) (unless_faulty go (endless_found x))
+then_within go (f, Some code) goes = ReadsAlike refl
+then_within go (f, None) goes = goes f
 
-  behind_same : (kept : List Arrival) (e : EndpointHistory) (a : Arrival) → arrives_behind kept (limited_end most e) a ≡ limited_result most (arrives_behind kept e a)
-  behind_same [] e a =
-      ap (λ r. taken e.closed r (limited_end most e) (read_arrival (limited_end most e) a)) (refused_same e (stream_of a))
-      ∙ taken_same e.closed (delivery_refusal e (stream_of a)) e (read_arrival e a) (read_arrival (limited_end most e) a) (arrival_same e a)
-  behind_same (k ∷ kept) e a =
-      ap (λ r. taken e.closed (refused_behind (is_closed_in e.kept (stream_of a)) r) (limited_end most e) (read_all (k ∷ kept ++ a ∷ []) (unkept (limited_end most e)))) (refused_same e (stream_of a))
-      ∙ taken_same e.closed (arrival_refusal e (stream_of a)) e (read_all (k ∷ kept ++ a ∷ []) (unkept e)) (read_all (k ∷ kept ++ a ∷ []) (limited_end most (unkept e))) (all_same (k ∷ kept ++ a ∷ []) (unkept e))
+unless_within : (go : EndpointHistory → Found) (x y : Found) → ((f : EndpointHistory) → ReadsWithin (go f) (go (endless f))) → ReadsWithin x y → ReadsWithin (unless_faulty go x) (unless_faulty go y)
+unless_within go (f, fault) y goes (IsTooLong is) = IsTooLong (ap (λ o. (unless_faulty go (let x : Found = (f, o) in x)).1) is)
+unless_within go x y goes (ReadsAlike is) = subst (λ z. ReadsWithin (unless_faulty go x) (unless_faulty go z)) (sym is) (then_within go x goes)
 
-  -- **What comes.**
-  pub arrives_same : (e : EndpointHistory) (a : Arrival) → arrives (limited_end most e) a ≡ limited_result most (arrives e a)
-  arrives_same e a = behind_same e.kept e a
+-- all that is kept is read
+all_within : (arrivals : List Arrival) (e : EndpointHistory) → ReadsWithin (read_all arrivals e) (read_all arrivals (endless e))
+all_within [] e = ReadsAlike refl
+all_within (a ∷ arrivals) e = unless_within (read_all arrivals) (read_arrival e a) (read_arrival (endless e) a) (all_within arrivals) (arrival_within e a)
+
+-- What came is too long, or it is answered alike and leads to the same end with that limit.
+pub data ArrivesWithin (most : ℕ) (x y : Option Refusal × EndpointHistory) : Type 0 where
+  Exceeds : x.0 ≡ Some (refusal.Connection excessive_load) → ArrivesWithin most x y
+  Otherwise : y ≡ limited_result most x → ArrivesWithin most x y
+
+closed_same : (x : Found) → closed_by (endless_found x) ≡ limited_result no_limit (closed_by x)
+closed_same (f, None) = refl
+closed_same (f, Some code) = refl
+
+taken_within : (closed : Option ℕ) (r : Option Refusal) (e : EndpointHistory) (x y : Found) → ReadsWithin x y → ArrivesWithin no_limit (taken closed r e x) (taken closed r (endless e) y)
+taken_within (Some code) r e x y h = Otherwise refl
+taken_within None (Some r) e x y h = Otherwise refl
+taken_within None None e x y (IsTooLong is) = Exceeds (closed_too_long x is)
+taken_within None None e x y (ReadsAlike is) = Otherwise (ap closed_by is ∙ closed_same x)
+
+behind_within : (kept : List Arrival) (e : EndpointHistory) (a : Arrival) → ArrivesWithin no_limit (arrives_behind kept e a) (arrives_behind kept (endless e) a)
+behind_within [] e a =
+    subst (λ r. ArrivesWithin no_limit (arrives_behind [] e a) (taken e.closed r (endless e) (read_arrival (endless e) a))) (sym (refused_same e (stream_of a)))
+    (taken_within e.closed (delivery_refusal e (stream_of a)) e (read_arrival e a) (read_arrival (endless e) a) (arrival_within e a))
+behind_within (k ∷ kept) e a =
+    subst (λ r. ArrivesWithin no_limit (arrives_behind (k ∷ kept) e a) (taken e.closed (refused_behind (is_closed_in e.kept (stream_of a)) r) (endless e) (read_all (k ∷ kept ++ a ∷ []) (unkept (endless e))))) (sym (refused_same e (stream_of a)))
+    (taken_within e.closed (arrival_refusal e (stream_of a)) e (read_all (k ∷ kept ++ a ∷ []) (unkept e)) (read_all (k ∷ kept ++ a ∷ []) (endless (unkept e))) (all_within (k ∷ kept ++ a ∷ []) (unkept e)))
+
+-- **What comes, at an end without a limit.**
+pub arrives_within : (e : EndpointHistory) (a : Arrival) → ArrivesWithin no_limit (arrives e a) (arrives (endless e) a)
+arrives_within e a = behind_within e.kept e a
+
+-- What is announced stays, so it is answered alike at an end with the limit that it has.
+then_announced : (go : EndpointHistory → Found) (x : Found) → ((f : EndpointHistory) → (go f).0.announced ≡ f.announced) → (unless_faulty go x).0.announced ≡ x.0.announced
+then_announced go (f, Some code) goes = refl
+then_announced go (f, None) goes = goes f
+
+all_announced : (arrivals : List Arrival) (e : EndpointHistory) → (read_all arrivals e).0.announced ≡ e.announced
+all_announced [] e = refl
+all_announced (a ∷ arrivals) e = then_announced (read_all arrivals) (read_arrival e a) (all_announced arrivals) ∙ arrival_announced e a
+
+taken_announced : (closed : Option ℕ) (r : Option Refusal) (e : EndpointHistory) (x : Found) → x.0.announced ≡ e.announced → (taken closed r e x).1.announced ≡ e.announced
+taken_announced (Some code) r e x same = refl
+taken_announced None (Some r) e x same = refl
+taken_announced None None e (f, None) same = same
+taken_announced None None e (f, Some code) same = same
+
+behind_announced : (kept : List Arrival) (e : EndpointHistory) (a : Arrival) → (arrives_behind kept e a).1.announced ≡ e.announced
+behind_announced [] e a = taken_announced e.closed (delivery_refusal e (stream_of a)) e (read_arrival e a) (arrival_announced e a)
+behind_announced (k ∷ kept) e a = taken_announced e.closed (arrival_refusal e (stream_of a)) e (read_all (k ∷ kept ++ a ∷ []) (unkept e)) (all_announced (k ∷ kept ++ a ∷ []) (unkept e))
+
+pub arrives_as_itself : (e : EndpointHistory) (a : Arrival) → ArrivesWithin (limit_of e) (arrives e a) (arrives (limited_end (limit_of e) e) a)
+arrives_as_itself e a =
+    Otherwise (ap (λ (own : Announced). limited_result own.choices.unfinished_limit (arrives e a)) (behind_announced e.kept e a))

@@ -93,7 +93,7 @@ module _ (ends : Ends) (side : Side) where
 
 -- what is shown of an end
 module _ (e : EndpointHistory) (id : ℕ) where
-  waits : bytes_waiting (plainly e) id ≡ bytes_waiting e id
+  pub waits : bytes_waiting (plainly e) id ≡ bytes_waiting e id
   waits = ap by (at_each plain_outgoing e.outgoing id) ∙ same (stream_at e.outgoing id)
     where
       by : Option Outgoing → List ℕ
@@ -103,7 +103,7 @@ module _ (e : EndpointHistory) (id : ℕ) where
       same None = refl
       same (Some o) = refl
 
-  has_one : has_outgoing (plainly e) id ≡ has_outgoing e id
+  pub has_one : has_outgoing (plainly e) id ≡ has_outgoing e id
   has_one = ap (λ o. is_own e.side id || is_some o) (at_each plain_outgoing e.outgoing id) ∙ same (stream_at e.outgoing id)
     where
       same : (o : Option Outgoing) → (is_own e.side id || is_some (option_map plain_outgoing o)) ≡ (is_own e.side id || is_some o)

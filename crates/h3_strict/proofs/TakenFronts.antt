@@ -61,7 +61,7 @@ one_read k kind mid behind e =
     let none : ℕ × List ℕ = (0, []) in
     (ap (λ o. (unwrap_or o none).0) e, ap (λ o. (unwrap_or o none).1) e)
 
-head_within : (most kind number : ℕ) (bytes more behind : List ℕ) → kind < 2 ^ 62 → number < 2 ^ 62 → bytes ++ more ≡ head_encoding kind number ++ behind → (is_kept_whole kind && nat_lt most number) ≡ false → is_excessive most bytes ≡ false
+pub head_within : (most kind number : ℕ) (bytes more behind : List ℕ) → kind < 2 ^ 62 → number < 2 ^ 62 → bytes ++ more ≡ head_encoding kind number ++ behind → (is_kept_whole kind && nat_lt most number) ≡ false → is_excessive most bytes ≡ false
 head_within most kind number bytes more behind small few e within = and_right (is_limit most) (says_too_much most (varint_at bytes)) (elim (cases_number bytes) [
   | inl none ↦ ap (says_too_much most) none
   | inr (k, mid, at) ↦ ap (says_too_much most) at ∙ by_number k mid at (cases_number mid)

@@ -1,6 +1,7 @@
 -- Two endpoints that limit what is unfinished, the same endpoints without limits, and schedules in which each limit takes what is sent to it.
-use Rattle.std.specs.Prelude.{◌≡◌, ℕ, ◌*◌, ◌-◌, ◌^◌, ◌≤◌, Bool, true, false, List, [], ◌∷◌, is_none, max}
+use Rattle.std.specs.Prelude.{◌≡◌, ℕ, ◌*◌, ◌-◌, ◌^◌, ◌≤◌, Bool, true, false, List, [], ◌∷◌, is_none, length, max}
 use Rattle.h3_header.specs.Head.{head_fields}
+use Rattle.h3_proto.specs.Pairs.{payload_of}
 use Rattle.h3_proto.specs.declared.stream.Side.{Side}
 use Rattle.h3_proto.specs.declared.stream.Side.TheVariants.{Client, Server}
 use Rattle.h3_connection.specs.Announcing.{section_of}
@@ -14,7 +15,8 @@ use Rattle.h3_world.specs.declared.event.Event.{Event}
 use Rattle.h3_world.specs.declared.event.Event.TheVariants as event
 use Rattle.h3_world.specs.declared.setup.Setup.{Setup}
 use Rattle.h3_headline.specs.Messages.{is_done}
-use Rattle.h3_strict.specs.PlainEnds.{NoneJudges}
+use Rattle.h3_strict.specs.PlainEnds.{NoneJudges, refused_by}
+use Rattle.h3_strict.specs.Plainly.{is_excess}
 use Rattle.h3_qpack.specs.SectionSizes.{most_encoded}
 
 -- it announces and judges the same, and takes frames of at most this length
@@ -41,10 +43,14 @@ unlimited_ends ends = limited_ends (λ side. 2 ^ 62 - 1) ends
 abbrev pub limit_at : Setup → Side → ℕ
 limit_at setup side = (announced_at setup side).choices.unfinished_limit
 
--- A head or a trailer that was accepted is one whose encoding its reader takes, whatever its encoder did before.
+-- A head or a trailer that was accepted is one whose encoding its reader takes, whatever its encoder did before. No delivery is answered by the
+-- fault of what is too long.
 abbrev pub IsTaken : Setup → Event → Answer → Type 0
 IsTaken setup (event.Head side id head) a = is_done a ≡ true → most_encoded (head_fields head) ≤ limit_at setup (other side)
 IsTaken setup (event.Trailer side id trailer) a = is_done a ≡ true → most_encoded (head_fields trailer) ≤ limit_at setup (other side)
+IsTaken setup (event.Deliver side id count) a = is_excess (refused_by a) ≡ false
+IsTaken setup (event.DeliverEnd side id) a = is_excess (refused_by a) ≡ false
+IsTaken setup (event.DeliverReset side id) a = is_excess (refused_by a) ≡ false
 IsTaken setup _ a = Unit {0}
 
 -- over a whole schedule, by its events and answers
@@ -52,8 +58,8 @@ abbrev pub AreTaken : Setup → List Event → List Answer → Type 0
 AreTaken setup (e ∷ events) (a ∷ answers) = IsTaken setup e a × AreTaken setup events answers
 AreTaken setup _ _ = Unit {0}
 
--- A schedule is answered as by the ends without limits, and leads to the same ends without limits. No pull of it finds a frame too long: it judges a
--- message only where it does without limits.
+-- A schedule is answered as by the ends without limits, and leads to the same ends without limits. No event of it finds a frame too long: it judges
+-- only where it does without limits.
 pub record RunsUnlimited (ends : Ends) (events : List Event) : Type 0 where
   pub answers : answers_of_ends ends events ≡ answers_of_ends (unlimited_ends ends) events
   pub leads : unlimited_ends (ends_after ends events) ≡ ends_after (unlimited_ends ends) events
@@ -67,9 +73,11 @@ AsksForNone setup = (side : Side) → (announced_at setup side).choices.strict_m
 abbrev pub AsksForStrict : Setup → Type 0
 AsksForStrict setup = (side : Side) → (announced_at setup side).choices.strict_messages ≡ true
 
--- Each limit takes every section that its side announces to take (RFC 9114, section 4.2.2), whatever its encoding, and an empty one.
+-- Each limit takes every section that its side announces to take (RFC 9114, section 4.2.2), whatever its encoding; the other side's SETTINGS; and a
+-- GOAWAY, whose id takes at most eight bytes (RFC 9000, section 16), as an empty section takes two.
 abbrev pub LimitsTakeWhatIsSent : Setup → Type 0
-LimitsTakeWhatIsSent setup = (side : Side) → max 2 (4 * section_of (announced_at setup side)) ≤ limit_at setup side
+LimitsTakeWhatIsSent setup = (side : Side) →
+    max 8 (max (4 * section_of (announced_at setup side)) (length (payload_of (announced_at setup (other side)).settings))) ≤ limit_at setup side
 
 -- A side that knows the other's settings sends no more than these allow. Before they came it sends any list.
 abbrev pub is_early : Ends → Event → Bool

@@ -18,9 +18,9 @@ ghost use Rattle.h3_strict.specs.Limits.{AreTaken, AsksForNone, AsksForStrict, E
 ghost use Rattle.h3_strict.specs.PlainEnds.{NoneJudges, answers_without_malformed, plain_ends, plain_setup, without_malformed};
 ghost use Rattle.h3_strict.specs.ServerKnows.{ServerKnows};
 
-/// Where each list of fields that a side sends is one whose encoding its reader takes, limits on what is unfinished change nothing: the schedule is
-/// answered as by the same two endpoints without limits, and leads to the same ends. So it is where neither side asks for strict messages
-/// (`plain`), and where both do (`strict`).
+/// Where each list of fields that a side sends is one whose encoding its reader takes, and no delivery is answered by the fault of what is too long,
+/// limits on what is unfinished change nothing: the schedule is answered as by the same two endpoints without limits, and leads to the same ends.
+/// So it is where neither side asks for strict messages (`plain`), and where both do (`strict`).
 pub fn limits_that_take_what_is_sent_change_nothing()
     ensures plain { (setup : Setup) (events : List Event) → IsMadeSetup setup → AsksForNone setup → AllByRecursion IsSendable events →
         AreTaken setup events (answers_of_ends (new_ends setup) events) → RunsUnlimited (new_ends setup) events }
@@ -32,9 +32,10 @@ pub fn limits_that_take_what_is_sent_change_nothing()
     crate::strict::two_strict_endpoints_run_in_a_world();
 }
 
-/// A side that knows the other side's settings sends no list above the size that these announce. So where each limit takes every list of the size
-/// that its side announces, whatever its encoding, each limit takes what is sent to it, once the lists that were sent before the settings came are
-/// taken too.
+/// A side that knows the other side's settings sends no list above the size that these announce, and on its control stream it sends its settings and
+/// GOAWAY frames. So where each limit takes every list of the size that its side announces, whatever its encoding, and those frames, each limit takes
+/// what is sent to it, once the lists that were sent before the settings came are taken too: no delivery is answered by the fault of what is too
+/// long.
 pub fn limits_above_what_is_announced_take_what_is_sent()
     ensures plain { (setup : Setup) (events : List Event) → IsMadeSetup setup → AsksForNone setup → LimitsTakeWhatIsSent setup → AllByRecursion IsSendable events →
         EarlyAreTaken setup (new_ends setup) events → AreTaken setup events (answers_of_ends (new_ends setup) events) }
@@ -68,8 +69,8 @@ pub fn two_limited_endpoints_run_in_a_world()
     h3_headline::parts::endpoints_hand_out_what_was_sent();
 }
 
-/// And so do two endpoints that both ask for strict messages, where the server knows what was asked when it answers: no pull judges a message or
-/// finds a frame too long (`none`), and all of the above holds without the sends that were refused as malformed.
+/// And so do two endpoints that both ask for strict messages, where the server knows what was asked when it answers: no event judges a
+/// message or finds a frame too long (`none`), and all of the above holds without the sends that were refused as malformed.
 pub fn two_strict_limited_endpoints_run_in_a_world()
     ensures none { (setup : Setup) (events : List Event) → IsMadeSetup setup → AsksForStrict setup → AllByRecursion IsSendable events →
         ServerKnows events (answers_of_ends (new_ends setup) events) → AreTaken setup events (answers_of_ends (new_ends setup) events) → NoneJudges (new_ends setup) events }
