@@ -56,21 +56,21 @@ cases_of() { # what the server is called, the peer, what is said behind its name
 }
 aioquic_cases() { cases_of "$1" aioquic "$2" "$3" "$4" python3 $there/aio.py; }
 quinn_cases() { cases_of "$1" "h3 and quinn" "$2" "$3" "$4" $quinn_peer; }
-curl3=(chroot "$root" curl --silent --http3-only --cacert $there/cert.pem)
+# A ClientHello of one packet (--curves): curl 8.14.1 over OpenSSL 3.5 loses its control and encoder stream for good where a timer ends in its handshake,
+# and quic-go 0.29.0 drops the second of two packets that come at once (examples/PEERS.md).
+curl3=(chroot "$root" curl --silent --http3-only --curves X25519 --cacert $there/cert.pem)
 curl_says() { # TEXT, arguments of curl: status, a blank, and the bytes of the body
   local text=$1
   shift
   [ "$(within 60 "${curl3[@]}" -o /dev/null -w '%{http_version} %{response_code} %{size_download}' "$@")" = "3 $text" ]
 }
-# A ClientHello of one packet (--curves): curl 8.14.1 over OpenSSL 3.5 loses its control and encoder stream for good where a timer ends in its handshake,
-# and quic-go 0.29.0 drops the second of two packets that come at once (examples/PEERS.md).
 curl_many() { # PORT
   local urls=()
   for i in $(seq 0 99); do urls+=(-o "$there/small-$i" "$(url "$1" "/small/$i.txt")"); done
-  within 60 "${curl3[@]}" --curves X25519 -Z --parallel-max 50 "${urls[@]}" || return 1
+  within 60 "${curl3[@]}" -Z --parallel-max 50 "${urls[@]}" || return 1
   for i in $(seq 0 99); do cmp -s "$root$there/small-$i" "$folder/small/$i.txt" || return 1; done
 }
-# One handshake of curl in fifty stands still where packets of it are lost, with ngtcp2 0.12.1 as the server (gtlsserver too).
+# Where packets of its handshake are lost such a timer ends all the same.
 once_or_twice() { "$@" || "$@"; }
 curl_aborts() { # PORT: the upload is given up behind a second, and the server goes on
   within 60 "${curl3[@]}" --limit-rate 200k --max-time 1 --data-binary @$there/folder/big.bin "$(url "$1" /answer)"

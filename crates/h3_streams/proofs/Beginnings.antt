@@ -7,7 +7,7 @@ use Rattle.h3_qpack.specs.Hearing.{Heard, hear, heard, listen, listened}
 use Rattle.h3_field.specs.Instruction.{decoder_bytes}
 use Rattle.h3_connection.specs.Codes.{encoder_stream_error}
 use Rattle.h3_connection.specs.Control.{Found, read_control, read_encoder, read_decoder, listened_to, after_peer, if_learned, then_decoder, increment}
-use Rattle.h3_connection.specs.Endpoint.{EndpointHistory, replied}
+use Rattle.h3_connection.specs.Endpoint.{EndpointHistory, limit_of, replied}
 use Rattle.h3_connection.specs.Listeners.{Decoding, Encoding, fault_if, heard_more, after_hearing, insertions_heard}
 use Rattle.h3_connection.specs.PeerReading.{with_unread, read_peer}
 use Rattle.h3_connection.specs.State.{EndpointState, StandsFor, IsToldPeer}
@@ -45,7 +45,7 @@ control_begins s x e id h told none =
     let nothing = h.reached.control none in
     let p = with_unread e.peer [] in
     let f = record e { control_on = Some id } in
-    let read : read_peer e.side (with_unread e.peer (e.peer.unread ++ [])) ≡ (p, None) = ap (λ l. read_peer e.side (with_unread e.peer l)) (none_behind e.peer.unread nothing) ∙ nothing_read_on e.side e.peer in
+    let read : read_peer (limit_of e) e.side (with_unread e.peer (e.peer.unread ++ [])) ≡ (p, None) = ap (λ l. read_peer (limit_of e) e.side (with_unread e.peer l)) (none_behind e.peer.unread nothing) ∙ nothing_read_on (limit_of e) e.side e.peer in
     let same : x.peer ≡ p = h.peer ∙ ap (λ l. with_unread e.peer l) nothing in
     let new = record e { control_on = Some id; peer = p } in
     record {

@@ -15,7 +15,7 @@ use Rattle.h3_connection.specs.declared.arrival.Arrival.{Arrival}
 use Rattle.h3_connection.specs.declared.arrival.Arrival.TheVariants.{BytesCame, EndCame, ResetCame}
 use Rattle.h3_connection.specs.Codes.{excessive_load}
 use Rattle.h3_connection.specs.Control.{Found, listened_to, read_encoder, read_decoder, with_table, if_learned, then_decoder, after_peer, read_control}
-use Rattle.h3_connection.specs.Delivering.{request_refusal, refusal_at, delivery_refusal, opened_at, opened, incoming_at, with_incoming, unidirectional_at, with_unidirectional, unless_second, heard_as, read_unidirectional, kept, with_end, bytes_at, end_at, give_up, reset_at, taken}
+use Rattle.h3_connection.specs.Delivering.{closed_by, request_refusal, refusal_at, delivery_refusal, opened_at, opened, incoming_at, with_incoming, unidirectional_at, with_unidirectional, unless_second, heard_as, read_unidirectional, kept, with_end, bytes_at, end_at, give_up, reset_at, taken}
 use Rattle.h3_connection.specs.Endpoint.{EndpointHistory, limit_of, Kind, is_second, kind_of}
 use Rattle.h3_connection.specs.Endpoint.Kind.{Request, ServerOpened, OwnUnidirectional, PeerUnidirectional}
 use Rattle.h3_connection.specs.Incoming.{Incoming}

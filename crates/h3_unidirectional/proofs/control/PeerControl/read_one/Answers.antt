@@ -1,7 +1,14 @@
-use Rattle.std.proofs.Common.{sym, ◌∙◌}
+use Rattle.std.proofs.Common.{refl, ap, sym, ◌∙◌}
+use Rattle.std.specs.List.{concat}
+use Rattle.h3_wire.specs.UnreadFrames.{UnreadFrames}
 use Rattle.h3_unidirectional.proofs.PeerLaws.{peer_refused}
-use Rattle.h3_unidirectional.proofs.ControlFronts.{one_read, one_fault, goaway_read, refused_front}
+use Rattle.h3_unidirectional.proofs.ControlFronts.{one_excessive, one_read, one_fault, goaway_read, refused_front}
 use Rattle.h3_unidirectional.proofs.control.PeerControl.read_one.Goals as goal
+
+pub returns-then-is_excessive-clause-ok : goal.returns-then-is_excessive-clause-ok
+returns-then-is_excessive-clause-ok c =
+    rw (sym c.self.view_is)
+    (one_excessive _ _ _ _ _ (sym c.is_excessive.ensures ∙ c.if-is_excessive.true) refl (ap (λ (u : UnreadFrames). concat u.pieces) c.new.ensures))
 
 pub returns-in-Settings-clause-ok : goal.returns-in-Settings-clause-ok
 returns-in-Settings-clause-ok c =
