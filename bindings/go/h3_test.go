@@ -242,6 +242,10 @@ func TestRefusals(t *testing.T) {
 	config.MaxFieldSectionSize = 1 << 62
 	_, err = New(config)
 	is(t, err, Error{Setting, 6})
+	config = DefaultConfig(true)
+	config.UnfinishedLimit = config.MaxFieldSectionSize - 1
+	_, err = New(config)
+	is(t, err, Error{Answer: UnfinishedLimit})
 	for answer := Answer(1); answer <= Setting; answer++ { // each has its text, but that which no call of this package answers
 		_, ok := refusals[answer]
 		is(t, ok, answer.String() != "H3_KEPT")

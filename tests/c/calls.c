@@ -39,6 +39,8 @@ static void answer(uint32_t n, uint64_t detail) {
     printf("refused %s %llu\n", refusals[n], (unsigned long long)detail);
   else if (n <= H3_SETTING)
     printf("refused %s\n", refusals[n]);
+  else if (n == H3_UNFINISHED_LIMIT)
+    puts("refused UnfinishedLimit");
   else if (n == H3_MALFORMED)
     printf("refused Malformed %s\n", malformations[detail]);
   else if (n >= H3_FIELD_NAME && n <= H3_FIELD_COUNT)
