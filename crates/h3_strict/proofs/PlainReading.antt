@@ -15,7 +15,7 @@ use Rattle.h3_connection.specs.declared.arrival.Arrival.{Arrival}
 use Rattle.h3_connection.specs.declared.arrival.Arrival.TheVariants.{BytesCame, EndCame, ResetCame}
 use Rattle.h3_connection.specs.Codes.{excessive_load}
 use Rattle.h3_connection.specs.Control.{Found, listened_to, read_encoder, read_decoder, with_table, if_learned, then_decoder, after_peer, read_control}
-use Rattle.h3_connection.specs.Delivering.{closed_by, request_refusal, refusal_at, delivery_refusal, opened_at, opened, incoming_at, with_incoming, unidirectional_at, with_unidirectional, unless_second, heard_as, read_unidirectional, kept, with_end, bytes_at, end_at, give_up, reset_at, taken}
+use Rattle.h3_connection.specs.Delivering.{request_refusal, refusal_at, delivery_refusal, closed_by, opened_at, opened, incoming_at, with_incoming, unidirectional_at, with_unidirectional, unless_second, heard_as, read_unidirectional, kept, with_end, bytes_at, end_at, give_up, reset_at, taken}
 use Rattle.h3_connection.specs.Endpoint.{EndpointHistory, limit_of, Kind, is_second, kind_of}
 use Rattle.h3_connection.specs.Endpoint.Kind.{Request, ServerOpened, OwnUnidirectional, PeerUnidirectional}
 use Rattle.h3_connection.specs.Incoming.{Incoming}
@@ -70,7 +70,7 @@ after_plain e (p, fault) =
     ∙ then_plain e.peer.settings p.settings (if_learned e.peer.settings p.settings f) fault
 
 -- what is found is the same at the endpoint without a limit, or what came is too long
-data PeerPlainly (limit : ℕ) (x y : PeerFound) : Type 0 where
+pub data PeerPlainly (limit : ℕ) (x y : PeerFound) : Type 0 where
   IsLong : is_limit limit ≡ true → x.1 ≡ Some excessive_load → PeerPlainly limit x y
   ReadsSame : y ≡ x → PeerPlainly limit x y
 
@@ -98,7 +98,7 @@ within_plain (suc most) limit side p =
     long_or limit (is_excessive limit (known p.unread)) (known p.unread) p _ _ refl
     (front_plain limit (read_within most limit side) (read_within most no_limit side) side p (known p.unread) (frame_at (known p.unread)) (λ q. within_plain most limit side q))
 
-peer_plain : (limit : ℕ) (side : Side) (p : Peer) → PeerPlainly limit (read_peer limit side p) (read_peer no_limit side p)
+pub peer_plain : (limit : ℕ) (side : Side) (p : Peer) → PeerPlainly limit (read_peer limit side p) (read_peer no_limit side p)
 unfolding read_peer
 peer_plain limit side p = within_plain (length p.unread) limit side p
 
@@ -217,7 +217,7 @@ pub data ArrivesPlainly (e : EndpointHistory) (x y : Option Refusal × EndpointH
   Exceeds : is_limit (limit_of e) ≡ true → x.0 ≡ Some (refusal.Connection excessive_load) → ArrivesPlainly e x y
   Otherwise : CallsPlainly e x y → ArrivesPlainly e x y
 
-closed_too_long : (x : Found) → x.1 ≡ Some excessive_load → (closed_by x).0 ≡ Some (refusal.Connection excessive_load)
+pub closed_too_long : (x : Found) → x.1 ≡ Some excessive_load → (closed_by x).0 ≡ Some (refusal.Connection excessive_load)
 closed_too_long (f, fault) is = ap (λ o. (closed_by (let x : Found = (f, o) in x)).0) is
 
 takes_plainly : (closed : Option ℕ) (r : Option Refusal) (e : EndpointHistory) (x y : Found) → ReadsPlainly (limit_of e) x y → ArrivesPlainly e (taken closed r e x) (taken closed r (plainly e) y)
