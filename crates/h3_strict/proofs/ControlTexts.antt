@@ -1,5 +1,5 @@
 -- What came of a control stream whose settings and GOAWAY frames its reader takes is never too long for it.
-use Rattle.std.proofs.Common.{◌≡◌, ℕ, ◌+◌, ◌<◌, ◌≤◌, ◌^◌, zero, suc, Bool, true, false, ◌&&◌, ◌||◌, List, [], ◌∷◌, ◌++◌, flat_map, Option, Some, None, refl, sym, ap, ◌∙◌, subst, inl, inr, length, take, drop, append_assoc, arith, lit<, if◌then◌else◌, nat_lt, Result, Ok, Err}
+use Rattle.std.proofs.Common.{◌≡◌, ℕ, ◌+◌, ◌<◌, ◌≤◌, ◌^◌, zero, suc, Bool, true, false, ◌&&◌, ◌||◌, List, [], ◌∷◌, ◌++◌, flat_map, Option, Some, None, refl, sym, ap, ◌∙◌, subst, inl, inr, length, drop, append_assoc, arith, lit<, if◌then◌else◌, nat_lt}
 use Rattle.std.specs.List.{AllByRecursion}
 use Rattle.std.proofs.lemmas.Bool.{and_right, cases_lt, le-ltb}
 use Rattle.h3_coding.specs.Encodings.{encoding}
@@ -7,24 +7,21 @@ use Rattle.h3_coding.specs.Varint.{varint_at}
 use Rattle.h3_coding.specs.VarintLaws.{none_at_end}
 use Rattle.h3_proto.specs.Config.{is_limit}
 use Rattle.h3_proto.specs.Pairs.{payload_of}
-use Rattle.h3_proto.specs.Settings.{settings_of}
-use Rattle.h3_proto.specs.declared.frame.SettingsError.{SettingsError}
 use Rattle.h3_proto.specs.declared.stream.Side.{Side}
 use Rattle.h3_wire.specs.Encoded.{frame_encoding, head_encoding}
 use Rattle.h3_wire.specs.EncodedLaws.{length-encoding, written_goaway, written_settings}
 use Rattle.h3_wire.specs.ExcessiveFrames.{is_excessive, is_kept_whole, says_too_much}
 use Rattle.h3_wire.specs.FrameLaws.{frame_at-nil}
-use Rattle.h3_wire.specs.Frames.{Front, Refused, Unfinished, Unknown, Whole, frame_at, settings_frame}
+use Rattle.h3_wire.specs.Frames.{Front, Unfinished, Whole, frame_at, settings_frame}
 use Rattle.h3_wire.specs.Fronts.{IsKnown, IsUnfinishedFront}
 use Rattle.h3_wire.specs.Known.{known}
 use Rattle.h3_wire.specs.KnownLaws.{known-other}
 use Rattle.h3_wire.specs.UnfinishedLaws.{front_of_frame}
 use Rattle.h3_wire.specs.declared.proto.frame.Frame.{Frame}
 use Rattle.h3_wire.specs.declared.proto.frame.Frame.TheVariants as frame
-use Rattle.h3_wire.specs.declared.proto.frame.PayloadLen.{PayloadLen}
 use Rattle.h3_connection.specs.Codes.{excessive_load, id_error}
 use Rattle.h3_connection.specs.Endpoint.{goaway_encoding}
-use Rattle.h3_connection.specs.PeerReading.{Peer, PeerFound, at_front, is_above, is_no_goaway, read_frame, read_peer, read_within, unless_excessive, unless_fault, with_unread}
+use Rattle.h3_connection.specs.PeerReading.{Peer, PeerFound, at_front, is_above, is_no_goaway, read_frame, read_within, unless_excessive, unless_fault, with_unread}
 use Rattle.h3_connection.specs.Lasts.{last_id}
 use Rattle.h3_connection.specs.declared.setup.Announced.{Announced}
 use Rattle.h3_headline.specs.FrontLaws.{long_front, short_front}

@@ -1,5 +1,5 @@
 -- No delivery between two ends is answered by the fault of what is too long, where each takes the other's settings and GOAWAY frames.
-use Rattle.std.proofs.Common.{◌≡◌, ℕ, ◌+◌, ◌-◌, ◌≤◌, Bool, true, false, not, ◌&&◌, ◌||◌, List, [], ◌∷◌, ◌++◌, flat_map, Option, Some, None, refl, sym, ap, ◌∙◌, subst, length, take, drop, append_assoc, if◌then◌else◌, nat_le, nat_lt}
+use Rattle.std.proofs.Common.{◌≡◌, ℕ, ◌+◌, ◌-◌, ◌≤◌, Bool, true, false, not, ◌&&◌, ◌||◌, List, [], ◌∷◌, ◌++◌, flat_map, Option, Some, None, refl, ap, ◌∙◌, length, take, drop, append_assoc, if◌then◌else◌, nat_le, nat_lt}
 use Rattle.std.specs.Prelude.{◌==◌, is_some}
 use Rattle.h3_coding.specs.Encodings.{encoding}
 use Rattle.h3_field.specs.Instruction.{decoder_bytes, encoder_bytes}
@@ -37,7 +37,7 @@ use Rattle.h3_world.specs.declared.event.Answer.TheVariants as answer
 use Rattle.h3_headline.specs.ComingLaws.{kind_is}
 use Rattle.h3_headline.specs.OwnEventLaws.{each_own}
 use Rattle.h3_headline.specs.PeerStreams.{Announces, IsTyped, behind_type, role_by, settings_frame_of, with_role}
-use Rattle.h3_headline.specs.RoleLaws.{heard_typed, kind_of_control, kind_of_decoder, kind_of_encoder, typed_control, typed_decoder, typed_encoder}
+use Rattle.h3_headline.specs.RoleLaws.{heard_typed, typed_control, typed_decoder, typed_encoder}
 use Rattle.h3_headline.specs.Standing.{AreGoaways, IsPeerStream}
 use Rattle.h3_headline.specs.WritesMoreLaws.{type_of_control, type_of_decoder, type_of_encoder}
 use Rattle.h3_strict.proofs.ControlTaken.{control_fits}

@@ -1,6 +1,5 @@
 -- Two ends that stand in a world without their limits: what they send on their own streams is what was written there.
-use Rattle.std.proofs.Common.{◌≡◌, ℕ, ◌-◌, ◌^◌, ◌≤◌, Bool, true, false, ◌||◌, List, [], ◌∷◌, ◌++◌, flat_map, refl, sym, ap, ◌∙◌, subst, length, take, drop, if◌then◌else◌, nat_le, arith}
-use Rattle.h3_proto.specs.Pairs.{payload_of}
+use Rattle.std.proofs.Common.{◌≡◌, ℕ, ◌-◌, ◌^◌, Bool, true, false, ◌||◌, List, ◌++◌, flat_map, refl, sym, ap, ◌∙◌, subst, length, take, drop, if◌then◌else◌, nat_le, arith}
 use Rattle.h3_proto.specs.StreamIds.{is_request_stream}
 use Rattle.h3_proto.specs.declared.stream.Side.{Side}
 use Rattle.h3_proto.specs.declared.stream.Side.TheVariants.{Client, Server}

@@ -10,7 +10,7 @@ use Rattle.h3_connection.specs.Endpoint.{EndpointHistory, Kind, is_second, kind_
 use Rattle.h3_connection.specs.Endpoint.Kind.{OwnUnidirectional, PeerUnidirectional, Request, ServerOpened}
 use Rattle.h3_connection.specs.Incoming.{Incoming}
 use Rattle.h3_connection.specs.Keeping.{arrival_refusal, arrives, arrives_behind, read_all, read_arrival, refused_behind, unkept, unless_faulty}
-use Rattle.h3_connection.specs.PeerReading.{PeerFound, read_peer, with_unread}
+use Rattle.h3_connection.specs.PeerReading.{PeerFound, with_unread}
 use Rattle.h3_connection.specs.StreamSets.{stream_at}
 use Rattle.h3_connection.specs.Unidirectional.{Role, Unidirectional, role_after, with_bytes}
 use Rattle.h3_connection.specs.Unidirectional.Role.{Control, Decoder, Encoder, Ignored, Push, Session, Untold}

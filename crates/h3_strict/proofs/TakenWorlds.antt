@@ -162,8 +162,8 @@ module _ (setup : Setup) where
       where
         next : (q : Pull) → IsThere w i → PullsNext world w s i q v → IsTakenWorld setup v
         next (pull.Item it) there step = subst (IsTakenWorld setup) (sym step.1) (item_step w s i it there t)
-        next pull.Pending there step = pause_step w v s i 0 there step.1 t
-        next (pull.Waiting count) there step = pause_step w v s i count there step.1 t
+        next pull.Pending there step = pause_step w v s i 0 there step t
+        next (pull.Waiting count) there step = pause_step w v s i count there step t
         next (pull.Fault fault) there step = absurd step
         next pull.NoMessages there step = absurd step
 
