@@ -107,7 +107,7 @@ no_bytes_listened laws e none = by_settings (is_some e.peer.settings)
 
 no_frames : (limit : ℕ) (side : Side) (p : Peer) → read_peer limit side (with_unread p []) ≡ (with_unread p [], None)
 unfolding read_peer
-no_frames side p = refl
+no_frames limit side p = refl
 
 pub no_bytes_controlled : (e : EndpointHistory) → e.peer.unread ≡ [] → read_control e [] ≡ (e, None)
 no_bytes_controlled e none =
