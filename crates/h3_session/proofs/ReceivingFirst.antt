@@ -9,7 +9,7 @@ use Rattle.h3_connection.specs.Arrivals.{stream_of, is_closed_in}
 use Rattle.h3_connection.specs.Calls.{Sets, IsSame, fresh_request}
 use Rattle.h3_connection.specs.Control.{Found, increment}
 use Rattle.h3_connection.specs.Delivering.{opened_at, closed_by, request_refusal, unidirectional_at, with_unidirectional}
-use Rattle.h3_connection.specs.Endpoint.{EndpointHistory, kind_of, replied}
+use Rattle.h3_connection.specs.Endpoint.{EndpointHistory, limit_of, kind_of, replied}
 use Rattle.h3_connection.specs.Endpoint.Kind.{Request, PeerUnidirectional}
 use Rattle.h3_connection.specs.Incoming.{Incoming, nothing_came}
 use Rattle.h3_connection.specs.Keeping.{read_arrival, read_all, keeping, unkept, arrives, refused_behind}
@@ -131,7 +131,7 @@ lands id e f other arrivals b kind some (Goes (Holds {id = q} {bytes} {more} kin
 lands id e f other arrivals b kind some (Goes (ReadsFrames {id = q} {p} {more} on part) read) =
     let h = frames_elsewhere e p in
     lands_else id e f other (BytesCame q [] ∷ more) (BytesCame q [] ∷ early e p ++ more) (λ y. after_frames y p) b kind h
-    (ReadsFrames (by_rest (λ y. y.control_on ≡ Some q) id e f b on) (by_rest (λ y. PeerReadsPart y.side y.peer p) id e f b part))
+    (ReadsFrames (by_rest (λ y. y.control_on ≡ Some q) id e f b on) (by_rest (λ y. PeerReadsPart (limit_of y) y.side y.peer p) id e f b part))
     (λ beside then_kind same. subst (λ l. Lands id (after_frames e p) (BytesCame q [] ∷ l ++ more) other) (ap (λ y. early y p) b.rest)
     (lands id (after_frames e p) (after_frames f p) other (BytesCame q [] ∷ early f p ++ more) beside then_kind (frame_moves id q (early f p) more e (after_frames e p) same some) read))
 lands id e f other arrivals b kind some (Goes (Hears {id = q} {d} {more} on part) read) =

@@ -11,10 +11,12 @@ ghost use Rattle.h3_session.specs.Running.{answer_of, is_stored, failed, told_an
 use crate::endpoint::Endpoint;
 use bytes::Bytes;
 use h3_connection::event::{DeliverError, Refusal};
-use h3_proto::error::Code;
 use h3_proto::stream::StreamId;
 use h3_world::event::Answer;
 use std::alloc::{AllocError, Global};
+
+/// The code of a reset that goes over: H3_REQUEST_CANCELLED (RFC 9114, section 8.1).
+const RESET_CODE: u64 = 0x10c;
 
 /// Why a delivery is not taken, or not read.
 fn refusal_of(e: &DeliverError) -> Refusal
@@ -140,7 +142,7 @@ pub(super) fn carry_end(writer: &mut Endpoint, reader: &mut Endpoint, id: Stream
     told(reader.deliver_end(id))
 }
 
-/// The reset of a stream goes over, with the code H3_REQUEST_CANCELLED (RFC 9114, section 8.1).
+/// The reset of a stream goes over.
 pub(super) fn carry_reset(writer: &mut Endpoint, reader: &mut Endpoint, id: StreamId) -> Answer
     ensures { CarriesReset id writer.old reader.old result writer.new reader.new }
 {
@@ -150,5 +152,5 @@ pub(super) fn carry_reset(writer: &mut Endpoint, reader: &mut Endpoint, id: Stre
     if !writer.is_reset(id) {
         return Answer::Early;
     }
-    told(reader.deliver_reset(id, Code::H3_REQUEST_CANCELLED.value()))
+    told(reader.deliver_reset(id, RESET_CODE))
 }
