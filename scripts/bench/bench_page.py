@@ -81,7 +81,7 @@ def text_of(notes, tables):
     when = datetime.datetime.now(datetime.timezone.utc).strftime("%Y-%m-%d %H:%M UTC")
     loads = [note.rsplit(" ", 1)[1] for note in notes if note.startswith("load of the machine")]
     others = [note for note in notes if not note.startswith("load of the machine") and "rows below" not in note]
-    lines = [f"Measured {when} at commit {commit()}, on {machine()}. The load of the machine was {' and '.join(loads)} when the tables began.", ""]
+    lines = [f"Measured {when} at commit {commit()}, on {machine()}.", f"The load of the machine was {' and '.join(loads)} when the tables began.", ""]
     lines += [f"- {note}" for note in others]
     for head, table in zip(TABLES, tables):
         lines += ["", head, "", *table]

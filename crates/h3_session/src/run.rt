@@ -106,18 +106,20 @@ fn beside<A: Drop, B: Drop>(first: A, second: Result<B, AllocError>) -> Result<(
 /// - `runs`: the answers are those of two endpoints of the definitions with the bytes carried between them, and the endpoints
 ///   handed back stand for these.
 /// - `headline`: with fewer than 2^48 events, of which each side is handed less than 2^56 bytes to send, and where neither side asks for
-///   strict messages, the answers are a run of the world of a connection, and the endpoints handed back stand in its last world. In each of its steps no connection fault
-///   arises, a send that is in order and within the known limit is accepted, a pull hands out what was sent or pauses just where
-///   that isn't there, with everything delivered everything comes out, and no more heads wait than were announced.
+///   strict messages or limits what is unfinished, the answers are a run of the world of a connection, and the endpoints handed back
+///   stand in its last world. In each of its steps no connection fault arises, a send that is in order and within the known limit is
+///   accepted, a pull hands out what was sent or pauses just where that isn't there, with everything delivered everything comes out,
+///   and no more heads wait than were announced.
 ///
-/// In every setup, with both sides strict, one or none, and the bounds of numbers of `headline`:
+/// In every setup, with both sides strict, one or none, with limits or without, and the bounds of numbers of `headline`:
 /// - `faultless_front`: up to the first answer that tells of refused memory, of a malformed message or of a connection fault, and without the
 ///   sends that were refused as malformed, the answers are a run of the world of the setup that asks for no strict messages; and each side is
 ///   handed what the other side sent.
 /// - `faultless`: where no answer tells of these, so it is of all of them, and the endpoints handed back stand in the last world, once they are
 ///   taken for ones without strict messages.
 ///
-/// Between two strict sides, where the server was handed the head of a request before it sends the final head of its response (`ServerKnows`):
+/// Between two strict sides without limits, where the server was handed the head of a request before it sends the final head of its
+/// response (`ServerKnows`):
 /// - `strict_front`: no answer tells of a malformed message or of a connection fault, up to the first that tells of refused memory. So what
 ///   `faultless_front` says holds up to there.
 /// - `strict`: where no answer tells of refused memory none tells of these, and all that `faultless` says holds.

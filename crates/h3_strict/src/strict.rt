@@ -18,8 +18,8 @@ ghost use Rattle.h3_strict.specs.PlainEnds.{NoneJudges, answers_without_malforme
 ghost use Rattle.h3_strict.specs.ServerKnows.{ServerKnows};
 ghost use Rattle.h3_strict.specs.Tallies.{JudgesStrictly};
 
-/// Between two endpoints that both ask for strict messages no pull finds a message malformed, nor a trailer in a tunnel (RFC 9114, sections
-/// 4.1.2, 4.2 to 4.5): what either sends, the other takes. The schedule's server sends the final head of a response only where it was handed
+/// Between two endpoints that both ask for strict messages, and do not limit what is unfinished, no pull finds a message malformed, nor a
+/// trailer in a tunnel (RFC 9114, sections 4.1.2, 4.2 to 4.5): what either sends, the other takes. The schedule's server sends the final head of a response only where it was handed
 /// the head of that request, and has not given the request up since.
 pub fn strict_endpoints_take_what_they_send()
     ensures { (setup : Setup) (events : List Event) → IsMadeSetup setup → JudgesStrictly setup → AllByRecursion IsSendable events →
