@@ -4,23 +4,23 @@
 #include <stdio.h>
 #include <stdlib.h>
 
-/* through the C interface an exchange takes at most 1.2 of nghttp3's time */
-static const double TARGET = 1 / 1.2;
+/* The least ratios to nghttp3's speed that are wanted. */
+static const double REAL_TARGET = 1.4, IN_PIECES_TARGET = 1.3, SMALL_GET_TARGET = 1.3, SMALL_POST_TARGET = 1.2, LARGE_TARGET = 1.0;
 
 #define FIELD(name, value) \
   { (uint8_t *)(name), (uint8_t *)(value), sizeof(name) - 1, sizeof(value) - 1, NGHTTP3_NV_FLAG_NONE }
 
-static void row(const char *name, const char *set, exchange_kind kind) {
+static void row(const char *name, const char *set, exchange_kind kind, double target) {
   const contender both[CONTENDERS] = {{our_exchanges, &kind}, {peer_exchanges, &kind}, {0}};
-  measure_row(&(row_kind){name, set, "us", (double)kind.exchanges, 1000, 1, TARGET, 0}, both, (double)kind.exchanges);
+  measure_row(&(row_kind){name, set, "us", (double)kind.exchanges, 1000, 1, target, 0}, both, (double)kind.exchanges);
 }
 
 /* Both without a table, and with one of 4,096 bytes of which 100 streams may wait. */
-static void rows(const char *with_none, const char *with_table, const char *set, exchange_kind kind) {
-  row(with_none, set, kind);
+static void rows(const char *with_none, const char *with_table, const char *set, exchange_kind kind, double target) {
+  row(with_none, set, kind, target);
   kind.table = 4096;
   kind.blocked = 100;
-  row(with_table, set, kind);
+  row(with_table, set, kind, target);
 }
 
 static double seconds_each(void (*work)(void *, uint64_t), exchange_kind *kind) {
@@ -37,18 +37,18 @@ static void growth_row(exchange_kind few, exchange_kind many) {
 }
 
 static void small_rows(exchange_kind get) {
-  rows("500 exchanges, 0/0", "500 exchanges, 4096/100", "small GET", get);
+  rows("500 exchanges, 0/0", "500 exchanges, 4096/100", "small GET", get, SMALL_GET_TARGET);
   exchange_kind many = get;
   many.exchanges = 20000;
-  rows("20,000 exchanges, 0/0", "20,000 exchanges, 4096/100", "small GET", many);
+  rows("20,000 exchanges, 0/0", "20,000 exchanges, 4096/100", "small GET", many, SMALL_GET_TARGET);
   growth_row(get, many);
   exchange_kind post = get;
   post.request_body = post.response_body = 7000;
-  rows("500 exchanges, 0/0", "500 exchanges, 4096/100", "small POST", post);
+  rows("500 exchanges, 0/0", "500 exchanges, 4096/100", "small POST", post, SMALL_POST_TARGET);
   exchange_kind large = get;
   large.request_body = large.response_body = LONGEST_BODY;
   large.under_way = 10;
-  row("500 exchanges, 0/0", "64 KiB POST", large);
+  row("500 exchanges, 0/0", "64 KiB POST", large, LARGE_TARGET);
 }
 
 static double held_after(void (*work)(void *, uint64_t), exchange_kind kind, size_t exchanges) {
@@ -86,10 +86,10 @@ int main(int argc, char **argv) {
   field_lists gets = {.name = "small GET", .lists = &small_get, .count = 1}, oks = {.name = "small GET", .lists = &small_ok, .count = 1};
   print_head();
   exchange_kind real = {&posts, &answers, 7000, 7000, 500, 100, MOST_CARRIED, 0, 0};
-  rows("500 exchanges, 0/0", "500 exchanges, 4096/100", "real POST", real);
+  rows("500 exchanges, 0/0", "500 exchanges, 4096/100", "real POST", real, REAL_TARGET);
   real.piece = 1200;
-  rows("in pieces of 1,200, 0/0", "in pieces of 1,200, 4096/100", "real POST", real);
-  row("20,000 exchanges, 0/0", "real GET", (exchange_kind){&pages, &answers, 0, 100, 20000, 100, MOST_CARRIED, 0, 0});
+  rows("in pieces of 1,200, 0/0", "in pieces of 1,200, 4096/100", "real POST", real, IN_PIECES_TARGET);
+  row("20,000 exchanges, 0/0", "real GET", (exchange_kind){&pages, &answers, 0, 100, 20000, 100, MOST_CARRIED, 0, 0}, REAL_TARGET);
   exchange_kind small = {&gets, &oks, 0, 100, 500, 100, MOST_CARRIED, 0, 0};
   small_rows(small);
   memory_rows(small);
