@@ -98,7 +98,7 @@ void length_rows(void) {
   for (size_t i = 0; i < sizeof counts / sizeof *counts; i++) {
     field_lists all = equal_lists(counts[i].set, LISTS, counts[i].fields);
     section_rows(&all);
-    session_rows(&all, 1, (session_targets){1.2, 1.0, 0, 1.0, 0});
+    session_rows(&all, 1, (session_targets){1.2, 1.4, 0, 1.0, 0});
     free_lists(&all);
   }
   field_lists many = equal_lists("1000 fields", 1, 1000), empty = empty_values("empty values", 10000);
