@@ -5,15 +5,13 @@
  *
  * SIGTERM and SIGINT: GOAWAY on each connection; what was begun ends, whatever its reader's speed. The second signal cuts it off. */
 #include "digest.h"
+#include "ending.h"
 #include "files.h"
 #include "http3.h"
 #include <getopt.h>
-#include <signal.h>
 #include <stdio.h>
 #include <stdlib.h>
 #include <string.h>
-
-static volatile sig_atomic_t asked_to_end; /* how often */
 
 /* One request: the file that is sent, or the digest of what came. */
 typedef struct {
@@ -110,19 +108,6 @@ static void on_over(void *user, const quic_ending *ending) {
             ending->application ? "HTTP/3" : "QUIC", (unsigned long long)ending->code);
 }
 
-static void on_signal(int signal) {
-  (void)signal;
-  if (asked_to_end < 2) asked_to_end++;
-}
-
-/* Serves until a signal comes, and then what was begun, or until the next signal. */
-static void run(quic_socket *socket) {
-  while (!asked_to_end) quic_turn(socket, 1000);
-  quic_refuse_more(socket);
-  do quic_each(socket, http3_leave); /* on and on, also for those that did their handshake just now */
-  while (quic_turn(socket, 100) > 0 && asked_to_end < 2);
-}
-
 /* The options, before the five words. */
 static bool read_options(int count, char **arguments, http3_setup *setup) {
   static const struct option options[] = {{"requests", 1, 0, 'r'}, {0, 0, 0, 0}};
@@ -137,7 +122,6 @@ static bool read_options(int count, char **arguments, http3_setup *setup) {
 int main(int count, char **arguments) {
   static const http3_events events = {on_ready, on_head, on_body, on_end, on_failed, on_room, on_freed, on_over, NULL};
   http3_setup setup = {.server = true, .requests = 100000, .data = sizeof(work), .events = &events};
-  struct sigaction action = {.sa_handler = on_signal};
   if (!read_options(count, arguments, &setup)) {
     fprintf(stderr, "serve [--requests N] ADDRESS PORT CERTIFICATE KEY FOLDER\n");
     return 2;
@@ -147,14 +131,13 @@ int main(int count, char **arguments) {
     perror(folder);
     return 1;
   }
-  sigaction(SIGTERM, &action, NULL);
-  sigaction(SIGINT, &action, NULL);
+  ending_await();
   quic_identity identity = {.certificate = arguments[optind + 2], .key = arguments[optind + 3]};
   quic_socket *socket = quic_listen(address, port, &identity, &http3_over_quic, &setup);
   if (socket) {
     printf("serving %s at %s port %s\n", folder, address, port);
     fflush(stdout);
-    run(socket);
+    serve_until_ended(socket);
     quic_free(socket);
   }
   files_end();

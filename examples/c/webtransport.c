@@ -4,8 +4,8 @@
  *
  * SIGTERM and SIGINT: GOAWAY on each connection, and what was begun ends. The second signal cuts it off. */
 #include "digest.h"
+#include "ending.h"
 #include "http3.h"
-#include <signal.h>
 #include <stdio.h>
 #include <stdlib.h>
 #include <string.h>
@@ -13,8 +13,6 @@
 enum { SESSIONS = 4 }; /* on a connection at once */
 
 static const uint64_t BUFFERED_STREAM_REJECTED = 0x3994bd84, SESSION_GONE = 0x170d7b68; /* section 8.5 of the draft */
-
-static volatile sig_atomic_t asked_to_end; /* how often */
 
 /* The CONNECT request of a session, or a stream of one. */
 typedef struct work {
@@ -126,34 +124,20 @@ static void on_ready(http3 *h, void *user) { (void)h, (void)user; }
 
 static void on_over(void *user, const quic_ending *ending) { (void)user, (void)ending; }
 
-static void on_signal(int signal) {
-  (void)signal;
-  if (asked_to_end < 2) asked_to_end++;
-}
-
-static void run(quic_socket *socket) {
-  while (!asked_to_end) quic_turn(socket, 1000);
-  quic_refuse_more(socket);
-  do quic_each(socket, http3_leave);
-  while (quic_turn(socket, 100) > 0 && asked_to_end < 2);
-}
-
 int main(int count, char **arguments) {
   static const http3_events events = {on_ready, on_head, on_body, on_end, on_failed, on_room, on_freed, on_over, on_session};
   http3_setup setup = {.server = true, .sessions = SESSIONS, .events = &events};
-  struct sigaction action = {.sa_handler = on_signal};
   if (count != 5) {
     fprintf(stderr, "webtransport ADDRESS PORT CERTIFICATE KEY\n");
     return 2;
   }
-  sigaction(SIGTERM, &action, NULL);
-  sigaction(SIGINT, &action, NULL);
+  ending_await();
   quic_identity identity = {.certificate = arguments[3], .key = arguments[4]};
   quic_socket *socket = quic_listen(arguments[1], arguments[2], &identity, &http3_over_quic, &setup);
   if (!socket) return 1;
   printf("WebTransport at %s port %s\n", arguments[1], arguments[2]);
   fflush(stdout);
-  run(socket);
+  serve_until_ended(socket);
   quic_free(socket);
   return 0;
 }
