@@ -19,7 +19,7 @@ ghost use Rattle.h3_incoming.specs.Outline.{outline_of};
 
 use crate::answer::{Answer, Plain};
 use crate::outline::{ListRead, Outline};
-use crate::strict::{broken_rule, content_at, if_whole, large_content_at, response_at};
+use crate::strict::{if_whole, large_content_at, read_strictly};
 use h3_connection::event::Malformation;
 use h3_connection::place::Place;
 use h3_connection::setup::Announced;
@@ -123,13 +123,16 @@ fn judge_fields<O: Answer>(
     ensures memory { OnErr result (RefusesOne (trailer_head []) fields.items error.OutOfMemory) }
     ensures good { OnErr result (IsHeadUnlessMany fields.items) }
 {
-    let list = fields.as_slice();
-    let broken = if_whole(content, broken_rule(side, announced, place, list));
-    let behind = content_at(side, announced, place, content, list);
-    let response = response_at(side, announced, place, known, list);
+    let read = read_strictly(side, announced, place, content, known, fields.as_slice());
+    let broken = if_whole(content, read.broken);
     match out.give_message(alloc, side, place, fields) {
         Ok(ListRead::Head(outline)) => Ok(judge_message(
-            side, place, behind, response, broken, &outline,
+            side,
+            place,
+            read.content,
+            read.response,
+            broken,
+            &outline,
         )),
         Ok(ListRead::Malformed(why)) => Ok(Judged::Malformed(why)),
         Err(e) => Err(e),

@@ -53,7 +53,14 @@ impl Content {
     pub fn awaited_by(fields: &[HeaderField]) -> Content
         ensures { result ≡ awaited_by fields.now }
     {
-        match Asked::by(value_of(b":method", fields)) {
+        Content::behind_asking(Asked::by(value_of(b":method", fields)))
+    }
+
+    // What is awaited behind a request that asks this.
+    pub(crate) fn behind_asking(asked: Asked) -> Content
+        ensures { result ≡ awaited asked }
+    {
+        match asked {
             Asked::Head => Content::NoContent,
             Asked::Connect => Content::Tunnel,
             Asked::Other => Content::Unsaid,
@@ -169,7 +176,7 @@ pub fn is_interim_status(status: &[u8]) -> bool
 }
 
 // What is expected behind a head of this status and this `content-length`, where this was awaited.
-fn behind_status(content: Content, status: &[u8], size: &[u8]) -> Content
+pub(crate) fn behind_status(content: Content, status: &[u8], size: &[u8]) -> Content
     ensures { result ≡ content_behind_status content status.now size.now }
 {
     if is_interim_status(status) {
@@ -179,7 +186,7 @@ fn behind_status(content: Content, status: &[u8], size: &[u8]) -> Content
 }
 
 // What this `content-length` says, where it is a length.
-fn said(text: &[u8]) -> Content
+pub(crate) fn said(text: &[u8]) -> Content
     ensures { result ≡ said text.now }
 {
     match length_of(text) {

@@ -7,6 +7,7 @@
 
 pub mod content;
 mod fields;
+pub mod head;
 mod host;
 mod known;
 mod name_set;
@@ -21,6 +22,7 @@ mod text;
 pub mod violation;
 
 pub use content::{Asked, Content, is_interim_status};
+pub use head::{RequestRead, ResponseRead, read_request, read_response};
 pub use request::request_violation;
 pub use response::{response_violation, trailer_violation};
 pub use violation::Violation;

@@ -22,7 +22,7 @@ pub fn request_violation(fields: &[HeaderField], extended_connect: bool) -> Opti
 }
 
 #[tactic(auto, unfolding(crate::specs::Messages::violation_of_request))]
-fn violation_of(survey: &Survey, extended_connect: bool) -> Option<Violation>
+pub(crate) fn violation_of(survey: &Survey, extended_connect: bool) -> Option<Violation>
     ensures { result ≡ violation_of_request extended_connect survey.now.fields.now }
 {
     if survey.is_out_of_order() {
@@ -65,7 +65,7 @@ fn violation_of(survey: &Survey, extended_connect: bool) -> Option<Violation>
 }
 
 /// Whether the method is CONNECT.
-fn is_connect(survey: &Survey) -> bool
+pub(crate) fn is_connect(survey: &Survey) -> bool
     ensures { result ≡ is_connect survey.now.fields.now }
 {
     is_same(survey.value_of(Known::Method), b"CONNECT")

@@ -21,7 +21,7 @@ pub fn response_violation(fields: &[HeaderField]) -> Option<Violation>
 }
 
 #[tactic(auto, unfolding(crate::specs::Messages::violation_of_response))]
-fn violation_of(survey: &Survey) -> Option<Violation>
+pub(crate) fn violation_of(survey: &Survey) -> Option<Violation>
     ensures { result ≡ violation_of_response survey.now.fields.now }
 {
     if survey.is_out_of_order() {
