@@ -1,20 +1,82 @@
--- What `on_encoder_recv` says, as what the peer's encoder stream makes of it.
-use Rattle.std.proofs.Common.{◌≡◌, ℕ, ◌-◌, ◌++◌, true, false, List, [], ◌∷◌, append-nil, append_assoc, length, length-append, Result, Ok, Err, drop, Some, None, refl, ap, sym, ◌∙◌, subst, arith}
-use Rattle.std.specs.Prelude.{IfErr, OnOk, OnErr}
+-- What `take_instructions` says of the bytes that are looked at, as what the peer's encoder stream makes of all of them.
+use Rattle.std.proofs.Common.{◌≡◌, ℕ, zero, suc, ◌-◌, ◌<◌, ◌≤◌, ◌⊎◌, inl, inr, ◌&&◌, nat_lt, if◌then◌else◌, Bool, true, false, List, [], ◌∷◌, ◌++◌, append-nil, append_assoc, length, take, drop, Option, Result, Ok, Err, Some, None, refl, ap, sym, ◌∙◌, subst, arith}
+use Rattle.std.specs.Prelude.{OnErr}
+use Rattle.std.proofs.lemmas.Bool.{cases_lt, lt-ltb, le-ltb}
+use Rattle.h3_field.specs.Reading.{Reading, Whole, Unfinished, Bad}
 use Rattle.h3_field.specs.Instruction.{EncoderInstruction}
-use Rattle.h3_field.specs.declared.decoder_error.DecoderError.{DecoderError}
+use Rattle.h3_field.specs.InstructionReading.{InstructionForm, instruction}
+use Rattle.h3_field.specs.InstructionLaws.{instruction_stable}
+use Rattle.h3_field.specs.ShorterLaws.{instruction_less}
+use Rattle.h3_field.specs.Values.{instruction_of}
+use Rattle.h3_field.specs.Waiting.{is_unfinished, goes_on, encoder_wait}
+use Rattle.h3_field.specs.WaitingLaws.{unfinished_is, encoder_waits}
+use Rattle.h3_proto.specs.Config.{is_limit}
 use Rattle.h3_qpack.specs.Increments.{increment_for}
-use Rattle.h3_qpack.specs.Instructions.{AreInstructions, NoInstruction, NextInstruction, HasRead}
-use Rattle.h3_qpack.specs.DecoderState.{DecoderState}
-use Rattle.h3_qpack.specs.SectionAnswers.{IsReasonFor}
-use Rattle.h3_qpack.specs.ReasonLaws.{reason_map}
-use Rattle.h3_qpack.specs.Hearing.{Heard, heard, hear, heard_then}
-use Rattle.h3_connection.specs.Codes.{encoder_stream_error}
-use Rattle.h3_connection.specs.Listeners.{Decoding, Hears, fault_if, heard_more, after_hearing, insertions_heard}
+use Rattle.h3_qpack.specs.Instructions.{AreInstructions, NoInstruction, NextInstruction, HasRead, BeginsBad}
+use Rattle.h3_qpack.specs.DecoderState.{DecoderState, decoder_after_all}
+use Rattle.h3_qpack.specs.Hearing.{Heard, heard, decoder_after_form, hear_next, hear_form, hear_within, hear}
 use Rattle.h3_qpack.specs.HearingLaws.{heard_is}
-use Rattle.h3_qpack.specs.StreamCutLaws.{cuts_are_heard_alike}
+use Rattle.h3_connection.specs.Codes.{encoder_stream_error, excessive_load}
+use Rattle.h3_connection.specs.ExcessiveInstructions.{exceeds, hear_limited, hear_up_to, heard_up_to_with}
+use Rattle.h3_connection.specs.ExcessiveInstructionLaws.{hear_cuts}
+use Rattle.h3_connection.specs.Listeners.{Decoding, Hears, fault_if, hearing_fault, heard_more, after_hearing, insertions_heard}
 use Rattle.h3_unidirectional.specs.Fronts.{HearsFront, StopsHearing}
+use Rattle.h3_unidirectional.specs.Windows.{window, is_longer, HearingEnds, HearsWindow}
+use Rattle.h3_unidirectional.proofs.Excess.{IsWithin, longer_goes_on, longer_beyond, told_beyond, wait_tells, unfinished_before}
 use Rattle.h3_unidirectional.proofs.InstructionFronts.{instruction_fronts}
+use Rattle.h3_unidirectional.proofs.WindowLaws.{looked_within, front_within, left_within, window_less, IsCut, cut_at, all_looked, none_read, fewer_left}
+
+-- Of bytes within the limit as much is heard as without one.
+alike_within : (steps most : ℕ) (r : DecoderState) (bytes : List ℕ) → IsWithin most bytes → hear_limited steps most r bytes ≡ hear_within steps r bytes
+alike_within zero most r bytes fits = refl
+alike_within (suc steps) most r bytes fits = by_test (exceeds most encoder_wait bytes) refl
+  where
+    by_next : (rest : List ℕ) (o : Option DecoderState) → IsWithin most rest → hear_next (hear_limited steps most) r bytes rest o ≡ hear_next (hear_within steps) r bytes rest o
+    by_next rest None within = refl
+    by_next rest (Some new) within = alike_within steps most new rest within
+
+    by_form : (x : Reading InstructionForm) → instruction bytes ≡ x → hear_form (hear_limited steps most) r bytes x ≡ hear_form (hear_within steps) r bytes x
+    by_form (Whole form rest) is = by_next rest (decoder_after_form r (instruction_of form)) (λ limit. let less = instruction_less bytes rest form is in omega (arith, less, fits limit))
+    by_form Unfinished is = refl
+    by_form Bad is = refl
+
+    by_test : (b : Bool) → exceeds most encoder_wait bytes ≡ b
+        → (if b then heard r bytes false else hear_form (hear_limited steps most) r bytes (instruction bytes)) ≡ hear_form (hear_within steps) r bytes (instruction bytes)
+    by_test true e =
+        let unfinished = unfinished_is (instruction bytes) (sym (encoder_waits bytes) ∙ longer_goes_on most encoder_wait bytes fits e) in
+        sym (ap (hear_form (hear_within steps) r bytes) unfinished)
+    by_test false e = by_form (instruction bytes) refl
+
+pub heard_within : (most : ℕ) (r : DecoderState) (bytes : List ℕ) → IsWithin most bytes → hear_up_to most r bytes ≡ hear r bytes
+unfolding hear hear_up_to
+heard_within most r bytes fits = alike_within (length bytes) most r bytes fits
+
+-- What is longer is not heard, and what is not whole is not.
+not_heard : (steps most : ℕ) (r : DecoderState) (bytes : List ℕ) (b : Bool) → exceeds most encoder_wait bytes ≡ b → (b ≡ false → instruction bytes ≡ Unfinished)
+    → (if b then heard r bytes false else hear_form (hear_limited steps most) r bytes (instruction bytes)) ≡ heard r bytes false
+not_heard steps most r bytes true e h = refl
+not_heard steps most r bytes false e h = ap (hear_form (hear_limited steps most) r bytes) (h refl)
+
+none_heard : (most : ℕ) (r : DecoderState) (bytes : List ℕ) → (exceeds most encoder_wait bytes ≡ false → instruction bytes ≡ Unfinished) → hear_up_to most r bytes ≡ heard r bytes false
+unfolding hear_up_to
+none_heard most r [] h = refl
+none_heard most r (byte ∷ bytes) h = not_heard (length bytes) most r (byte ∷ bytes) (exceeds most encoder_wait (byte ∷ bytes)) refl h
+
+waits_if : (bytes : List ℕ) → instruction bytes ≡ Unfinished → goes_on (encoder_wait bytes) ≡ true
+waits_if bytes e = encoder_waits bytes ∙ ap is_unfinished e
+
+pub ends_unfinished : (most : ℕ) (r : DecoderState) (left : List ℕ) → instruction left ≡ Unfinished → HearingEnds most r left
+ends_unfinished most r left e =
+    let before = unfinished_before instruction most left (instruction_stable (take most left) (drop most left)) e in
+    record { stays = none_heard most r left (λ within. e); told = wait_tells most encoder_wait left (waits_if (take most left) before) }
+
+ends_longer : (most : ℕ) (r : DecoderState) (left : List ℕ) → is_limit most ≡ true → most < length left → instruction (take most left) ≡ Unfinished → HearingEnds most r left
+ends_longer most r left limit more e =
+    let large = longer_beyond most encoder_wait left limit more (waits_if (take most left) e) in
+    record {
+      stays = none_heard most r left (λ within. absurd (let wrong : true ≡ false = sym large ∙ within in cc));
+      told = large ∙ sym (told_beyond most (length left) (encoder_wait left) limit more);
+    }
 
 -- the bytes of some instructions, whatever follows
 pub record AreFront (bytes left : List ℕ) (is : List EncoderInstruction) : Type 0 where
@@ -35,66 +97,119 @@ instructions_front bytes left (i ∷ is) (NextInstruction b rest l j js here oth
           (NextInstruction (f.front ++ (g.front ++ more)) (g.front ++ more) more i is (record { form = here.form; whole = f.alike (g.front ++ more); says = here.says }) (g.alike more));
     }
 
-pub dropped : (bytes front left : List ℕ) → bytes ≡ front ++ left → drop (length bytes - length left) bytes ≡ left
-dropped bytes front left is =
-    let sizes : length bytes - length left ≡ length front = omega (arith, ap length is, length-append front left) in
-    ap (λ n. drop n bytes) sizes ∙ ap (λ l. drop (length front) l) is ∙ behind front
-  where
-    behind : (xs : List ℕ) → drop (length xs) (xs ++ left) ≡ left
-    behind [] = refl
-    behind (x ∷ xs) = behind xs
-
--- what is left is what was not read
-left_is : (old new : DecoderState) (bytes left : List ℕ) → HasRead old new bytes left → drop (length bytes - length left) bytes ≡ left
-left_is old new bytes left read = let f = instructions_front bytes left read.instructions read.split in dropped bytes f.front left f.split
-
-pub hears : (old new : Decoding) (left before after : List ℕ) (is_bad : _) → hear old.decoder old.unread ≡ heard new.decoder left is_bad → new.unread ≡ left
-    → after ≡ before ++ increment_for (new.decoder.table.inserted - old.decoder.table.inserted) → Hears old new [] (fault_if is_bad encoder_stream_error) before after
-hears old new left before after is_bad is rest increment =
-    let all : heard_more old [] ≡ heard new.decoder left is_bad = ap (λ l. hear old.decoder l) (append-nil old.unread) ∙ is in
+-- a front, by what it leaves to whatever follows
+from_front : (most : ℕ) (old new : Decoding) (front : List ℕ) → old.unread ≡ front ++ new.unread → ((more : List ℕ) → hear_up_to most old.decoder (front ++ more) ≡ hear_up_to most new.decoder more) → HearsFront most old new
+from_front most old new front split goes_on =
     record {
-      table = ap (λ l. record { decoder = new.decoder; unread = l }) rest ∙ ap after_hearing (sym all);
-      fault = ap (λ (x : Heard). fault_if x.is_bad encoder_stream_error) (sym all);
+      front = front;
+      split = split;
+      heard = ap (hear_up_to most old.decoder) (sym (append-nil front)) ∙ goes_on [] ∙ none_heard most new.decoder [] (λ within. refl);
+      goes_on = goes_on;
+    }
+
+-- nothing is read
+pub no_hearing : (most : ℕ) (d : Decoding) → HearsFront most d d
+no_hearing most d = from_front most d d [] refl (λ more. refl)
+
+-- one front behind the other
+pub then_hears : (most : ℕ) (old mid new : Decoding) → HearsFront most old mid → HearsFront most mid new → HearsFront most old new
+then_hears most old mid new a b =
+    from_front most old new (a.front ++ b.front)
+    (a.split ∙ ap (λ l. a.front ++ l) b.split ∙ sym (append_assoc a.front b.front new.unread))
+    (λ more. ap (hear_up_to most old.decoder) (append_assoc a.front b.front more) ∙ a.goes_on (b.front ++ more) ∙ b.goes_on more)
+
+-- the bytes of whole instructions within the limit
+read_front : (most : ℕ) (old new : DecoderState) (front : List ℕ) (is : List EncoderInstruction) → IsWithin most front → ((more : List ℕ) → AreInstructions (front ++ more) is more) → decoder_after_all (Some old) is ≡ Some new
+    → (more : List ℕ) → hear_up_to most old (front ++ more) ≡ hear_up_to most new more
+read_front most old new front is fits alike table more =
+    let whole : hear_up_to most old front ≡ heard new [] false =
+    heard_within most old front fits
+    ∙ heard_is old front (heard new [] false)
+    (record { read = record { instructions = is; split = subst (λ x. AreInstructions x is []) (append-nil front) (alike []); table = table }; stops = refl }) in
+    hear_cuts most old front more ∙ ap (λ (h : Heard). heard_up_to_with most h more h.is_bad) whole
+
+-- What was read of the bytes that are looked at, of all bytes.
+pub record IsHeard (most : ℕ) (old new : DecoderState) (bytes left after : List ℕ) (taken : ℕ) : Type 0 where
+  pub front : List ℕ
+  pub parts : take (window most (length bytes)) bytes ≡ front ++ left
+  pub cut : IsCut most bytes front left after taken
+  pub hears : HearsFront most (record { decoder = old; unread = bytes }) (record { decoder = new; unread = after })
+
+pub window_heard : (most : ℕ) (old new : DecoderState) (bytes left after : List ℕ) (taken : ℕ) → HasRead old new (take (window most (length bytes)) bytes) left
+    → taken ≡ window most (length bytes) - length left → after ≡ drop taken bytes → IsHeard most old new bytes left after taken
+window_heard most old new bytes left after taken read count rest =
+    let f = instructions_front (take (window most (length bytes)) bytes) left read.instructions read.split in
+    let cut = cut_at most bytes f.front left after taken f.split count rest in
+    let fits = front_within most f.front left (subst (IsWithin most) f.split (looked_within most bytes)) in
+    record {
+      front = f.front;
+      parts = f.split;
+      cut = cut;
+      hears = from_front most (record { decoder = old; unread = bytes }) (record { decoder = new; unread = after }) f.front cut.split (read_front most old new f.front read.instructions fits f.alike read.table);
+    }
+
+pub window_ends : (most : ℕ) (old new : DecoderState) (bytes left after : List ℕ) (taken : ℕ) → IsHeard most old new bytes left after taken → instruction left ≡ Unfinished
+    → HearsWindow most new bytes after (nat_lt 0 taken && nat_lt (window most (length bytes)) (length bytes))
+window_ends most old new bytes left after taken h e = by_tests (cases_lt 0 taken) (cases_lt (window most (length bytes)) (length bytes))
+  where
+    all : length bytes ≤ window most (length bytes) → HearingEnds most new after
+    all few = subst (HearingEnds most new) (sym (all_looked most bytes h.front left after taken h.cut few)) (ends_unfinished most new left e)
+
+    some : taken ≤ 0 → window most (length bytes) < length bytes → HearingEnds most new after
+    some none more =
+        let limit = window_less most (length bytes) more in
+        let none_of = none_read most bytes h.front left after taken h.parts h.cut (omega (arith, none)) in
+        let unfinished : instruction (take most bytes) ≡ Unfinished = ap (λ k. instruction (take k bytes)) (sym limit.1) ∙ ap instruction (sym none_of.1) ∙ e in
+        subst (HearingEnds most new) (sym none_of.0) (ends_longer most new bytes limit.0 (omega (arith, limit.1, more)) unfinished)
+
+    by_tests : (0 < taken) ⊎ (taken ≤ 0) → (window most (length bytes) < length bytes) ⊎ (length bytes ≤ window most (length bytes))
+        → HearsWindow most new bytes after (nat_lt 0 taken && nat_lt (window most (length bytes)) (length bytes))
+    by_tests (inl read) (inl more) = rw (lt-ltb 0 taken read, lt-ltb (window most (length bytes)) (length bytes) more) (fewer_left most bytes h.front left after taken h.cut read)
+    by_tests (inl read) (inr few) = rw (lt-ltb 0 taken read, le-ltb (window most (length bytes)) (length bytes) few) (all few)
+    by_tests (inr none) (inl more) = rw (le-ltb 0 taken none) (some none more)
+    by_tests (inr none) (inr few) = rw (le-ltb 0 taken none) (all few)
+
+pub window_bad : (most : ℕ) (old new : DecoderState) (bytes left after : List ℕ) (taken : ℕ) → IsHeard most old new bytes left after taken → BeginsBad new left → hear_up_to most new after ≡ heard new after true
+window_bad most old new bytes left after taken h bad =
+    let fits = left_within most h.front left (subst (IsWithin most) h.parts (looked_within most bytes)) in
+    let here : hear_up_to most new left ≡ heard new left true =
+    heard_within most new left fits ∙ heard_is new left (heard new left true) (record { read = record { instructions = []; split = NoInstruction left; table = refl }; stops = bad }) in
+    ap (hear_up_to most new) h.cut.after_is ∙ hear_cuts most new left h.cut.others
+    ∙ ap (λ (x : Heard). heard_up_to_with most x h.cut.others x.is_bad) here ∙ ap (λ l. heard new l true) (sym h.cut.after_is)
+
+-- all of what was unread, and what is answered
+all_heard : (most : ℕ) (old new : Decoding) (is_bad : Bool) → HearsFront most old new → hear_up_to most new.decoder new.unread ≡ heard new.decoder new.unread is_bad → heard_more most old [] ≡ heard new.decoder new.unread is_bad
+all_heard most old new is_bad h e = ap (hear_up_to most old.decoder) (append-nil old.unread ∙ h.split) ∙ h.goes_on new.unread ∙ e
+
+hears : (most : ℕ) (old new : Decoding) (is_bad : Bool) (code : Option ℕ) (before after : List ℕ) → heard_more most old [] ≡ heard new.decoder new.unread is_bad → code ≡ hearing_fault most (heard new.decoder new.unread is_bad)
+    → after ≡ before ++ increment_for (new.decoder.table.inserted - old.decoder.table.inserted) → Hears most old new [] code before after
+hears most old new is_bad code before after all fault increment =
+    record {
+      table = ap after_hearing (sym all);
+      fault = fault ∙ ap (hearing_fault most) (sym all);
       increment = increment ∙ ap (λ (x : Heard). before ++ increment_for (insertions_heard old x)) (sym all);
     }
 
-pub hears_ok : (r : Result ℕ DecoderError) (old new : Decoding) (left before after : List ℕ) → HasRead old.decoder new.decoder old.unread left → OnOk r (hear old.decoder old.unread ≡ heard new.decoder left false)
-    → new.unread ≡ drop (length old.unread - length left) old.unread → after ≡ before ++ increment_for (new.decoder.table.inserted - old.decoder.table.inserted) → OnOk r (Hears old new [] None before after)
-hears_ok (Ok n) old new left before after read value rest increment = hears old new left before after false value (rest ∙ left_is old.decoder new.decoder old.unread left read) increment
-hears_ok (Err e) old new left before after read value rest increment = tt
+pub hears_ends : (most : ℕ) (old new : Decoding) (code : Option ℕ) (before after : List ℕ) → HearsFront most old new → HearingEnds most new.decoder new.unread
+    → code ≡ fault_if (is_longer most (length new.unread) (encoder_wait new.unread)) excessive_load → after ≡ before ++ increment_for (new.decoder.table.inserted - old.decoder.table.inserted) → Hears most old new [] code before after
+hears_ends most old new code before after h ends fault increment =
+    hears most old new false code before after (all_heard most old new false h ends.stays) (fault ∙ ap (λ b. fault_if b excessive_load) (sym ends.told)) increment
 
-pub hears_err : (r : Result ℕ DecoderError) (old new : Decoding) (left before after : List ℕ) → HasRead old.decoder new.decoder old.unread left
-    → IfErr r (IsReasonFor (hear old.decoder old.unread ≡ heard new.decoder left true) (λ count. ⊥))
-    → new.unread ≡ drop (length old.unread - length left) old.unread → after ≡ before ++ increment_for (new.decoder.table.inserted - old.decoder.table.inserted) → IfErr r (IsReasonFor (Hears old new [] (Some encoder_stream_error) before after) (λ count. ⊥))
-hears_err (Ok n) old new left before after read bad rest increment = tt
-hears_err (Err e) old new left before after read bad rest increment =
-    reason_map _ _ e (λ is. hears old new left before after true is (rest ∙ left_is old.decoder new.decoder old.unread left read) increment) bad
-
--- whole instructions were read, whatever the answer
-pub hears_to : (old new : Decoding) (left : List ℕ) → HasRead old.decoder new.decoder old.unread left → new.unread ≡ drop (length old.unread - length left) old.unread → HearsFront old new
-hears_to old new left read rest =
-    let f = instructions_front old.unread left read.instructions read.split in
-    let whole : hear old.decoder f.front ≡ heard new.decoder [] false =
-    heard_is old.decoder f.front (heard new.decoder [] false)
-    (record { read = record { instructions = read.instructions; split = subst (λ x. AreInstructions x read.instructions []) (append-nil f.front) (f.alike []); table = read.table }; stops = refl }) in
-    record {
-      front = f.front;
-      split = f.split ∙ ap (λ l. f.front ++ l) (sym (rest ∙ dropped old.unread f.front left f.split));
-      heard = whole;
-      goes_on = λ more. cuts_are_heard_alike old.decoder f.front more ∙ ap (λ h. heard_then h more) whole;
-    }
+pub hears_bad : (most : ℕ) (old new : Decoding) (before after : List ℕ) → HearsFront most old new → hear_up_to most new.decoder new.unread ≡ heard new.decoder new.unread true
+    → after ≡ before ++ increment_for (new.decoder.table.inserted - old.decoder.table.inserted) → Hears most old new [] (Some encoder_stream_error) before after
+hears_bad most old new before after h bad increment = hears most old new true (Some encoder_stream_error) before after (all_heard most old new true h bad) refl increment
 
 -- where memory is refused, they stand
-pub hearing_stopped : {A E : Type 0} (r : Result A E) (old new : Decoding) → HearsFront old new → OnErr r (StopsHearing old new)
-hearing_stopped (Ok done) old new h = tt
-hearing_stopped (Err e) old new h =
+pub hearing_stopped : {A E : Type 0} (r : Result A E) (most : ℕ) (old new : Decoding) → HearsFront most old new → OnErr r (StopsHearing most old new)
+hearing_stopped (Ok done) most old new h = tt
+hearing_stopped (Err e) most old new h =
     record {
       part = record {
         front = h.front;
         rest = new.unread;
         cut = h.split;
-        good = ap (λ (x : Heard). x.is_bad) h.heard;
+        good = ap (hearing_fault most) h.heard;
         left = ap (λ (x : Heard). record { decoder = x.decoder; unread = x.left ++ new.unread }) (sym h.heard);
       };
-      resumes = λ more. sym (ap (λ l. hear old.decoder (l ++ more)) h.split ∙ ap (λ l. hear old.decoder l) (append_assoc h.front new.unread more) ∙ h.goes_on (new.unread ++ more));
+      resumes = λ more. sym (ap (λ l. hear_up_to most old.decoder (l ++ more)) h.split ∙ ap (hear_up_to most old.decoder) (append_assoc h.front new.unread more) ∙ h.goes_on (new.unread ++ more));
     }
