@@ -1,5 +1,5 @@
 -- When an instruction is longer than the limit, by what it waits for.
-use Rattle.std.proofs.Common.{◌≡◌, ℕ, zero, suc, ◌+◌, ◌<◌, ◌≤◌, Bool, true, false, ◌&&◌, nat_lt, List, [], ◌∷◌, ◌++◌, length, take, drop, refl, ap, ap₂, sym, ◌∙◌, subst, arith, inl, inr}
+use Rattle.std.proofs.Common.{◌≡◌, ℕ, ◌+◌, ◌<◌, ◌≤◌, Bool, true, false, ◌&&◌, nat_lt, List, [], ◌∷◌, ◌++◌, length, take, drop, refl, ap, sym, ◌∙◌, arith, inl, inr}
 use Rattle.std.proofs.lemmas.Bool.{and_from, and_parts, and_right, cases_lt, lt-ltb, ltb-true}
 use Rattle.std.proofs.lemmas.List.{length-take-le, take-append-drop, take_all}
 use Rattle.h3_field.specs.Reading.{Reading, Whole, Unfinished, Bad, Stays}
@@ -18,21 +18,6 @@ pub some_missing : (w : Wait) → goes_on w ≡ true → 0 < missing w
 some_missing wait.Nothing e = absurd (cc)
 some_missing wait.Integer e = omega arith
 some_missing (wait.Bytes count) e = ltb-true 0 count e
-
-goes_if_missing : (w : Wait) → 0 < missing w → goes_on w ≡ true
-goes_if_missing wait.Nothing h = absurd (omega (arith, h))
-goes_if_missing wait.Integer h = refl
-goes_if_missing (wait.Bytes count) h = lt-ltb 0 count h
-
--- What is longer than the limit and has come within it is not whole.
-pub longer_goes_on : (most : ℕ) (waiting : List ℕ → Wait) (bytes : List ℕ) → IsWithin most bytes → exceeds most waiting bytes ≡ true → goes_on (waiting bytes) ≡ true
-longer_goes_on most waiting [] fits e = absurd (cc)
-longer_goes_on most waiting (first ∷ rest) fits e =
-    let parts = and_parts (is_limit most) (nat_lt most (length (take most (first ∷ rest)) + missing (waiting (take most (first ∷ rest))))) e in
-    let all : take most (first ∷ rest) ≡ first ∷ rest = take_all most (first ∷ rest) (fits parts.0) in
-    let above : most < length (take most (first ∷ rest)) + missing (waiting (take most (first ∷ rest))) = ltb-true most _ parts.1 in
-    let here : most < length (first ∷ rest) + missing (waiting (first ∷ rest)) = subst (λ l. most < length l + missing (waiting l)) all above in
-    goes_if_missing (waiting (first ∷ rest)) (omega (arith, here, fits parts.0))
 
 -- What is not whole within the limit, where more came, is longer.
 pub longer_beyond : (most : ℕ) (waiting : List ℕ → Wait) (bytes : List ℕ) → is_limit most ≡ true → most < length bytes → goes_on (waiting (take most bytes)) ≡ true → exceeds most waiting bytes ≡ true

@@ -1,66 +1,44 @@
 -- What `take_instructions` says of the bytes that are looked at, as what the peer's encoder stream makes of all of them.
-use Rattle.std.proofs.Common.{◌≡◌, ℕ, zero, suc, ◌-◌, ◌<◌, ◌≤◌, ◌⊎◌, inl, inr, ◌&&◌, nat_lt, if◌then◌else◌, Bool, true, false, List, [], ◌∷◌, ◌++◌, append-nil, append_assoc, length, take, drop, Option, Result, Ok, Err, Some, None, refl, ap, sym, ◌∙◌, subst, arith}
+use Rattle.std.proofs.Common.{◌≡◌, ℕ, ◌-◌, ◌<◌, ◌≤◌, ◌⊎◌, inl, inr, ◌&&◌, nat_lt, Bool, true, false, List, [], ◌∷◌, ◌++◌, append-nil, append_assoc, length, take, drop, Option, Result, Ok, Err, Some, None, refl, ap, sym, ◌∙◌, subst, arith}
 use Rattle.std.specs.Prelude.{OnErr}
 use Rattle.std.proofs.lemmas.Bool.{cases_lt, lt-ltb, le-ltb}
-use Rattle.h3_field.specs.Reading.{Reading, Whole, Unfinished, Bad}
+use Rattle.h3_field.specs.Reading.{Unfinished}
 use Rattle.h3_field.specs.Instruction.{EncoderInstruction}
-use Rattle.h3_field.specs.InstructionReading.{InstructionForm, instruction}
+use Rattle.h3_field.specs.InstructionReading.{instruction}
 use Rattle.h3_field.specs.InstructionLaws.{instruction_stable}
-use Rattle.h3_field.specs.ShorterLaws.{instruction_less}
-use Rattle.h3_field.specs.Values.{instruction_of}
 use Rattle.h3_field.specs.Waiting.{is_unfinished, goes_on, encoder_wait}
-use Rattle.h3_field.specs.WaitingLaws.{unfinished_is, encoder_waits}
+use Rattle.h3_field.specs.WaitingLaws.{encoder_waits}
 use Rattle.h3_proto.specs.Config.{is_limit}
 use Rattle.h3_qpack.specs.Increments.{increment_for}
 use Rattle.h3_qpack.specs.Instructions.{AreInstructions, NoInstruction, NextInstruction, HasRead, BeginsBad}
 use Rattle.h3_qpack.specs.DecoderState.{DecoderState, decoder_after_all}
-use Rattle.h3_qpack.specs.Hearing.{Heard, heard, decoder_after_form, hear_next, hear_form, hear_within, hear}
+use Rattle.h3_qpack.specs.Hearing.{Heard, heard, hear_form, hear}
 use Rattle.h3_qpack.specs.HearingLaws.{heard_is}
 use Rattle.h3_connection.specs.Codes.{encoder_stream_error, excessive_load}
-use Rattle.h3_connection.specs.ExcessiveInstructions.{exceeds, hear_limited, hear_up_to, heard_up_to_with}
-use Rattle.h3_connection.specs.ExcessiveInstructionLaws.{hear_cuts}
+use Rattle.h3_connection.specs.ExcessiveInstructions.{exceeds, hear_up_to, heard_up_to_with}
+use Rattle.h3_connection.specs.LimitedHearingLaws.{hears_no_longer, hears_within, hear_unlimited, hear_short, hear_cut}
 use Rattle.h3_connection.specs.Listeners.{Decoding, Hears, fault_if, hearing_fault, heard_more, after_hearing, insertions_heard}
 use Rattle.h3_unidirectional.specs.Fronts.{HearsFront, StopsHearing}
 use Rattle.h3_unidirectional.specs.Windows.{window, is_longer, HearingEnds, HearsWindow}
-use Rattle.h3_unidirectional.proofs.Excess.{IsWithin, longer_goes_on, longer_beyond, told_beyond, wait_tells, unfinished_before}
+use Rattle.h3_unidirectional.proofs.Excess.{IsWithin, longer_beyond, told_beyond, wait_tells, unfinished_before}
 use Rattle.h3_unidirectional.proofs.InstructionFronts.{instruction_fronts}
 use Rattle.h3_unidirectional.proofs.WindowLaws.{looked_within, front_within, left_within, window_less, IsCut, cut_at, all_looked, none_read, fewer_left}
 
 -- Of bytes within the limit as much is heard as without one.
-alike_within : (steps most : ℕ) (r : DecoderState) (bytes : List ℕ) → IsWithin most bytes → hear_limited steps most r bytes ≡ hear_within steps r bytes
-alike_within zero most r bytes fits = refl
-alike_within (suc steps) most r bytes fits = by_test (exceeds most encoder_wait bytes) refl
-  where
-    by_next : (rest : List ℕ) (o : Option DecoderState) → IsWithin most rest → hear_next (hear_limited steps most) r bytes rest o ≡ hear_next (hear_within steps) r bytes rest o
-    by_next rest None within = refl
-    by_next rest (Some new) within = alike_within steps most new rest within
+heard_if : (b : Bool) (most : ℕ) (r : DecoderState) (bytes : List ℕ) → is_limit most ≡ b → IsWithin most bytes → hear_up_to most r bytes ≡ hear r bytes
+heard_if true most r bytes limit fits = hear_short most r bytes (fits limit)
+heard_if false most r bytes none fits = hear_unlimited most r bytes none
 
-    by_form : (x : Reading InstructionForm) → instruction bytes ≡ x → hear_form (hear_limited steps most) r bytes x ≡ hear_form (hear_within steps) r bytes x
-    by_form (Whole form rest) is = by_next rest (decoder_after_form r (instruction_of form)) (λ limit. let less = instruction_less bytes rest form is in omega (arith, less, fits limit))
-    by_form Unfinished is = refl
-    by_form Bad is = refl
-
-    by_test : (b : Bool) → exceeds most encoder_wait bytes ≡ b
-        → (if b then heard r bytes false else hear_form (hear_limited steps most) r bytes (instruction bytes)) ≡ hear_form (hear_within steps) r bytes (instruction bytes)
-    by_test true e =
-        let unfinished = unfinished_is (instruction bytes) (sym (encoder_waits bytes) ∙ longer_goes_on most encoder_wait bytes fits e) in
-        sym (ap (hear_form (hear_within steps) r bytes) unfinished)
-    by_test false e = by_form (instruction bytes) refl
-
-pub heard_within : (most : ℕ) (r : DecoderState) (bytes : List ℕ) → IsWithin most bytes → hear_up_to most r bytes ≡ hear r bytes
-unfolding hear hear_up_to
-heard_within most r bytes fits = alike_within (length bytes) most r bytes fits
+heard_within : (most : ℕ) (r : DecoderState) (bytes : List ℕ) → IsWithin most bytes → hear_up_to most r bytes ≡ hear r bytes
+heard_within most r bytes fits = heard_if (is_limit most) most r bytes refl fits
 
 -- What is longer is not heard, and what is not whole is not.
-not_heard : (steps most : ℕ) (r : DecoderState) (bytes : List ℕ) (b : Bool) → exceeds most encoder_wait bytes ≡ b → (b ≡ false → instruction bytes ≡ Unfinished)
-    → (if b then heard r bytes false else hear_form (hear_limited steps most) r bytes (instruction bytes)) ≡ heard r bytes false
-not_heard steps most r bytes true e h = refl
-not_heard steps most r bytes false e h = ap (hear_form (hear_limited steps most) r bytes) (h refl)
+unheard_if : (b : Bool) (most : ℕ) (r : DecoderState) (bytes : List ℕ) → exceeds most encoder_wait bytes ≡ b → (b ≡ false → instruction bytes ≡ Unfinished) → hear_up_to most r bytes ≡ heard r bytes false
+unheard_if true most r bytes longer h = hears_no_longer most r bytes longer
+unheard_if false most r bytes within h = hears_within most r bytes within ∙ ap (hear_form (hear_up_to most) r bytes) (h refl)
 
-none_heard : (most : ℕ) (r : DecoderState) (bytes : List ℕ) → (exceeds most encoder_wait bytes ≡ false → instruction bytes ≡ Unfinished) → hear_up_to most r bytes ≡ heard r bytes false
-unfolding hear_up_to
-none_heard most r [] h = refl
-none_heard most r (byte ∷ bytes) h = not_heard (length bytes) most r (byte ∷ bytes) (exceeds most encoder_wait (byte ∷ bytes)) refl h
+unheard : (most : ℕ) (r : DecoderState) (bytes : List ℕ) → (exceeds most encoder_wait bytes ≡ false → instruction bytes ≡ Unfinished) → hear_up_to most r bytes ≡ heard r bytes false
+unheard most r bytes h = unheard_if (exceeds most encoder_wait bytes) most r bytes refl h
 
 waits_if : (bytes : List ℕ) → instruction bytes ≡ Unfinished → goes_on (encoder_wait bytes) ≡ true
 waits_if bytes e = encoder_waits bytes ∙ ap is_unfinished e
@@ -68,13 +46,13 @@ waits_if bytes e = encoder_waits bytes ∙ ap is_unfinished e
 pub ends_unfinished : (most : ℕ) (r : DecoderState) (left : List ℕ) → instruction left ≡ Unfinished → HearingEnds most r left
 ends_unfinished most r left e =
     let before = unfinished_before instruction most left (instruction_stable (take most left) (drop most left)) e in
-    record { stays = none_heard most r left (λ within. e); told = wait_tells most encoder_wait left (waits_if (take most left) before) }
+    record { stays = unheard most r left (λ within. e); told = wait_tells most encoder_wait left (waits_if (take most left) before) }
 
 ends_longer : (most : ℕ) (r : DecoderState) (left : List ℕ) → is_limit most ≡ true → most < length left → instruction (take most left) ≡ Unfinished → HearingEnds most r left
 ends_longer most r left limit more e =
     let large = longer_beyond most encoder_wait left limit more (waits_if (take most left) e) in
     record {
-      stays = none_heard most r left (λ within. absurd (let wrong : true ≡ false = sym large ∙ within in cc));
+      stays = unheard most r left (λ within. absurd (let wrong : true ≡ false = sym large ∙ within in cc));
       told = large ∙ sym (told_beyond most (length left) (encoder_wait left) limit more);
     }
 
@@ -103,7 +81,7 @@ from_front most old new front split goes_on =
     record {
       front = front;
       split = split;
-      heard = ap (hear_up_to most old.decoder) (sym (append-nil front)) ∙ goes_on [] ∙ none_heard most new.decoder [] (λ within. refl);
+      heard = ap (hear_up_to most old.decoder) (sym (append-nil front)) ∙ goes_on [] ∙ unheard most new.decoder [] (λ within. refl);
       goes_on = goes_on;
     }
 
@@ -126,7 +104,7 @@ read_front most old new front is fits alike table more =
     heard_within most old front fits
     ∙ heard_is old front (heard new [] false)
     (record { read = record { instructions = is; split = subst (λ x. AreInstructions x is []) (append-nil front) (alike []); table = table }; stops = refl }) in
-    hear_cuts most old front more ∙ ap (λ (h : Heard). heard_up_to_with most h more h.is_bad) whole
+    hear_cut most old front more ∙ ap (λ (h : Heard). heard_up_to_with most h more h.is_bad) whole
 
 -- What was read of the bytes that are looked at, of all bytes.
 pub record IsHeard (most : ℕ) (old new : DecoderState) (bytes left after : List ℕ) (taken : ℕ) : Type 0 where
@@ -174,7 +152,7 @@ window_bad most old new bytes left after taken h bad =
     let fits = left_within most h.front left (subst (IsWithin most) h.parts (looked_within most bytes)) in
     let here : hear_up_to most new left ≡ heard new left true =
     heard_within most new left fits ∙ heard_is new left (heard new left true) (record { read = record { instructions = []; split = NoInstruction left; table = refl }; stops = bad }) in
-    ap (hear_up_to most new) h.cut.after_is ∙ hear_cuts most new left h.cut.others
+    ap (hear_up_to most new) h.cut.after_is ∙ hear_cut most new left h.cut.others
     ∙ ap (λ (x : Heard). heard_up_to_with most x h.cut.others x.is_bad) here ∙ ap (λ l. heard new l true) (sym h.cut.after_is)
 
 -- all of what was unread, and what is answered

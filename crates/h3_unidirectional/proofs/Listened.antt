@@ -1,70 +1,49 @@
 -- What `on_decoder_recv` says of the bytes that are looked at, as what the peer's decoder stream makes of all of them.
-use Rattle.std.proofs.Common.{◌≡◌, ℕ, zero, suc, ◌-◌, ◌<◌, ◌≤◌, ◌⊎◌, inl, inr, ◌&&◌, nat_lt, if◌then◌else◌, Bool, true, false, List, [], ◌∷◌, ◌++◌, append-nil, append_assoc, length, take, drop, Option, Some, None, Result, Ok, Err, refl, ap, sym, ◌∙◌, subst, arith}
+use Rattle.std.proofs.Common.{◌≡◌, ℕ, ◌-◌, ◌<◌, ◌≤◌, ◌⊎◌, inl, inr, ◌&&◌, nat_lt, Bool, true, false, List, [], ◌∷◌, ◌++◌, append-nil, append_assoc, length, take, drop, Option, Some, None, Result, Ok, Err, refl, ap, sym, ◌∙◌, subst, arith}
 use Rattle.std.specs.Prelude.{IfOk, OnErr}
 use Rattle.std.specs.Result.{is_ok}
 use Rattle.std.proofs.lemmas.Bool.{cases_lt, lt-ltb, le-ltb}
-use Rattle.h3_field.specs.Reading.{Reading, Whole, Unfinished, Bad}
+use Rattle.h3_field.specs.Reading.{Unfinished}
 use Rattle.h3_field.specs.Instruction.{DecoderInstruction}
 use Rattle.h3_field.specs.InstructionReading.{decoder_instruction}
 use Rattle.h3_field.specs.InstructionLaws.{decoder_instruction_stable}
-use Rattle.h3_field.specs.ShorterLaws.{decoder_instruction_less}
 use Rattle.h3_field.specs.Waiting.{is_unfinished, goes_on, decoder_wait}
-use Rattle.h3_field.specs.WaitingLaws.{unfinished_is, decoder_waits}
+use Rattle.h3_field.specs.WaitingLaws.{decoder_waits}
 use Rattle.h3_field.specs.declared.encoder_error.EncoderError.{EncoderError}
 use Rattle.h3_field.specs.declared.encoder_error.EncoderError.TheVariants.{Insertion, InvalidInteger, InvalidString, UnknownDecoderInstruction, OutOfMemory}
 use Rattle.h3_proto.specs.Config.{is_limit}
-use Rattle.h3_qpack.specs.EncoderHistory.{EncoderHistory, encoder_after, encoder_after_all, is_refused}
+use Rattle.h3_qpack.specs.EncoderHistory.{EncoderHistory, encoder_after_all}
 use Rattle.h3_qpack.specs.EncoderState.{EncoderState, encoder_state}
 use Rattle.h3_qpack.specs.EncoderAnswers.{HasReadDecoderInstructions, IsLeft}
 use Rattle.h3_qpack.specs.Instructions.{AreDecoderInstructions, NoDecoderInstruction, NextDecoderInstruction, AreAccepted, BeginsRefused}
-use Rattle.h3_qpack.specs.Hearing.{Listened, listened, listen_next, listen_form, listen_within, listen}
+use Rattle.h3_qpack.specs.Hearing.{Listened, listened, listen_form, listen}
 use Rattle.h3_qpack.specs.HearingLaws.{listened_is}
 use Rattle.h3_connection.specs.Codes.{decoder_stream_error, excessive_load}
-use Rattle.h3_connection.specs.ExcessiveInstructions.{exceeds, listen_limited, listen_up_to, listened_up_to_with}
-use Rattle.h3_connection.specs.ExcessiveInstructionLaws.{listen_cuts}
+use Rattle.h3_connection.specs.ExcessiveInstructions.{exceeds, listen_up_to, listened_up_to_with}
+use Rattle.h3_connection.specs.LimitedListeningLaws.{listens_no_longer, listens_within, listen_unlimited, listen_short, listen_cut}
 use Rattle.h3_connection.specs.Listeners.{Encoding, Listens, fault_if, listening_fault}
 use Rattle.h3_unidirectional.specs.Faults.{IsReplyFaultOf, UnlessMemory}
 use Rattle.h3_unidirectional.specs.Fronts.{ListensFront, StopsListening}
 use Rattle.h3_unidirectional.specs.Windows.{window, is_longer, ListeningEnds, ListensWindow, IsRefusedAt}
-use Rattle.h3_unidirectional.proofs.Excess.{IsWithin, longer_goes_on, longer_beyond, told_beyond, wait_tells, unfinished_before}
+use Rattle.h3_unidirectional.proofs.Excess.{IsWithin, longer_beyond, told_beyond, wait_tells, unfinished_before}
 use Rattle.h3_unidirectional.proofs.InstructionFronts.{decoder_instruction_fronts}
 use Rattle.h3_unidirectional.proofs.WindowLaws.{looked_within, front_within, left_within, window_less, IsCut, cut_at, all_looked, none_read, fewer_left}
 
 -- Of bytes within the limit as much is read as without one.
-alike_within : (steps most : ℕ) (s : EncoderHistory) (bytes : List ℕ) → IsWithin most bytes → listen_limited steps most s bytes ≡ listen_within steps s bytes
-alike_within zero most s bytes fits = refl
-alike_within (suc steps) most s bytes fits = by_test (exceeds most decoder_wait bytes) refl
-  where
-    by_next : (i : DecoderInstruction) (rest : List ℕ) (b : Bool) → IsWithin most rest → listen_next (listen_limited steps most) s bytes i rest b ≡ listen_next (listen_within steps) s bytes i rest b
-    by_next i rest true within = refl
-    by_next i rest false within = alike_within steps most (encoder_after s i) rest within
+listened_if : (b : Bool) (most : ℕ) (s : EncoderHistory) (bytes : List ℕ) → is_limit most ≡ b → IsWithin most bytes → listen_up_to most s bytes ≡ listen s bytes
+listened_if true most s bytes limit fits = listen_short most s bytes (fits limit)
+listened_if false most s bytes none fits = listen_unlimited most s bytes none
 
-    by_form : (x : Reading DecoderInstruction) → decoder_instruction bytes ≡ x → listen_form (listen_limited steps most) s bytes x ≡ listen_form (listen_within steps) s bytes x
-    by_form (Whole i rest) is = by_next i rest (is_refused s i) (λ limit. let less = decoder_instruction_less bytes rest i is in omega (arith, less, fits limit))
-    by_form Unfinished is = refl
-    by_form Bad is = refl
-
-    by_test : (b : Bool) → exceeds most decoder_wait bytes ≡ b
-        → (if b then listened s bytes false else listen_form (listen_limited steps most) s bytes (decoder_instruction bytes)) ≡ listen_form (listen_within steps) s bytes (decoder_instruction bytes)
-    by_test true e =
-        let unfinished = unfinished_is (decoder_instruction bytes) (sym (decoder_waits bytes) ∙ longer_goes_on most decoder_wait bytes fits e) in
-        sym (ap (listen_form (listen_within steps) s bytes) unfinished)
-    by_test false e = by_form (decoder_instruction bytes) refl
-
-pub listened_within : (most : ℕ) (s : EncoderHistory) (bytes : List ℕ) → IsWithin most bytes → listen_up_to most s bytes ≡ listen s bytes
-unfolding listen listen_up_to
-listened_within most s bytes fits = alike_within (length bytes) most s bytes fits
+listened_within : (most : ℕ) (s : EncoderHistory) (bytes : List ℕ) → IsWithin most bytes → listen_up_to most s bytes ≡ listen s bytes
+listened_within most s bytes fits = listened_if (is_limit most) most s bytes refl fits
 
 -- What is longer is not read, and what is not whole is not.
-not_listened : (steps most : ℕ) (s : EncoderHistory) (bytes : List ℕ) (b : Bool) → (b ≡ false → decoder_instruction bytes ≡ Unfinished)
-    → (if b then listened s bytes false else listen_form (listen_limited steps most) s bytes (decoder_instruction bytes)) ≡ listened s bytes false
-not_listened steps most s bytes true h = refl
-not_listened steps most s bytes false h = ap (listen_form (listen_limited steps most) s bytes) (h refl)
+unread_if : (b : Bool) (most : ℕ) (s : EncoderHistory) (bytes : List ℕ) → exceeds most decoder_wait bytes ≡ b → (b ≡ false → decoder_instruction bytes ≡ Unfinished) → listen_up_to most s bytes ≡ listened s bytes false
+unread_if true most s bytes longer h = listens_no_longer most s bytes longer
+unread_if false most s bytes within h = listens_within most s bytes within ∙ ap (listen_form (listen_up_to most) s bytes) (h refl)
 
-none_listened : (most : ℕ) (s : EncoderHistory) (bytes : List ℕ) → (exceeds most decoder_wait bytes ≡ false → decoder_instruction bytes ≡ Unfinished) → listen_up_to most s bytes ≡ listened s bytes false
-unfolding listen_up_to
-none_listened most s [] h = refl
-none_listened most s (byte ∷ bytes) h = not_listened (length bytes) most s (byte ∷ bytes) (exceeds most decoder_wait (byte ∷ bytes)) h
+stays_unread : (most : ℕ) (s : EncoderHistory) (bytes : List ℕ) → (exceeds most decoder_wait bytes ≡ false → decoder_instruction bytes ≡ Unfinished) → listen_up_to most s bytes ≡ listened s bytes false
+stays_unread most s bytes h = unread_if (exceeds most decoder_wait bytes) most s bytes refl h
 
 waits_if : (bytes : List ℕ) → decoder_instruction bytes ≡ Unfinished → goes_on (decoder_wait bytes) ≡ true
 waits_if bytes e = decoder_waits bytes ∙ ap is_unfinished e
@@ -72,13 +51,13 @@ waits_if bytes e = decoder_waits bytes ∙ ap is_unfinished e
 pub ends_unfinished : (most : ℕ) (left : List ℕ) → decoder_instruction left ≡ Unfinished → ListeningEnds most left
 ends_unfinished most left e =
     let before = unfinished_before decoder_instruction most left (decoder_instruction_stable (take most left) (drop most left)) e in
-    record { stays = λ s. none_listened most s left (λ within. e); told = wait_tells most decoder_wait left (waits_if (take most left) before) }
+    record { stays = λ s. stays_unread most s left (λ within. e); told = wait_tells most decoder_wait left (waits_if (take most left) before) }
 
 ends_longer : (most : ℕ) (left : List ℕ) → is_limit most ≡ true → most < length left → decoder_instruction (take most left) ≡ Unfinished → ListeningEnds most left
 ends_longer most left limit more e =
     let large = longer_beyond most decoder_wait left limit more (waits_if (take most left) e) in
     record {
-      stays = λ s. none_listened most s left (λ within. absurd (let wrong : true ≡ false = sym large ∙ within in cc));
+      stays = λ s. stays_unread most s left (λ within. absurd (let wrong : true ≡ false = sym large ∙ within in cc));
       told = large ∙ sym (told_beyond most (length left) (decoder_wait left) limit more);
     }
 
@@ -110,7 +89,7 @@ from_front most s after old new front state split goes_on =
       state = state;
       front = front;
       split = split;
-      listened = ap (listen_up_to most s) (sym (append-nil front)) ∙ goes_on [] ∙ none_listened most after [] (λ within. refl);
+      listened = ap (listen_up_to most s) (sym (append-nil front)) ∙ goes_on [] ∙ stays_unread most after [] (λ within. refl);
       goes_on = goes_on;
     }
 
@@ -135,7 +114,7 @@ read_front most s front is fits alike accepted more =
     listened_within most s front fits
     ∙ listened_is s front (listened after [] false)
     (record { instructions = is; split = subst (λ x. AreDecoderInstructions x is []) (append-nil front) (alike []); accepted = accepted; after = refl; stops = refl }) in
-    listen_cuts most s front more ∙ ap (λ (l : Listened). listened_up_to_with most l more l.is_bad) whole
+    listen_cut most s front more ∙ ap (λ (l : Listened). listened_up_to_with most l more l.is_bad) whole
 
 -- What was read of the bytes that are looked at, of all bytes.
 pub record IsListened (most : ℕ) (old new : EncoderState) (bytes left after : List ℕ) (taken : ℕ) : Type 0 where
@@ -185,7 +164,7 @@ refused_at most s left others fits bad =
     let here : listen_up_to most s left ≡ listened s left true =
     listened_within most s left fits
     ∙ listened_is s left (listened s left true) (record { instructions = []; split = NoDecoderInstruction left; accepted = tt; after = refl; stops = bad }) in
-    listen_cuts most s left others ∙ ap (λ (x : Listened). listened_up_to_with most x others x.is_bad) here
+    listen_cut most s left others ∙ ap (λ (x : Listened). listened_up_to_with most x others x.is_bad) here
 
 unless_memory : (e : EncoderError) (P : Type 0) → ((e ≡ OutOfMemory → ⊥) → P) → UnlessMemory e P
 unless_memory OutOfMemory P h = tt

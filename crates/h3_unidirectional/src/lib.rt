@@ -5,7 +5,7 @@
 pub mod control;
 pub mod decoding;
 pub mod encoding;
-pub mod limits;
+mod limits;
 pub mod own;
 pub mod plain;
 pub mod stream;
