@@ -10,14 +10,13 @@ static const uint64_t CONTROL = 3, ENCODER = 7, DECODER = 11; /* of the peer, a 
 static const size_t STEPS[] = {100000, 100, 1};
 static const uint64_t NEVER = 0;
 
-static h3_endpoint client;
+static h3_endpoint client = H3_NONE_YET;
 
 static void make(uint64_t most) {
   h3_config config;
   h3_config_default(&config);
   config.max_field_section_size = most;
   config.unfinished_limit = most;
-  client = H3_NONE_YET;
   IS(h3_new(&client, &config, NULL), H3_OK);
 }
 

@@ -1,5 +1,5 @@
 //! Instructions that are longer than their reader takes (RFC 9114, section 10.5), and how bytes are read so that none is.
-ghost use Rattle.std.specs.Prelude.{◌≡◌, ◌&&◌, nat_lt};
+ghost use Rattle.std.specs.Prelude.{◌≡◌, ◌+◌, ◌≤◌, ◌&&◌, nat_lt};
 ghost use Rattle.h3_proto.specs.Config.{is_limit};
 ghost use Rattle.h3_connection.specs.ExcessiveInstructions.{missing};
 ghost use Rattle.h3_unidirectional.specs.Windows.{window, is_longer};
@@ -25,9 +25,10 @@ fn missing(wait: Wait) -> usize
     }
 }
 
-/// How many of `len` bytes are looked at at once, so that what is whole there is within the limit.
+/// How many of `len` bytes are looked at at once, so that what is whole among them is within the limit.
 pub(crate) fn window(most: u64, len: usize) -> usize
-    ensures { result ≡ window most len }
+    ensures value { result ≡ window most len }
+    ensures fits { result ≤ len }
 {
     if is_limit(most) {
         len.min(most as usize)
