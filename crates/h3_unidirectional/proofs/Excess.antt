@@ -1,5 +1,5 @@
 -- When an instruction is longer than the limit, by what it waits for.
-use Rattle.std.proofs.Common.{◌≡◌, ℕ, ◌+◌, ◌<◌, ◌≤◌, Bool, true, false, ◌&&◌, nat_lt, List, [], ◌∷◌, ◌++◌, length, take, drop, refl, ap, sym, ◌∙◌, arith, inl, inr}
+use Rattle.std.proofs.Common.{◌≡◌, ℕ, ◌+◌, ◌<◌, ◌≤◌, Bool, true, false, ◌&&◌, nat_lt, List, [], ◌∷◌, ◌++◌, length, take, drop, refl, ap, sym, ◌∙◌, arith, inl, inr, ◌⊎◌}
 use Rattle.std.proofs.lemmas.Bool.{and_from, and_parts, and_right, cases_lt, lt-ltb, ltb-true}
 use Rattle.std.proofs.lemmas.List.{length-take-le, take-append-drop, take_all}
 use Rattle.h3_field.specs.Reading.{Reading, Whole, Unfinished, Bad, Stays}
@@ -37,12 +37,22 @@ same_limits false b c h = refl
 -- Of what is not whole the wait tells whether it is longer.
 pub wait_tells : (most : ℕ) (waiting : List ℕ → Wait) (bytes : List ℕ) → goes_on (waiting (take most bytes)) ≡ true → exceeds most waiting bytes ≡ is_longer most (length bytes) (waiting bytes)
 wait_tells most waiting [] waits = sym (and_right (is_limit most) (nat_lt 0 0 && nat_lt most (0 + missing (waiting []))) refl)
-wait_tells most waiting (first ∷ rest) waits = same_limits (is_limit most) _ _ (λ limit. elim (cases_lt most (length (first ∷ rest))) [
-  | inl more ↦
-      let parts = and_parts (is_limit most) _ (longer_beyond most waiting (first ∷ rest) limit more waits) in
-      parts.1 ∙ sym (lt-ltb most (length (first ∷ rest) + missing (waiting (first ∷ rest))) (omega (arith, more)))
-  | inr fits ↦ ap (λ l. nat_lt most (length l + missing (waiting l))) (take_all most (first ∷ rest) fits)
-])
+wait_tells most waiting (first ∷ rest) waits = same_limits (is_limit most) _ _ (λ limit. by_size limit (cases_lt most (length (first ∷ rest))))
+  where
+    count : ℕ
+    count = length (first ∷ rest)
+
+    some : nat_lt 0 count ≡ true
+    some = lt-ltb 0 count (omega arith)
+
+    by_size : is_limit most ≡ true → (most < count) ⊎ (count ≤ most)
+        → nat_lt most (length (take most (first ∷ rest)) + missing (waiting (take most (first ∷ rest)))) ≡ (nat_lt 0 count && nat_lt most (count + missing (waiting (first ∷ rest))))
+    by_size limit (inl more) =
+        let parts = and_parts (is_limit most) _ (longer_beyond most waiting (first ∷ rest) limit more waits) in
+        parts.1 ∙ sym (and_from _ _ some (lt-ltb most (count + missing (waiting (first ∷ rest))) (omega (arith, more))))
+    by_size limit (inr fits) =
+        ap (λ l. nat_lt most (length l + missing (waiting l))) (take_all most (first ∷ rest) fits)
+        ∙ ap (λ b. b && nat_lt most (count + missing (waiting (first ∷ rest)))) (sym some)
 
 -- What is not whole was not whole of fewer bytes.
 stayed : {A : Type 0} (more : List ℕ) (x later : Reading A) → Stays more x later → later ≡ Unfinished → x ≡ Unfinished

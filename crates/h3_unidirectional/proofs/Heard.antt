@@ -1,17 +1,21 @@
 -- What `take_instructions` says of the bytes that are looked at, as what the peer's encoder stream makes of all of them.
-use Rattle.std.proofs.Common.{◌≡◌, ℕ, ◌-◌, ◌<◌, ◌≤◌, ◌⊎◌, inl, inr, ◌&&◌, nat_lt, Bool, true, false, List, [], ◌∷◌, ◌++◌, append-nil, append_assoc, length, take, drop, Option, Result, Ok, Err, Some, None, refl, ap, sym, ◌∙◌, subst, arith}
-use Rattle.std.specs.Prelude.{OnErr}
+use Rattle.std.proofs.Common.{◌≡◌, ℕ, ◌-◌, ◌<◌, ◌≤◌, ◌⊎◌, inl, inr, nat_lt, Bool, true, false, List, [], ◌∷◌, ◌++◌, append-nil, append_assoc, length, length-append, take, drop, Option, Result, Ok, Err, Some, refl, ap, sym, ◌∙◌, subst, arith}
+use Rattle.std.specs.Prelude.{IfErr, OnOk, OnErr}
 use Rattle.std.proofs.lemmas.Bool.{cases_lt, lt-ltb, le-ltb}
+use Rattle.std.proofs.lemmas.List.{drop_at}
 use Rattle.h3_field.specs.Reading.{Unfinished}
 use Rattle.h3_field.specs.Instruction.{EncoderInstruction}
 use Rattle.h3_field.specs.InstructionReading.{instruction}
 use Rattle.h3_field.specs.InstructionLaws.{instruction_stable}
 use Rattle.h3_field.specs.Waiting.{is_unfinished, goes_on, encoder_wait}
 use Rattle.h3_field.specs.WaitingLaws.{encoder_waits}
+use Rattle.h3_field.specs.declared.decoder_error.DecoderError.{DecoderError}
 use Rattle.h3_proto.specs.Config.{is_limit}
 use Rattle.h3_qpack.specs.Increments.{increment_for}
 use Rattle.h3_qpack.specs.Instructions.{AreInstructions, NoInstruction, NextInstruction, HasRead, BeginsBad}
 use Rattle.h3_qpack.specs.DecoderState.{DecoderState, decoder_after_all}
+use Rattle.h3_qpack.specs.SectionAnswers.{IsReasonFor}
+use Rattle.h3_qpack.specs.ReasonLaws.{reason_map}
 use Rattle.h3_qpack.specs.Hearing.{Heard, heard, hear_form, hear}
 use Rattle.h3_qpack.specs.HearingLaws.{heard_is}
 use Rattle.h3_connection.specs.Codes.{encoder_stream_error, excessive_load}
@@ -126,26 +130,27 @@ window_heard most old new bytes left after taken read count rest =
       hears = from_front most (record { decoder = old; unread = bytes }) (record { decoder = new; unread = after }) f.front cut.split (read_front most old new f.front read.instructions fits f.alike read.table);
     }
 
-pub window_ends : (most : ℕ) (old new : DecoderState) (bytes left after : List ℕ) (taken : ℕ) → IsHeard most old new bytes left after taken → instruction left ≡ Unfinished
-    → HearsWindow most new bytes after (nat_lt 0 taken && nat_lt (window most (length bytes)) (length bytes))
-window_ends most old new bytes left after taken h e = by_tests (cases_lt 0 taken) (cases_lt (window most (length bytes)) (length bytes))
+-- Where some were read, fewer are left,
+pub window_goes_on : (most : ℕ) (old new : DecoderState) (bytes left after : List ℕ) (taken : ℕ) → IsHeard most old new bytes left after taken → instruction left ≡ Unfinished → 0 < taken
+    → HearsWindow most new bytes after (nat_lt (window most (length bytes)) (length bytes))
+window_goes_on most old new bytes left after taken h e some = by_test (cases_lt (window most (length bytes)) (length bytes))
   where
-    all : length bytes ≤ window most (length bytes) → HearingEnds most new after
-    all few = subst (HearingEnds most new) (sym (all_looked most bytes h.front left after taken h.cut few)) (ends_unfinished most new left e)
+    by_test : (window most (length bytes) < length bytes) ⊎ (length bytes ≤ window most (length bytes)) → HearsWindow most new bytes after (nat_lt (window most (length bytes)) (length bytes))
+    by_test (inl more) = rw (lt-ltb (window most (length bytes)) (length bytes) more) (fewer_left most bytes h.front left after taken h.cut some)
+    by_test (inr few) = rw (le-ltb (window most (length bytes)) (length bytes) few) (subst (HearingEnds most new) (sym (all_looked most bytes h.front left after taken h.cut few)) (ends_unfinished most new left e))
 
-    some : taken ≤ 0 → window most (length bytes) < length bytes → HearingEnds most new after
-    some none more =
+-- and where none were read, or all are looked at, no more is.
+pub window_ends : (most : ℕ) (old new : DecoderState) (bytes left after : List ℕ) (taken : ℕ) → IsHeard most old new bytes left after taken → instruction left ≡ Unfinished → taken ≤ 0
+    → HearsWindow most new bytes after (nat_lt 0 taken)
+window_ends most old new bytes left after taken h e none = rw (le-ltb 0 taken none) (by_test (cases_lt (window most (length bytes)) (length bytes)))
+  where
+    by_test : (window most (length bytes) < length bytes) ⊎ (length bytes ≤ window most (length bytes)) → HearingEnds most new after
+    by_test (inl more) =
         let limit = window_less most (length bytes) more in
         let none_of = none_read most bytes h.front left after taken h.parts h.cut (omega (arith, none)) in
         let unfinished : instruction (take most bytes) ≡ Unfinished = ap (λ k. instruction (take k bytes)) (sym limit.1) ∙ ap instruction (sym none_of.1) ∙ e in
         subst (HearingEnds most new) (sym none_of.0) (ends_longer most new bytes limit.0 (omega (arith, limit.1, more)) unfinished)
-
-    by_tests : (0 < taken) ⊎ (taken ≤ 0) → (window most (length bytes) < length bytes) ⊎ (length bytes ≤ window most (length bytes))
-        → HearsWindow most new bytes after (nat_lt 0 taken && nat_lt (window most (length bytes)) (length bytes))
-    by_tests (inl read) (inl more) = rw (lt-ltb 0 taken read, lt-ltb (window most (length bytes)) (length bytes) more) (fewer_left most bytes h.front left after taken h.cut read)
-    by_tests (inl read) (inr few) = rw (lt-ltb 0 taken read, le-ltb (window most (length bytes)) (length bytes) few) (all few)
-    by_tests (inr none) (inl more) = rw (le-ltb 0 taken none) (some none more)
-    by_tests (inr none) (inr few) = rw (le-ltb 0 taken none) (all few)
+    by_test (inr few) = subst (HearingEnds most new) (sym (all_looked most bytes h.front left after taken h.cut few)) (ends_unfinished most new left e)
 
 pub window_bad : (most : ℕ) (old new : DecoderState) (bytes left after : List ℕ) (taken : ℕ) → IsHeard most old new bytes left after taken → BeginsBad new left → hear_up_to most new after ≡ heard new after true
 window_bad most old new bytes left after taken h bad =
@@ -154,6 +159,30 @@ window_bad most old new bytes left after taken h bad =
     heard_within most new left fits ∙ heard_is new left (heard new left true) (record { read = record { instructions = []; split = NoInstruction left; table = refl }; stops = bad }) in
     ap (hear_up_to most new) h.cut.after_is ∙ hear_cut most new left h.cut.others
     ∙ ap (λ (x : Heard). heard_up_to_with most x h.cut.others x.is_bad) here ∙ ap (λ l. heard new l true) (sym h.cut.after_is)
+
+pub dropped : (bytes front left : List ℕ) → bytes ≡ front ++ left → drop (length bytes - length left) bytes ≡ left
+dropped bytes front left is =
+    let sizes : length bytes - length left ≡ length front = omega (arith, ap length is, length-append front left) in
+    ap (λ n. drop n bytes) sizes ∙ ap (λ l. drop (length front) l) is ∙ drop_at front left (length front) refl
+
+-- What is left of a reading is what is kept.
+kept_is : (most : ℕ) (old : Decoding) (new : DecoderState) (left kept : List ℕ) → HearsFront most old (record { decoder = new; unread = left }) → kept ≡ drop (length old.unread - length left) old.unread → left ≡ kept
+kept_is most old new left kept h is = sym (is ∙ dropped old.unread h.front left h.split)
+
+pub kept_front : (most : ℕ) (old new : Decoding) (left : List ℕ) → HearsFront most old (record { decoder = new.decoder; unread = left }) → new.unread ≡ drop (length old.unread - length left) old.unread → HearsFront most old new
+kept_front most old new left h kept = subst (λ l. HearsFront most old (record { decoder = new.decoder; unread = l })) (kept_is most old new.decoder left new.unread h kept) h
+
+pub kept_ends : {A E : Type 0} (r : Result A E) (most : ℕ) (old new : Decoding) (left : List ℕ) → HearsFront most old (record { decoder = new.decoder; unread = left }) → new.unread ≡ drop (length old.unread - length left) old.unread
+    → OnOk r (HearingEnds most new.decoder left) → OnOk r (HearingEnds most new.decoder new.unread)
+kept_ends r most old new left h kept ends = subst (λ l. OnOk r (HearingEnds most new.decoder l)) (kept_is most old new.decoder left new.unread h kept) ends
+
+-- a bad instruction is there
+abbrev IsBadAt : ℕ → DecoderState → List ℕ → DecoderError → Type 0
+IsBadAt most r left e = IsReasonFor (hear_up_to most r left ≡ heard r left true) (λ count. ⊥) e
+
+pub kept_bad : {A : Type 0} (r : Result A DecoderError) (most : ℕ) (old new : Decoding) (left : List ℕ) → HearsFront most old (record { decoder = new.decoder; unread = left }) → new.unread ≡ drop (length old.unread - length left) old.unread
+    → IfErr r (IsBadAt most new.decoder left) → IfErr r (IsBadAt most new.decoder new.unread)
+kept_bad r most old new left h kept bad = subst (λ l. IfErr r (IsBadAt most new.decoder l)) (kept_is most old new.decoder left new.unread h kept) bad
 
 -- all of what was unread, and what is answered
 all_heard : (most : ℕ) (old new : Decoding) (is_bad : Bool) → HearsFront most old new → hear_up_to most new.decoder new.unread ≡ heard new.decoder new.unread is_bad → heard_more most old [] ≡ heard new.decoder new.unread is_bad
@@ -173,9 +202,14 @@ pub hears_ends : (most : ℕ) (old new : Decoding) (code : Option ℕ) (before a
 hears_ends most old new code before after h ends fault increment =
     hears most old new false code before after (all_heard most old new false h ends.stays) (fault ∙ ap (λ b. fault_if b excessive_load) (sym ends.told)) increment
 
-pub hears_bad : (most : ℕ) (old new : Decoding) (before after : List ℕ) → HearsFront most old new → hear_up_to most new.decoder new.unread ≡ heard new.decoder new.unread true
+hears_bad : (most : ℕ) (old new : Decoding) (before after : List ℕ) → HearsFront most old new → hear_up_to most new.decoder new.unread ≡ heard new.decoder new.unread true
     → after ≡ before ++ increment_for (new.decoder.table.inserted - old.decoder.table.inserted) → Hears most old new [] (Some encoder_stream_error) before after
 hears_bad most old new before after h bad increment = hears most old new true (Some encoder_stream_error) before after (all_heard most old new true h bad) refl increment
+
+pub bad_heard : {A : Type 0} (r : Result A DecoderError) (most : ℕ) (old new : Decoding) (before after : List ℕ) → HearsFront most old new → IfErr r (IsBadAt most new.decoder new.unread)
+    → after ≡ before ++ increment_for (new.decoder.table.inserted - old.decoder.table.inserted) → IfErr r (IsReasonFor (Hears most old new [] (Some encoder_stream_error) before after) (λ count. ⊥))
+bad_heard (Ok done) most old new before after h bad increment = tt
+bad_heard (Err e) most old new before after h bad increment = reason_map _ _ e (λ is. hears_bad most old new before after h is increment) bad
 
 -- where memory is refused, they stand
 pub hearing_stopped : {A E : Type 0} (r : Result A E) (most : ℕ) (old new : Decoding) → HearsFront most old new → OnErr r (StopsHearing most old new)

@@ -1,6 +1,6 @@
 -- What `on_decoder_recv` says of the bytes that are looked at, as what the peer's decoder stream makes of all of them.
-use Rattle.std.proofs.Common.{◌≡◌, ℕ, ◌-◌, ◌<◌, ◌≤◌, ◌⊎◌, inl, inr, ◌&&◌, nat_lt, Bool, true, false, List, [], ◌∷◌, ◌++◌, append-nil, append_assoc, length, take, drop, Option, Some, None, Result, Ok, Err, refl, ap, sym, ◌∙◌, subst, arith}
-use Rattle.std.specs.Prelude.{IfOk, OnErr}
+use Rattle.std.proofs.Common.{◌≡◌, ℕ, ◌-◌, ◌<◌, ◌≤◌, ◌⊎◌, inl, inr, nat_lt, Bool, true, false, List, [], ◌∷◌, ◌++◌, append-nil, append_assoc, length, take, drop, Option, Some, Result, Ok, Err, refl, ap, sym, ◌∙◌, subst, arith}
+use Rattle.std.specs.Prelude.{IfOk, IfErr, OnOk}
 use Rattle.std.specs.Result.{is_ok}
 use Rattle.std.proofs.lemmas.Bool.{cases_lt, lt-ltb, le-ltb}
 use Rattle.h3_field.specs.Reading.{Unfinished}
@@ -26,6 +26,7 @@ use Rattle.h3_unidirectional.specs.Faults.{IsReplyFaultOf, UnlessMemory}
 use Rattle.h3_unidirectional.specs.Fronts.{ListensFront, StopsListening}
 use Rattle.h3_unidirectional.specs.Windows.{window, is_longer, ListeningEnds, ListensWindow, IsRefusedAt}
 use Rattle.h3_unidirectional.proofs.Excess.{IsWithin, longer_beyond, told_beyond, wait_tells, unfinished_before}
+use Rattle.h3_unidirectional.proofs.Heard.{dropped}
 use Rattle.h3_unidirectional.proofs.InstructionFronts.{decoder_instruction_fronts}
 use Rattle.h3_unidirectional.proofs.WindowLaws.{looked_within, front_within, left_within, window_less, IsCut, cut_at, all_looked, none_read, fewer_left}
 
@@ -138,26 +139,27 @@ window_listened most old new bytes left after taken read count rest =
           (read_front most s f.front read.instructions fits f.alike (read.accepted s is));
     }
 
-pub window_ends : (most : ℕ) (old new : EncoderState) (bytes left after : List ℕ) (taken : ℕ) → IsListened most old new bytes left after taken → decoder_instruction left ≡ Unfinished
-    → ListensWindow most bytes after (nat_lt 0 taken && nat_lt (window most (length bytes)) (length bytes))
-window_ends most old new bytes left after taken h e = by_tests (cases_lt 0 taken) (cases_lt (window most (length bytes)) (length bytes))
+-- Where some were read, fewer are left,
+pub window_goes_on : (most : ℕ) (old new : EncoderState) (bytes left after : List ℕ) (taken : ℕ) → IsListened most old new bytes left after taken → decoder_instruction left ≡ Unfinished → 0 < taken
+    → ListensWindow most bytes after (nat_lt (window most (length bytes)) (length bytes))
+window_goes_on most old new bytes left after taken h e some = by_test (cases_lt (window most (length bytes)) (length bytes))
   where
-    all : length bytes ≤ window most (length bytes) → ListeningEnds most after
-    all few = subst (ListeningEnds most) (sym (all_looked most bytes h.front left after taken h.cut few)) (ends_unfinished most left e)
+    by_test : (window most (length bytes) < length bytes) ⊎ (length bytes ≤ window most (length bytes)) → ListensWindow most bytes after (nat_lt (window most (length bytes)) (length bytes))
+    by_test (inl more) = rw (lt-ltb (window most (length bytes)) (length bytes) more) (fewer_left most bytes h.front left after taken h.cut some)
+    by_test (inr few) = rw (le-ltb (window most (length bytes)) (length bytes) few) (subst (ListeningEnds most) (sym (all_looked most bytes h.front left after taken h.cut few)) (ends_unfinished most left e))
 
-    some : taken ≤ 0 → window most (length bytes) < length bytes → ListeningEnds most after
-    some none more =
+-- and where none were read, or all are looked at, no more is.
+pub window_ends : (most : ℕ) (old new : EncoderState) (bytes left after : List ℕ) (taken : ℕ) → IsListened most old new bytes left after taken → decoder_instruction left ≡ Unfinished → taken ≤ 0
+    → ListensWindow most bytes after (nat_lt 0 taken)
+window_ends most old new bytes left after taken h e none = rw (le-ltb 0 taken none) (by_test (cases_lt (window most (length bytes)) (length bytes)))
+  where
+    by_test : (window most (length bytes) < length bytes) ⊎ (length bytes ≤ window most (length bytes)) → ListeningEnds most after
+    by_test (inl more) =
         let limit = window_less most (length bytes) more in
         let none_of = none_read most bytes h.front left after taken h.parts h.cut (omega (arith, none)) in
         let unfinished : decoder_instruction (take most bytes) ≡ Unfinished = ap (λ k. decoder_instruction (take k bytes)) (sym limit.1) ∙ ap decoder_instruction (sym none_of.1) ∙ e in
         subst (ListeningEnds most) (sym none_of.0) (ends_longer most bytes limit.0 (omega (arith, limit.1, more)) unfinished)
-
-    by_tests : (0 < taken) ⊎ (taken ≤ 0) → (window most (length bytes) < length bytes) ⊎ (length bytes ≤ window most (length bytes))
-        → ListensWindow most bytes after (nat_lt 0 taken && nat_lt (window most (length bytes)) (length bytes))
-    by_tests (inl read) (inl more) = rw (lt-ltb 0 taken read, lt-ltb (window most (length bytes)) (length bytes) more) (fewer_left most bytes h.front left after taken h.cut read)
-    by_tests (inl read) (inr few) = rw (lt-ltb 0 taken read, le-ltb (window most (length bytes)) (length bytes) few) (all few)
-    by_tests (inr none) (inl more) = rw (le-ltb 0 taken none) (some none more)
-    by_tests (inr none) (inr few) = rw (le-ltb 0 taken none) (all few)
+    by_test (inr few) = subst (ListeningEnds most) (sym (all_looked most bytes h.front left after taken h.cut few)) (ends_unfinished most left e)
 
 refused_at : (most : ℕ) (s : EncoderHistory) (left others : List ℕ) → IsWithin most left → BeginsRefused s left → listen_up_to most s (left ++ others) ≡ listened s (left ++ others) true
 refused_at most s left others fits bad =
@@ -200,6 +202,40 @@ listens_ends most s old new code h ends fault = listens most s old new false cod
 
 pub listens_refused : (most : ℕ) (s : EncoderHistory) (old new : Encoding) → ListensFront most s old new → IsRefusedAt most new.encoder new.unread → Listens most s old.unread new (Some decoder_stream_error)
 listens_refused most s old new h refused = listens most s old new true (Some decoder_stream_error) h (refused h.after h.state) refl
+
+-- What is left of a reading is what is kept.
+kept_is : (most : ℕ) (s : EncoderHistory) (old : Encoding) (new : EncoderState) (left kept : List ℕ) → ListensFront most s old (record { encoder = new; unread = left }) → kept ≡ drop (length old.unread - length left) old.unread → left ≡ kept
+kept_is most s old new left kept h is = sym (is ∙ dropped old.unread h.front left h.split)
+
+-- Whatever the history, a front of the bytes was read up to what is left.
+abbrev Reaches : ℕ → Encoding → EncoderState → List ℕ → Type 0
+Reaches most old new left = (s : EncoderHistory) → old.encoder ≡ encoder_state s → ListensFront most s old (record { encoder = new; unread = left })
+
+pub kept_front : (most : ℕ) (old new : Encoding) (left : List ℕ) → Reaches most old new.encoder left → new.unread ≡ drop (length old.unread - length left) old.unread
+    → (s : EncoderHistory) → old.encoder ≡ encoder_state s → ListensFront most s old new
+kept_front most old new left h kept s is = subst (λ l. ListensFront most s old (record { encoder = new.encoder; unread = l })) (kept_is most s old new.encoder left new.unread (h s is) kept) (h s is)
+
+pub kept_ends : {A E : Type 0} (r : Result A E) (most : ℕ) (old new : Encoding) (left : List ℕ) → Reaches most old new.encoder left → new.unread ≡ drop (length old.unread - length left) old.unread
+    → OnOk r (ListeningEnds most left) → OnOk r ((s : EncoderHistory) → old.encoder ≡ encoder_state s → ListeningEnds most new.unread)
+kept_ends (Ok done) most old new left h kept ends = λ s is. subst (ListeningEnds most) (kept_is most s old new.encoder left new.unread (h s is) kept) ends
+kept_ends (Err e) most old new left h kept ends = tt
+
+unless_map : (e : EncoderError) (P Q : Type 0) → (P → Q) → UnlessMemory e P → UnlessMemory e Q
+unless_map OutOfMemory P Q f h = tt
+unless_map (Insertion e) P Q f h = f h
+unless_map (InvalidInteger e) P Q f h = f h
+unless_map (InvalidString e) P Q f h = f h
+unless_map (UnknownDecoderInstruction first) P Q f h = f h
+
+pub kept_refused : {A : Type 0} (r : Result A EncoderError) (most : ℕ) (old new : Encoding) (left : List ℕ) → Reaches most old new.encoder left → new.unread ≡ drop (length old.unread - length left) old.unread
+    → IfErr r (λ e. UnlessMemory e (IsRefusedAt most new.encoder left))
+    → IfErr r (λ e. UnlessMemory e ((s : EncoderHistory) → old.encoder ≡ encoder_state s → Listens most s old.unread new (Some decoder_stream_error)))
+kept_refused (Ok done) most old new left h kept refused = tt
+kept_refused (Err e) most old new left h kept refused =
+    unless_map e _ _
+    (λ here s is.
+    let same = kept_is most s old new.encoder left new.unread (h s is) kept in
+    listens_refused most s old new (kept_front most old new left h kept s is) (subst (IsRefusedAt most new.encoder) same here)) refused
 
 -- where memory is refused, they stand
 pub listening_stopped : (most : ℕ) (s : EncoderHistory) (old new : Encoding) → ListensFront most s old new → StopsListening most s old new

@@ -1,6 +1,6 @@
 -- The bytes that are looked at, those of them that were read, and those that are left.
-use Rattle.std.proofs.Common.{◌≡◌, ℕ, ◌+◌, ◌-◌, ◌<◌, ◌≤◌, Bool, true, false, min, if◌then◌else◌, List, [], ◌++◌, length, length-append, length-drop, append-nil, append_assoc, take, drop, refl, ap, sym, ◌∙◌, subst, arith}
-use Rattle.std.proofs.lemmas.List.{drop_at, take-append-drop, take_all, length-take-le, nil_from_length}
+use Rattle.std.proofs.Common.{◌≡◌, ℕ, ◌+◌, ◌-◌, ◌<◌, ◌≤◌, Bool, true, false, min, if◌then◌else◌, List, [], ◌++◌, length, length-append, length-drop, append-nil, append_assoc, take, drop, refl, ap, sym, ◌∙◌, arith}
+use Rattle.std.proofs.lemmas.List.{drop_at, take-append-drop, length-take-le, nil_from_length}
 use Rattle.h3_proto.specs.Config.{is_limit}
 use Rattle.h3_unidirectional.specs.Windows.{window}
 use Rattle.h3_unidirectional.proofs.Excess.{IsWithin}

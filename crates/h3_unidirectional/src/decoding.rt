@@ -1,11 +1,11 @@
 //! The peer's encoder stream (RFC 9204, section 4.3), and the dynamic table that it fills.
-ghost use Rattle.std.specs.Prelude.{length, ◌≡◌, ◌-◌, ◌<◌, ◌^◌, ◌++◌, [], true, false, IfOk, IfErr, OnOk, OnErr};
+ghost use Rattle.std.specs.Prelude.{length, ◌≡◌, ◌-◌, ◌<◌, ◌^◌, ◌++◌, [], true, false, Some, IfOk, IfErr, OnOk, OnErr};
 ghost use Rattle.h3_field.specs.Waiting.{goes_on, encoder_wait};
 ghost use Rattle.h3_qpack.specs.Hearing.{heard};
 ghost use Rattle.h3_qpack.specs.Increments.{increment_for};
 ghost use Rattle.h3_qpack.specs.DecoderState.{announcing};
 ghost use Rattle.h3_qpack.specs.SectionAnswers.{IsReasonFor};
-ghost use Rattle.h3_connection.specs.Codes.{excessive_load};
+ghost use Rattle.h3_connection.specs.Codes.{encoder_stream_error, excessive_load};
 ghost use Rattle.h3_connection.specs.ExcessiveInstructions.{hear_up_to};
 ghost use Rattle.h3_connection.specs.Listeners.{Decoding as Heard, Hears, fault_if};
 ghost use Rattle.h3_unidirectional.specs.Faults.{IsFaultOf};
@@ -111,7 +111,7 @@ impl Decoding {
         requires { goes_on (encoder_wait self.old.unread) ≡ false }
         ensures front { HearsFront most self.old self.new }
         ensures ok { OnOk result (HearingEnds most self.new.decoder self.new.unread) }
-        ensures err { IfErr result (IsReasonFor (hear_up_to most self.new.decoder self.new.unread ≡ heard self.new.decoder self.new.unread true) (λ count. ⊥)) }
+        ensures err { IfErr result (IsReasonFor (Hears most self.old self.new [] (Some encoder_stream_error) replies.old.items replies.new.items) (λ count. ⊥)) }
         ensures increment { replies.new.items ≡ replies.old.items ++ increment_for (self.new.decoder.table.inserted - self.old.decoder.table.inserted) }
     {
         if replies.reserve(INCREMENT_LEN).is_err() {
@@ -123,6 +123,7 @@ impl Decoding {
         outcome
     }
 
+    #[tactic(auto, using(crate::proofs::Waits::is_fault))]
     fn read_into(
         &mut self,
         most: u64,

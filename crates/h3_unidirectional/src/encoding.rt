@@ -1,11 +1,11 @@
 //! The own encoder, and the peer's decoder stream that tells it what was received (RFC 9204, section 4.4).
-ghost use Rattle.std.specs.Prelude.{◌≡◌, ◌<◌, ◌^◌, ◌++◌, [], false, length, IfOk, IfErr, OnOk, OnErr};
+ghost use Rattle.std.specs.Prelude.{◌≡◌, ◌<◌, ◌^◌, ◌++◌, [], false, length, Some, IfOk, IfErr, OnOk, OnErr};
 ghost use Rattle.h3_field.specs.Field.{section_size};
 ghost use Rattle.h3_field.specs.Waiting.{goes_on, decoder_wait};
 ghost use Rattle.h3_qpack.specs.Drafting.{IsSent, IsCutOff};
 ghost use Rattle.h3_qpack.specs.EncoderHistory.{EncoderHistory, no_table, withdrawn, writing_on};
 ghost use Rattle.h3_qpack.specs.EncoderState.{encoder_state};
-ghost use Rattle.h3_connection.specs.Codes.{excessive_load};
+ghost use Rattle.h3_connection.specs.Codes.{decoder_stream_error, excessive_load};
 ghost use Rattle.h3_connection.specs.Control.{is_table_usable};
 ghost use Rattle.h3_connection.specs.Listeners.{Listens, fault_if, keeping_fault};
 ghost use Rattle.h3_unidirectional.specs.Faults.{IsReplyFaultOf, UnlessMemory};
@@ -174,8 +174,8 @@ impl Encoding {
     fn read_front(&mut self, most: u64) -> Result<(), EncoderError>
         requires { goes_on (decoder_wait self.old.unread) ≡ false }
         ensures front { (s : EncoderHistory) → self.old.encoder ≡ encoder_state s → ListensFront most s self.old self.new }
-        ensures ok { OnOk result (ListeningEnds most self.new.unread) }
-        ensures err { IfErr result (λ e. UnlessMemory e (IsRefusedAt most self.new.encoder self.new.unread)) }
+        ensures ok { OnOk result ((s : EncoderHistory) → self.old.encoder ≡ encoder_state s → ListeningEnds most self.new.unread) }
+        ensures err { IfErr result (λ e. UnlessMemory e ((s : EncoderHistory) → self.old.encoder ≡ encoder_state s → Listens most s self.old.unread self.new (Some decoder_stream_error))) }
     {
         let bytes = self.unread.as_slice();
         let mut rest = SliceCursor::new(bytes);
@@ -189,6 +189,7 @@ impl Encoding {
     /// Reads what is unread, up to the first instruction that is refused, not whole or longer than `most`, and answers the fault of a
     /// refused one, and of one that is known to be longer, whether it came or not (RFC 9114, section 10.5). Where memory is refused the
     /// instructions that were read stand; the others stay unread, and the next reading goes on with them.
+    #[tactic(auto, using(crate::proofs::Listened::is_reply_fault))]
     pub fn read(&mut self, most: u64) -> Result<Option<Code>, AllocError>
         ensures ok { IfOk result (λ fault. (s : EncoderHistory) → self.old.encoder ≡ encoder_state s → Listens most s self.old.unread self.new fault) }
         ensures refused { OnErr result ((s : EncoderHistory) → self.old.encoder ≡ encoder_state s → StopsListening most s self.old self.new) }
