@@ -1,5 +1,5 @@
 -- What an endpoint without a limit makes of the peer's encoder and decoder streams: nothing there is too long.
-use Rattle.std.proofs.Common.{◌≡◌, ℕ, Bool, true, false, ◌&&◌, if◌then◌else◌, nat_lt, List, ◌++◌, length, Option, Some, None, refl, ap, ◌∙◌}
+use Rattle.std.proofs.Common.{◌≡◌, ℕ, true, false, ◌&&◌, if◌then◌else◌, nat_lt, List, ◌++◌, length, None, ap, ◌∙◌}
 use Rattle.std.specs.Prelude.{is_some}
 use Rattle.h3_proto.specs.Config.{is_limit}
 use Rattle.h3_qpack.specs.Hearing.{Heard, hear, Listened, listen}
@@ -9,7 +9,7 @@ use Rattle.h3_connection.specs.Endpoint.{EndpointHistory, limit_of, replied}
 use Rattle.h3_connection.specs.ExcessiveInstructions.{listen_up_to}
 use Rattle.h3_connection.specs.LimitedHearingLaws.{hear_unlimited, hearing_unlimited}
 use Rattle.h3_connection.specs.LimitedListeningLaws.{listen_unlimited, listening_unlimited}
-use Rattle.h3_connection.specs.Listeners.{fault_if, hearing_fault, listening_fault, keeping_fault, after_hearing, insertions_heard}
+use Rattle.h3_connection.specs.Listeners.{fault_if, hearing_fault, after_hearing, insertions_heard}
 
 abbrev pub heard_whole : EndpointHistory → Heard → Found
 heard_whole e h = (replied (record e { decoding = after_hearing h }) (increment (insertions_heard e.decoding h)), fault_if h.is_bad encoder_stream_error)
