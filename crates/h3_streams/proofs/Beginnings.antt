@@ -1,30 +1,19 @@
 -- A stream is told to be one of the connection's: its reader has read nothing, and reads nothing of no bytes.
 use Rattle.std.proofs.Common.{◌≡◌, ℕ, ◌-◌, Bool, true, false, if◌then◌else◌, List, [], ◌++◌, append-nil, flat_map, Option, Some, None, refl, ap, sym, subst, ◌∙◌, arith}
-use Rattle.std.specs.Prelude.{is_some, nat_lt}
-use Rattle.std.proofs.lemmas.Bool.{and_right}
-use Rattle.h3_proto.specs.Config.{is_limit}
-use Rattle.h3_connection.specs.Codes.{excessive_load}
-use Rattle.h3_qpack.specs.DecoderState.{DecoderState}
-use Rattle.h3_qpack.specs.EncoderHistory.{EncoderHistory}
-use Rattle.h3_qpack.specs.Hearing.{Heard, heard, listened}
+use Rattle.std.specs.Prelude.{is_some}
+use Rattle.h3_qpack.specs.Hearing.{Heard, heard}
 use Rattle.h3_field.specs.Instruction.{decoder_bytes}
 use Rattle.h3_connection.specs.Control.{Found, read_control, read_encoder, read_decoder, listened_to, kept_unread, after_peer, if_learned, then_decoder, increment}
 use Rattle.h3_connection.specs.Endpoint.{EndpointHistory, limit_of, replied}
 use Rattle.h3_connection.specs.ExcessiveInstructions.{hear_up_to, listen_up_to}
-use Rattle.h3_connection.specs.Listeners.{Decoding, Encoding, fault_if, hearing_fault, keeping_fault, heard_more, after_hearing, insertions_heard}
+use Rattle.h3_connection.specs.Listeners.{Decoding, Encoding, hearing_fault, heard_more, after_hearing, insertions_heard}
+use Rattle.h3_connection.specs.LimitedHearingLaws.{hears_nothing}
+use Rattle.h3_connection.specs.LimitedListeningLaws.{listens_nothing, keeps_nothing}
 use Rattle.h3_connection.specs.PeerReading.{with_unread, read_peer}
 use Rattle.h3_connection.specs.State.{EndpointState, StandsFor, IsToldPeer}
 use Rattle.h3_streams.proofs.PlacedLaws.{stands_control, stands_encoder, stands_decoder}
 use Rattle.h3_streams.specs.Placed.{StreamsState, placed}
 use Rattle.h3_connection.specs.PeerReadingLaws.{nothing_read_on}
-
-pub hear_nothing : (most : ℕ) (r : DecoderState) → hear_up_to most r [] ≡ heard r [] false
-unfolding hear_up_to
-hear_nothing most r = refl
-
-pub listen_nothing : (most : ℕ) (s : EncoderHistory) → listen_up_to most s [] ≡ listened s [] false
-unfolding listen_up_to
-listen_nothing most s = refl
 
 -- A reading of no bytes finds no fault, and what is stored stands for the endpoint after it.
 pub record Begins (s : EndpointState) (x : StreamsState) (found : Found) : Type 0 where
@@ -67,7 +56,7 @@ encoder_begins s x e id h told none =
     let f = record e { encoder_on = Some id } in
     let n = e.decoding.decoder.table.inserted in
     let d : Decoding = record { decoder = e.decoding.decoder; unread = [] } in
-    let read : heard_more (limit_of e) e.decoding [] ≡ heard e.decoding.decoder [] false = ap (hear_up_to (limit_of e) e.decoding.decoder) (none_behind e.decoding.unread nothing) ∙ hear_nothing (limit_of e) e.decoding.decoder in
+    let read : heard_more (limit_of e) e.decoding [] ≡ heard e.decoding.decoder [] false = ap (hear_up_to (limit_of e) e.decoding.decoder) (none_behind e.decoding.unread nothing) ∙ hears_nothing (limit_of e) e.decoding.decoder in
     let same : x.decoding ≡ d = h.decoding ∙ ap (λ l. record e.decoding { unread = l }) nothing in
     let new = replied (record e { encoder_on = Some id; decoding = d }) (increment (n - n)) in
     let there = stands_encoder s x e id d (increment (n - n)) h told in
@@ -78,12 +67,9 @@ encoder_begins s x e id h told none =
           (subst (λ l. StandsFor (placed s (record x { encoder_on = Some id; decoding = d; own = record x.own { decoder = l } })) new) (no_increment n x.own.decoder) there);
     }
 
-nothing_kept : (most : ℕ) → keeping_fault most [] ≡ None
-nothing_kept most = ap (λ b. fault_if b excessive_load) (and_right (is_limit most) (nat_lt most 0) refl)
-
 listened_nothing : (e : EndpointHistory) (b : Bool) (l : List ℕ) → l ≡ [] → (if b then listened_to e (listen_up_to (limit_of e) e.encoder l) else kept_unread e l) ≡ (record e { decoder_unread = [] }, None)
-listened_nothing e true l is = ap (λ k. listened_to e (listen_up_to (limit_of e) e.encoder k)) is ∙ ap (λ k. listened_to e k) (listen_nothing (limit_of e) e.encoder)
-listened_nothing e false l is = ap (kept_unread e) is ∙ ap (λ fault. (record e { decoder_unread = [] }, fault)) (nothing_kept (limit_of e))
+listened_nothing e true l is = ap (λ k. listened_to e (listen_up_to (limit_of e) e.encoder k)) is ∙ ap (λ k. listened_to e k) (listens_nothing (limit_of e) e.encoder)
+listened_nothing e false l is = ap (kept_unread e) is ∙ ap (λ fault. (record e { decoder_unread = [] }, fault)) (keeps_nothing (limit_of e))
 
 pub decoder_begins : (s : EndpointState) (x : StreamsState) (e : EndpointHistory) (id : ℕ) → StandsFor (placed s x) e → IsToldPeer e.side e.unidirectional id → e.decoder_on ≡ None
     → Begins s (record x { decoder_on = Some id }) (read_decoder (record e { decoder_on = Some id }) [])

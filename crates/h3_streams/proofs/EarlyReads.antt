@@ -10,6 +10,7 @@ use Rattle.h3_connection.specs.Endpoint.{EndpointHistory, limit_of, kind_of}
 use Rattle.h3_connection.specs.Endpoint.Kind.{PeerUnidirectional}
 use Rattle.h3_connection.specs.ExcessiveInstructions.{listen_up_to}
 use Rattle.h3_connection.specs.Listeners.{Encoding, Listens}
+use Rattle.h3_connection.specs.LimitedListeningLaws.{listens_nothing}
 use Rattle.h3_connection.specs.PartReading.{ReadsOn, ListensPart, early_if}
 use Rattle.h3_connection.specs.State.{EndpointState, StandsFor}
 use Rattle.h3_unidirectional.specs.Fronts.{StopsListening}
@@ -18,7 +19,7 @@ use Rattle.h3_streams.specs.Placed.{StreamsState, placed, Reads}
 use Rattle.h3_streams.specs.ReadingOn.{ReadsSome, StopsAt, left_arrivals}
 use Rattle.h3_streams.specs.Stopping.{early_of, ReadsEarly, StopsEarly}
 use Rattle.h3_streams.specs.declared.left.Left.{Left}
-use Rattle.h3_streams.proofs.Beginnings.{listen_nothing, none_behind}
+use Rattle.h3_streams.proofs.Beginnings.{none_behind}
 use Rattle.h3_streams.proofs.DecoderReads.{listened_stands, known_not_none}
 use Rattle.h3_streams.proofs.Peers.{one_peer, told_by}
 
@@ -30,7 +31,7 @@ silent_by s x e (Some pairs) (Some d) h known read nothing = absurd (cc)
 silent_by s x e (Some pairs) None h known read nothing =
     let unread = h.reached.decoder read in
     let came : is_some e.peer.settings ≡ true = ap (λ o. is_some o) known in
-    let all : listen_up_to (limit_of e) e.encoder (e.decoder_unread ++ []) ≡ record { encoder = e.encoder; left = []; is_bad = false } = ap (listen_up_to (limit_of e) e.encoder) (none_behind e.decoder_unread unread) ∙ listen_nothing (limit_of e) e.encoder in
+    let all : listen_up_to (limit_of e) e.encoder (e.decoder_unread ++ []) ≡ record { encoder = e.encoder; left = []; is_bad = false } = ap (listen_up_to (limit_of e) e.encoder) (none_behind e.decoder_unread unread) ∙ listens_nothing (limit_of e) e.encoder in
     let same : read_decoder e [] ≡ (record e { decoder_unread = [] }, None) =
     ap (λ b. if b then listened_to e (listen_up_to (limit_of e) e.encoder (e.decoder_unread ++ [])) else kept_unread e (e.decoder_unread ++ [])) came ∙ ap (λ l. listened_to e l) all in
     subst (Reads s None x) (sym same) (refl, subst (λ l. StandsFor (placed s x) (record e { decoder_unread = l })) unread h)
