@@ -92,8 +92,7 @@
  *
  * HOW A CALLER GRANTS CREDIT (RFC 9000, section 4.1)
  *
- * What was delivered is kept until it is pulled or read, an unfinished frame whole, up to unfinished_limit, and an unfinished instruction, whatever
- * length it says: QUIC's windows bound it.
+ * What was delivered is kept until it is pulled or read, an unfinished frame or instruction whole, up to unfinished_limit.
  * Of a frame of an unknown type (RFC 9114, section 9) nothing is kept while it comes.
  * For each stream of the peer's add up `owed`, the bytes that were delivered and for which no credit was granted. Behind each delivery and its pulls:
  *   h3_stream_state s; h3_stream(&e, id, &s); if (owed > s.unread) { grant(id, owed - s.unread); owed = s.unread; }
@@ -277,15 +276,17 @@ typedef struct {
                                        * the table stays empty there */
   uint64_t unfinished_limit;          /* the greatest length, in bytes, that a frame may say which is kept until it is whole: any known one but DATA.
                                        * One that says more closes the connection with code 0x107 (H3_EXCESSIVE_LOAD), as soon as its type and
-                                       * length came: on a request stream a pull tells, on the control stream the delivery. A field section as
-                                       * it is written is such a frame: no less than max_field_section_size is taken. An encoder that writes
-                                       * every string in the Huffman code, as this library's, may need four times that. 2^62 - 1 and more:
-                                       * there is no limit */
+                                       * length came: on a request stream a pull tells, on the control stream the delivery. So does a longer
+                                       * instruction of the peer's encoder or decoder stream (RFC 9204, sections 4.3 and 4.4), as soon as what
+                                       * came tells that it is longer, and more than this of its decoder stream before its settings. A field
+                                       * section as it is written is such a frame: no less than max_field_section_size is taken. An encoder
+                                       * that writes every string in the Huffman code, as this library's, may need four times that, and so an
+                                       * insertion into the table may need some four times `table`. 2^62 - 1 and more: there is no limit */
 } h3_config;
 
 /* A client whose limits are fit for a peer that is not trusted: it takes field sections of at most 65,536 bytes, and has a dynamic table of 4,096
  * bytes, for which 16 streams may wait. It counts acknowledgments, and the table of its own encoder has at most 4,096 bytes and is used
- * economically. A frame that it keeps until it is whole has at most 65,536 bytes. It is strict. All else is 0.
+ * economically. A frame or instruction that it keeps until it is whole has at most 65,536 bytes. It is strict. All else is 0.
  * SECURITY.md says what each limit bounds. */
 static inline void h3_config_default(h3_config *config);
 

@@ -1,6 +1,6 @@
 #!/usr/bin/env bash
 # C programs over build/c (scripts/c/lib.sh), by the machine's C compiler alone: the calls of crates/h3_cases and hostile lists of calls through the header,
-# each allocation refused in turn, large input with none refused, two endpoints under random schedules, what is held of a stream and of small pieces, unknown frames, wrong arguments, bytes that are lent, pulled lists, and the program of docs/TUTORIAL.md. Once as
+# each allocation refused in turn, large input with none refused, two endpoints under random schedules, what is held of a stream and of small pieces, unknown frames, long instructions, wrong arguments, bytes that are lent, pulled lists, and the program of docs/TUTORIAL.md. Once as
 # they are, and once with the sanitizers of addresses, leaks and undefined behaviour where the compiler has them (large input, memory: once). Then how programs find the
 # library (scripts/c/test-install.sh), and the packages for Go and Rust (scripts/c/test-bindings.sh). One line 'ok NAME' or 'failed NAME' for each; the last is the sum. With LIB=FOLDER the library in that folder is
 # taken, as that of `make lib-unproved`, and none is built.
@@ -73,6 +73,7 @@ checks() {
   compile unread unread
   compile small_pieces small_pieces -Wl,--wrap=malloc,--wrap=realloc,--wrap=free
   compile unknown unknown -Wl,--wrap=malloc,--wrap=realloc,--wrap=free
+  compile instructions instructions
   compile arguments arguments
   compile lent lent
   compile lists lists
@@ -86,6 +87,7 @@ checks() {
     run unread "$out/unread"
     run "small pieces" "$out/small_pieces"
     run unknown "$out/unknown"
+    run instructions "$out/instructions"
     run arguments "$out/arguments" $mark
     run lent "$out/lent"
     run lists "$out/lists"
@@ -95,6 +97,7 @@ checks() {
     flags=(-fsanitize=address,undefined -fno-sanitize-recover=all)
     compile calls calls_checked "${flags[@]}"
     compile schedules schedules_checked "${flags[@]}"
+    compile instructions instructions_checked "${flags[@]}"
     compile arguments arguments_checked "${flags[@]}"
     compile lent lent_checked "${flags[@]}"
     compile lists lists_checked "${flags[@]}"
@@ -102,6 +105,7 @@ checks() {
     if [ "$bad" -eq 0 ]; then
       rows "$out/calls_checked" "rows with sanitizers"
       run "schedules with sanitizers" "$out/schedules_checked" 1000 100
+      run "instructions with sanitizers" "$out/instructions_checked"
       run "arguments with sanitizers" "$out/arguments_checked" $mark
       run "lent with sanitizers" "$out/lent_checked"
       run "lists with sanitizers" "$out/lists_checked"

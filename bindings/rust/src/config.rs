@@ -32,7 +32,7 @@ pub struct Config {
     pub webtransport: bool,
     pub max_webtransport_sessions: u64,
     /// The greatest length that a frame may say which is kept until it is whole: any known one but DATA. One that says more is a fault of the
-    /// connection, H3_EXCESSIVE_LOAD. One below `max_field_section_size` is refused. 2^62 - 1 and more: there is no limit.
+    /// connection, H3_EXCESSIVE_LOAD, and so is a longer instruction of the encoder or decoder stream. One below `max_field_section_size` is refused. 2^62 - 1 and more: there is no limit.
     pub unfinished_limit: u64,
 }
 

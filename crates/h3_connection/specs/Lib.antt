@@ -10,7 +10,11 @@ pub mod FaultTexts
 pub mod OwnIds
 pub mod Lasts
 pub mod PeerReading
+pub mod ExcessiveInstructions
+pub mod ExcessiveInstructionLaws
 pub mod Listeners
+pub mod LimitedHearingLaws
+pub mod LimitedListeningLaws
 pub mod StreamSets
 pub mod StreamSetLaws
 pub mod Arrivals
@@ -26,6 +30,7 @@ pub mod WaitingPieces
 pub mod WaitingPieceLaws
 pub mod Endpoint
 pub mod Control
+pub mod UnlimitedLaws
 pub mod Delivering
 pub mod CountedContent
 pub mod NoContent

@@ -356,8 +356,9 @@ impl Decoder {
         self.take_insertion(buf)
     }
 
-    /// Reads the whole instructions at the front up to the first that is refused.
-    fn take_instructions(&mut self, buf: &mut SliceCursor<'_>) -> Result<(), DecoderError>
+    /// Reads the whole instructions at the front up to the first that is refused. It writes no increment: `put_increment` does, for as
+    /// many insertions as `inserted` then counts more.
+    pub fn take_instructions(&mut self, buf: &mut SliceCursor<'_>) -> Result<(), DecoderError>
         ensures read { HasRead self.old self.new buf.old buf.new }
         ensures grows { self.old.table.inserted ≤ self.new.table.inserted }
         ensures ok { OnOk result (instruction buf.new ≡ Unfinished) }

@@ -11,7 +11,7 @@ use h3_field::prefix_int;
 pub const CAPACITY_LEN: usize = 6;
 
 /// The most bytes that an increment takes.
-pub(crate) const INCREMENT_LEN: usize = 10;
+pub const INCREMENT_LEN: usize = 10;
 
 /// Appends the instruction for a capacity, where there is room for it.
 pub fn put_capacity(capacity: u64, out: &mut Vec<u8>)
@@ -23,7 +23,7 @@ pub fn put_capacity(capacity: u64, out: &mut Vec<u8>)
 }
 
 /// Appends an increment by so many insertions, and nothing for none.
-pub(crate) fn put_increment(count: usize, write: &mut Vec<u8>)
+pub fn put_increment(count: usize, write: &mut Vec<u8>)
     requires few { count < 2 ^ 62 }
     requires room { vec_len write.old + 10 ≤ vec_capacity write.old }
     ensures { write.new.items ≡ write.old.items ++ increment_for count }

@@ -1,10 +1,11 @@
 -- What is read on streams that are no request streams looks at none of these, and leaves them.
 use Rattle.std.proofs.Common.{◌≡◌, ℕ, Bool, true, false, if◌then◌else◌, List, [], ◌++◌, Option, Some, None, refl}
 use Rattle.std.specs.Prelude.{◌≢◌, is_some}
-use Rattle.h3_connection.specs.Control.{Found, listened_to, read_decoder, with_table, if_learned, then_decoder, read_control}
+use Rattle.h3_connection.specs.Control.{Found, listened_to, kept_unread, read_decoder, with_table, if_learned, then_decoder, read_control}
 use Rattle.h3_connection.specs.Delivering.{unidirectional_at, with_unidirectional, unless_second, heard_as, read_unidirectional}
 use Rattle.h3_connection.specs.Endpoint.{EndpointHistory, limit_of, Kind, is_second}
 use Rattle.h3_connection.specs.Endpoint.Kind.{Request, ServerOpened, OwnUnidirectional, PeerUnidirectional}
+use Rattle.h3_connection.specs.ExcessiveInstructions.{listen_up_to}
 use Rattle.h3_connection.specs.Incoming.{Incoming}
 use Rattle.h3_connection.specs.Outgoing.{Outgoing}
 use Rattle.h3_connection.specs.PartReading.{held_as, after_frames}
@@ -14,7 +15,6 @@ use Rattle.h3_connection.specs.Unidirectional.{Unidirectional, Role, role_after,
 use Rattle.h3_connection.specs.Unidirectional.Role.{Untold, Control, Encoder, Decoder, Session, Push, Ignored}
 use Rattle.h3_connection.specs.declared.arrival.Arrival.{Arrival}
 use Rattle.h3_connection.specs.declared.arrival.Arrival.TheVariants.{BytesCame, EndCame, ResetCame}
-use Rattle.h3_qpack.specs.Hearing.{listen}
 use Rattle.h3_session.specs.Reading.{read_at}
 
 -- with these request streams
@@ -32,8 +32,8 @@ nothing_found e fault = record { apart = λ ins outs. refl; side = refl; kept = 
 
 -- The decoder stream.
 decoder_by : (e : EndpointHistory) (bytes : List ℕ) (b : Bool) → LooksElsewhere e
-    (if◌then◌else◌ {A = Found} b (listened_to e (listen e.encoder (e.decoder_unread ++ bytes))) (record e { decoder_unread = e.decoder_unread ++ bytes }, None))
-    (λ ins outs. if◌then◌else◌ {A = Found} b (listened_to (with_requests e ins outs) (listen e.encoder (e.decoder_unread ++ bytes))) (record (with_requests e ins outs) { decoder_unread = e.decoder_unread ++ bytes }, None))
+    (if◌then◌else◌ {A = Found} b (listened_to e (listen_up_to (limit_of e) e.encoder (e.decoder_unread ++ bytes))) (kept_unread e (e.decoder_unread ++ bytes)))
+    (λ ins outs. if◌then◌else◌ {A = Found} b (listened_to (with_requests e ins outs) (listen_up_to (limit_of e) e.encoder (e.decoder_unread ++ bytes))) (kept_unread (with_requests e ins outs) (e.decoder_unread ++ bytes)))
 decoder_by e bytes true = record { apart = λ ins outs. refl; side = refl; kept = refl }
 decoder_by e bytes false = record { apart = λ ins outs. refl; side = refl; kept = refl }
 

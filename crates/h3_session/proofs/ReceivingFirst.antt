@@ -137,12 +137,12 @@ lands id e f other arrivals b kind some (Goes (ReadsFrames {id = q} {p} {more} o
 lands id e f other arrivals b kind some (Goes (Hears {id = q} {d} {more} on part) read) =
     let find : EndpointHistory → EndpointHistory = λ y. replied (record y { decoding = d }) (increment (d.decoder.table.inserted - y.decoding.decoder.table.inserted)) in
     lands_else id e f other (BytesCame q [] ∷ more) (BytesCame q [] ∷ more) find b kind (record { apart = λ ins outs. refl; side = refl; kept = refl })
-    (Hears (by_rest (λ y. y.encoder_on ≡ Some q) id e f b on) (by_rest (λ y. HearsPart y.decoding d) id e f b part))
+    (Hears (by_rest (λ y. y.encoder_on ≡ Some q) id e f b on) (by_rest (λ y. HearsPart (limit_of y) y.decoding d) id e f b part))
     (λ beside then_kind same. lands id (find e) (find f) other (BytesCame q [] ∷ more) beside then_kind (moves_on id (BytesCame q [] ∷ more) e (find e) same some) read)
 lands id e f other arrivals b kind some (Goes (Listens {id = q} {s} {left} {pairs} {more} on known part) read) =
     let find : EndpointHistory → EndpointHistory = λ y. record y { encoder = s; decoder_unread = left } in
     lands_else id e f other (BytesCame q [] ∷ more) (BytesCame q [] ∷ more) find b kind (record { apart = λ ins outs. refl; side = refl; kept = refl })
-    (Listens (by_rest (λ y. y.decoder_on ≡ Some q) id e f b on) (by_rest (λ y. y.peer.settings ≡ Some pairs) id e f b known) (by_rest (λ y. ListensPart y.encoder s y.decoder_unread left) id e f b part))
+    (Listens (by_rest (λ y. y.decoder_on ≡ Some q) id e f b on) (by_rest (λ y. y.peer.settings ≡ Some pairs) id e f b known) (by_rest (λ y. ListensPart (limit_of y) y.encoder s y.decoder_unread left) id e f b part))
     (λ beside then_kind same. lands id (find e) (find f) other (BytesCame q [] ∷ more) beside then_kind (moves_on id (BytesCame q [] ∷ more) e (find e) same some) read)
 
 -- Where the stream is open in both, what is stored stands for both.

@@ -1,27 +1,19 @@
 -- A stream is told to be one of the connection's: its reader has read nothing, and reads nothing of no bytes.
 use Rattle.std.proofs.Common.{◌≡◌, ℕ, ◌-◌, Bool, true, false, if◌then◌else◌, List, [], ◌++◌, append-nil, flat_map, Option, Some, None, refl, ap, sym, subst, ◌∙◌, arith}
 use Rattle.std.specs.Prelude.{is_some}
-use Rattle.h3_qpack.specs.DecoderState.{DecoderState}
-use Rattle.h3_qpack.specs.EncoderHistory.{EncoderHistory}
-use Rattle.h3_qpack.specs.Hearing.{Heard, hear, heard, listen, listened}
+use Rattle.h3_qpack.specs.Hearing.{Heard, heard}
 use Rattle.h3_field.specs.Instruction.{decoder_bytes}
-use Rattle.h3_connection.specs.Codes.{encoder_stream_error}
-use Rattle.h3_connection.specs.Control.{Found, read_control, read_encoder, read_decoder, listened_to, after_peer, if_learned, then_decoder, increment}
+use Rattle.h3_connection.specs.Control.{Found, read_control, read_encoder, read_decoder, listened_to, kept_unread, after_peer, if_learned, then_decoder, increment}
 use Rattle.h3_connection.specs.Endpoint.{EndpointHistory, limit_of, replied}
-use Rattle.h3_connection.specs.Listeners.{Decoding, Encoding, fault_if, heard_more, after_hearing, insertions_heard}
+use Rattle.h3_connection.specs.ExcessiveInstructions.{hear_up_to, listen_up_to}
+use Rattle.h3_connection.specs.Listeners.{Decoding, Encoding, hearing_fault, heard_more, after_hearing, insertions_heard}
+use Rattle.h3_connection.specs.LimitedHearingLaws.{hears_nothing}
+use Rattle.h3_connection.specs.LimitedListeningLaws.{listens_nothing, keeps_nothing}
 use Rattle.h3_connection.specs.PeerReading.{with_unread, read_peer}
 use Rattle.h3_connection.specs.State.{EndpointState, StandsFor, IsToldPeer}
 use Rattle.h3_streams.proofs.PlacedLaws.{stands_control, stands_encoder, stands_decoder}
 use Rattle.h3_streams.specs.Placed.{StreamsState, placed}
 use Rattle.h3_connection.specs.PeerReadingLaws.{nothing_read_on}
-
-pub hear_nothing : (r : DecoderState) → hear r [] ≡ heard r [] false
-unfolding hear
-hear_nothing r = refl
-
-pub listen_nothing : (s : EncoderHistory) → listen s [] ≡ listened s [] false
-unfolding listen
-listen_nothing s = refl
 
 -- A reading of no bytes finds no fault, and what is stored stands for the endpoint after it.
 pub record Begins (s : EndpointState) (x : StreamsState) (found : Found) : Type 0 where
@@ -64,20 +56,20 @@ encoder_begins s x e id h told none =
     let f = record e { encoder_on = Some id } in
     let n = e.decoding.decoder.table.inserted in
     let d : Decoding = record { decoder = e.decoding.decoder; unread = [] } in
-    let read : heard_more e.decoding [] ≡ heard e.decoding.decoder [] false = ap (λ l. hear e.decoding.decoder l) (none_behind e.decoding.unread nothing) ∙ hear_nothing e.decoding.decoder in
+    let read : heard_more (limit_of e) e.decoding [] ≡ heard e.decoding.decoder [] false = ap (hear_up_to (limit_of e) e.decoding.decoder) (none_behind e.decoding.unread nothing) ∙ hears_nothing (limit_of e) e.decoding.decoder in
     let same : x.decoding ≡ d = h.decoding ∙ ap (λ l. record e.decoding { unread = l }) nothing in
     let new = replied (record e { encoder_on = Some id; decoding = d }) (increment (n - n)) in
     let there = stands_encoder s x e id d (increment (n - n)) h told in
     record {
       new = new;
-      is = ap (λ (k : Heard). (replied (record f { decoding = after_hearing k }) (increment (insertions_heard f.decoding k)), fault_if k.is_bad encoder_stream_error)) read;
+      is = ap (λ (k : Heard). (replied (record f { decoding = after_hearing k }) (increment (insertions_heard f.decoding k)), hearing_fault (limit_of e) k)) read;
       stands = subst (λ q. StandsFor (placed s (record x { encoder_on = Some id; decoding = q })) new) (sym same)
           (subst (λ l. StandsFor (placed s (record x { encoder_on = Some id; decoding = d; own = record x.own { decoder = l } })) new) (no_increment n x.own.decoder) there);
     }
 
-listened_nothing : (e : EndpointHistory) (b : Bool) (l : List ℕ) → l ≡ [] → (if b then listened_to e (listen e.encoder l) else (record e { decoder_unread = l }, None)) ≡ (record e { decoder_unread = [] }, None)
-listened_nothing e true l is = ap (λ k. listened_to e (listen e.encoder k)) is ∙ ap (λ k. listened_to e k) (listen_nothing e.encoder)
-listened_nothing e false l is = ap (λ k. (record e { decoder_unread = k }, None)) is
+listened_nothing : (e : EndpointHistory) (b : Bool) (l : List ℕ) → l ≡ [] → (if b then listened_to e (listen_up_to (limit_of e) e.encoder l) else kept_unread e l) ≡ (record e { decoder_unread = [] }, None)
+listened_nothing e true l is = ap (λ k. listened_to e (listen_up_to (limit_of e) e.encoder k)) is ∙ ap (λ k. listened_to e k) (listens_nothing (limit_of e) e.encoder)
+listened_nothing e false l is = ap (kept_unread e) is ∙ ap (λ fault. (record e { decoder_unread = [] }, fault)) (keeps_nothing (limit_of e))
 
 pub decoder_begins : (s : EndpointState) (x : StreamsState) (e : EndpointHistory) (id : ℕ) → StandsFor (placed s x) e → IsToldPeer e.side e.unidirectional id → e.decoder_on ≡ None
     → Begins s (record x { decoder_on = Some id }) (read_decoder (record e { decoder_on = Some id }) [])

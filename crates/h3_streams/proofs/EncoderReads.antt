@@ -8,7 +8,7 @@ use Rattle.h3_connection.specs.declared.arrival.Arrival.{Arrival}
 use Rattle.h3_connection.specs.declared.arrival.Arrival.TheVariants.{BytesCame}
 use Rattle.h3_connection.specs.Control.{Found, read_encoder, increment}
 use Rattle.h3_connection.specs.Delivering.{heard_as, unless_second}
-use Rattle.h3_connection.specs.Endpoint.{EndpointHistory, is_second, replied}
+use Rattle.h3_connection.specs.Endpoint.{EndpointHistory, limit_of, is_second, replied}
 use Rattle.h3_connection.specs.Listeners.{Decoding, Hears, heard_more, after_hearing, insertions_heard}
 use Rattle.h3_connection.specs.PartReading.{ReadsOn, HearsPart, held_as}
 use Rattle.h3_connection.specs.State.{EndpointState, StandsFor, IsToldPeer}
@@ -39,29 +39,29 @@ with_increment s x e id n d after h told is =
 pub first_found : (role_found : Found) (on : Option ℕ) (e : EndpointHistory) (id : ℕ) → is_second on id ≡ false → unless_second (is_second on id) e role_found ≡ role_found
 first_found found on e id first = ap (λ b. unless_second b e found) first
 
-pub encoder_read : (x : StreamsState) (id : ℕ) (bytes : List ℕ) (d : Decoding) (fault : Option ℕ) (after : List ℕ) → false ≡ is_second x.encoder_on id → Hears x.decoding d bytes fault x.own.decoder after
-    → (s : EndpointState) (e : EndpointHistory) (side : Side) (limit : ℕ) → IsRead s x e side limit id Encoder → Reads s fault (record x { encoder_on = Some id; decoding = d; own = record x.own { decoder = after } }) (heard_as e id Encoder bytes)
-encoder_read x id bytes d fault after first hears s e side limit r =
+pub encoder_read : (x : StreamsState) (id : ℕ) (bytes : List ℕ) (d : Decoding) (fault : Option ℕ) (after : List ℕ) (limit : ℕ) → false ≡ is_second x.encoder_on id → Hears limit x.decoding d bytes fault x.own.decoder after
+    → (s : EndpointState) (e : EndpointHistory) (side : Side) → IsRead s x e side limit id Encoder → Reads s fault (record x { encoder_on = Some id; decoding = d; own = record x.own { decoder = after } }) (heard_as e id Encoder bytes)
+encoder_read x id bytes d fault after limit first hears s e side r =
     let h = r.stands in
     let y = record x { encoder_on = Some id; decoding = d; own = record x.own { decoder = after } } in
     let f = record e { encoder_on = Some id } in
     let here : is_second e.encoder_on id ≡ false = ap (λ o. is_second o id) (sym h.encoder_on) ∙ sym first in
-    let k = subst (λ o. Hears o d bytes fault x.own.decoder after) h.decoding hears in
-    let all = heard_more e.decoding bytes in
+    let k = subst (λ n. Hears n e.decoding d bytes fault x.own.decoder after) (sym r.limit_is) (subst (λ o. Hears limit o d bytes fault x.own.decoder after) h.decoding hears) in
+    let all = heard_more (limit_of e) e.decoding bytes in
     let stands = subst (λ q. StandsFor (placed s (record x { encoder_on = Some id; decoding = q; own = record x.own { decoder = after } })) (read_encoder f bytes).0) (sym k.table)
     (with_increment s x e id (insertions_heard e.decoding all) (after_hearing all) after h (told_peer s x e side limit id Encoder refl r) k.increment) in
     subst (Reads s fault y) (sym (first_found (read_encoder f bytes) e.encoder_on e id here)) (k.fault, stands)
 
 -- a front of them was read
-encoder_held : (x : StreamsState) (id : ℕ) (bytes : List ℕ) (d : Decoding) (after : List ℕ) (left : List Arrival) → false ≡ is_second x.encoder_on id
-    → HearsPart (record x.decoding { unread = x.decoding.unread ++ bytes }) d → after ≡ x.own.decoder ++ increment_for (d.decoder.table.inserted - x.decoding.decoder.table.inserted) → left ≡ BytesCame id [] ∷ []
-    → (s : EndpointState) (e : EndpointHistory) (side : Side) (limit : ℕ) → IsRead s x e side limit id Encoder
+encoder_held : (x : StreamsState) (id : ℕ) (bytes : List ℕ) (d : Decoding) (after : List ℕ) (left : List Arrival) (limit : ℕ) → false ≡ is_second x.encoder_on id
+    → HearsPart limit (record x.decoding { unread = x.decoding.unread ++ bytes }) d → after ≡ x.own.decoder ++ increment_for (d.decoder.table.inserted - x.decoding.decoder.table.inserted) → left ≡ BytesCame id [] ∷ []
+    → (s : EndpointState) (e : EndpointHistory) (side : Side) → IsRead s x e side limit id Encoder
     → Stops Encoder s x (record x { encoder_on = Some id; decoding = d; own = record x.own { decoder = after } }) e id bytes left
-encoder_held x id bytes d after left first part wrote is s e side limit r =
+encoder_held x id bytes d after left limit first part wrote is s e side r =
     let h = r.stands in
     let y = record x { encoder_on = Some id; decoding = d; own = record x.own { decoder = after } } in
     let here : is_second e.encoder_on id ≡ false = ap (λ o. is_second o id) (sym h.encoder_on) ∙ sym first in
-    let part' = subst (λ (o : Decoding). HearsPart (record o { unread = o.unread ++ bytes }) d) h.decoding part in
+    let part' = subst (λ n. HearsPart n (record e.decoding { unread = e.decoding.unread ++ bytes }) d) (sym r.limit_is) (subst (λ (o : Decoding). HearsPart limit (record o { unread = o.unread ++ bytes }) d) h.decoding part) in
     let wrote' = subst (λ (o : Decoding). after ≡ x.own.decoder ++ increment_for (d.decoder.table.inserted - o.decoder.table.inserted)) h.decoding wrote in
     let n = d.decoder.table.inserted - e.decoding.decoder.table.inserted in
     let new = replied (record e { encoder_on = Some id; decoding = d }) (increment n) in
@@ -74,12 +74,12 @@ encoder_held x id bytes d after left first part wrote is s e side limit r =
     Stops.Held here (subst (StopsAt s y (held_as e id (Encoder, bytes)) (BytesCame id [] ∷ [])) (sym is) stops)
 
 -- the reading was refused memory
-pub encoder_stopped : (x : StreamsState) (id : ℕ) (bytes : List ℕ) (d : Decoding) (after : List ℕ) (left : Left) (stop : Stop) → false ≡ is_second x.encoder_on id
-    → HeardPart stop bytes x.decoding d x.own.decoder after → left ≡ left_by stop id
-    → (s : EndpointState) (e : EndpointHistory) (side : Side) (limit : ℕ) → IsRead s x e side limit id Encoder
+pub encoder_stopped : (x : StreamsState) (id : ℕ) (bytes : List ℕ) (d : Decoding) (after : List ℕ) (left : Left) (stop : Stop) (limit : ℕ) → false ≡ is_second x.encoder_on id
+    → HeardPart limit stop bytes x.decoding d x.own.decoder after → left ≡ left_by stop id
+    → (s : EndpointState) (e : EndpointHistory) (side : Side) → IsRead s x e side limit id Encoder
     → Stops Encoder s x (record x { encoder_on = Some id; decoding = d; own = record x.own { decoder = after } }) e id bytes (left_arrivals left)
-encoder_stopped x id bytes d after left Held first (part, wrote) is s e side limit r = encoder_held x id bytes d after (left_arrivals left) first part wrote (ap left_arrivals is) s e side limit r
-encoder_stopped x id bytes d after left (Unheld back) first (same, kept, nothing) is s e side limit r =
+encoder_stopped x id bytes d after left Held limit first (part, wrote) is s e side r = encoder_held x id bytes d after (left_arrivals left) limit first part wrote (ap left_arrivals is) s e side r
+encoder_stopped x id bytes d after left (Unheld back) limit first (same, kept, nothing) is s e side r =
     let new = record x { encoder_on = Some id; decoding = d; own = record x.own { decoder = after } } in
     let with_id : new ≡ record x { encoder_on = Some id } = ap (λ q. record x { encoder_on = Some id; decoding = q; own = record x.own { decoder = after } }) kept
     ∙ ap (λ l. record x { encoder_on = Some id; own = record x.own { decoder = l } }) nothing in

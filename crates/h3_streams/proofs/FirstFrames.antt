@@ -103,14 +103,14 @@ first_fault x side limit id p n out code unknown read l s e r on =
 -- none, and then what the decoder said is read
 pub first_read : (x new : StreamsState) (side : Side) (limit id : ℕ) (p : Peer) (n : Encoding) (out : List ℕ) (fault : Option ℕ) → x.peer.settings ≡ None → read_peer limit side x.peer ≡ (p, None)
     → Learns x.encoding n x.own.encoder out p.settings
-    → ReadsEarly (record x { peer = p; encoding = n; own = record x.own { encoder = out } }) new fault → ReadsHeld x new side limit id fault
+    → ReadsEarly limit (record x { peer = p; encoding = n; own = record x.own { encoder = out } }) new fault → ReadsHeld x new side limit id fault
 first_read x new side limit id p n out fault unknown read l early s e r on =
     let h = r.stands in
     let found = peer_found s x e side limit (p, None) h r.side_is r.limit_is read in
     let f = record e { peer = p } in
     let g = if_learned None p.settings f in
     let peer : g.peer ≡ p = ap (λ (q : EndpointHistory). q.peer) (learned_is p.settings f) in
-    let there = early s g (first_stands s x e id p n out h on unknown l) in
+    let there = early s g (first_stands s x e id p n out h on unknown l) (ap limit_of (learned_is p.settings f) ∙ r.limit_is) in
     subst (Reads s fault new)
     (sym (ap (after_peer e) found ∙ ap (λ o. then_decoder o p.settings (if_learned o p.settings f) None) (unknown_before s x e h unknown)))
     (subst (λ (q : Peer). Reads s fault new (then_decoder None q.settings g None)) peer there)
@@ -156,7 +156,7 @@ whole_part limit side old new read =
 -- the reading of what the decoder said before was refused memory
 pub early_stopped : (x new : StreamsState) (side : Side) (limit id : ℕ) (p : Peer) (n : Encoding) (out : List ℕ) (left : List Arrival) → x.peer.settings ≡ None → read_peer limit side x.peer ≡ (p, None)
     → Learns x.encoding n x.own.encoder out p.settings
-    → StopsEarly (record x { peer = p; encoding = n; own = record x.own { encoder = out } }) new side left → StopsHeld x new side limit id left
+    → StopsEarly limit (record x { peer = p; encoding = n; own = record x.own { encoder = out } }) new side left → StopsHeld x new side limit id left
 early_stopped x new side limit id p n out left unknown read l early s e r on =
     let h = r.stands in
     let found = peer_found s x e side limit (p, None) h r.side_is r.limit_is read in
@@ -173,7 +173,7 @@ early_stopped x new side limit id p n out left unknown read l early s e r on =
     let again : read_peer (limit_of e) e.side p ≡ (p, None) = ap (λ (q : PeerFound). read_peer (limit_of e) e.side q.0) (sym found) ∙ read_again (limit_of e) e.side e.peer (ap (λ (q : PeerFound). q.1) found) ∙ ap (λ (q : PeerFound). (q.0, None)) found in
     let done : read_peer (limit_of g) g.side g.peer ≡ (g.peer, None) = ap (λ n. read_peer n g.side g.peer) limit_is ∙ ap (λ t. read_peer (limit_of e) t g.peer) side_is ∙ subst (λ q. read_peer (limit_of e) e.side q ≡ (q, None)) (sym peer) again in
     let there = first_stands s x e id p n out h on unknown l in
-    let stops = early s (touched g id) (touched_stands s _ g id there role control) (side_is ∙ r.side_is) r.early in
+    let stops = early s (touched g id) (touched_stands s _ g id there role control) (limit_is ∙ r.limit_is) (side_is ∙ r.side_is) r.early in
     let arrivals : early_if None g.peer.settings g.decoder_on ≡ early_if None p.settings e.decoder_on = ap (λ (q : Peer). early_if None q.settings g.decoder_on) peer ∙ ap (λ o. early_if None p.settings o) decoder in
     record {
       after = stops.after;

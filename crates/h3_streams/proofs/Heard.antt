@@ -3,9 +3,9 @@ use Rattle.std.proofs.Common.{◌≡◌, ℕ, List, [], ◌++◌, append-nil, Op
 use Rattle.h3_connection.specs.Listeners.{Decoding, Hears}
 
 -- all of them were stored first
-pub heard_all : (old new : Decoding) (bytes : List ℕ) (fault : Option ℕ) (before after : List ℕ) → Hears (record old { unread = old.unread ++ bytes }) new [] fault before after
-    → Hears old new bytes fault before after
-heard_all old new bytes fault before after h =
+pub heard_all : (most : ℕ) (old new : Decoding) (bytes : List ℕ) (fault : Option ℕ) (before after : List ℕ) → Hears most (record old { unread = old.unread ++ bytes }) new [] fault before after
+    → Hears most old new bytes fault before after
+heard_all most old new bytes fault before after h =
     let same : (old.unread ++ bytes) ++ [] ≡ old.unread ++ bytes = append-nil (old.unread ++ bytes) in
     let table = rw same at h.table in
     let code = rw same at h.fault in

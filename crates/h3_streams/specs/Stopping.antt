@@ -6,9 +6,9 @@ use Rattle.h3_qpack.specs.EncoderState.{encoder_state}
 use Rattle.h3_qpack.specs.Increments.{increment_for}
 use Rattle.h3_connection.specs.declared.arrival.Arrival.{Arrival}
 use Rattle.h3_connection.specs.Control.{then_decoder}
-use Rattle.h3_connection.specs.Endpoint.{EndpointHistory, kind_of}
+use Rattle.h3_connection.specs.Endpoint.{EndpointHistory, limit_of, kind_of}
 use Rattle.h3_connection.specs.Endpoint.Kind.{PeerUnidirectional}
-use Rattle.h3_connection.specs.Listeners.{Decoding, Encoding, Listens}
+use Rattle.h3_connection.specs.Listeners.{Decoding, Encoding, Listens, keeping_fault}
 use Rattle.h3_connection.specs.PartReading.{HearsPart, early_if}
 use Rattle.h3_connection.specs.State.{EndpointState, StandsFor}
 use Rattle.h3_unidirectional.specs.Fronts.{StopsListening}
@@ -19,20 +19,20 @@ use Rattle.h3_streams.specs.declared.left.Left.{Left}
 use Rattle.h3_streams.specs.declared.readers.Stop.{Stop}
 use Rattle.h3_streams.specs.declared.readers.Stop.TheVariants.{Unheld, Held}
 
--- of the encoder stream
-abbrev pub HeardPart : Stop → List ℕ → Decoding → Decoding → List ℕ → List ℕ → Type 0
-HeardPart (Unheld back) bytes old new before after = (back ≡ bytes) × (new ≡ old) × (after ≡ before)
-HeardPart Held bytes old new before after =
-    HearsPart (record old { unread = old.unread ++ bytes }) new × (after ≡ before ++ increment_for (new.decoder.table.inserted - old.decoder.table.inserted))
+-- of the encoder stream, where instructions are taken up to this limit
+abbrev pub HeardPart : ℕ → Stop → List ℕ → Decoding → Decoding → List ℕ → List ℕ → Type 0
+HeardPart most (Unheld back) bytes old new before after = (back ≡ bytes) × (new ≡ old) × (after ≡ before)
+HeardPart most Held bytes old new before after =
+    HearsPart most (record old { unread = old.unread ++ bytes }) new × (after ≡ before ++ increment_for (new.decoder.table.inserted - old.decoder.table.inserted))
 
--- of the decoder stream, which is read once the settings came
-abbrev pub ListensIf : Bool → List ℕ → Encoding → Encoding → Option ℕ → Type 0
-ListensIf true bytes old new fault = (s : EncoderHistory) → old.encoder ≡ encoder_state s → Listens s (old.unread ++ bytes) new fault
-ListensIf false bytes old new fault = (new ≡ record old { unread = old.unread ++ bytes }) × (fault ≡ None)
+-- of the decoder stream, which is read once the settings came, and kept up to the limit before
+abbrev pub ListensIf : ℕ → Bool → List ℕ → Encoding → Encoding → Option ℕ → Type 0
+ListensIf most true bytes old new fault = (s : EncoderHistory) → old.encoder ≡ encoder_state s → Listens most s (old.unread ++ bytes) new fault
+ListensIf most false bytes old new fault = (new ≡ record old { unread = old.unread ++ bytes }) × (fault ≡ keeping_fault most (old.unread ++ bytes))
 
-abbrev pub ListenedPart : Stop → Bool → List ℕ → Encoding → Encoding → Type 0
-ListenedPart (Unheld back) known bytes old new = (back ≡ bytes) × (new ≡ old)
-ListenedPart Held known bytes old new = (known ≡ true) × ((s : EncoderHistory) → old.encoder ≡ encoder_state s → StopsListening s (record old { unread = old.unread ++ bytes }) new)
+abbrev pub ListenedPart : ℕ → Stop → Bool → List ℕ → Encoding → Encoding → Type 0
+ListenedPart most (Unheld back) known bytes old new = (back ≡ bytes) × (new ≡ old)
+ListenedPart most Held known bytes old new = (known ≡ true) × ((s : EncoderHistory) → old.encoder ≡ encoder_state s → StopsListening most s (record old { unread = old.unread ++ bytes }) new)
 
 -- what the settings make of the own encoder, where they came
 abbrev pub learned_by : EncoderHistory → Option (List (ℕ × ℕ)) → EncoderHistory
@@ -60,10 +60,10 @@ abbrev pub early_of : Option (List (ℕ × ℕ)) → Option ℕ → Option ℕ
 early_of None on = None
 early_of (Some pairs) on = on
 
--- it is read once they came
-abbrev pub ReadsEarly : StreamsState → StreamsState → Option ℕ → Type 0
-ReadsEarly x new fault = (s : EndpointState) (e : EndpointHistory) → StandsFor (placed s x) e → Reads s fault new (then_decoder None e.peer.settings e None)
+-- it is read once they came, of instructions up to this limit
+abbrev pub ReadsEarly : ℕ → StreamsState → StreamsState → Option ℕ → Type 0
+ReadsEarly limit x new fault = (s : EndpointState) (e : EndpointHistory) → StandsFor (placed s x) e → limit_of e ≡ limit → Reads s fault new (then_decoder None e.peer.settings e None)
 
-abbrev pub StopsEarly : StreamsState → StreamsState → Side → List Arrival → Type 0
-StopsEarly x new side left = (s : EndpointState) (e : EndpointHistory) → StandsFor (placed s x) e → e.side ≡ side → IfSome x.decoder_on (λ d. kind_of side d ≡ PeerUnidirectional)
+abbrev pub StopsEarly : ℕ → StreamsState → StreamsState → Side → List Arrival → Type 0
+StopsEarly limit x new side left = (s : EndpointState) (e : EndpointHistory) → StandsFor (placed s x) e → limit_of e ≡ limit → e.side ≡ side → IfSome x.decoder_on (λ d. kind_of side d ≡ PeerUnidirectional)
     → StopsAt s new e (early_if None e.peer.settings e.decoder_on) left

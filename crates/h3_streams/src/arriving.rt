@@ -56,7 +56,8 @@ impl ConnectionStreams {
 
     /// Bytes came on a unidirectional stream of the peer, which is not closed. They tell its role, or are for it: what is for the
     /// control, encoder and decoder stream is read, up to the first fault, and that is answered. A frame of the control stream that says a
-    /// length above `most` is one. Where memory is refused, what was read stands, and the answer is what is still to be read.
+    /// length above `most` is one, and so is an instruction of the encoder or decoder stream that is longer. Where memory is refused, what
+    /// was read stands, and the answer is what is still to be read.
     pub fn bytes(
         &mut self,
         alloc: Global,
@@ -75,8 +76,8 @@ impl ConnectionStreams {
             Ok(Received::Nothing) => Ok(None),
             Ok(Received::Push) => Ok(Some(push_fault(side))),
             Ok(Received::Control(rest)) => self.control_bytes(alloc, side, most, id, rest),
-            Ok(Received::Encoder(rest)) => self.encoder_bytes(id, rest),
-            Ok(Received::Decoder(rest)) => self.decoder_bytes(id, rest),
+            Ok(Received::Encoder(rest)) => self.encoder_bytes(most, id, rest),
+            Ok(Received::Decoder(rest)) => self.decoder_bytes(most, id, rest),
             Err(back) => Err(Left::of(id, back)),
         }
     }

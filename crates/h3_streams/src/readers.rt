@@ -57,41 +57,45 @@ pub(crate) fn hold(peer: &mut PeerControl, bytes: Bytes) -> Result<(), Bytes>
     }
 }
 
-/// Bytes of the peer's encoder stream (RFC 9204, section 4.3). Where something was inserted, the increment is written on `out`.
+/// Bytes of the peer's encoder stream (RFC 9204, section 4.3), of instructions up to `most`. Where something was inserted, the increment is
+/// written on `out`.
 #[tactic(auto, using(crate::proofs::Heard::heard_all))]
 pub(crate) fn hear(
     decoding: &mut Decoding,
+    most: u64,
     out: &mut WaitingBytes,
     bytes: Bytes,
 ) -> Result<Option<Code>, Stop>
-    ensures ok { IfOk result (λ fault. Hears decoding.old decoding.new bytes fault out.old out.new) }
-    ensures err { IfErr result (λ stop. HeardPart stop bytes decoding.old decoding.new out.old out.new) }
+    ensures ok { IfOk result (λ fault. Hears most decoding.old decoding.new bytes fault out.old out.new) }
+    ensures err { IfErr result (λ stop. HeardPart most stop bytes decoding.old decoding.new out.old out.new) }
 {
     let Ok(()) = decoding.push(bytes.as_slice()) else {
         return Err(Stop::Unheld(bytes));
     };
-    match decoding.read(out) {
+    match decoding.read(most, out) {
         Ok(fault) => Ok(fault),
         Err(_) => Err(Stop::Held),
     }
 }
 
-/// Bytes of the peer's decoder stream (RFC 9204, section 4.4), which are held until its settings are known.
+/// Bytes of the peer's decoder stream (RFC 9204, section 4.4), of instructions up to `most`. Until its settings are known they are held, and
+/// no more than that.
 pub(crate) fn listen(
     encoding: &mut Encoding,
+    most: u64,
     is_known: bool,
     bytes: Bytes,
 ) -> Result<Option<Code>, Stop>
-    ensures ok { IfOk result (λ fault. ListensIf is_known bytes encoding.old encoding.new fault) }
-    ensures err { IfErr result (λ stop. ListenedPart stop is_known bytes encoding.old encoding.new) }
+    ensures ok { IfOk result (λ fault. ListensIf most is_known bytes encoding.old encoding.new fault) }
+    ensures err { IfErr result (λ stop. ListenedPart most stop is_known bytes encoding.old encoding.new) }
 {
     let Ok(()) = encoding.push(bytes.as_slice()) else {
         return Err(Stop::Unheld(bytes));
     };
     if !is_known {
-        return Ok(None);
+        return Ok(encoding.unread_fault(most));
     }
-    match encoding.read() {
+    match encoding.read(most) {
         Ok(fault) => Ok(fault),
         Err(_) => Err(Stop::Held),
     }

@@ -1,5 +1,5 @@
 //! Bytes for the connection's own streams of the peer: its control, encoder and decoder stream.
-ghost use Rattle.std.specs.Prelude.{◌≡◌, ℕ, Some, IfOk, IfErr};
+ghost use Rattle.std.specs.Prelude.{◌≡◌, Some, IfOk, IfErr};
 ghost use Rattle.h3_proto.specs.declared.stream.Side.{Side};
 ghost use Rattle.h3_connection.specs.Delivering.{heard_as};
 ghost use Rattle.h3_connection.specs.Endpoint.{EndpointHistory};
@@ -29,32 +29,43 @@ fn is_second(first: Option<StreamId>, id: StreamId) -> bool
 }
 
 impl ConnectionStreams {
-    /// Bytes for the encoder stream: of the first such stream, whose role was told before or is told now. A second one is a fault.
-    pub(crate) fn encoder_bytes(&mut self, id: StreamId, bytes: Bytes) -> Result<Option<Code>, Left>
-        ensures ok { IfOk result (λ fault. (s : EndpointState) (e : EndpointHistory) (side : Side) (most : ℕ) → IsRead s self.old e side most id Encoder → Reads s fault self.new (heard_as e id Encoder bytes)) }
-        ensures err { IfErr result (λ left. (s : EndpointState) (e : EndpointHistory) (side : Side) (most : ℕ) → IsRead s self.old e side most id Encoder → Stops Encoder s self.old self.new e id bytes (left_arrivals left)) }
+    /// Bytes for the encoder stream: of the first such stream, whose role was told before or is told now. A second one is a fault, and so is
+    /// an instruction that is longer than `most`.
+    pub(crate) fn encoder_bytes(
+        &mut self,
+        most: u64,
+        id: StreamId,
+        bytes: Bytes,
+    ) -> Result<Option<Code>, Left>
+        ensures ok { IfOk result (λ fault. (s : EndpointState) (e : EndpointHistory) (side : Side) → IsRead s self.old e side most id Encoder → Reads s fault self.new (heard_as e id Encoder bytes)) }
+        ensures err { IfErr result (λ left. (s : EndpointState) (e : EndpointHistory) (side : Side) → IsRead s self.old e side most id Encoder → Stops Encoder s self.old self.new e id bytes (left_arrivals left)) }
     {
         if is_second(self.encoder_on, id) {
             return Ok(Some(Code::H3_STREAM_CREATION_ERROR));
         }
         self.encoder_on = Some(id);
-        let stop = match hear(&mut self.decoding, &mut self.own.decoder, bytes) {
+        let stop = match hear(&mut self.decoding, most, &mut self.own.decoder, bytes) {
             Ok(fault) => return Ok(fault),
             Err(stop) => stop,
         };
         Err(stop.left(id))
     }
 
-    /// Bytes for the decoder stream: of the first such stream, whose role was told before or is told now. A second one is a fault.
-    pub(crate) fn decoder_bytes(&mut self, id: StreamId, bytes: Bytes) -> Result<Option<Code>, Left>
-        ensures ok { IfOk result (λ fault. (s : EndpointState) (e : EndpointHistory) (side : Side) (most : ℕ) → IsRead s self.old e side most id Decoder → Reads s fault self.new (heard_as e id Decoder bytes)) }
-        ensures err { IfErr result (λ left. (s : EndpointState) (e : EndpointHistory) (side : Side) (most : ℕ) → IsRead s self.old e side most id Decoder → Stops Decoder s self.old self.new e id bytes (left_arrivals left)) }
+    /// Bytes for the decoder stream, likewise. Before the settings they are held, up to `most`.
+    pub(crate) fn decoder_bytes(
+        &mut self,
+        most: u64,
+        id: StreamId,
+        bytes: Bytes,
+    ) -> Result<Option<Code>, Left>
+        ensures ok { IfOk result (λ fault. (s : EndpointState) (e : EndpointHistory) (side : Side) → IsRead s self.old e side most id Decoder → Reads s fault self.new (heard_as e id Decoder bytes)) }
+        ensures err { IfErr result (λ left. (s : EndpointState) (e : EndpointHistory) (side : Side) → IsRead s self.old e side most id Decoder → Stops Decoder s self.old self.new e id bytes (left_arrivals left)) }
     {
         if is_second(self.decoder_on, id) {
             return Ok(Some(Code::H3_STREAM_CREATION_ERROR));
         }
         self.decoder_on = Some(id);
-        let stop = match listen(&mut self.encoding, self.peer.has_settings(), bytes) {
+        let stop = match listen(&mut self.encoding, most, self.peer.has_settings(), bytes) {
             Ok(fault) => return Ok(fault),
             Err(stop) => stop,
         };
@@ -121,7 +132,7 @@ impl ConnectionStreams {
         let out = self.own.encoder.bytes_mut();
         match read_first(&mut self.peer, &mut self.encoding, out, alloc, side, most) {
             Ok(Some(code)) => Ok(Some(code)),
-            Ok(None) => self.early_replies(),
+            Ok(None) => self.early_replies(most),
             Err(_) => Err(Left {
                 id,
                 bytes: Bytes::new(),
@@ -141,14 +152,14 @@ impl ConnectionStreams {
     }
 
     /// Reads what the peer's decoder said before the settings came, where they came now.
-    fn early_replies(&mut self) -> Result<Option<Code>, Left>
-        ensures ok { IfOk result (λ fault. ReadsEarly self.old self.new fault) }
-        ensures err { IfErr result (λ left. (side : Side) → StopsEarly self.old self.new side (left_arrivals left)) }
+    fn early_replies(&mut self, most: u64) -> Result<Option<Code>, Left>
+        ensures ok { IfOk result (λ fault. ReadsEarly most self.old self.new fault) }
+        ensures err { IfErr result (λ left. (side : Side) → StopsEarly most self.old self.new side (left_arrivals left)) }
     {
         let Some(decoder) = self.early_stream() else {
             return Ok(None);
         };
-        let Ok(fault) = self.encoding.read() else {
+        let Ok(fault) = self.encoding.read(most) else {
             return Err(Left::held(decoder));
         };
         Ok(fault)

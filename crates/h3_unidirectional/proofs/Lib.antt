@@ -1,6 +1,8 @@
 pub mod FrameFronts
 pub mod ControlFronts
 mod InstructionFronts
+mod Excess
+mod WindowLaws
 mod Heard
 mod Listened
 mod Waits

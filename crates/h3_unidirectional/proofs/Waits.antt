@@ -10,11 +10,11 @@ use Rattle.std.specs.Prelude.{IfOk}
 use Rattle.h3_qpack.specs.Increments.{increment_for}
 use Rattle.h3_connection.specs.Listeners.{Decoding, Hears}
 
-pub waiting_ok : {E : Type 0} (r : Result (Option ℕ) E) (old new : Decoding) (before after waits later : List ℕ) → IfOk r (λ fault. Hears old new [] fault before after)
-    → later ≡ waits ++ increment_for (new.decoder.table.inserted - old.decoder.table.inserted) → IfOk r (λ fault. Hears old new [] fault waits later)
-waiting_ok (Ok fault) old new before after waits later heard more =
+pub waiting_ok : {E : Type 0} (r : Result (Option ℕ) E) (most : ℕ) (old new : Decoding) (before after waits later : List ℕ) → IfOk r (λ fault. Hears most old new [] fault before after)
+    → later ≡ waits ++ increment_for (new.decoder.table.inserted - old.decoder.table.inserted) → IfOk r (λ fault. Hears most old new [] fault waits later)
+waiting_ok (Ok fault) most old new before after waits later heard more =
     record { table = heard.table; fault = heard.fault; increment = more ∙ ap (λ (d : Decoding). waits ++ increment_for (d.decoder.table.inserted - old.decoder.table.inserted)) heard.table }
-waiting_ok (Err e) old new before after waits later heard more = tt
+waiting_ok (Err e) most old new before after waits later heard more = tt
 
 error_none : {E : Type 0} (r : Result (Option ℕ) E) (P : Option ℕ → Type 0) → is_ok r ≡ false → IfOk r P
 error_none (Ok fault) P e = absurd (cc)

@@ -3,7 +3,8 @@ use Rattle.std.specs.Prelude.{◌≡◌, ℕ, false, List, [], ◌++◌, None}
 use Rattle.h3_proto.specs.declared.stream.Side.{Side}
 use Rattle.h3_qpack.specs.EncoderHistory.{EncoderHistory}
 use Rattle.h3_qpack.specs.EncoderState.{encoder_state}
-use Rattle.h3_qpack.specs.Hearing.{hear, heard, listen}
+use Rattle.h3_qpack.specs.Hearing.{heard, listened}
+use Rattle.h3_connection.specs.ExcessiveInstructions.{hear_up_to, listen_up_to}
 use Rattle.h3_connection.specs.Listeners.{Decoding, Encoding, heard_more}
 use Rattle.h3_connection.specs.PartReading.{PeerReadsPart, HearsPart, ListensPart}
 use Rattle.h3_connection.specs.PeerReading.{Peer, with_unread, read_peer}
@@ -20,20 +21,28 @@ pub record StopsReading (limit : ℕ) (side : Side) (old new : Peer) : Type 0 wh
   pub part : PeerReadsPart limit side old new
   pub resumes : (more : List ℕ) → read_peer limit side (with_unread new (new.unread ++ more)) ≡ read_peer limit side (with_unread old (old.unread ++ more))
 
--- The same of the peer's encoder stream.
-pub record HearsFront (old new : Decoding) : Type 0 where
+-- The same of the peer's encoder stream, where instructions are taken up to this limit.
+pub record HearsFront (most : ℕ) (old new : Decoding) : Type 0 where
   pub front : List ℕ
   pub split : old.unread ≡ front ++ new.unread
-  pub heard : hear old.decoder front ≡ heard new.decoder [] false
-  pub goes_on : (more : List ℕ) → hear old.decoder (front ++ more) ≡ hear new.decoder more
+  pub heard : hear_up_to most old.decoder front ≡ heard new.decoder [] false
+  pub goes_on : (more : List ℕ) → hear_up_to most old.decoder (front ++ more) ≡ hear_up_to most new.decoder more
 
-pub record StopsHearing (old new : Decoding) : Type 0 where
-  pub part : HearsPart old new
-  pub resumes : (more : List ℕ) → heard_more new more ≡ heard_more old more
+pub record StopsHearing (most : ℕ) (old new : Decoding) : Type 0 where
+  pub part : HearsPart most old new
+  pub resumes : (more : List ℕ) → heard_more most new more ≡ heard_more most old more
 
 -- The same of the peer's decoder stream, where this is the history of the own encoder, and that the one after it.
-pub record StopsListening (s : EncoderHistory) (old new : Encoding) : Type 0 where
+pub record ListensFront (most : ℕ) (s : EncoderHistory) (old new : Encoding) : Type 0 where
   pub after : EncoderHistory
   pub state : new.encoder ≡ encoder_state after
-  pub part : ListensPart s after old.unread new.unread
-  pub resumes : (more : List ℕ) → listen after (new.unread ++ more) ≡ listen s (old.unread ++ more)
+  pub front : List ℕ
+  pub split : old.unread ≡ front ++ new.unread
+  pub listened : listen_up_to most s front ≡ listened after [] false
+  pub goes_on : (more : List ℕ) → listen_up_to most s (front ++ more) ≡ listen_up_to most after more
+
+pub record StopsListening (most : ℕ) (s : EncoderHistory) (old new : Encoding) : Type 0 where
+  pub after : EncoderHistory
+  pub state : new.encoder ≡ encoder_state after
+  pub part : ListensPart most s after old.unread new.unread
+  pub resumes : (more : List ℕ) → listen_up_to most after (new.unread ++ more) ≡ listen_up_to most s (old.unread ++ more)

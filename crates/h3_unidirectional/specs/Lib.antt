@@ -1,5 +1,6 @@
 pub mod Owned
 pub mod Fronts
+pub mod Windows
 pub mod Judged
 pub mod Faults
 pub mod Kinds

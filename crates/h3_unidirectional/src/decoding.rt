@@ -1,17 +1,22 @@
 //! The peer's encoder stream (RFC 9204, section 4.3), and the dynamic table that it fills.
-ghost use Rattle.std.specs.Prelude.{length, ◌≡◌, ◌-◌, ◌<◌, ◌^◌, ◌++◌, [], false, Some, None, IfOk, IfErr, OnOk, OnErr};
+ghost use Rattle.std.specs.Prelude.{length, ◌≡◌, ◌-◌, ◌<◌, ◌^◌, ◌++◌, [], true, false, Some, IfOk, IfErr, OnOk, OnErr};
 ghost use Rattle.h3_field.specs.Waiting.{goes_on, encoder_wait};
+ghost use Rattle.h3_qpack.specs.Hearing.{heard};
 ghost use Rattle.h3_qpack.specs.Increments.{increment_for};
 ghost use Rattle.h3_qpack.specs.DecoderState.{announcing};
 ghost use Rattle.h3_qpack.specs.SectionAnswers.{IsReasonFor};
-ghost use Rattle.h3_connection.specs.Codes.{encoder_stream_error};
-ghost use Rattle.h3_connection.specs.Listeners.{Decoding as Heard, Hears};
+ghost use Rattle.h3_connection.specs.Codes.{encoder_stream_error, excessive_load};
+ghost use Rattle.h3_connection.specs.ExcessiveInstructions.{hear_up_to};
+ghost use Rattle.h3_connection.specs.Listeners.{Decoding as Heard, Hears, fault_if};
 ghost use Rattle.h3_unidirectional.specs.Faults.{IsFaultOf};
 ghost use Rattle.h3_unidirectional.specs.Fronts.{HearsFront, StopsHearing};
+ghost use Rattle.h3_unidirectional.specs.Windows.{is_longer, HearingEnds, HearsWindow};
 
+use crate::limits::{is_longer, window};
 use crate::waiting::{WaitingBytes, drop_front};
 use h3_field::waiting::{Wait, encoder_wait, encoder_wait_behind};
 use h3_proto::error::Code;
+use h3_qpack::reserved::{INCREMENT_LEN, put_increment};
 use h3_qpack::{Decoder, DecoderError, SliceCursor};
 use std::alloc::{AllocError, Global};
 use std::marker::Model;
@@ -76,60 +81,140 @@ impl Decoding {
         Ok(())
     }
 
-    // Reads up to the first instruction that is bad or not whole. The one at the front is not unfinished.
-    fn read_front(&mut self, replies: &mut Vec<u8>) -> Result<usize, DecoderError>
-        requires { goes_on (encoder_wait self.old.unread) ≡ false }
-        ensures front { HearsFront self.old self.new }
-        ensures ok { OnOk result (Hears self.old self.new [] None replies.old.items replies.new.items) }
-        ensures err { IfErr result (IsReasonFor (Hears self.old self.new [] (Some encoder_stream_error) replies.old.items replies.new.items) (λ count. ⊥)) }
-        ensures increment { replies.new.items ≡ replies.old.items ++ increment_for (self.new.decoder.table.inserted - self.old.decoder.table.inserted) }
+    /// The fault of the instruction at the front, of which nothing is to be read, where it is longer than `most`.
+    fn excess(&self, most: u64) -> Option<Code>
+        ensures { result ≡ fault_if (is_longer most (length self.now.unread) (encoder_wait self.now.unread)) excessive_load }
+    {
+        if is_longer(most, self.unread.len(), self.wait) {
+            return Some(Code::H3_EXCESSIVE_LOAD);
+        }
+        None
+    }
+
+    // Reads up to the first instruction that is bad, not whole or longer than `most`.
+    fn read_unread(&mut self, most: u64) -> Result<(), DecoderError>
+        ensures front { HearsFront most self.old self.new }
+        ensures ok { OnOk result (HearingEnds most self.new.decoder self.new.unread) }
+        ensures err { IfErr result (IsReasonFor (hear_up_to most self.new.decoder self.new.unread ≡ heard self.new.decoder self.new.unread true) (λ count. ⊥)) }
     {
         let bytes = self.unread.as_slice();
-        let mut cursor = SliceCursor::new(bytes);
-        let outcome = self.decoder.on_encoder_recv(&mut cursor, replies);
-        let taken = bytes.len().saturating_sub(cursor.remaining());
+        let mut rest = SliceCursor::new(bytes);
+        let outcome = read_windows(&mut self.decoder, &mut rest, most);
+        let taken = bytes.len().saturating_sub(rest.remaining());
         drop_front(&mut self.unread, taken);
         self.wait = encoder_wait(self.unread.as_slice());
         outcome
     }
 
-    #[tactic(auto, using(crate::proofs::Waits::is_fault))]
-    fn read_into(&mut self, replies: &mut Vec<u8>) -> Result<Option<Code>, AllocError>
+    // The same with the increment. The instruction at the front is not unfinished.
+    fn read_front(&mut self, most: u64, replies: &mut Vec<u8>) -> Result<(), DecoderError>
         requires { goes_on (encoder_wait self.old.unread) ≡ false }
-        ensures front { HearsFront self.old self.new }
-        ensures ok { IfOk result (λ fault. Hears self.old self.new [] fault replies.old.items replies.new.items) }
+        ensures front { HearsFront most self.old self.new }
+        ensures ok { OnOk result (HearingEnds most self.new.decoder self.new.unread) }
+        ensures err { IfErr result (IsReasonFor (Hears most self.old self.new [] (Some encoder_stream_error) replies.old.items replies.new.items) (λ count. ⊥)) }
         ensures increment { replies.new.items ≡ replies.old.items ++ increment_for (self.new.decoder.table.inserted - self.old.decoder.table.inserted) }
     {
-        match self.read_front(replies) {
-            Ok(_) => Ok(None),
+        if replies.reserve(INCREMENT_LEN).is_err() {
+            return Err(DecoderError::OutOfMemory);
+        }
+        let before = self.decoder.inserted();
+        let outcome = self.read_unread(most);
+        put_increment(self.decoder.inserted().saturating_sub(before), replies);
+        outcome
+    }
+
+    #[tactic(auto, using(crate::proofs::Waits::is_fault))]
+    fn read_into(
+        &mut self,
+        most: u64,
+        replies: &mut Vec<u8>,
+    ) -> Result<Option<Code>, AllocError>
+        requires { goes_on (encoder_wait self.old.unread) ≡ false }
+        ensures front { HearsFront most self.old self.new }
+        ensures ok { IfOk result (λ fault. Hears most self.old self.new [] fault replies.old.items replies.new.items) }
+        ensures increment { replies.new.items ≡ replies.old.items ++ increment_for (self.new.decoder.table.inserted - self.old.decoder.table.inserted) }
+    {
+        match self.read_front(most, replies) {
+            Ok(()) => Ok(self.excess(most)),
             Err(e) => fault_of(e),
         }
     }
 
     // Reads what is unread, as `read` does. The instruction at the front is not unfinished.
     #[tactic(auto, using(crate::proofs::Waits::waiting_ok, crate::proofs::Heard::hearing_stopped))]
-    fn read_instructions(&mut self, out: &mut WaitingBytes) -> Result<Option<Code>, AllocError>
+    fn read_instructions(
+        &mut self,
+        most: u64,
+        out: &mut WaitingBytes,
+    ) -> Result<Option<Code>, AllocError>
         requires { goes_on (encoder_wait self.old.unread) ≡ false }
-        ensures ok { IfOk result (λ fault. Hears self.old self.new [] fault out.old out.new) }
+        ensures ok { IfOk result (λ fault. Hears most self.old self.new [] fault out.old out.new) }
         ensures increment { out.new ≡ out.old ++ increment_for (self.new.decoder.table.inserted - self.old.decoder.table.inserted) }
-        ensures refused { OnErr result (StopsHearing self.old self.new) }
+        ensures refused { OnErr result (StopsHearing most self.old self.new) }
     {
-        self.read_into(out.behind_mut())
+        self.read_into(most, out.behind_mut())
     }
 
-    /// Reads what is unread, up to the first instruction that is bad or not whole, and writes one increment where something
-    /// was inserted. It answers the fault of a bad instruction. Where memory is refused the instructions that were read stand,
-    /// and the increment counts them; the others stay unread, and the next reading goes on with them. Bytes that are known to leave
-    /// the instruction at the front unfinished are not read again, so a stream costs no more however it is cut.
-    pub fn read(&mut self, out: &mut WaitingBytes) -> Result<Option<Code>, AllocError>
-        ensures ok { IfOk result (λ fault. Hears self.old self.new [] fault out.old out.new) }
+    /// Reads what is unread, up to the first instruction that is bad, not whole or longer than `most`, and writes one increment where
+    /// something was inserted. It answers the fault of a bad instruction, and of one that is known to be longer, whether it came or not
+    /// (RFC 9114, section 10.5). Where memory is refused the instructions that were read stand, and the increment counts them; the others
+    /// stay unread, and the next reading goes on with them. Bytes that are known to leave the instruction at the front unfinished are not
+    /// read again, so a stream costs no more however it is cut.
+    pub fn read(
+        &mut self,
+        most: u64,
+        out: &mut WaitingBytes,
+    ) -> Result<Option<Code>, AllocError>
+        ensures ok { IfOk result (λ fault. Hears most self.old self.new [] fault out.old out.new) }
         ensures increment { out.new ≡ out.old ++ increment_for (self.new.decoder.table.inserted - self.old.decoder.table.inserted) }
-        ensures refused { OnErr result (StopsHearing self.old self.new) }
+        ensures refused { OnErr result (StopsHearing most self.old self.new) }
     {
         if self.wait.goes_on() {
-            return Ok(None);
+            return Ok(self.excess(most));
         }
-        self.read_instructions(out)
+        self.read_instructions(most, out)
+    }
+}
+
+// Reads the whole instructions in the first `most` bytes of `rest`, or in all of it where there is no limit, up to the first that is bad, and
+// answers whether to go on behind them: where there were none, or no bytes behind those, nothing of the rest is to be read.
+fn read_window(
+    decoder: &mut Decoder,
+    rest: &mut SliceCursor<'_>,
+    most: u64,
+) -> Result<bool, DecoderError>
+    ensures front { HearsFront most (record { decoder = decoder.old; unread = rest.old }) (record { decoder = decoder.new; unread = rest.new }) }
+    ensures ok { IfOk result (HearsWindow most decoder.new rest.old rest.new) }
+    ensures err { IfErr result (IsReasonFor (hear_up_to most decoder.new rest.new ≡ heard decoder.new rest.new true) (λ count. ⊥)) }
+{
+    let bytes = rest.chunk();
+    let looked_at = window(most, bytes.len());
+    let mut ahead = SliceCursor::new(&bytes[..looked_at]);
+    let outcome = decoder.take_instructions(&mut ahead);
+    let taken = looked_at.saturating_sub(ahead.remaining());
+    rest.advance(taken);
+    match outcome {
+        Ok(()) => Ok(taken > 0 && looked_at < bytes.len()),
+        Err(e) => Err(e),
+    }
+}
+
+// Reads on until nothing of the rest is to be read. So no byte that was read is moved before all are.
+fn read_windows(
+    decoder: &mut Decoder,
+    rest: &mut SliceCursor<'_>,
+    most: u64,
+) -> Result<(), DecoderError>
+    ensures front { HearsFront most (record { decoder = decoder.old; unread = rest.old }) (record { decoder = decoder.new; unread = rest.new }) }
+    ensures ok { OnOk result (HearingEnds most decoder.new rest.new) }
+    ensures err { IfErr result (IsReasonFor (hear_up_to most decoder.new rest.new ≡ heard decoder.new rest.new true) (λ count. ⊥)) }
+{
+    loop {
+        match read_window(decoder, rest, most) {
+            Ok(true) => {}
+            Ok(false) => return Ok(()),
+            Err(e) => return Err(e),
+        }
     }
 }
 

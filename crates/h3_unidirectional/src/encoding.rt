@@ -1,17 +1,19 @@
 //! The own encoder, and the peer's decoder stream that tells it what was received (RFC 9204, section 4.4).
-ghost use Rattle.std.specs.Prelude.{◌≡◌, ◌<◌, ◌^◌, ◌++◌, [], false, length, Some, None, IfOk, IfErr, OnOk, OnErr};
+ghost use Rattle.std.specs.Prelude.{◌≡◌, ◌<◌, ◌^◌, ◌++◌, [], false, length, Some, IfOk, IfErr, OnOk, OnErr};
 ghost use Rattle.h3_field.specs.Field.{section_size};
 ghost use Rattle.h3_field.specs.Waiting.{goes_on, decoder_wait};
 ghost use Rattle.h3_qpack.specs.Drafting.{IsSent, IsCutOff};
 ghost use Rattle.h3_qpack.specs.EncoderHistory.{EncoderHistory, no_table, withdrawn, writing_on};
 ghost use Rattle.h3_qpack.specs.EncoderState.{encoder_state};
-ghost use Rattle.h3_connection.specs.Codes.{decoder_stream_error};
+ghost use Rattle.h3_connection.specs.Codes.{decoder_stream_error, excessive_load};
 ghost use Rattle.h3_connection.specs.Control.{is_table_usable};
-ghost use Rattle.h3_connection.specs.Listeners.{Listens};
+ghost use Rattle.h3_connection.specs.Listeners.{Listens, fault_if, keeping_fault};
 ghost use Rattle.h3_unidirectional.specs.Faults.{IsReplyFaultOf, UnlessMemory};
-ghost use Rattle.h3_unidirectional.specs.Fronts.{StopsListening};
+ghost use Rattle.h3_unidirectional.specs.Fronts.{ListensFront, StopsListening};
 ghost use Rattle.h3_unidirectional.specs.Learned.{having_learned, usable_capacity};
+ghost use Rattle.h3_unidirectional.specs.Windows.{is_longer, ListeningEnds, ListensWindow, IsRefusedAt};
 
+use crate::limits::{is_longer, is_too_much, window};
 use crate::waiting::{WaitingBytes, drop_front};
 use h3_field::HeaderField;
 use h3_field::waiting::{Wait, decoder_wait, decoder_wait_behind};
@@ -78,6 +80,16 @@ impl Encoding {
         self.unread.extend_from_slice(bytes)?;
         self.wait = decoder_wait_behind(self.wait, bytes, self.unread.as_slice());
         Ok(())
+    }
+
+    /// The fault of what is unread before the peer's settings come, until when none of it is read: no more than `most` is kept.
+    pub fn unread_fault(&self, most: u64) -> Option<Code>
+        ensures { result ≡ keeping_fault most self.now.unread }
+    {
+        if is_too_much(most, self.unread.len()) {
+            return Some(Code::H3_EXCESSIVE_LOAD);
+        }
+        None
     }
 
     /// The encoder.
@@ -148,36 +160,88 @@ impl Encoding {
         self.encoder.withdraw(stream.into_inner(), count);
     }
 
-    // Reads up to the first instruction that is refused or not whole. The one at the front is not unfinished.
-    fn read_front(&mut self) -> Result<(), EncoderError>
+    /// The fault of the instruction at the front, of which nothing is to be read, where it is longer than `most`.
+    fn excess(&self, most: u64) -> Option<Code>
+        ensures { result ≡ fault_if (is_longer most (length self.now.unread) (decoder_wait self.now.unread)) excessive_load }
+    {
+        if is_longer(most, self.unread.len(), self.wait) {
+            return Some(Code::H3_EXCESSIVE_LOAD);
+        }
+        None
+    }
+
+    // Reads up to the first instruction that is refused, not whole or longer than `most`. The one at the front is not unfinished.
+    fn read_front(&mut self, most: u64) -> Result<(), EncoderError>
         requires { goes_on (decoder_wait self.old.unread) ≡ false }
-        ensures front { (s : EncoderHistory) → self.old.encoder ≡ encoder_state s → StopsListening s self.old self.new }
-        ensures ok { OnOk result ((s : EncoderHistory) → self.old.encoder ≡ encoder_state s → Listens s self.old.unread self.new None) }
-        ensures err { IfErr result (λ e. UnlessMemory e ((s : EncoderHistory) → self.old.encoder ≡ encoder_state s → Listens s self.old.unread self.new (Some decoder_stream_error))) }
+        ensures front { (s : EncoderHistory) → self.old.encoder ≡ encoder_state s → ListensFront most s self.old self.new }
+        ensures ok { OnOk result ((s : EncoderHistory) → self.old.encoder ≡ encoder_state s → ListeningEnds most self.new.unread) }
+        ensures err { IfErr result (λ e. UnlessMemory e ((s : EncoderHistory) → self.old.encoder ≡ encoder_state s → Listens most s self.old.unread self.new (Some decoder_stream_error))) }
     {
         let bytes = self.unread.as_slice();
-        let mut cursor = SliceCursor::new(bytes);
-        let outcome = self.encoder.on_decoder_recv(&mut cursor);
-        let taken = bytes.len().saturating_sub(cursor.remaining());
+        let mut rest = SliceCursor::new(bytes);
+        let outcome = read_windows(&mut self.encoder, &mut rest, most);
+        let taken = bytes.len().saturating_sub(rest.remaining());
         drop_front(&mut self.unread, taken);
         self.wait = decoder_wait(self.unread.as_slice());
         outcome
     }
 
-    /// Reads what is unread, up to the first instruction that is refused or not whole, and answers the fault of a refused one.
-    /// Where memory is refused the instructions that were read stand; the others stay unread, and the next reading goes on
-    /// with them.
+    /// Reads what is unread, up to the first instruction that is refused, not whole or longer than `most`, and answers the fault of a
+    /// refused one, and of one that is known to be longer, whether it came or not (RFC 9114, section 10.5). Where memory is refused the
+    /// instructions that were read stand; the others stay unread, and the next reading goes on with them.
     #[tactic(auto, using(crate::proofs::Listened::is_reply_fault))]
-    pub fn read(&mut self) -> Result<Option<Code>, AllocError>
-        ensures ok { IfOk result (λ fault. (s : EncoderHistory) → self.old.encoder ≡ encoder_state s → Listens s self.old.unread self.new fault) }
-        ensures refused { OnErr result ((s : EncoderHistory) → self.old.encoder ≡ encoder_state s → StopsListening s self.old self.new) }
+    pub fn read(&mut self, most: u64) -> Result<Option<Code>, AllocError>
+        ensures ok { IfOk result (λ fault. (s : EncoderHistory) → self.old.encoder ≡ encoder_state s → Listens most s self.old.unread self.new fault) }
+        ensures refused { OnErr result ((s : EncoderHistory) → self.old.encoder ≡ encoder_state s → StopsListening most s self.old self.new) }
     {
         if self.wait.goes_on() {
-            return Ok(None);
+            return Ok(self.excess(most));
         }
-        match self.read_front() {
-            Ok(()) => Ok(None),
+        match self.read_front(most) {
+            Ok(()) => Ok(self.excess(most)),
             Err(e) => fault_of(e),
+        }
+    }
+}
+
+// Reads the whole instructions in the first `most` bytes of `rest`, or in all of it where there is no limit, up to the first that is refused,
+// and answers whether to go on behind them: where there were none, or no bytes behind those, nothing of the rest is to be read.
+fn read_window(
+    encoder: &mut Encoder,
+    rest: &mut SliceCursor<'_>,
+    most: u64,
+) -> Result<bool, EncoderError>
+    ensures front { (s : EncoderHistory) → encoder.old ≡ encoder_state s → ListensFront most s (record { encoder = encoder.old; unread = rest.old }) (record { encoder = encoder.new; unread = rest.new }) }
+    ensures ok { IfOk result (ListensWindow most rest.old rest.new) }
+    ensures err { IfErr result (λ e. UnlessMemory e (IsRefusedAt most encoder.new rest.new)) }
+{
+    let bytes = rest.chunk();
+    let looked_at = window(most, bytes.len());
+    let mut ahead = SliceCursor::new(&bytes[..looked_at]);
+    let outcome = encoder.on_decoder_recv(&mut ahead);
+    let taken = looked_at.saturating_sub(ahead.remaining());
+    rest.advance(taken);
+    match outcome {
+        Ok(()) => Ok(taken > 0 && looked_at < bytes.len()),
+        Err(e) => Err(e),
+    }
+}
+
+// Reads on until nothing of the rest is to be read. So no byte that was read is moved before all are.
+fn read_windows(
+    encoder: &mut Encoder,
+    rest: &mut SliceCursor<'_>,
+    most: u64,
+) -> Result<(), EncoderError>
+    ensures front { (s : EncoderHistory) → encoder.old ≡ encoder_state s → ListensFront most s (record { encoder = encoder.old; unread = rest.old }) (record { encoder = encoder.new; unread = rest.new }) }
+    ensures ok { OnOk result (ListeningEnds most rest.new) }
+    ensures err { IfErr result (λ e. UnlessMemory e (IsRefusedAt most encoder.new rest.new)) }
+{
+    loop {
+        match read_window(encoder, rest, most) {
+            Ok(true) => {}
+            Ok(false) => return Ok(()),
+            Err(e) => return Err(e),
         }
     }
 }

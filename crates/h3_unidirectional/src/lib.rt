@@ -5,6 +5,7 @@
 pub mod control;
 pub mod decoding;
 pub mod encoding;
+mod limits;
 pub mod own;
 pub mod plain;
 pub mod stream;

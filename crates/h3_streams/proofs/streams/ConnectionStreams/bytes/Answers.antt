@@ -31,22 +31,22 @@ returns-in-Ok-Control-clause-err c =
 pub returns-in-Ok-Encoder-clause-ok : goal.returns-in-Ok-Encoder-clause-ok
 returns-in-Ok-Encoder-clause-ok c =
     let receives = rw c.in-Ok-Encoder.field-0-is at c.in-Ok-Encoder.ensures.ok in
-    rw (sym c.self.view_is) (IfOk-weaker c.encoder_bytes.result _ _ (λ fault reads. role_read Encoder _ _ _ _ _ _ _ _ fault refl receives (λ s e. reads s e c.args.side c.args.most)) c.encoder_bytes.ensures.ok)
+    rw (sym c.self.view_is) (IfOk-weaker c.encoder_bytes.result _ _ (λ fault reads. role_read Encoder _ _ _ _ _ _ _ _ fault refl receives (λ s e. reads s e c.args.side)) c.encoder_bytes.ensures.ok)
 
 pub returns-in-Ok-Encoder-clause-err : goal.returns-in-Ok-Encoder-clause-err
 returns-in-Ok-Encoder-clause-err c =
     let receives = rw c.in-Ok-Encoder.field-0-is at c.in-Ok-Encoder.ensures.ok in
-    rw (sym c.self.view_is) (IfErr-weaker c.encoder_bytes.result _ _ (λ left stops. role_stopped Encoder _ _ _ _ _ _ _ _ (left_arrivals left) refl receives (λ s e. stops s e c.args.side c.args.most)) c.encoder_bytes.ensures.err)
+    rw (sym c.self.view_is) (IfErr-weaker c.encoder_bytes.result _ _ (λ left stops. role_stopped Encoder _ _ _ _ _ _ _ _ (left_arrivals left) refl receives (λ s e. stops s e c.args.side)) c.encoder_bytes.ensures.err)
 
 pub returns-in-Ok-Decoder-clause-ok : goal.returns-in-Ok-Decoder-clause-ok
 returns-in-Ok-Decoder-clause-ok c =
     let receives = rw c.in-Ok-Decoder.field-0-is at c.in-Ok-Decoder.ensures.ok in
-    rw (sym c.self.view_is) (IfOk-weaker c.decoder_bytes.result _ _ (λ fault reads. role_read Decoder _ _ _ _ _ _ _ _ fault refl receives (λ s e. reads s e c.args.side c.args.most)) c.decoder_bytes.ensures.ok)
+    rw (sym c.self.view_is) (IfOk-weaker c.decoder_bytes.result _ _ (λ fault reads. role_read Decoder _ _ _ _ _ _ _ _ fault refl receives (λ s e. reads s e c.args.side)) c.decoder_bytes.ensures.ok)
 
 pub returns-in-Ok-Decoder-clause-err : goal.returns-in-Ok-Decoder-clause-err
 returns-in-Ok-Decoder-clause-err c =
     let receives = rw c.in-Ok-Decoder.field-0-is at c.in-Ok-Decoder.ensures.ok in
-    rw (sym c.self.view_is) (IfErr-weaker c.decoder_bytes.result _ _ (λ left stops. role_stopped Decoder _ _ _ _ _ _ _ _ (left_arrivals left) refl receives (λ s e. stops s e c.args.side c.args.most)) c.decoder_bytes.ensures.err)
+    rw (sym c.self.view_is) (IfErr-weaker c.decoder_bytes.result _ _ (λ left stops. role_stopped Decoder _ _ _ _ _ _ _ _ (left_arrivals left) refl receives (λ s e. stops s e c.args.side)) c.decoder_bytes.ensures.err)
 
 pub returns-in-Err-clause-err : goal.returns-in-Err-clause-err
 returns-in-Err-clause-err c = rw (sym c.self.view_is) (untaken _ _ _ _ _ _ _ _ c.in-Err.ensures.err.1 c.in-Err.ensures.err.0 c.of-in-Err.ensures)

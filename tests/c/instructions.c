@@ -1,0 +1,182 @@
+/* Instructions of the peer's encoder and decoder streams (RFC 9204, sections 4.3 and 4.4) that are longer than `unfinished_limit`, and those that are not:
+ * in one delivery, in pieces of 100 and byte by byte. The endpoint is a client. */
+#include "h3.h"
+#include <string.h>
+#define TEST "instructions"
+#include "expect.h"
+
+#define MOST 1000
+static const uint64_t CONTROL = 3, ENCODER = 7, DECODER = 11; /* of the peer, a server */
+static const size_t STEPS[] = {100000, 100, 1};
+static const uint64_t NEVER = 0;
+
+static h3_endpoint client = H3_NONE_YET;
+
+static void make(uint64_t most) {
+  h3_config config;
+  h3_config_default(&config);
+  config.max_field_section_size = most;
+  config.unfinished_limit = most;
+  IS(h3_new(&client, &config, NULL), H3_OK);
+}
+
+static uint64_t unread(uint64_t id) {
+  h3_stream_state state;
+  IS(h3_stream(&client, id, &state), H3_OK);
+  return state.unread;
+}
+
+/* Delivers the bytes in pieces of `step`. It answers how many came with the one that closed the connection with this code, NEVER where none did. */
+static uint64_t closed_at(uint64_t id, const void *bytes, size_t len, size_t step, uint64_t code) {
+  for (size_t at = 0; at < len; at += step) {
+    size_t n = len - at < step ? len - at : step;
+    uint64_t detail = 0;
+    uint32_t answer = h3_deliver(&client, id, (const char *)bytes + at, n, &detail);
+    if (answer == H3_OK) continue;
+    HOLDS(answer == H3_CONNECTION && detail == code);
+    return at + n;
+  }
+  return NEVER;
+}
+
+/* the first piece of `step` bytes that reaches so many */
+static uint64_t rounded(uint64_t count, size_t step, size_t len) {
+  uint64_t end = (count + step - 1) / step * step;
+  return end < len ? end : len;
+}
+
+/* an insertion whose name, and one whose value, says 2^30 bytes: the length tells it, whether one byte of it came or many */
+static void of_long_strings(void) {
+  static const struct {
+    const char *head;
+    size_t len;
+  } of[] = {
+      {"\x5f\xe1\xff\xff\xff\x03", 6},  /* a literal name */
+      {"\x41n\x7f\x81\xff\xff\xff\x03", 8}, /* a literal value, behind a name of one byte */
+      {"\xc0\x7f\x81\xff\xff\xff\x03", 7},  /* and behind a name of the static table */
+  };
+  static char bytes[5000];
+  for (size_t i = 0; i < sizeof of / sizeof *of; i++)
+    for (size_t k = 0; k < 3; k++) {
+      memset(bytes, 'a', sizeof bytes);
+      memcpy(bytes, of[i].head, of[i].len);
+      make(MOST);
+      IS(h3_deliver(&client, ENCODER, "\2", 1, NULL), H3_OK);
+      uint64_t at = closed_at(ENCODER, bytes, sizeof bytes, STEPS[k], 0x107);
+      HOLDS(at == rounded(of[i].len, STEPS[k], sizeof bytes));
+      HOLDS(unread(ENCODER) == at); /* what came is held, and no more comes */
+      HOLDS(closed_at(ENCODER, "a", 1, 1, 0x107) == 1 && unread(ENCODER) == at);
+      h3_free(&client);
+    }
+}
+
+/* an integer that never ends is told once as much as the limit came */
+static void of_endless_integers(void) {
+  static char bytes[5000];
+  memset(bytes, 0x80, sizeof bytes);
+  bytes[0] = 0x3f;
+  for (size_t k = 0; k < 3; k++)
+    for (int known = 0; known < 2; known++)
+      for (int decoder = 0; decoder < 2; decoder++) {
+        uint64_t id = decoder ? DECODER : ENCODER;
+        make(MOST);
+        if (known) IS(h3_deliver(&client, CONTROL, "\0\4\0", 3, NULL), H3_OK);
+        IS(h3_deliver(&client, id, decoder ? "\3" : "\2", 1, NULL), H3_OK);
+        uint64_t at = closed_at(id, bytes, sizeof bytes, STEPS[k], 0x107);
+        /* a decoder stream is not read before the settings: its bytes are counted */
+        HOLDS(at == rounded(decoder && !known ? MOST + 1 : MOST, STEPS[k], sizeof bytes));
+        HOLDS(unread(id) == at);
+        h3_free(&client);
+      }
+}
+
+/* what its decoder said before the settings is read behind them, up to the limit */
+static void of_early_replies(void) {
+  static char bytes[MOST];
+  memset(bytes, 0x80, sizeof bytes);
+  bytes[0] = 0x3f;
+  for (size_t len = MOST - 1; len <= MOST; len++) {
+    make(MOST);
+    IS(h3_deliver(&client, DECODER, "\3", 1, NULL), H3_OK);
+    HOLDS(closed_at(DECODER, bytes, len, 100, 0) == NEVER && unread(DECODER) == len);
+    HOLDS(closed_at(CONTROL, "\0\4\0", 3, 3, 0x107) == (len < MOST ? NEVER : 3));
+    h3_free(&client);
+  }
+}
+
+/* an insertion of so many bytes, above 500: a name of one byte, and a value */
+static size_t insertion(char *to, size_t len) {
+  size_t value = len - 5;
+  memset(to, 'v', len);
+  memcpy(to, "\x41n\x7f", 3);
+  to[3] = (char)(0x80 | ((value - 127) & 0x7f));
+  to[4] = (char)((value - 127) >> 7);
+  return len;
+}
+
+/* Insertions of exactly the limit are read, also where more of them come at once than the limit, and one increment counts those of a delivery. One of a byte
+ * more is told behind them by its length. */
+static void of_the_limit(void) {
+  static char bytes[5 * MOST];
+  for (size_t k = 0; k < 3; k++)
+    for (size_t more = 0; more < 2; more++) {
+      size_t len = 3;
+      memcpy(bytes, "\x3f\xe1\x1f", len); /* a capacity of 4,096 */
+      for (size_t i = 0; i < 3; i++) len += insertion(bytes + len, MOST);
+      size_t begins = len;
+      len += insertion(bytes + len, MOST + more);
+      make(MOST);
+      IS(h3_deliver(&client, ENCODER, "\2", 1, NULL), H3_OK);
+      uint64_t at = closed_at(ENCODER, bytes, len, STEPS[k], 0x107);
+      HOLDS(at == (more ? rounded(begins + 5, STEPS[k], len) : NEVER));
+      HOLDS(unread(ENCODER) == (more ? at - begins : 0));
+      uint8_t replies[16];
+      size_t n = 0;
+      uint32_t fin;
+      if (!more) {
+        IS(h3_outgoing(&client, h3_decoder_id(0), replies, sizeof replies, &n, &fin), H3_OK);
+        HOLDS(STEPS[k] > len ? n == 2 && !memcmp(replies, "\3\4", 2) : n == 5 && !memcmp(replies, "\3\1\1\1\1", 5));
+      }
+      h3_free(&client);
+    }
+}
+
+/* without a limit the same is waited for */
+static void of_no_limit(void) {
+  static char bytes[5000];
+  memset(bytes, 0x80, sizeof bytes);
+  bytes[0] = 0x3f;
+  for (size_t k = 0; k < 3; k++) {
+    make((UINT64_C(1) << 62) - 1);
+    IS(h3_deliver(&client, DECODER, "\3", 1, NULL), H3_OK);
+    HOLDS(closed_at(DECODER, bytes, sizeof bytes, STEPS[k], 0) == NEVER && unread(DECODER) == sizeof bytes);
+    IS(h3_deliver(&client, CONTROL, "\0\4\0", 3, NULL), H3_OK);
+    IS(h3_deliver(&client, ENCODER, "\2", 1, NULL), H3_OK);
+    HOLDS(closed_at(ENCODER, "\x5f\xe1\xff\xff\xff\x03", 6, STEPS[k], 0) == NEVER && unread(ENCODER) == 6);
+    h3_free(&client);
+  }
+}
+
+/* a bad instruction is the fault that it was, behind those that are read and before one that is longer */
+static void of_bad_instructions(void) {
+  static char bytes[2 * MOST];
+  for (size_t k = 0; k < 3; k++) {
+    size_t len = insertion(bytes, MOST); /* no capacity was set, so it has no room */
+    memcpy(bytes + len, "\x5f\xe1\xff\xff\xff\x03", 6);
+    make(MOST);
+    IS(h3_deliver(&client, ENCODER, "\2", 1, NULL), H3_OK);
+    HOLDS(closed_at(ENCODER, bytes, len + 6, STEPS[k], 0x201) == rounded(MOST, STEPS[k], len + 6));
+    h3_free(&client);
+  }
+}
+
+int main(void) {
+  of_long_strings();
+  of_endless_integers();
+  of_early_replies();
+  of_the_limit();
+  of_no_limit();
+  of_bad_instructions();
+  if (!bad) puts("ok instructions: those that are longer than the limit are told as soon as they are known, however they are cut");
+  return bad;
+}
