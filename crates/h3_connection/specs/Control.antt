@@ -5,10 +5,10 @@ use Rattle.h3_field.specs.Instruction.{DecoderInstruction}
 use Rattle.h3_field.specs.Instruction.DecoderInstruction.{Increment}
 use Rattle.h3_field.specs.Instruction.EncoderInstruction.{SetCapacity}
 use Rattle.h3_proto.specs.Settings.{value_of}
-use Rattle.h3_connection.specs.Codes.{encoder_stream_error, decoder_stream_error}
 use Rattle.h3_qpack.specs.EncoderHistory.{using_table}
-use Rattle.h3_qpack.specs.Hearing.{Listened, listen}
-use Rattle.h3_connection.specs.Listeners.{fault_if, heard_more, after_hearing, insertions_heard}
+use Rattle.h3_qpack.specs.Hearing.{Listened}
+use Rattle.h3_connection.specs.ExcessiveInstructions.{listen_up_to}
+use Rattle.h3_connection.specs.Listeners.{heard_more, hearing_fault, listening_fault, keeping_fault, after_hearing, insertions_heard}
 use Rattle.h3_connection.specs.PeerReading.{PeerFound, with_unread, read_peer}
 use Rattle.h3_connection.specs.Endpoint.{EndpointHistory, limit_of, replied}
 
@@ -22,17 +22,20 @@ increment count = if count == 0 then [] else Increment count ∷ []
 -- the peer's encoder
 abbrev pub read_encoder : EndpointHistory → List ℕ → Found
 read_encoder e bytes =
-    let h = heard_more e.decoding bytes in
-    (replied (record e { decoding = after_hearing h }) (increment (insertions_heard e.decoding h)), fault_if h.is_bad encoder_stream_error)
+    let h = heard_more (limit_of e) e.decoding bytes in
+    (replied (record e { decoding = after_hearing h }) (increment (insertions_heard e.decoding h)), hearing_fault (limit_of e) h)
 
 -- the peer's decoder, whose bytes are kept until the settings came
 abbrev pub listened_to : EndpointHistory → Listened → Found
-listened_to e l = (record e { encoder = l.encoder; decoder_unread = l.left }, fault_if l.is_bad decoder_stream_error)
+listened_to e l = (record e { encoder = l.encoder; decoder_unread = l.left }, listening_fault (limit_of e) l)
+
+abbrev pub kept_unread : EndpointHistory → List ℕ → Found
+kept_unread e unread = (record e { decoder_unread = unread }, keeping_fault (limit_of e) unread)
 
 abbrev pub read_decoder : EndpointHistory → List ℕ → Found
 read_decoder e bytes =
-    if is_some e.peer.settings then listened_to e (listen e.encoder (e.decoder_unread ++ bytes))
-    else (record e { decoder_unread = e.decoder_unread ++ bytes }, None)
+    if is_some e.peer.settings then listened_to e (listen_up_to (limit_of e) e.encoder (e.decoder_unread ++ bytes))
+    else kept_unread e (e.decoder_unread ++ bytes)
 
 -- the table may be used with these limits, where it has at most so much (RFC 9204, section 3.2.3)
 abbrev pub is_table_usable : ℕ → ℕ → ℕ → Bool

@@ -10,7 +10,11 @@ pub mod FaultTexts
 pub mod OwnIds
 pub mod Lasts
 pub mod PeerReading
+pub mod ExcessiveInstructions
+pub mod ExcessiveInstructionLaws
 pub mod Listeners
+pub mod LimitedHearingLaws
+pub mod LimitedListeningLaws
 pub mod StreamSets
 pub mod StreamSetLaws
 pub mod Arrivals

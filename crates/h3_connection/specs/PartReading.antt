@@ -8,10 +8,10 @@ use Rattle.h3_connection.specs.Control.{increment, if_learned}
 use Rattle.h3_connection.specs.Delivering.{unidirectional_at, with_incoming, with_end, kept, with_unidirectional}
 use Rattle.h3_connection.specs.Endpoint.{EndpointHistory, limit_of, replied, is_second, kind_of}
 use Rattle.h3_connection.specs.Endpoint.Kind.{PeerUnidirectional}
-use Rattle.h3_qpack.specs.Hearing.{hear, listen}
+use Rattle.h3_connection.specs.ExcessiveInstructions.{hear_up_to, listen_up_to}
 use Rattle.h3_connection.specs.Incoming.{Incoming}
 use Rattle.h3_connection.specs.Keeping.{read_arrival, keeping}
-use Rattle.h3_connection.specs.Listeners.{Decoding}
+use Rattle.h3_connection.specs.Listeners.{Decoding, hearing_fault, listening_fault}
 use Rattle.h3_connection.specs.PeerReading.{Peer, with_unread, read_peer}
 use Rattle.h3_connection.specs.Pulling.{pull_stream}
 use Rattle.h3_connection.specs.State.{EndpointState, StandsFor}
@@ -29,22 +29,22 @@ pub record PeerReadsPart (limit : ℕ) (side : Side) (old new : Peer) : Type 0 w
   pub reads : read_peer limit side (with_unread old front) ≡ (read, None)
   pub left : new ≡ with_unread read (read.unread ++ rest)
 
--- A front of the bytes of the peer's encoder stream was read, without a bad instruction.
-pub record HearsPart (old new : Decoding) : Type 0 where
+-- A front of the bytes of the peer's encoder stream was read, without a fault, where instructions are taken up to this limit.
+pub record HearsPart (most : ℕ) (old new : Decoding) : Type 0 where
   pub front : List ℕ
   pub rest : List ℕ
   pub cut : old.unread ≡ front ++ rest
-  pub good : (hear old.decoder front).is_bad ≡ false
-  pub left : new ≡ record { decoder = (hear old.decoder front).decoder; unread = (hear old.decoder front).left ++ rest }
+  pub good : hearing_fault most (hear_up_to most old.decoder front) ≡ None
+  pub left : new ≡ record { decoder = (hear_up_to most old.decoder front).decoder; unread = (hear_up_to most old.decoder front).left ++ rest }
 
--- A front of the bytes of the peer's decoder stream was read, without a bad instruction.
-pub record ListensPart (old new : EncoderHistory) (unread left : List ℕ) : Type 0 where
+-- A front of the bytes of the peer's decoder stream was read, without a fault.
+pub record ListensPart (most : ℕ) (old new : EncoderHistory) (unread left : List ℕ) : Type 0 where
   pub front : List ℕ
   pub rest : List ℕ
   pub cut : unread ≡ front ++ rest
-  pub good : (listen old front).is_bad ≡ false
-  pub encoder : new ≡ (listen old front).encoder
-  pub left_is : left ≡ (listen old front).left ++ rest
+  pub good : listening_fault most (listen_up_to most old front) ≡ None
+  pub encoder : new ≡ (listen_up_to most old front).encoder
+  pub left_is : left ≡ (listen_up_to most old front).left ++ rest
 
 -- It is the first stream of a role whose bytes are read in their delivery.
 abbrev pub is_reader : EndpointHistory → ℕ → Role → Bool
@@ -97,13 +97,13 @@ pub data ReadsOn : EndpointHistory → List Arrival → EndpointHistory → List
   ReadsFrames : {e : EndpointHistory} {id : ℕ} {p : Peer} {more : List Arrival} → e.control_on ≡ Some id → PeerReadsPart (limit_of e) e.side e.peer p
       → ReadsOn e (BytesCame id [] ∷ more) (after_frames e p) (BytesCame id [] ∷ early e p ++ more)
   -- of the encoder stream
-  Hears : {e : EndpointHistory} {id : ℕ} {d : Decoding} {more : List Arrival} → e.encoder_on ≡ Some id → HearsPart e.decoding d
+  Hears : {e : EndpointHistory} {id : ℕ} {d : Decoding} {more : List Arrival} → e.encoder_on ≡ Some id → HearsPart (limit_of e) e.decoding d
       → ReadsOn e (BytesCame id [] ∷ more)
       (replied (record e { decoding = d }) (increment (d.decoder.table.inserted - e.decoding.decoder.table.inserted)))
       (BytesCame id [] ∷ more)
   -- of the decoder stream, once the settings came
   Listens : {e : EndpointHistory} {id : ℕ} {s : EncoderHistory} {left : List ℕ} {pairs : List (ℕ × ℕ)} {more : List Arrival} → e.decoder_on ≡ Some id → e.peer.settings ≡ Some pairs
-      → ListensPart e.encoder s e.decoder_unread left
+      → ListensPart (limit_of e) e.encoder s e.decoder_unread left
       → ReadsOn e (BytesCame id [] ∷ more) (record e { encoder = s; decoder_unread = left }) (BytesCame id [] ∷ more)
 
 -- What came was read up to some point, and the rest is kept.
