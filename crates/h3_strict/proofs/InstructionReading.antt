@@ -1,5 +1,5 @@
 -- What comes of an encoder or a decoder is too long for its reader, or it is read alike without a limit.
-use Rattle.std.proofs.Common.{◌≡◌, ℕ, Bool, true, false, ◌&&◌, List, length, refl, sym, ap, ◌∙◌, inl, inr, nat_lt, Some, None}
+use Rattle.std.proofs.Common.{◌≡◌, ℕ, Bool, true, false, ◌&&◌, List, length, refl, sym, ap, ◌∙◌, inl, inr, nat_lt, Some}
 use Rattle.std.proofs.lemmas.Bool.{and_parts}
 use Rattle.h3_proto.specs.Config.{is_limit}
 use Rattle.h3_qpack.specs.DecoderState.{DecoderState}

@@ -2,12 +2,11 @@
 use Rattle.std.proofs.Common.{◌≡◌, ◌⊎◌, ℕ, ◌-◌, ◌/◌, ◌%◌, ◌<◌, ◌≤◌, Bool, true, false, ◌==◌, List, [], ◌∷◌, ◌++◌, length, take, drop, refl, sym, ap, ◌∙◌, arith, append-nil, length-append, nat_le, inl, inr, if◌then◌else◌}
 use Rattle.std.proofs.lemmas.Bool.{cases_lt, le-leb, le-ltb, lt-leb, lt-ltb}
 use Rattle.std.proofs.lemmas.List.{drop-append-le}
-use Rattle.h3_field.specs.InstructionReading.{InstructionForm, acknowledgment, cancellation, capacity, decoder_instruction, increment, instruction, literal_name, name_reference, repeat}
+use Rattle.h3_field.specs.InstructionReading.{InstructionForm, decoder_instruction, instruction, literal_name, name_reference}
 use Rattle.h3_field.specs.Instruction.{DecoderInstruction}
 use Rattle.h3_field.specs.IntegerLaws.{integer_stable}
 use Rattle.h3_field.specs.IntegerReading.{integer}
 use Rattle.h3_field.specs.Reading.{Bad, Reading, Stays, Unfinished, Whole, then_read}
-use Rattle.h3_field.specs.Shapes.{index_and_string, two_strings}
 use Rattle.h3_field.specs.StringReading.{Payload, bytes_reading, string}
 use Rattle.h3_field.specs.Waiting.{behind_integer, bytes_wait, decoder_wait, encoder_wait, integer_wait, literal_name_wait, name_reference_wait, number_wait, string_wait, unfinished_wait}
 use Rattle.h3_field.specs.declared.waiting.Wait.{Wait}

@@ -1,5 +1,5 @@
 -- Instructions that are written within a limit, of which any front came, are never too long for it.
-use Rattle.std.proofs.Common.{◌≡◌, ℕ, ◌+◌, ◌-◌, ◌<◌, ◌≤◌, Bool, true, false, ◌&&◌, List, [], ◌∷◌, ◌++◌, flat_map, Option, Some, None, refl, sym, ap, ◌∙◌, subst, arith, inl, inr, length, take, drop, append-nil, append_assoc, length-append, take-append-drop, nat_lt, if◌then◌else◌}
+use Rattle.std.proofs.Common.{◌≡◌, ℕ, ◌+◌, ◌-◌, ◌≤◌, Bool, true, false, List, [], ◌∷◌, ◌++◌, flat_map, Option, Some, None, refl, sym, ap, ◌∙◌, arith, inl, inr, length, take, drop, append-nil, append_assoc, take-append-drop, nat_lt}
 use Rattle.std.specs.List.{AllByRecursion}
 use Rattle.std.proofs.lemmas.Bool.{and_right, cases_lt, le-ltb}
 use Rattle.std.proofs.lemmas.List.{length-drop, length-take}
@@ -17,7 +17,7 @@ use Rattle.h3_proto.specs.Config.{is_limit}
 use Rattle.h3_qpack.specs.DecoderState.{DecoderState}
 use Rattle.h3_qpack.specs.EncoderHistory.{EncoderHistory, encoder_after, is_refused}
 use Rattle.h3_qpack.specs.Encodings.{IsWrittenInstruction}
-use Rattle.h3_qpack.specs.Hearing.{Heard, Listened, decoder_after_form, hear_form, hear_next, heard, listen_form, listen_next, listened}
+use Rattle.h3_qpack.specs.Hearing.{decoder_after_form, hear_form, hear_next, listen_form, listen_next}
 use Rattle.h3_connection.specs.Codes.{excessive_load}
 use Rattle.h3_connection.specs.ExcessiveInstructions.{exceeds, hear_up_to, listen_up_to, missing}
 use Rattle.h3_connection.specs.LimitedHearingLaws.{hears_within}
