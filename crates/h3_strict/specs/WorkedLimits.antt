@@ -1,10 +1,11 @@
--- A worked schedule in which a limit that takes what is sent meets what came before the settings.
-use Rattle.std.specs.Prelude.{ℕ, List, [], ◌∷◌, ◌++◌, flat_map}
+-- Worked schedules of limits: one that takes what is sent meets what came before the settings, and one that is too low an insertion.
+use Rattle.std.specs.Prelude.{ℕ, List, [], ◌∷◌, ◌++◌, codes, flat_map}
+use Rattle.h3_header.specs.Head.{Head as Fields}
 use Rattle.h3_proto.specs.Config.{no_choices}
-use Rattle.h3_proto.specs.declared.stream.Side.TheVariants.{Client}
+use Rattle.h3_proto.specs.declared.stream.Side.TheVariants.{Client, Server}
 use Rattle.h3_connection.specs.Codes.{excessive_load}
 use Rattle.h3_connection.specs.declared.event.Refusal.TheVariants as refusal
-use Rattle.h3_world.specs.WorkedHeads.{between, plain}
+use Rattle.h3_world.specs.WorkedHeads.{between, plain, with_one}
 use Rattle.h3_world.specs.declared.event.Answer.{Answer}
 use Rattle.h3_world.specs.declared.event.Answer.TheVariants as answer
 use Rattle.h3_world.specs.declared.event.Event.{Event}
@@ -40,3 +41,25 @@ settled_run = canceling_run ++ event.Deliver Client 2 24 ∷ event.Deliver Clien
 
 abbrev pub settled_answers : List Answer
 settled_answers = canceling_answers ++ answer.Delivered 24 ∷ answer.Delivered 23 ∷ []
+
+-- A client announces lists of 117 bytes and a table of 75, and its limit is as long as such a list
+abbrev pub close_client : Setup
+close_client = between (record (plain 117 75 1) { choices = record no_choices { unfinished_limit = 117 } }) (plain 1000 0 0)
+
+-- ten bytes that each have 28 bits in the Huffman code (RFC 7541, appendix B)
+abbrev pub ten : List ℕ
+ten = 249 ∷ 249 ∷ 249 ∷ 249 ∷ 249 ∷ 249 ∷ 249 ∷ 249 ∷ 249 ∷ 249 ∷ []
+
+-- 42 bytes of the status, and 75 of the other field: 3, 40 and 32
+abbrev pub rare : Fields
+rare = with_one 200 (codes "x-a") (ten ++ ten ++ ten ++ ten)
+
+-- The insertion is 146 bytes long: the length of the name and three bytes, two bytes of the length of the value, which is 140, and these. Behind the
+-- type of the stream and two bytes of the capacity, six bytes of it tell so
+abbrev pub inserting_run : List Event
+inserting_run =
+    event.OpenRequest Client ∷ event.Deliver Client 0 0 ∷ event.Deliver Client 2 25 ∷ event.Head Server 0 rare ∷ event.Deliver Server 7 8 ∷ event.Deliver Server 7 1 ∷ []
+
+abbrev pub inserting_answers : List Answer
+inserting_answers =
+    answer.Opened 0 ∷ answer.Delivered 0 ∷ answer.Delivered 25 ∷ answer.Done ∷ answer.Delivered 8 ∷ answer.Refused (refusal.Connection excessive_load) ∷ []

@@ -23,7 +23,7 @@ pub fn worked_judgment()
 {}
 
 ghost use Rattle.h3_strict.specs.Limits.{LimitsTakeWhatIsSent};
-ghost use Rattle.h3_strict.specs.WorkedLimits.{settled_answers, settled_run, small_server, waiting_answers, waiting_run};
+ghost use Rattle.h3_strict.specs.WorkedLimits.{close_client, inserting_answers, inserting_run, settled_answers, settled_run, small_server, waiting_answers, waiting_run};
 
 /// A client cancels nineteen requests, and what its decoder says of them comes to a server whose limit takes what is sent (`limits`). Before the
 /// client's settings it is too long once it passes the limit (`waits`), and behind them it is read (`settled`).
@@ -31,4 +31,10 @@ pub fn worked_cancellations()
     ensures limits { LimitsTakeWhatIsSent small_server }
     ensures waits { answers_of_ends (new_ends small_server) waiting_run ≡ waiting_answers }
     ensures settled { answers_of_ends (new_ends small_server) settled_run ≡ settled_answers }
+{}
+
+/// A server inserts a field of bytes that are rare ones for a client whose limit is as long as the lists that it announces. The insertion is longer,
+/// since every string is written in the Huffman code, and is refused as soon as that is known.
+pub fn worked_insertion()
+    ensures { answers_of_ends (new_ends close_client) inserting_run ≡ inserting_answers }
 {}
