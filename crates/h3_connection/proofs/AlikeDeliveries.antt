@@ -20,7 +20,7 @@ use Rattle.h3_connection.proofs.AlikeEnds.{at_both, set_both, cuts_sym, or_nothi
 use Rattle.h3_connection.proofs.AlikeReading.{Beside}
 use Rattle.h3_connection.proofs.DeliveryCuts.{taken_good, RoleCut, role_cut_of, CutAs, found_cut, untold_cut}
 use Rattle.h3_connection.proofs.PullCuts.{piece_bytes, have_piece}
-use Rattle.h3_connection.proofs.ReadingCuts.{Alike, EncoderCuts, DecoderCuts}
+use Rattle.h3_connection.proofs.ReadingCuts.{Alike}
 use Rattle.h3_connection.proofs.ReadingStays.{bytes_stay}
 use Rattle.h3_connection.proofs.RequestCuts.{request_cut}
 use Rattle.h3_connection.proofs.RoleCuts.{then_role}
@@ -111,70 +111,69 @@ goes_open e id bytes none =
     let good = taken_good e.closed (delivery_refusal e id) e (bytes_at e id bytes (kind_of e.side id)) none in
     (good.0, ap (λ f. f.closed) good.3 ∙ (bytes_stay e id bytes (kind_of e.side id)).closed ∙ good.0)
 
-module _ (ec : EncoderCuts) (dc : DecoderCuts) where
-  peer_cut : (e : EndpointHistory) (id : ℕ) (a b : List ℕ) → DifferInCutsAlone e e → kind_of e.side id ≡ PeerUnidirectional → (deliver e id a).0 ≡ None → AlikeAfter (deliver e id (a ++ b)) (deliver_cut e id a b)
-  peer_cut e id a b d kind none = by_which (which_role (role_with e id (a ++ b)))
-    where
-      o : Unidirectional
-      o = unidirectional_at e id
+peer_cut : (e : EndpointHistory) (id : ℕ) (a b : List ℕ) → DifferInCutsAlone e e → kind_of e.side id ≡ PeerUnidirectional → (deliver e id a).0 ≡ None → AlikeAfter (deliver e id (a ++ b)) (deliver_cut e id a b)
+peer_cut e id a b d kind none = by_which (which_role (role_with e id (a ++ b)))
+  where
+    o : Unidirectional
+    o = unidirectional_at e id
 
-      have : HaveBytes o.unread
-      have = (or_untold (stream_at e.unidirectional id) (stream_at e.unidirectional id) (at_both SessionsDifferInCuts e.unidirectional e.unidirectional id d.unidirectional)).first
+    have : HaveBytes o.unread
+    have = (or_untold (stream_at e.unidirectional id) (stream_at e.unidirectional id) (at_both SessionsDifferInCuts e.unidirectional e.unidirectional id d.unidirectional)).first
 
-      itself : (x : EndpointHistory) → deliver e id (a ++ b) ≡ (None, x) → DifferInCutsAlone x x
-      itself x is =
-          let goes = goes_open e id (a ++ b) (ap (λ p. p.0) is) in
-          subst (λ f. DifferInCutsAlone f f) (ap (λ p. p.1) is) (delivered_itself e id (a ++ b) d goes.1)
+    itself : (x : EndpointHistory) → deliver e id (a ++ b) ≡ (None, x) → DifferInCutsAlone x x
+    itself x is =
+        let goes = goes_open e id (a ++ b) (ap (λ p. p.0) is) in
+        subst (λ f. DifferInCutsAlone f f) (ap (λ p. p.1) is) (delivered_itself e id (a ++ b) d goes.1)
 
-      c : RoleCut e id a b
-      c = role_cut_of e id a b kind none
+    c : RoleCut e id a b
+    c = role_cut_of e id a b kind none
 
-      AtOnce : Role × List ℕ → Found
-      AtOnce x = read_unidirectional e id o (then_role b x)
+    AtOnce : Role × List ℕ → Found
+    AtOnce x = read_unidirectional e id o (then_role b x)
 
-      Apart : Role × List ℕ → Found
-      Apart x = read_unidirectional (read_unidirectional e id o x).0 id (with_bytes o x) (role_after x.0 b)
+    Apart : Role × List ℕ → Found
+    Apart x = read_unidirectional (read_unidirectional e id o x).0 id (with_bytes o x) (role_after x.0 b)
 
-      cut_by : (Left : EndpointHistory → EndpointHistory → Type 0) → Alike Left (AtOnce c.heard) (Apart c.heard) → CutAs Left (deliver e id (a ++ b)) (deliver_cut e id a b)
-      cut_by Left h = record { first = AtOnce c.heard; second = Apart c.heard; first_is = c.at_once; second_is = c.apart; alike = h }
+    cut_by : (Left : EndpointHistory → EndpointHistory → Type 0) → Alike Left (AtOnce c.heard) (Apart c.heard) → CutAs Left (deliver e id (a ++ b)) (deliver_cut e id a b)
+    cut_by Left h = record { first = AtOnce c.heard; second = Apart c.heard; first_is = c.at_once; second_is = c.apart; alike = h }
 
-      -- the session was told in the first bytes, or in the second
-      by_heard : (n : ℕ) (role : Role) (rest : List ℕ) → c.heard ≡ (role, rest) → (role_after role b).0 ≡ Session n → AlikeAfter (deliver e id (a ++ b)) (deliver_cut e id a b)
-      by_heard n (Session m) rest at is =
-          from_alike DifferInCutsAlone _ _ (λ x y same h. h) (cut_by DifferInCutsAlone (subst (λ x. Alike DifferInCutsAlone (AtOnce x) (Apart x)) (sym at) (session_cut e id o m rest b d have)))
-      by_heard n (Untold front) rest at is =
-          let none_left : rest ≡ [] = sym (ap (λ x. x.1) at) ∙ c.untold front (ap (λ x. x.0) at) in
-          let same : Alike (λ x y. x ≡ y) (AtOnce (Untold front, rest)) (Apart (Untold front, rest)) =
-          subst (λ role. Alike (LeftAs role e.own.replies) (AtOnce (Untold front, rest)) (Apart (Untold front, rest))) is (untold_cut e id o front rest b none_left) in
-          from_alike (λ x y. x ≡ y) _ _ (λ x y at_once h. subst (DifferInCutsAlone x) h (itself x at_once)) (cut_by (λ x y. x ≡ y) (subst (λ z. Alike (λ x y. x ≡ y) (AtOnce z) (Apart z)) (sym at) same))
-      by_heard n Control rest at is = absurd (cc)
-      by_heard n Encoder rest at is = absurd (cc)
-      by_heard n Decoder rest at is = absurd (cc)
-      by_heard n (Push m) rest at is = absurd (cc)
-      by_heard n Ignored rest at is = absurd (cc)
+    -- the session was told in the first bytes, or in the second
+    by_heard : (n : ℕ) (role : Role) (rest : List ℕ) → c.heard ≡ (role, rest) → (role_after role b).0 ≡ Session n → AlikeAfter (deliver e id (a ++ b)) (deliver_cut e id a b)
+    by_heard n (Session m) rest at is =
+        from_alike DifferInCutsAlone _ _ (λ x y same h. h) (cut_by DifferInCutsAlone (subst (λ x. Alike DifferInCutsAlone (AtOnce x) (Apart x)) (sym at) (session_cut e id o m rest b d have)))
+    by_heard n (Untold front) rest at is =
+        let none_left : rest ≡ [] = sym (ap (λ x. x.1) at) ∙ c.untold front (ap (λ x. x.0) at) in
+        let same : Alike (λ x y. x ≡ y) (AtOnce (Untold front, rest)) (Apart (Untold front, rest)) =
+        subst (λ role. Alike (LeftAs role e.own.replies) (AtOnce (Untold front, rest)) (Apart (Untold front, rest))) is (untold_cut e id o front rest b none_left) in
+        from_alike (λ x y. x ≡ y) _ _ (λ x y at_once h. subst (DifferInCutsAlone x) h (itself x at_once)) (cut_by (λ x y. x ≡ y) (subst (λ z. Alike (λ x y. x ≡ y) (AtOnce z) (Apart z)) (sym at) same))
+    by_heard n Control rest at is = absurd (cc)
+    by_heard n Encoder rest at is = absurd (cc)
+    by_heard n Decoder rest at is = absurd (cc)
+    by_heard n (Push m) rest at is = absurd (cc)
+    by_heard n Ignored rest at is = absurd (cc)
 
-      by_which : IsRole (role_with e id (a ++ b)) → AlikeAfter (deliver e id (a ++ b)) (deliver_cut e id a b)
-      by_which (OfOther plain) = from_alike (LeftAs (role_with e id (a ++ b)) e.own.replies) _ _ (λ x y is h. left_alike (role_with e id (a ++ b)) e.own.replies x y (itself x is) h) (found_cut ec dc e id a b kind none plain)
-      by_which (OfSession n is) = by_heard n c.heard.0 c.heard.1 refl (sym c.same_role ∙ is)
+    by_which : IsRole (role_with e id (a ++ b)) → AlikeAfter (deliver e id (a ++ b)) (deliver_cut e id a b)
+    by_which (OfOther plain) = from_alike (LeftAs (role_with e id (a ++ b)) e.own.replies) _ _ (λ x y is h. left_alike (role_with e id (a ++ b)) e.own.replies x y (itself x is) h) (found_cut e id a b kind none plain)
+    by_which (OfSession n is) = by_heard n c.heard.0 c.heard.1 refl (sym c.same_role ∙ is)
 
-  pub cut_any : (e : EndpointHistory) (id : ℕ) (a b : List ℕ) → DifferInCutsAlone e e → (deliver e id a).0 ≡ None → AlikeAfter (deliver e id (a ++ b)) (deliver_cut e id a b)
-  cut_any e id a b d none = by_kind (kind_of e.side id) refl
-    where
-      good : (e.closed ≡ None) × (delivery_refusal e id ≡ None) × ((bytes_at e id a (kind_of e.side id)).1 ≡ None) × ((deliver e id a).1 ≡ (bytes_at e id a (kind_of e.side id)).0)
-      good = taken_good e.closed (delivery_refusal e id) e (bytes_at e id a (kind_of e.side id)) none
+pub cut_any : (e : EndpointHistory) (id : ℕ) (a b : List ℕ) → DifferInCutsAlone e e → (deliver e id a).0 ≡ None → AlikeAfter (deliver e id (a ++ b)) (deliver_cut e id a b)
+cut_any e id a b d none = by_kind (kind_of e.side id) refl
+  where
+    good : (e.closed ≡ None) × (delivery_refusal e id ≡ None) × ((bytes_at e id a (kind_of e.side id)).1 ≡ None) × ((deliver e id a).1 ≡ (bytes_at e id a (kind_of e.side id)).0)
+    good = taken_good e.closed (delivery_refusal e id) e (bytes_at e id a (kind_of e.side id)) none
 
-      by_kind : (k : Kind) → kind_of e.side id ≡ k → AlikeAfter (deliver e id (a ++ b)) (deliver_cut e id a b)
-      by_kind PeerUnidirectional is = peer_cut e id a b d is none
-      by_kind ServerOpened is = let wrong : Some _ ≡ None = ap (λ k. (bytes_at e id a k).1) (sym is) ∙ good.2 in absurd (cc)
-      by_kind OwnUnidirectional is = let wrong : Some _ ≡ None = ap (refusal_at e id) (sym is) ∙ good.1 in absurd (cc)
-      by_kind Request is =
-          let have = (or_nothing (stream_at e.incoming id) (stream_at e.incoming id) (at_both DifferInCuts e.incoming e.incoming id d.incoming)).first in
-          let h = request_cut e id a b is have in
-          let first : (deliver e id (a ++ b)).0 ≡ None =
-          ap (λ o. (taken o (delivery_refusal e id) e (bytes_at e id (a ++ b) (kind_of e.side id))).0) good.0 ∙ ap (λ o. (taken None o e (bytes_at e id (a ++ b) (kind_of e.side id))).0) good.1
-          ∙ ap (λ k. (closed_by (bytes_at e id (a ++ b) k)).0) is in
-          let one = goes_open e id (a ++ b) first in
-          let middle = goes_open e id a none in
-          let there = goes_open (deliver e id a).1 id b (sym h.answer ∙ first) in
-          let two = delivered_itself (deliver e id a).1 id b (delivered_itself e id a d middle.1) there.1 in
-          record { answer = h.answer; closed = one.1 ∙ sym there.1; left = λ open_still. one_alike id _ _ two (h.left first) }
+    by_kind : (k : Kind) → kind_of e.side id ≡ k → AlikeAfter (deliver e id (a ++ b)) (deliver_cut e id a b)
+    by_kind PeerUnidirectional is = peer_cut e id a b d is none
+    by_kind ServerOpened is = let wrong : Some _ ≡ None = ap (λ k. (bytes_at e id a k).1) (sym is) ∙ good.2 in absurd (cc)
+    by_kind OwnUnidirectional is = let wrong : Some _ ≡ None = ap (refusal_at e id) (sym is) ∙ good.1 in absurd (cc)
+    by_kind Request is =
+        let have = (or_nothing (stream_at e.incoming id) (stream_at e.incoming id) (at_both DifferInCuts e.incoming e.incoming id d.incoming)).first in
+        let h = request_cut e id a b is have in
+        let first : (deliver e id (a ++ b)).0 ≡ None =
+        ap (λ o. (taken o (delivery_refusal e id) e (bytes_at e id (a ++ b) (kind_of e.side id))).0) good.0 ∙ ap (λ o. (taken None o e (bytes_at e id (a ++ b) (kind_of e.side id))).0) good.1
+        ∙ ap (λ k. (closed_by (bytes_at e id (a ++ b) k)).0) is in
+        let one = goes_open e id (a ++ b) first in
+        let middle = goes_open e id a none in
+        let there = goes_open (deliver e id a).1 id b (sym h.answer ∙ first) in
+        let two = delivered_itself (deliver e id a).1 id b (delivered_itself e id a d middle.1) there.1 in
+        record { answer = h.answer; closed = one.1 ∙ sym there.1; left = λ open_still. one_alike id _ _ two (h.left first) }

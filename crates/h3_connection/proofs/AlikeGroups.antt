@@ -24,7 +24,7 @@ use Rattle.h3_connection.proofs.AlikeEnds.{ends_sym, ends_trans, ends_first}
 use Rattle.h3_connection.proofs.AlikeReading.{Beside, beside_alike, sessions_here}
 use Rattle.h3_connection.proofs.Closed.{taken_closed}
 use Rattle.h3_connection.proofs.DeliveryCuts.{only_first, role_fault, RoleCut, role_cut_of}
-use Rattle.h3_connection.proofs.ReadingCuts.{EncoderCuts, DecoderCuts, control_faults, quiet_until}
+use Rattle.h3_connection.proofs.ReadingCuts.{control_faults, quiet_until}
 use Rattle.h3_connection.proofs.RoleCuts.{then_role, role_cut}
 use Rattle.h3_connection.proofs.SameSetups.{same_setup}
 
@@ -72,63 +72,62 @@ data FailsToo (e : EndpointHistory) (id : ℕ) (bytes : List ℕ) (code : ℕ) (
   SameFault : found ≡ Some code → FailsToo e id bytes code found
   OtherFault : (other : ℕ) → kind_of e.side id ≡ PeerUnidirectional → role_with e id bytes ≡ Control → e.peer.settings ≡ None → e.decoder_unread ≢ [] → found ≡ Some other → FailsToo e id bytes code found
 
-module _ (ec : EncoderCuts) (dc : DecoderCuts) where
-  -- a second control stream, or a fault on the first
-  control_too : (e : EndpointHistory) (id : ℕ) (rest b : List ℕ) (code : ℕ) → (heard_as e id Control rest).1 ≡ Some code → (other : ℕ) × ((heard_as e id Control (rest ++ b)).1 ≡ Some other)
-  control_too e id rest b code = by_second (is_second e.control_on id)
-    where
-      g : EndpointHistory
-      g = record e { control_on = Some id }
+-- a second control stream, or a fault on the first
+control_too : (e : EndpointHistory) (id : ℕ) (rest b : List ℕ) (code : ℕ) → (heard_as e id Control rest).1 ≡ Some code → (other : ℕ) × ((heard_as e id Control (rest ++ b)).1 ≡ Some other)
+control_too e id rest b code = by_second (is_second e.control_on id)
+  where
+    g : EndpointHistory
+    g = record e { control_on = Some id }
 
-      by_second : (s : Bool) → (unless_second s e (read_control g rest)).1 ≡ Some code → (other : ℕ) × ((unless_second s e (read_control g (rest ++ b))).1 ≡ Some other)
-      by_second true is = (code, is)
-      by_second false is = control_faults g rest b code is
+    by_second : (s : Bool) → (unless_second s e (read_control g rest)).1 ≡ Some code → (other : ℕ) × ((unless_second s e (read_control g (rest ++ b))).1 ≡ Some other)
+    by_second true is = (code, is)
+    by_second false is = control_faults g rest b code is
 
-  peer_fails : (e : EndpointHistory) (id : ℕ) (a b : List ℕ) (code : ℕ) → kind_of e.side id ≡ PeerUnidirectional
-      → (read_unidirectional e id (unidirectional_at e id) (role_after (unidirectional_at e id).role a)).1 ≡ Some code
-      → FailsToo e id (a ++ b) code (read_unidirectional e id (unidirectional_at e id) (role_after (unidirectional_at e id).role (a ++ b))).1
-  peer_fails e id a b code kind is =
-      subst (λ y. FailsToo e id (a ++ b) code (read_unidirectional e id o y).1) (sym cut) (by_settings e.peer.settings e.decoder_unread refl refl)
-    where
-      o : Unidirectional
-      o = unidirectional_at e id
+peer_fails : (e : EndpointHistory) (id : ℕ) (a b : List ℕ) (code : ℕ) → kind_of e.side id ≡ PeerUnidirectional
+    → (read_unidirectional e id (unidirectional_at e id) (role_after (unidirectional_at e id).role a)).1 ≡ Some code
+    → FailsToo e id (a ++ b) code (read_unidirectional e id (unidirectional_at e id) (role_after (unidirectional_at e id).role (a ++ b))).1
+peer_fails e id a b code kind is =
+    subst (λ y. FailsToo e id (a ++ b) code (read_unidirectional e id o y).1) (sym cut) (by_settings e.peer.settings e.decoder_unread refl refl)
+  where
+    o : Unidirectional
+    o = unidirectional_at e id
 
-      x : Role × List ℕ
-      x = role_after o.role a
+    x : Role × List ℕ
+    x = role_after o.role a
 
-      cut : role_after o.role (a ++ b) ≡ then_role b x
-      cut = role_cut o.role a b
+    cut : role_after o.role (a ++ b) ≡ then_role b x
+    cut = role_cut o.role a b
 
-      Too : Role × List ℕ → Type 0
-      Too y = FailsToo e id (a ++ b) code (read_unidirectional e id o (then_role b y)).1
+    Too : Role × List ℕ → Type 0
+    Too y = FailsToo e id (a ++ b) code (read_unidirectional e id o (then_role b y)).1
 
-      early : (x.0 ≡ Control → e.peer.settings ≡ None → e.decoder_unread ≡ []) → FailsToo e id (a ++ b) code (read_unidirectional e id o (then_role b x)).1
-      early h = SameFault (role_fault ec dc e id o x.0 x.1 b code h is)
+    early : (x.0 ≡ Control → e.peer.settings ≡ None → e.decoder_unread ≡ []) → FailsToo e id (a ++ b) code (read_unidirectional e id o (then_role b x)).1
+    early h = SameFault (role_fault e id o x.0 x.1 b code h is)
 
-      by_role : (role : Role) (rest : List ℕ) → x ≡ (role, rest) → e.peer.settings ≡ None → e.decoder_unread ≢ [] → FailsToo e id (a ++ b) code (read_unidirectional e id o (then_role b x)).1
-      by_role Control rest at none some =
-          let found = control_too (with_unidirectional e id (record o { role = Control })) id rest b code (ap (λ y. (read_unidirectional e id o y).1) (sym at) ∙ is) in
-          OtherFault found.0 kind (ap (λ y. y.0) (cut ∙ ap (then_role b) at)) none some (ap (λ y. (read_unidirectional e id o (then_role b y)).1) at ∙ found.1)
-      by_role (Untold front) rest at none some = early (λ control. let wrong : Untold front ≡ Control = sym (ap (λ y. y.0) at) ∙ control in absurd (cc))
-      by_role Encoder rest at none some = early (λ control. let wrong : Encoder ≡ Control = sym (ap (λ y. y.0) at) ∙ control in absurd (cc))
-      by_role Decoder rest at none some = early (λ control. let wrong : Decoder ≡ Control = sym (ap (λ y. y.0) at) ∙ control in absurd (cc))
-      by_role (Session n) rest at none some = early (λ control. let wrong : Session n ≡ Control = sym (ap (λ y. y.0) at) ∙ control in absurd (cc))
-      by_role (Push n) rest at none some = early (λ control. let wrong : Push n ≡ Control = sym (ap (λ y. y.0) at) ∙ control in absurd (cc))
-      by_role Ignored rest at none some = early (λ control. let wrong : Ignored ≡ Control = sym (ap (λ y. y.0) at) ∙ control in absurd (cc))
+    by_role : (role : Role) (rest : List ℕ) → x ≡ (role, rest) → e.peer.settings ≡ None → e.decoder_unread ≢ [] → FailsToo e id (a ++ b) code (read_unidirectional e id o (then_role b x)).1
+    by_role Control rest at none some =
+        let found = control_too (with_unidirectional e id (record o { role = Control })) id rest b code (ap (λ y. (read_unidirectional e id o y).1) (sym at) ∙ is) in
+        OtherFault found.0 kind (ap (λ y. y.0) (cut ∙ ap (then_role b) at)) none some (ap (λ y. (read_unidirectional e id o (then_role b y)).1) at ∙ found.1)
+    by_role (Untold front) rest at none some = early (λ control. let wrong : Untold front ≡ Control = sym (ap (λ y. y.0) at) ∙ control in absurd (cc))
+    by_role Encoder rest at none some = early (λ control. let wrong : Encoder ≡ Control = sym (ap (λ y. y.0) at) ∙ control in absurd (cc))
+    by_role Decoder rest at none some = early (λ control. let wrong : Decoder ≡ Control = sym (ap (λ y. y.0) at) ∙ control in absurd (cc))
+    by_role (Session n) rest at none some = early (λ control. let wrong : Session n ≡ Control = sym (ap (λ y. y.0) at) ∙ control in absurd (cc))
+    by_role (Push n) rest at none some = early (λ control. let wrong : Push n ≡ Control = sym (ap (λ y. y.0) at) ∙ control in absurd (cc))
+    by_role Ignored rest at none some = early (λ control. let wrong : Ignored ≡ Control = sym (ap (λ y. y.0) at) ∙ control in absurd (cc))
 
-      by_settings : (settings : Option (List (ℕ × ℕ))) (unread : List ℕ) → e.peer.settings ≡ settings → e.decoder_unread ≡ unread → FailsToo e id (a ++ b) code (read_unidirectional e id o (then_role b x)).1
-      by_settings (Some pairs) unread came waits = early (λ control none. let wrong : Some pairs ≡ None = sym came ∙ none in absurd (cc))
-      by_settings None [] came waits = early (λ control none. waits)
-      by_settings None (byte ∷ unread) came waits = by_role x.0 x.1 refl came (λ empty. let wrong : (byte ∷ unread) ≡ [] = sym waits ∙ empty in cc)
+    by_settings : (settings : Option (List (ℕ × ℕ))) (unread : List ℕ) → e.peer.settings ≡ settings → e.decoder_unread ≡ unread → FailsToo e id (a ++ b) code (read_unidirectional e id o (then_role b x)).1
+    by_settings (Some pairs) unread came waits = early (λ control none. let wrong : Some pairs ≡ None = sym came ∙ none in absurd (cc))
+    by_settings None [] came waits = early (λ control none. waits)
+    by_settings None (byte ∷ unread) came waits = by_role x.0 x.1 refl came (λ empty. let wrong : (byte ∷ unread) ≡ [] = sym waits ∙ empty in cc)
 
-  fails_too : (e : EndpointHistory) (id : ℕ) (a b : List ℕ) (code : ℕ) → (bytes_at e id a (kind_of e.side id)).1 ≡ Some code → FailsToo e id (a ++ b) code (bytes_at e id (a ++ b) (kind_of e.side id)).1
-  fails_too e id a b code = by_kind (kind_of e.side id) refl
-    where
-      by_kind : (k : Kind) → kind_of e.side id ≡ k → (bytes_at e id a k).1 ≡ Some code → FailsToo e id (a ++ b) code (bytes_at e id (a ++ b) k).1
-      by_kind Request kind is = absurd (cc)
-      by_kind ServerOpened kind is = SameFault is
-      by_kind OwnUnidirectional kind is = absurd (cc)
-      by_kind PeerUnidirectional kind is = peer_fails e id a b code kind is
+fails_too : (e : EndpointHistory) (id : ℕ) (a b : List ℕ) (code : ℕ) → (bytes_at e id a (kind_of e.side id)).1 ≡ Some code → FailsToo e id (a ++ b) code (bytes_at e id (a ++ b) (kind_of e.side id)).1
+fails_too e id a b code = by_kind (kind_of e.side id) refl
+  where
+    by_kind : (k : Kind) → kind_of e.side id ≡ k → (bytes_at e id a k).1 ≡ Some code → FailsToo e id (a ++ b) code (bytes_at e id (a ++ b) k).1
+    by_kind Request kind is = absurd (cc)
+    by_kind ServerOpened kind is = SameFault is
+    by_kind OwnUnidirectional kind is = absurd (cc)
+    by_kind PeerUnidirectional kind is = peer_fails e id a b code kind is
 
 -- Deliveries one behind the other: the first refusal, and what is left.
 abbrev pub first_some : Option Refusal → Option Refusal → Option Refusal
@@ -236,116 +235,115 @@ still_waits e id first rest kind none = record {
     by_heard (Push n) heard at control waits = absurd (cc)
     by_heard Ignored heard at control waits = absurd (cc)
 
-module _ (ec : EncoderCuts) (dc : DecoderCuts) where
-  -- the answers to several deliveries, and then those of a middle endpoint to all but the first
-  refused_through : (e : EndpointHistory) (id : ℕ) (first rest : List ℕ) (one middle last : Option Refusal) → (deliver e id first).0 ≡ None → kind_of e.side id ≡ kind_of (deliver e id first).1.side id → one ≡ middle
-      → RefusedAlike (deliver e id first).1 id rest middle last → RefusedAlike e id (first ++ rest) one last
-  refused_through e id first rest one middle last none kinds same (Alike is) = Alike (same ∙ is)
-  refused_through e id first rest one middle last none kinds same (TwoFaults code other kind control waits unread a b) =
-      let w = still_waits e id first rest (kinds ∙ kind) none in
-      TwoFaults code other (kinds ∙ kind) (w.role ∙ control) (w.settings waits control) (λ empty. unread (w.unread waits control ∙ empty)) (same ∙ a) b
+-- the answers to several deliveries, and then those of a middle endpoint to all but the first
+refused_through : (e : EndpointHistory) (id : ℕ) (first rest : List ℕ) (one middle last : Option Refusal) → (deliver e id first).0 ≡ None → kind_of e.side id ≡ kind_of (deliver e id first).1.side id → one ≡ middle
+    → RefusedAlike (deliver e id first).1 id rest middle last → RefusedAlike e id (first ++ rest) one last
+refused_through e id first rest one middle last none kinds same (Alike is) = Alike (same ∙ is)
+refused_through e id first rest one middle last none kinds same (TwoFaults code other kind control waits unread a b) =
+    let w = still_waits e id first rest (kinds ∙ kind) none in
+    TwoFaults code other (kinds ∙ kind) (w.role ∙ control) (w.settings waits control) (λ empty. unread (w.unread waits control ∙ empty)) (same ∙ a) b
 
-  fails_group : (e : EndpointHistory) (id : ℕ) (bytes : List ℕ) (code : ℕ) (one several : Option Refusal × EndpointHistory) → FailsToo e id bytes code (bytes_at e id bytes (kind_of e.side id)).1
-      → ((other : ℕ) → (bytes_at e id bytes (kind_of e.side id)).1 ≡ Some other → Failed other one) → several.0 ≡ Some (refusal.Connection code) → several.1.closed ≡ Some code → GroupAlike e id bytes one several
-  fails_group e id bytes code one several (SameFault found) fails answer closed =
-      let f = fails code found in record { refused = Alike (f.answer ∙ sym answer); ends = BothClosed code code f.closed closed }
-  fails_group e id bytes code one several (OtherFault other kind control waits unread found) fails answer closed =
-      let f = fails other found in record { refused = TwoFaults other code kind control waits unread f.answer answer; ends = BothClosed other code f.closed closed }
+fails_group : (e : EndpointHistory) (id : ℕ) (bytes : List ℕ) (code : ℕ) (one several : Option Refusal × EndpointHistory) → FailsToo e id bytes code (bytes_at e id bytes (kind_of e.side id)).1
+    → ((other : ℕ) → (bytes_at e id bytes (kind_of e.side id)).1 ≡ Some other → Failed other one) → several.0 ≡ Some (refusal.Connection code) → several.1.closed ≡ Some code → GroupAlike e id bytes one several
+fails_group e id bytes code one several (SameFault found) fails answer closed =
+    let f = fails code found in record { refused = Alike (f.answer ∙ sym answer); ends = BothClosed code code f.closed closed }
+fails_group e id bytes code one several (OtherFault other kind control waits unread found) fails answer closed =
+    let f = fails other found in record { refused = TwoFaults other code kind control waits unread f.answer answer; ends = BothClosed other code f.closed closed }
 
-  pub group : (pieces : List (List ℕ)) (p : List ℕ) (e : EndpointHistory) (id : ℕ) → DifferInCutsAlone e e → e.closed ≡ None
-      → GroupAlike e id (p ++ concat pieces) (deliver e id (p ++ concat pieces)) (all_delivered e id (p ∷ pieces))
-  group [] p e id d open_still =
-      subst (λ l. GroupAlike e id l (deliver e id l) (all_delivered e id (p ∷ []))) (sym (append-nil p)) (record { refused = Alike (alone (deliver e id p).0); ends = some_end e id p d })
-    where
-      alone : (o : Option Refusal) → o ≡ first_some o None
-      alone None = refl
-      alone (Some why) = refl
-  group (q ∷ pieces) p e id d open_still = by_fate (λ g still. group pieces q (deliver e id p).1 id g still) (fate e id p open_still)
-    where
-      rest : List ℕ
-      rest = q ++ concat pieces
+pub group : (pieces : List (List ℕ)) (p : List ℕ) (e : EndpointHistory) (id : ℕ) → DifferInCutsAlone e e → e.closed ≡ None
+    → GroupAlike e id (p ++ concat pieces) (deliver e id (p ++ concat pieces)) (all_delivered e id (p ∷ pieces))
+group [] p e id d open_still =
+    subst (λ l. GroupAlike e id l (deliver e id l) (all_delivered e id (p ∷ []))) (sym (append-nil p)) (record { refused = Alike (alone (deliver e id p).0); ends = some_end e id p d })
+  where
+    alone : (o : Option Refusal) → o ≡ first_some o None
+    alone None = refl
+    alone (Some why) = refl
+group (q ∷ pieces) p e id d open_still = by_fate (λ g still. group pieces q (deliver e id p).1 id g still) (fate e id p open_still)
+  where
+    rest : List ℕ
+    rest = q ++ concat pieces
 
-      Later : Type 0
-      Later =
-          let f = (deliver e id p).1 in
-          DifferInCutsAlone f f → f.closed ≡ None → GroupAlike f id (q ++ concat pieces) (deliver f id (q ++ concat pieces)) (all_delivered f id (q ∷ pieces))
+    Later : Type 0
+    Later =
+        let f = (deliver e id p).1 in
+        DifferInCutsAlone f f → f.closed ≡ None → GroupAlike f id (q ++ concat pieces) (deliver f id (q ++ concat pieces)) (all_delivered f id (q ∷ pieces))
 
-      by_fate : Later → Fate e id p → GroupAlike e id (p ++ (q ++ concat pieces)) (deliver e id (p ++ (q ++ concat pieces))) (all_delivered e id (p ∷ q ∷ pieces))
-      by_fate go (Goes none) =
-          let goes = goes_open e id p none in
-          let f = (deliver e id p).1 in
-          let cut = cut_any ec dc e id p rest d none in
-          let later = go (delivered_itself e id p d goes.1) goes.1 in
-          let side : e.side ≡ f.side = sym (same_side e id p) in
-          record {
-            refused =
-                subst (λ o. RefusedAlike e id (p ++ rest) (deliver e id (p ++ rest)).0 (first_some o (all_delivered f id (q ∷ pieces)).0)) (sym none)
-                (refused_through e id p rest (deliver e id (p ++ rest)).0 (deliver f id rest).0 (all_delivered f id (q ∷ pieces)).0 none (ap (λ s. kind_of s id) side) cut.answer later.refused);
-            ends = ends_through (deliver e id (p ++ rest)).1 (deliver f id rest).1 (all_delivered f id (q ∷ pieces)).1 cut.closed cut.left later.ends;
-          }
-      by_fate go (Stays why same) = record {
-        refused = Alike (ap (λ x. x.0) (same (p ++ rest)) ∙ sym (ap (λ x. first_some x.0 (all_delivered x.1 id (q ∷ pieces)).0) (same p)));
-        ends =
-            let last = stays_all e id why (p ∷ q ∷ pieces) same in
-            BothOpen (ap (λ x. x.1.closed) (same (p ++ rest)) ∙ open_still) (ap (λ f. f.closed) last ∙ open_still)
-            (subst (λ f. DifferInCutsAlone f (all_delivered e id (p ∷ q ∷ pieces)).1) (sym (ap (λ x. x.1) (same (p ++ rest)))) (subst (DifferInCutsAlone e) (sym last) d));
-      }
-      by_fate go (Fails code accepted found) =
-          let f = failed e id p code open_still accepted found in
-          fails_group e id (p ++ rest) code (deliver e id (p ++ rest)) (all_delivered e id (p ∷ q ∷ pieces)) (fails_too ec dc e id p rest code found) (λ other is. failed e id (p ++ rest) other open_still accepted is)
-          (ap (λ o. first_some o (all_delivered (deliver e id p).1 id (q ∷ pieces)).0) f.answer)
-          (closed_all (deliver e id p).1 id code (q ∷ pieces) f.closed)
+    by_fate : Later → Fate e id p → GroupAlike e id (p ++ (q ++ concat pieces)) (deliver e id (p ++ (q ++ concat pieces))) (all_delivered e id (p ∷ q ∷ pieces))
+    by_fate go (Goes none) =
+        let goes = goes_open e id p none in
+        let f = (deliver e id p).1 in
+        let cut = cut_any e id p rest d none in
+        let later = go (delivered_itself e id p d goes.1) goes.1 in
+        let side : e.side ≡ f.side = sym (same_side e id p) in
+        record {
+          refused =
+              subst (λ o. RefusedAlike e id (p ++ rest) (deliver e id (p ++ rest)).0 (first_some o (all_delivered f id (q ∷ pieces)).0)) (sym none)
+              (refused_through e id p rest (deliver e id (p ++ rest)).0 (deliver f id rest).0 (all_delivered f id (q ∷ pieces)).0 none (ap (λ s. kind_of s id) side) cut.answer later.refused);
+          ends = ends_through (deliver e id (p ++ rest)).1 (deliver f id rest).1 (all_delivered f id (q ∷ pieces)).1 cut.closed cut.left later.ends;
+        }
+    by_fate go (Stays why same) = record {
+      refused = Alike (ap (λ x. x.0) (same (p ++ rest)) ∙ sym (ap (λ x. first_some x.0 (all_delivered x.1 id (q ∷ pieces)).0) (same p)));
+      ends =
+          let last = stays_all e id why (p ∷ q ∷ pieces) same in
+          BothOpen (ap (λ x. x.1.closed) (same (p ++ rest)) ∙ open_still) (ap (λ f. f.closed) last ∙ open_still)
+          (subst (λ f. DifferInCutsAlone f (all_delivered e id (p ∷ q ∷ pieces)).1) (sym (ap (λ x. x.1) (same (p ++ rest)))) (subst (DifferInCutsAlone e) (sym last) d));
+    }
+    by_fate go (Fails code accepted found) =
+        let f = failed e id p code open_still accepted found in
+        fails_group e id (p ++ rest) code (deliver e id (p ++ rest)) (all_delivered e id (p ∷ q ∷ pieces)) (fails_too e id p rest code found) (λ other is. failed e id (p ++ rest) other open_still accepted is)
+        (ap (λ o. first_some o (all_delivered (deliver e id p).1 id (q ∷ pieces)).0) f.answer)
+        (closed_all (deliver e id p).1 id code (q ∷ pieces) f.closed)
 
-  -- the two ends of a part
-  turn_end : (one two : EndpointHistory) → SameEnd one two → SameEnd two one
-  turn_end one two (BothOpen a b d) = BothOpen b a (ends_sym one two d)
-  turn_end one two (BothClosed code other a b) = BothClosed other code b a
+-- the two ends of a part
+turn_end : (one two : EndpointHistory) → SameEnd one two → SameEnd two one
+turn_end one two (BothOpen a b d) = BothOpen b a (ends_sym one two d)
+turn_end one two (BothClosed code other a b) = BothClosed other code b a
 
-  join_ends : (one two three : EndpointHistory) → SameEnd one two → SameEnd two three → SameEnd one three
-  join_ends one two three (BothOpen a b d) h = ends_through one two three (a ∙ sym b) (λ open_still. d) h
-  join_ends one two three (BothClosed code other a b) (BothClosed more last c d) = BothClosed code last a d
-  join_ends one two three (BothClosed code other a b) (BothOpen c d g) = let wrong : Some other ≡ None = sym b ∙ c in absurd (cc)
+join_ends : (one two three : EndpointHistory) → SameEnd one two → SameEnd two three → SameEnd one three
+join_ends one two three (BothOpen a b d) h = ends_through one two three (a ∙ sym b) (λ open_still. d) h
+join_ends one two three (BothClosed code other a b) (BothClosed more last c d) = BothClosed code last a d
+join_ends one two three (BothClosed code other a b) (BothOpen c d g) = let wrong : Some other ≡ None = sym b ∙ c in absurd (cc)
 
-  after_end : (x y : Option Refusal × EndpointHistory) → AlikeAfter x y → SameEnd x.1 y.1
-  after_end x y h = by_closed x.1.closed refl
-    where
-      by_closed : (o : Option ℕ) → x.1.closed ≡ o → SameEnd x.1 y.1
-      by_closed None is = BothOpen is (sym h.closed ∙ is) (h.left is)
-      by_closed (Some code) is = BothClosed code code is (sym h.closed ∙ is)
+after_end : (x y : Option Refusal × EndpointHistory) → AlikeAfter x y → SameEnd x.1 y.1
+after_end x y h = by_closed x.1.closed refl
+  where
+    by_closed : (o : Option ℕ) → x.1.closed ≡ o → SameEnd x.1 y.1
+    by_closed None is = BothOpen is (sym h.closed ∙ is) (h.left is)
+    by_closed (Some code) is = BothClosed code code is (sym h.closed ∙ is)
 
-  -- What waits and the role are those of an endpoint that differs in cuts alone.
-  moved : (e f : EndpointHistory) (id : ℕ) (bytes : List ℕ) (one two : Option Refusal) → f.side ≡ e.side → role_with f id bytes ≡ role_with e id bytes → f.peer ≡ e.peer → f.decoder_unread ≡ e.decoder_unread
-      → RefusedAlike f id bytes one two → RefusedAlike e id bytes one two
-  moved e f id bytes one two side role peer unread (Alike is) = Alike is
-  moved e f id bytes one two side role peer unread (TwoFaults code other kind control waits some a b) =
-      TwoFaults code other (ap (λ s. kind_of s id) (sym side) ∙ kind) (sym role ∙ control) (ap (λ p. p.settings) (sym peer) ∙ waits) (λ empty. some (unread ∙ empty)) a b
+-- What waits and the role are those of an endpoint that differs in cuts alone.
+moved : (e f : EndpointHistory) (id : ℕ) (bytes : List ℕ) (one two : Option Refusal) → f.side ≡ e.side → role_with f id bytes ≡ role_with e id bytes → f.peer ≡ e.peer → f.decoder_unread ≡ e.decoder_unread
+    → RefusedAlike f id bytes one two → RefusedAlike e id bytes one two
+moved e f id bytes one two side role peer unread (Alike is) = Alike is
+moved e f id bytes one two side role peer unread (TwoFaults code other kind control waits some a b) =
+    TwoFaults code other (ap (λ s. kind_of s id) (sym side) ∙ kind) (sym role ∙ control) (ap (λ p. p.settings) (sym peer) ∙ waits) (λ empty. some (unread ∙ empty)) a b
 
-  -- alike to one delivery, on both sides of it
-  between : (e : EndpointHistory) (id : ℕ) (bytes : List ℕ) (one first two second : Option Refusal) → one ≡ two → RefusedAlike e id bytes one first → RefusedAlike e id bytes two second → RefusedAlike e id bytes first second
-  between e id bytes one first two second same (Alike is) (Alike also) = Alike (sym is ∙ same ∙ also)
-  between e id bytes one first two second same (Alike is) (TwoFaults code other kind control waits some a b) = TwoFaults code other kind control waits some (sym is ∙ same ∙ a) b
-  between e id bytes one first two second same (TwoFaults code other kind control waits some a b) (Alike also) = TwoFaults other code kind control waits some b (sym also ∙ sym same ∙ a)
-  between e id bytes one first two second same (TwoFaults code other kind control waits some a b) (TwoFaults c o k l w s x y) = TwoFaults other o kind control waits some b y
+-- alike to one delivery, on both sides of it
+between : (e : EndpointHistory) (id : ℕ) (bytes : List ℕ) (one first two second : Option Refusal) → one ≡ two → RefusedAlike e id bytes one first → RefusedAlike e id bytes two second → RefusedAlike e id bytes first second
+between e id bytes one first two second same (Alike is) (Alike also) = Alike (sym is ∙ same ∙ also)
+between e id bytes one first two second same (Alike is) (TwoFaults code other kind control waits some a b) = TwoFaults code other kind control waits some (sym is ∙ same ∙ a) b
+between e id bytes one first two second same (TwoFaults code other kind control waits some a b) (Alike also) = TwoFaults other code kind control waits some b (sym also ∙ sym same ∙ a)
+between e id bytes one first two second same (TwoFaults code other kind control waits some a b) (TwoFaults c o k l w s x y) = TwoFaults other o kind control waits some b y
 
-  pub cut_part : (e : EndpointHistory) (s : Streams Incoming) (t : Streams Unidirectional) (r : List DecoderInstruction) → Beside e s t r → e.closed ≡ None → (id : ℕ) (one two : List (List ℕ))
-      → one ≢ [] → two ≢ [] → concat one ≡ concat two → GroupAlike e id (concat one) (all_delivered e id one) (all_delivered (with_streams e s t r) id two)
-  cut_part e s t r b open_still id [] two some others same = absurd (some refl)
-  cut_part e s t r b open_still id (p ∷ one) [] some others same = absurd (others refl)
-  cut_part e s t r b open_still id (p ∷ one) (q ∷ two) some others same =
-      let f = with_streams e s t r in
-      let d = beside_alike e s t r b in
-      let all = p ++ concat one in
-      let first = group one p e id (ends_first e f d) open_still in
-      let second : GroupAlike f id all (deliver f id all) (all_delivered f id (q ∷ two)) =
-      subst (λ l. GroupAlike f id l (deliver f id l) (all_delivered f id (q ∷ two))) (sym same) (group two q f id (ends_first f e (ends_sym e f d)) open_still) in
-      let both = delivers_alike e s t r b id all in
-      let role : role_with f id all ≡ role_with e id all = ap (λ (o : Unidirectional). (role_after o.role all).0) (sessions_here e s t r id b).same in
-      record {
-        refused = between e id all (deliver e id all).0 (all_delivered e id (p ∷ one)).0 (deliver f id all).0 (all_delivered f id (q ∷ two)).0 both.answer first.refused (moved e f id all _ _ refl role refl refl second.refused);
-        ends = join_ends (all_delivered e id (p ∷ one)).1 (deliver e id all).1 (all_delivered f id (q ∷ two)).1 (turn_end _ _ first.ends)
-            (join_ends (deliver e id all).1 (deliver f id all).1 (all_delivered f id (q ∷ two)).1 (after_end _ _ both) second.ends);
-      }
+pub cut_part : (e : EndpointHistory) (s : Streams Incoming) (t : Streams Unidirectional) (r : List DecoderInstruction) → Beside e s t r → e.closed ≡ None → (id : ℕ) (one two : List (List ℕ))
+    → one ≢ [] → two ≢ [] → concat one ≡ concat two → GroupAlike e id (concat one) (all_delivered e id one) (all_delivered (with_streams e s t r) id two)
+cut_part e s t r b open_still id [] two some others same = absurd (some refl)
+cut_part e s t r b open_still id (p ∷ one) [] some others same = absurd (others refl)
+cut_part e s t r b open_still id (p ∷ one) (q ∷ two) some others same =
+    let f = with_streams e s t r in
+    let d = beside_alike e s t r b in
+    let all = p ++ concat one in
+    let first = group one p e id (ends_first e f d) open_still in
+    let second : GroupAlike f id all (deliver f id all) (all_delivered f id (q ∷ two)) =
+    subst (λ l. GroupAlike f id l (deliver f id l) (all_delivered f id (q ∷ two))) (sym same) (group two q f id (ends_first f e (ends_sym e f d)) open_still) in
+    let both = delivers_alike e s t r b id all in
+    let role : role_with f id all ≡ role_with e id all = ap (λ (o : Unidirectional). (role_after o.role all).0) (sessions_here e s t r id b).same in
+    record {
+      refused = between e id all (deliver e id all).0 (all_delivered e id (p ∷ one)).0 (deliver f id all).0 (all_delivered f id (q ∷ two)).0 both.answer first.refused (moved e f id all _ _ refl role refl refl second.refused);
+      ends = join_ends (all_delivered e id (p ∷ one)).1 (deliver e id all).1 (all_delivered f id (q ∷ two)).1 (turn_end _ _ first.ends)
+          (join_ends (deliver e id all).1 (deliver f id all).1 (all_delivered f id (q ∷ two)).1 (after_end _ _ both) second.ends);
+    }
 
-  -- the bytes of any stream in one delivery or in two
-  pub cut_alike : (e : EndpointHistory) (id : ℕ) (a b : List ℕ) → DifferInCutsAlone e e → (deliver e id a).0 ≡ None → SameAnswers DifferInCutsAlone (deliver e id (a ++ b)) (deliver_cut e id a b)
-  cut_alike e id a b d none = let h = cut_any ec dc e id a b d none in record { answer = h.answer; left = λ first. h.left (goes_open e id (a ++ b) first).1 }
+-- the bytes of any stream in one delivery or in two
+pub cut_alike : (e : EndpointHistory) (id : ℕ) (a b : List ℕ) → DifferInCutsAlone e e → (deliver e id a).0 ≡ None → SameAnswers DifferInCutsAlone (deliver e id (a ++ b)) (deliver_cut e id a b)
+cut_alike e id a b d none = let h = cut_any e id a b d none in record { answer = h.answer; left = λ first. h.left (goes_open e id (a ++ b) first).1 }

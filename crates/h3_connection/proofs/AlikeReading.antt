@@ -97,7 +97,7 @@ heard_alike e s t r id Control bytes b =
     (found_alike e (read_control g bytes) (read_control (with_streams g s t r) bytes) s t r b (control_with g bytes e.incoming e.unidirectional e.own.replies) (control_with g bytes s t r))
 heard_alike e s t r id Encoder bytes b =
     let g : EndpointHistory = record e { encoder_on = Some id } in
-    let more = increment (insertions_heard e.decoding (heard_more e.decoding bytes)) in
+    let more = increment (insertions_heard e.decoding (heard_more (limit_of e) e.decoding bytes)) in
     second_alike (is_second e.encoder_on id) e (with_streams e s t r) (read_encoder g bytes) (read_encoder (with_streams g s t r) bytes) (record {
       answer = refl;
       left = λ none. record { incoming = b.incoming; unidirectional = b.unidirectional; replies = joined_more e.own.replies r more b.replies; same = refl };

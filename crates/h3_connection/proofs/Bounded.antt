@@ -15,8 +15,10 @@ use Rattle.h3_connection.specs.StreamSets.{Streams, stream_at, set_stream}
 use Rattle.h3_connection.specs.StreamSetLaws.{other_id, set-here, set-other}
 use Rattle.h3_connection.specs.Incoming.{Incoming, nothing_came, awaiting}
 use Rattle.h3_field.specs.Values.{instruction_of}
-use Rattle.h3_qpack.specs.Hearing.{Heard, hear, hear_within, hear_form, hear_next, decoder_after_form}
-use Rattle.h3_connection.specs.Endpoint.{EndpointHistory, Kind, kind_of, heads_waiting, new_endpoint, replied}
+use Rattle.h3_field.specs.Waiting.{encoder_wait}
+use Rattle.h3_qpack.specs.Hearing.{Heard, heard, hear_form, hear_next, decoder_after_form}
+use Rattle.h3_connection.specs.ExcessiveInstructions.{exceeds, hear_limited, hear_up_to}
+use Rattle.h3_connection.specs.Endpoint.{EndpointHistory, limit_of, Kind, kind_of, heads_waiting, new_endpoint, replied}
 use Rattle.h3_connection.specs.Endpoint.Kind.{Request, ServerOpened, OwnUnidirectional, PeerUnidirectional}
 use Rattle.h3_connection.specs.Control.{Found, read_control, read_encoder, read_decoder}
 use Rattle.h3_connection.specs.Unidirectional.{Unidirectional, Role, with_bytes, role_after}
@@ -156,13 +158,19 @@ grows_within go r bytes (Whole f rest) each = grows_next go r bytes rest (decode
 grows_within go r bytes Unfinished each = omega arith
 grows_within go r bytes Bad each = omega arith
 
-hear_grows : (most : ℕ) (r : DecoderState) (bytes : List ℕ) → r.table.inserted ≤ (hear_within most r bytes).decoder.table.inserted
-hear_grows zero r bytes = omega arith
-hear_grows (suc most) r bytes = grows_within (hear_within most) r bytes (instruction bytes) (λ s more. hear_grows most s more)
+grows_unless : (b : Bool) (r : DecoderState) (bytes : List ℕ) (h : Heard) → r.table.inserted ≤ h.decoder.table.inserted → r.table.inserted ≤ (if b then heard r bytes false else h).decoder.table.inserted
+grows_unless true r bytes h grows = omega arith
+grows_unless false r bytes h grows = grows
 
-pub hears_more : (r : DecoderState) (bytes : List ℕ) → r.table.inserted ≤ (hear r bytes).decoder.table.inserted
-unfolding hear
-hears_more r bytes = hear_grows (length bytes) r bytes
+hear_grows : (steps most : ℕ) (r : DecoderState) (bytes : List ℕ) → r.table.inserted ≤ (hear_limited steps most r bytes).decoder.table.inserted
+hear_grows zero most r bytes = omega arith
+hear_grows (suc steps) most r bytes =
+    grows_unless (exceeds most encoder_wait bytes) r bytes (hear_form (hear_limited steps most) r bytes (instruction bytes))
+    (grows_within (hear_limited steps most) r bytes (instruction bytes) (λ s more. hear_grows steps most s more))
+
+pub hears_more : (most : ℕ) (r : DecoderState) (bytes : List ℕ) → r.table.inserted ≤ (hear_up_to most r bytes).decoder.table.inserted
+unfolding hear_up_to
+hears_more most r bytes = hear_grows (length bytes) most r bytes
 
 -- the decoder's table grows
 pub hears : (e f : EndpointHistory) → f.incoming ≡ e.incoming → e.decoding.decoder.table.inserted ≤ f.decoding.decoder.table.inserted → f.announced ≡ e.announced → (f.closed ≡ None → e.closed ≡ None) → IsBounded e → IsBounded f
@@ -191,7 +199,7 @@ hearing e id Control bytes h =
     unless e _ (read_control f bytes) h (as_before e _ (of_quiet e f _ (record { incoming = refl; decoder = refl; announced = refl; closed = λ x. x }) (quiet_control f bytes)) h)
 hearing e id Encoder bytes h =
     let f = record e { encoder_on = Some id } in
-    unless e _ (read_encoder f bytes) h (hears e (read_encoder f bytes).0 refl (hears_more e.decoding.decoder (e.decoding.unread ++ bytes)) refl (λ x. x) h)
+    unless e _ (read_encoder f bytes) h (hears e (read_encoder f bytes).0 refl (hears_more (limit_of e) e.decoding.decoder (e.decoding.unread ++ bytes)) refl (λ x. x) h)
 hearing e id Decoder bytes h =
     let f = record e { decoder_on = Some id } in
     unless e _ (read_decoder f bytes) h (as_before e _ (of_quiet e f _ (record { incoming = refl; decoder = refl; announced = refl; closed = λ x. x }) (quiet_decoder f bytes)) h)

@@ -9,7 +9,7 @@ use Rattle.h3_connection.specs.declared.event.Refusal.{Refusal}
 use Rattle.h3_connection.specs.Unidirectional.{Role, role_after, of_kind, with_id}
 use Rattle.h3_connection.specs.Unidirectional.Role.{Untold, Control, Encoder, Decoder, Session, Push, Ignored}
 use Rattle.h3_connection.specs.Incoming.{Incoming}
-use Rattle.h3_connection.specs.Endpoint.{EndpointHistory, Kind, kind_of, new_endpoint}
+use Rattle.h3_connection.specs.Endpoint.{EndpointHistory, limit_of, Kind, kind_of, new_endpoint}
 use Rattle.h3_connection.specs.Endpoint.Kind.{Request, ServerOpened, OwnUnidirectional, PeerUnidirectional}
 use Rattle.h3_connection.specs.Delivering.{closed_refusal}
 use Rattle.h3_connection.specs.CallLists.{Call, called}
@@ -136,12 +136,12 @@ not_peer T side fronts p bytes cs blind h q peer =
     by_eq q p (λ b. Good (T q) (fronts q) ((if b then bytes else []) ++ brought_on q cs) → Good (T q) (fronts q) (brought_on q cs))
     (λ same _. absurd (true_not_false (sym peer ∙ ap (any_peer side) same ∙ blind))) (λ differs g. g) (h q peer)
 
-bytes_agree : (T : ℕ → Bool) (side : Side) (s : Sight) (p : ℕ) (bytes : List ℕ) (cs : List Call) (closed : Bool) → (s.fronts p).closed ≡ closed → Agrees T side s.fronts (Deliver p bytes ∷ cs)
-    → Agrees T side (unless_refused (closed_refusal closed) s (with_front (record s { decoding = hears s.decoding (role_after (s.fronts p).role bytes) }) p (record (s.fronts p) { role = (role_after (s.fronts p).role bytes).0 }))).1.fronts cs
-bytes_agree T side s p bytes cs true is h q peer =
+bytes_agree : (T : ℕ → Bool) (side : Side) (most : ℕ) (s : Sight) (p : ℕ) (bytes : List ℕ) (cs : List Call) (closed : Bool) → (s.fronts p).closed ≡ closed → Agrees T side s.fronts (Deliver p bytes ∷ cs)
+    → Agrees T side (unless_refused (closed_refusal closed) s (with_front (record s { decoding = hears most s.decoding (role_after (s.fronts p).role bytes) }) p (record (s.fronts p) { role = (role_after (s.fronts p).role bytes).0 }))).1.fronts cs
+bytes_agree T side most s p bytes cs true is h q peer =
     by_eq q p (λ b. Good (T q) (s.fronts q) ((if b then bytes else []) ++ brought_on q cs) → Good (T q) (s.fronts q) (brought_on q cs))
     (λ same g. closed_good (T q) (s.fronts q) (bytes ++ brought_on q cs) (brought_on q cs) (ap (λ x. (s.fronts x).closed) same ∙ is) g) (λ differs g. g) (h q peer)
-bytes_agree T side s p bytes cs false is h q peer =
+bytes_agree T side most s p bytes cs false is h q peer =
     by_eq q p (λ b. Good (T q) (s.fronts q) ((if b then bytes else []) ++ brought_on q cs) → Good (T q) (if b then record (s.fronts p) { role = (role_after (s.fronts p).role bytes).0 } else s.fronts q) (brought_on q cs))
     (λ same g. more_good (T q) (s.fronts p) bytes (brought_on q cs) is (subst (λ x. Good (T q) (s.fronts x) (bytes ++ brought_on q cs)) same g)) (λ differs g. g) (h q peer)
 
@@ -167,7 +167,7 @@ deliver_agrees : (T : ℕ → Bool) (side : Side) (id : ℕ) (e : EndpointHistor
 deliver_agrees T side id e s p bytes cs blind h true peer is is_peer =
     let here = not_peer T side s.fronts p bytes cs (ap (any_peer side) (to_eq p id is) ∙ blind) h in
     rw is (unless_same T side _ s _ cs here here)
-deliver_agrees T side id e s p bytes cs blind h false true is is_peer = rw (is, is_peer) (bytes_agree T side s p bytes cs (s.fronts p).closed refl h)
+deliver_agrees T side id e s p bytes cs blind h false true is is_peer = rw (is, is_peer) (bytes_agree T side (limit_of e) s p bytes cs (s.fronts p).closed refl h)
 deliver_agrees T side id e s p bytes cs blind h false false is is_peer = rw (is, is_peer) (not_peer T side s.fronts p bytes cs is_peer h)
 
 end_agrees : (T : ℕ → Bool) (side : Side) (id : ℕ) (e : EndpointHistory) (s : Sight) (p : ℕ) (cs : List Call) → Agrees T side s.fronts cs

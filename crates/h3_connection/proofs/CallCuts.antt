@@ -16,7 +16,6 @@ use Rattle.h3_connection.proofs.AlikeGroups.{SameEnd, BothOpen, BothClosed, all_
 use Rattle.h3_connection.proofs.AlikePieces.{pieces_alike}
 use Rattle.h3_connection.proofs.AlikePulls.{pulls_alike}
 use Rattle.h3_connection.proofs.AlikeReading.{Beside}
-use Rattle.h3_connection.proofs.ReadingCuts.{EncoderCuts, DecoderCuts}
 
 -- one part
 record PartAlike (e f : EndpointHistory) (p : Part) : Type 0 where
@@ -30,44 +29,43 @@ called_end P x y h = by_closed x.1.closed refl
     by_closed None is = BothOpen is (sym h.closed ∙ is) (h.left is)
     by_closed (Some code) is = BothClosed code code is (sym h.closed ∙ is)
 
-module _ (ec : EncoderCuts) (dc : DecoderCuts) where
-  beside_part : (e : EndpointHistory) (s : Streams Incoming) (t : Streams Unidirectional) (r : List DecoderInstruction) → Beside e s t r → e.closed ≡ None → (p : Part) → IsCut e (with_streams e s t r) p → PartAlike e (with_streams e s t r) p
-  beside_part e s t r b open_still (Same call) is =
-      let h = called_alike e s t r b call is (λ id none. pulls_alike e s t r id b none) in
-      record { answer = h.answer; ends = called_end (SameAnswer e.side call) _ _ h }
-  beside_part e s t r b open_still (Cut id one two) is =
-      let f = with_streams e s t r in
-      let h = cut_part ec dc e s t r b open_still id one two is.0 is.1 is.2 in
-      record {
-        answer =
-            subst (λ o. RefusedAlike e id (concat one) o (first_refusal (answers f (deliveries id two)))) (sym (refusal_of e id one))
-            (subst (λ o. RefusedAlike e id (concat one) (all_delivered e id one).0 o) (sym (refusal_of f id two)) h.refused);
-        ends =
-            subst (λ g. SameEnd g (endpoint_after f (deliveries id two))) (sym (end_of e id one))
-            (subst (λ g. SameEnd (all_delivered e id one).1 g) (sym (end_of f id two)) h.ends);
-      }
-  beside_part e s t r b open_still (Pieces id m n) is =
-      let h = pieces_alike e s t r id m n b open_still is.0 is.1 is.2 in
-      record { answer = h.bytes; ends = BothOpen h.first h.second h.left }
+beside_part : (e : EndpointHistory) (s : Streams Incoming) (t : Streams Unidirectional) (r : List DecoderInstruction) → Beside e s t r → e.closed ≡ None → (p : Part) → IsCut e (with_streams e s t r) p → PartAlike e (with_streams e s t r) p
+beside_part e s t r b open_still (Same call) is =
+    let h = called_alike e s t r b call is (λ id none. pulls_alike e s t r id b none) in
+    record { answer = h.answer; ends = called_end (SameAnswer e.side call) _ _ h }
+beside_part e s t r b open_still (Cut id one two) is =
+    let f = with_streams e s t r in
+    let h = cut_part e s t r b open_still id one two is.0 is.1 is.2 in
+    record {
+      answer =
+          subst (λ o. RefusedAlike e id (concat one) o (first_refusal (answers f (deliveries id two)))) (sym (refusal_of e id one))
+          (subst (λ o. RefusedAlike e id (concat one) (all_delivered e id one).0 o) (sym (refusal_of f id two)) h.refused);
+      ends =
+          subst (λ g. SameEnd g (endpoint_after f (deliveries id two))) (sym (end_of e id one))
+          (subst (λ g. SameEnd (all_delivered e id one).1 g) (sym (end_of f id two)) h.ends);
+    }
+beside_part e s t r b open_still (Pieces id m n) is =
+    let h = pieces_alike e s t r id m n b open_still is.0 is.1 is.2 in
+    record { answer = h.bytes; ends = BothOpen h.first h.second h.left }
 
-  part_alike : (e f : EndpointHistory) → DifferInCutsAlone e f → e.closed ≡ None → (p : Part) → IsCut e f p → PartAlike e f p
-  part_alike e f d open_still p =
-      subst (λ g. IsCut e g p → PartAlike e g p) (sym d.same)
-      (beside_part e f.incoming f.unidirectional f.own.replies (record { incoming = d.incoming; unidirectional = d.unidirectional; replies = d.replies }) open_still p)
+part_alike : (e f : EndpointHistory) → DifferInCutsAlone e f → e.closed ≡ None → (p : Part) → IsCut e f p → PartAlike e f p
+part_alike e f d open_still p =
+    subst (λ g. IsCut e g p → PartAlike e g p) (sym d.same)
+    (beside_part e f.incoming f.unidirectional f.own.replies (record { incoming = d.incoming; unidirectional = d.unidirectional; replies = d.replies }) open_still p)
 
-  or_closed : (later : Type 0) (one two : EndpointHistory) → SameEnd one two → (one.closed ≡ None → DifferInCutsAlone one two → later) → BothClosedOr later one.closed two.closed
-  or_closed later one two (BothOpen a b d) h =
-      subst (λ o. BothClosedOr later o two.closed) (sym a) (subst (λ o. BothClosedOr later None o) (sym b) (h a d))
-  or_closed later one two (BothClosed code other a b) h =
-      subst (λ o. BothClosedOr later o two.closed) (sym a) (subst (λ o. BothClosedOr later (Some code) o) (sym b) tt)
+or_closed : (later : Type 0) (one two : EndpointHistory) → SameEnd one two → (one.closed ≡ None → DifferInCutsAlone one two → later) → BothClosedOr later one.closed two.closed
+or_closed later one two (BothOpen a b d) h =
+    subst (λ o. BothClosedOr later o two.closed) (sym a) (subst (λ o. BothClosedOr later None o) (sym b) (h a d))
+or_closed later one two (BothClosed code other a b) h =
+    subst (λ o. BothClosedOr later o two.closed) (sym a) (subst (λ o. BothClosedOr later (Some code) o) (sym b) tt)
 
-  pub all_alike : (parts : List Part) (e f : EndpointHistory) → DifferInCutsAlone e f → e.closed ≡ None → AreCuts e f parts → AllAnsweredAlike e f parts
-  all_alike [] e f d open_still are = d
-  all_alike (p ∷ parts) e f d open_still are =
-      let one = endpoint_after e (calls_of_first p) in
-      let two = endpoint_after f (calls_of_second p) in
-      let h = part_alike e f d open_still p are.0 in
-      (h.answer, or_closed (AllAnsweredAlike one two parts) one two h.ends (λ still g. all_alike parts one two g still (are.1 still)))
+pub all_alike : (parts : List Part) (e f : EndpointHistory) → DifferInCutsAlone e f → e.closed ≡ None → AreCuts e f parts → AllAnsweredAlike e f parts
+all_alike [] e f d open_still are = d
+all_alike (p ∷ parts) e f d open_still are =
+    let one = endpoint_after e (calls_of_first p) in
+    let two = endpoint_after f (calls_of_second p) in
+    let h = part_alike e f d open_still p are.0 in
+    (h.answer, or_closed (AllAnsweredAlike one two parts) one two h.ends (λ still g. all_alike parts one two g still (are.1 still)))
 
 -- one list behind another
 after_both : (e : EndpointHistory) (one two : List Call) → endpoint_after e (one ++ two) ≡ endpoint_after (endpoint_after e one) two

@@ -5,7 +5,7 @@ use Rattle.h3_connection.specs.declared.event.Refusal.{Refusal}
 use Rattle.h3_connection.specs.declared.event.Refusal.TheVariants as refusal
 use Rattle.h3_connection.specs.StreamSets.{stream_at}
 use Rattle.h3_connection.specs.StreamSetLaws.{set-set, set-same}
-use Rattle.h3_connection.specs.Endpoint.{EndpointHistory, Kind, kind_of, is_second}
+use Rattle.h3_connection.specs.Endpoint.{EndpointHistory, limit_of, Kind, kind_of, is_second}
 use Rattle.h3_connection.specs.Endpoint.Kind.{Request, ServerOpened, OwnUnidirectional, PeerUnidirectional}
 use Rattle.h3_connection.specs.Listeners.{heard_more, insertions_heard}
 use Rattle.h3_connection.specs.Control.{Found, increment, read_encoder, read_decoder, read_control}
@@ -16,7 +16,7 @@ use Rattle.h3_connection.specs.DeliveryCuts.{SameAnswers, IsSame, DiffersInIncre
 use Rattle.h3_connection.proofs.Quiet.{quiet_control, quiet_decoder}
 use Rattle.h3_connection.proofs.Seen.{at_same, eq_refl, HeardAs, heard_as_role, role_of_bytes}
 use Rattle.h3_connection.proofs.RoleCuts.{then_role, role_cut, untold_leaves_none}
-use Rattle.h3_connection.proofs.ReadingCuts.{Alike, alike_same, alike_as, EncoderCuts, DecoderCuts, encoder_cut, decoder_cut, control_cut, control_on_stays, decoder_on_stays, encoder_fault, decoder_fault, control_fault}
+use Rattle.h3_connection.proofs.ReadingCuts.{Alike, alike_same, alike_as, encoder_cut, decoder_cut, control_cut, control_on_stays, decoder_on_stays, encoder_fault, decoder_fault, control_fault}
 
 -- the first stream of its role, where no fault was found
 first_if : (b : Bool) (e : EndpointHistory) (found : Found) → (unless_second b e found).1 ≡ None → b ≡ false
@@ -59,26 +59,26 @@ control_heard e id u a b here none =
     (ap (λ x. heard_as (with_unidirectional x.0 id u) id Control b) (at (read_control g a)) ∙ control_again f id u b still (control_on_stays g a))
     (control_cut g a b (ap (λ x. x.1) (sym (at (read_control g a))) ∙ none))
 
-decoder_heard : DecoderCuts → (e : EndpointHistory) (id : ℕ) (u : Unidirectional) (a b : List ℕ) → stream_at e.unidirectional id ≡ Some u → (heard_as e id Decoder a).1 ≡ None
+decoder_heard : (e : EndpointHistory) (id : ℕ) (u : Unidirectional) (a b : List ℕ) → stream_at e.unidirectional id ≡ Some u → (heard_as e id Decoder a).1 ≡ None
     → Alike IsSame (heard_as e id Decoder (a ++ b)) (heard_as (with_unidirectional (heard_as e id Decoder a).0 id u) id Decoder b)
-decoder_heard cuts e id u a b here none =
+decoder_heard e id u a b here none =
     let g = record e { decoder_on = Some id } in
     let f = (read_decoder g a).0 in
     let at : (x : Found) → only_one e.decoder_on id e x ≡ x = λ x. only_first e.decoder_on id e (read_decoder g a) x none in
     let still : stream_at f.unidirectional id ≡ Some u = ap (λ s. stream_at s id) (quiet_decoder g a).unidirectional ∙ here in
     alike_as IsSame _ _ _ _ (at (read_decoder g (a ++ b)))
     (ap (λ x. heard_as (with_unidirectional x.0 id u) id Decoder b) (at (read_decoder g a)) ∙ decoder_again f id u b still (decoder_on_stays g a))
-    (alike_same _ _ (decoder_cut cuts g a b (ap (λ x. x.1) (sym (at (read_decoder g a))) ∙ none)))
+    (alike_same _ _ (decoder_cut g a b (ap (λ x. x.1) (sym (at (read_decoder g a))) ∙ none)))
 
-encoder_heard : EncoderCuts → (e : EndpointHistory) (id : ℕ) (u : Unidirectional) (a b : List ℕ) → stream_at e.unidirectional id ≡ Some u → (heard_as e id Encoder a).1 ≡ None
+encoder_heard : (e : EndpointHistory) (id : ℕ) (u : Unidirectional) (a b : List ℕ) → stream_at e.unidirectional id ≡ Some u → (heard_as e id Encoder a).1 ≡ None
     → Alike (DiffersInIncrements e.own.replies) (heard_as e id Encoder (a ++ b)) (heard_as (with_unidirectional (heard_as e id Encoder a).0 id u) id Encoder b)
-encoder_heard cuts e id u a b here none =
+encoder_heard e id u a b here none =
     let g = record e { encoder_on = Some id } in
     let f = (read_encoder g a).0 in
     let at : (x : Found) → only_one e.encoder_on id e x ≡ x = λ x. only_first e.encoder_on id e (read_encoder g a) x none in
     alike_as (DiffersInIncrements e.own.replies) _ _ _ _ (at (read_encoder g (a ++ b)))
     (ap (λ x. heard_as (with_unidirectional x.0 id u) id Encoder b) (at (read_encoder g a)) ∙ encoder_again f id u b here refl)
-    (encoder_cut cuts g a b (ap (λ x. x.1) (sym (at (read_encoder g a))) ∙ none))
+    (encoder_cut g a b (ap (λ x. x.1) (sym (at (read_encoder g a))) ∙ none))
 
 -- bytes of which none came before the role was told
 told_now : (w : EndpointHistory) (id : ℕ) (role : Role) (bytes : List ℕ) → Alike (LeftAs role w.own.replies) (heard_as w id role bytes) (heard_as w id role bytes)
@@ -92,7 +92,7 @@ told_now w id Encoder bytes = record {
   answer = refl;
   left = λ none.
       let g = record w { encoder_on = Some id } in
-      let n = insertions_heard g.decoding (heard_more g.decoding bytes) in
+      let n = insertions_heard g.decoding (heard_more (limit_of g) g.decoding bytes) in
       let sum : n ≡ 0 + n = omega arith in
       let read : heard_as w id Encoder bytes ≡ read_encoder g bytes = only_first w.encoder_on id w (read_encoder g bytes) (read_encoder g bytes) none in
       record {
@@ -127,20 +127,20 @@ untold_cut e id o front rest b none =
     ap (λ w. heard_as w id y.0 y.1) (set_again e id u (with_bytes u y) ∙ ap (with_unidirectional e id) (with_bytes_on o (Untold front) y)) in
     alike_as (LeftAs y.0 e.own.replies) _ _ _ _ one two (told_now (with_unidirectional e id (with_bytes o y)) id y.0 y.1)
 
-by_role : EncoderCuts → DecoderCuts → (e : EndpointHistory) (id : ℕ) (o : Unidirectional) (role : Role) (rest b : List ℕ) → (read_unidirectional e id o (role, rest)).1 ≡ None
+by_role : (e : EndpointHistory) (id : ℕ) (o : Unidirectional) (role : Role) (rest b : List ℕ) → (read_unidirectional e id o (role, rest)).1 ≡ None
     → ((front : List ℕ) → role ≡ Untold front → rest ≡ []) → IsNoSession (role_after role b).0
     → Alike (LeftAs (role_after role b).0 e.own.replies) (read_unidirectional e id o (then_role b (role, rest)))
     (read_unidirectional (read_unidirectional e id o (role, rest)).0 id (with_bytes o (role, rest)) (role_after role b))
-by_role ec dc e id o (Untold front) rest b good none plain = untold_cut e id o front rest b (none front refl)
-by_role ec dc e id o Control rest b good none plain =
+by_role e id o (Untold front) rest b good none plain = untold_cut e id o front rest b (none front refl)
+by_role e id o Control rest b good none plain =
     let u : Unidirectional = record o { role = Control } in control_heard (with_unidirectional e id u) id u rest b (at_same e.unidirectional id u) good
-by_role ec dc e id o Encoder rest b good none plain =
-    let u : Unidirectional = record o { role = Encoder } in encoder_heard ec (with_unidirectional e id u) id u rest b (at_same e.unidirectional id u) good
-by_role ec dc e id o Decoder rest b good none plain =
-    let u : Unidirectional = record o { role = Decoder } in decoder_heard dc (with_unidirectional e id u) id u rest b (at_same e.unidirectional id u) good
-by_role ec dc e id o (Session n) rest b good none plain = absurd plain
-by_role ec dc e id o (Push n) rest b good none plain = absurd (cc)
-by_role ec dc e id o Ignored rest b good none plain =
+by_role e id o Encoder rest b good none plain =
+    let u : Unidirectional = record o { role = Encoder } in encoder_heard (with_unidirectional e id u) id u rest b (at_same e.unidirectional id u) good
+by_role e id o Decoder rest b good none plain =
+    let u : Unidirectional = record o { role = Decoder } in decoder_heard (with_unidirectional e id u) id u rest b (at_same e.unidirectional id u) good
+by_role e id o (Session n) rest b good none plain = absurd plain
+by_role e id o (Push n) rest b good none plain = absurd (cc)
+by_role e id o Ignored rest b good none plain =
     let u : Unidirectional = record o { role = Ignored } in alike_same _ _ (ap (λ w. (w, None)) (sym (set_again e id u u)))
 
 -- a delivery that is taken
@@ -251,9 +251,9 @@ role_cut_of e id a b kind none = record {
 pub cut_as : (Left : EndpointHistory → EndpointHistory → Type 0) (one two : Option Refusal × EndpointHistory) → CutAs Left one two → SameAnswers Left one two
 cut_as Left one two c = subst (λ p. SameAnswers Left p two) (sym c.first_is) (subst (λ p. SameAnswers Left (closed_by c.first) p) (sym c.second_is) (closed_same Left c.first c.second c.alike))
 
-pub found_cut : EncoderCuts → DecoderCuts → (e : EndpointHistory) (id : ℕ) (a b : List ℕ) → kind_of e.side id ≡ PeerUnidirectional → (deliver e id a).0 ≡ None → IsNoSession (role_with e id (a ++ b))
+pub found_cut : (e : EndpointHistory) (id : ℕ) (a b : List ℕ) → kind_of e.side id ≡ PeerUnidirectional → (deliver e id a).0 ≡ None → IsNoSession (role_with e id (a ++ b))
     → CutAs (LeftAs (role_with e id (a ++ b)) e.own.replies) (deliver e id (a ++ b)) (deliver_cut e id a b)
-found_cut ec dc e id a b kind none plain =
+found_cut e id a b kind none plain =
     let c = role_cut_of e id a b kind none in
     let o = unidirectional_at e id in
     record {
@@ -262,12 +262,12 @@ found_cut ec dc e id a b kind none plain =
       first_is = c.at_once;
       second_is = c.apart;
       alike = subst (λ role. Alike (LeftAs role e.own.replies) (read_unidirectional e id o (then_role b c.heard)) (read_unidirectional (read_unidirectional e id o c.heard).0 id (with_bytes o c.heard) (role_after c.heard.0 b))) (sym c.same_role)
-          (by_role ec dc e id o c.heard.0 c.heard.1 b c.good c.untold (subst IsNoSession c.same_role plain));
+          (by_role e id o c.heard.0 c.heard.1 b c.good c.untold (subst IsNoSession c.same_role plain));
     }
 
-pub cut_delivery : EncoderCuts → DecoderCuts → (e : EndpointHistory) (id : ℕ) (a b : List ℕ) → kind_of e.side id ≡ PeerUnidirectional → (deliver e id a).0 ≡ None → IsNoSession (role_with e id (a ++ b))
+pub cut_delivery : (e : EndpointHistory) (id : ℕ) (a b : List ℕ) → kind_of e.side id ≡ PeerUnidirectional → (deliver e id a).0 ≡ None → IsNoSession (role_with e id (a ++ b))
     → SameAnswers (LeftAs (role_with e id (a ++ b)) e.own.replies) (deliver e id (a ++ b)) (deliver_cut e id a b)
-cut_delivery ec dc e id a b kind none plain = cut_as (LeftAs (role_with e id (a ++ b)) e.own.replies) _ _ (found_cut ec dc e id a b kind none plain)
+cut_delivery e id a b kind none plain = cut_as (LeftAs (role_with e id (a ++ b)) e.own.replies) _ _ (found_cut e id a b kind none plain)
 
 -- a refused delivery
 pub second_fault : (first : Option ℕ) (id : ℕ) (e : EndpointHistory) (found other : Found) (code : ℕ) → (only_one first id e found).1 ≡ Some code → (found.1 ≡ Some code → other.1 ≡ Some code) → (only_one first id e other).1 ≡ Some code
@@ -277,33 +277,33 @@ second_fault first id e found other code = by_second (is_second first id)
     by_second true is h = is
     by_second false is h = h is
 
-pub role_fault : EncoderCuts → DecoderCuts → (e : EndpointHistory) (id : ℕ) (o : Unidirectional) (role : Role) (rest b : List ℕ) (code : ℕ) → (role ≡ Control → e.peer.settings ≡ None → e.decoder_unread ≡ [])
+pub role_fault : (e : EndpointHistory) (id : ℕ) (o : Unidirectional) (role : Role) (rest b : List ℕ) (code : ℕ) → (role ≡ Control → e.peer.settings ≡ None → e.decoder_unread ≡ [])
     → (read_unidirectional e id o (role, rest)).1 ≡ Some code → (read_unidirectional e id o (then_role b (role, rest))).1 ≡ Some code
-role_fault ec dc e id o (Untold front) rest b code early is = absurd (cc)
-role_fault ec dc e id o Control rest b code early is =
+role_fault e id o (Untold front) rest b code early is = absurd (cc)
+role_fault e id o Control rest b code early is =
     let w = with_unidirectional e id (record o { role = Control }) in
     let g = record w { control_on = Some id } in
     second_fault e.control_on id w (read_control g rest) (read_control g (rest ++ b)) code is (control_fault g rest b code (early refl))
-role_fault ec dc e id o Encoder rest b code early is =
+role_fault e id o Encoder rest b code early is =
     let w = with_unidirectional e id (record o { role = Encoder }) in
     let g = record w { encoder_on = Some id } in
-    second_fault e.encoder_on id w (read_encoder g rest) (read_encoder g (rest ++ b)) code is (encoder_fault ec g rest b code)
-role_fault ec dc e id o Decoder rest b code early is =
+    second_fault e.encoder_on id w (read_encoder g rest) (read_encoder g (rest ++ b)) code is (encoder_fault g rest b code)
+role_fault e id o Decoder rest b code early is =
     let w = with_unidirectional e id (record o { role = Decoder }) in
     let g = record w { decoder_on = Some id } in
-    second_fault e.decoder_on id w (read_decoder g rest) (read_decoder g (rest ++ b)) code is (decoder_fault dc g rest b code)
-role_fault ec dc e id o (Session n) rest b code early is = absurd (cc)
-role_fault ec dc e id o (Push n) rest b code early is = is
-role_fault ec dc e id o Ignored rest b code early is = absurd (cc)
+    second_fault e.decoder_on id w (read_decoder g rest) (read_decoder g (rest ++ b)) code is (decoder_fault g rest b code)
+role_fault e id o (Session n) rest b code early is = absurd (cc)
+role_fault e id o (Push n) rest b code early is = is
+role_fault e id o Ignored rest b code early is = absurd (cc)
 
-bytes_fault : EncoderCuts → DecoderCuts → (e : EndpointHistory) (id : ℕ) (a b : List ℕ) (k : Kind) (code : ℕ) → (e.peer.settings ≡ None → e.decoder_unread ≡ []) → (bytes_at e id a k).1 ≡ Some code → (bytes_at e id (a ++ b) k).1 ≡ Some code
-bytes_fault ec dc e id a b Request code early is = absurd (cc)
-bytes_fault ec dc e id a b ServerOpened code early is = is
-bytes_fault ec dc e id a b OwnUnidirectional code early is = absurd (cc)
-bytes_fault ec dc e id a b PeerUnidirectional code early is =
+bytes_fault : (e : EndpointHistory) (id : ℕ) (a b : List ℕ) (k : Kind) (code : ℕ) → (e.peer.settings ≡ None → e.decoder_unread ≡ []) → (bytes_at e id a k).1 ≡ Some code → (bytes_at e id (a ++ b) k).1 ≡ Some code
+bytes_fault e id a b Request code early is = absurd (cc)
+bytes_fault e id a b ServerOpened code early is = is
+bytes_fault e id a b OwnUnidirectional code early is = absurd (cc)
+bytes_fault e id a b PeerUnidirectional code early is =
     let o = unidirectional_at e id in
     let x = role_after o.role a in
-    ap (λ y. (read_unidirectional e id o y).1) (role_cut o.role a b) ∙ role_fault ec dc e id o x.0 x.1 b code (λ control. early) is
+    ap (λ y. (read_unidirectional e id o y).1) (role_cut o.role a b) ∙ role_fault e id o x.0 x.1 b code (λ control. early) is
 
 refused_alike : (closed : Option ℕ) (r : Option Refusal) (e : EndpointHistory) (found other : Found) (why : Refusal) → (taken closed r e found).0 ≡ Some why → ((code : ℕ) → found.1 ≡ Some code → other.1 ≡ Some code)
     → (taken closed r e other).0 ≡ Some why
@@ -320,10 +320,10 @@ refused_again e id b None (Some r) found why c d is =
 refused_again e id b None None (f, None) why c d is = absurd (cc)
 refused_again e id b None None (f, Some code) why c d is = is
 
-pub refused_delivery : EncoderCuts → DecoderCuts → (e : EndpointHistory) (id : ℕ) (a b : List ℕ) (why : Refusal) → (e.peer.settings ≡ None → e.decoder_unread ≡ []) → (deliver e id a).0 ≡ Some why
+pub refused_delivery : (e : EndpointHistory) (id : ℕ) (a b : List ℕ) (why : Refusal) → (e.peer.settings ≡ None → e.decoder_unread ≡ []) → (deliver e id a).0 ≡ Some why
     → ((deliver e id (a ++ b)).0 ≡ Some why) × ((deliver_cut e id a b).0 ≡ Some why)
-refused_delivery ec dc e id a b why early is =
+refused_delivery e id a b why early is =
     let k = kind_of e.side id in (
-      refused_alike e.closed (delivery_refusal e id) e (bytes_at e id a k) (bytes_at e id (a ++ b) k) why is (λ code. bytes_fault ec dc e id a b k code early),
+      refused_alike e.closed (delivery_refusal e id) e (bytes_at e id a k) (bytes_at e id (a ++ b) k) why is (λ code. bytes_fault e id a b k code early),
       refused_again e id b e.closed (delivery_refusal e id) (bytes_at e id a k) why refl refl is,
     )

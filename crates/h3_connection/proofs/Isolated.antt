@@ -19,7 +19,7 @@ use Rattle.h3_connection.specs.Pulling.{pull_stream}
 use Rattle.h3_connection.specs.Pulling.{Pulled as PulledStream}
 use Rattle.h3_connection.specs.Unidirectional.{Unidirectional, pull_unidirectional}
 use Rattle.h3_connection.specs.Outgoing.{Outgoing as Out, is_end_next}
-use Rattle.h3_connection.specs.Endpoint.{EndpointHistory, Kind, kind_of, new_endpoint, is_critical_of, heads_waiting, replied}
+use Rattle.h3_connection.specs.Endpoint.{EndpointHistory, limit_of, Kind, kind_of, new_endpoint, is_critical_of, heads_waiting, replied}
 use Rattle.h3_connection.specs.Endpoint.Kind.{Request, ServerOpened, OwnUnidirectional, PeerUnidirectional}
 use Rattle.h3_connection.specs.Control.{Found}
 use Rattle.h3_connection.specs.Delivering.{opened_at, unidirectional_at, incoming_at, opened, with_incoming, taken, refusal_at, server_opened_refusal, bytes_at, end_at, reset_at, kept, with_end, give_up, given_up_once, request_refusal}
@@ -128,7 +128,7 @@ true_or false = refl
 deliver_step : (T : ℕ → Bool) (id : ℕ) (e : EndpointHistory) (s : Sight) (q : ℕ) (bytes : List ℕ) → Before T id e s
     → (called e (Deliver q bytes)).1.closed ≡ None → AreEncoders T (called e (Deliver q bytes)).1
     → StepIsSeen T id e (called e (Deliver q bytes)).1 s (Deliver q bytes) (called e (Deliver q bytes)).0
-deliver_step T id e s q bytes b = arrival_step T id e s q (λ i. kept i bytes) (seen_encoder_bytes s q bytes) (bytes_at e q bytes) (Deliver q bytes) b
+deliver_step T id e s q bytes b = arrival_step T id e s q (λ i. kept i bytes) (seen_encoder_bytes (limit_of e) s q bytes) (bytes_at e q bytes) (Deliver q bytes) b
     (record { sees_it = refl; as_seen = refl })
     (record {
       end = with_incoming (opened e q) q (kept (incoming_at e q) bytes);

@@ -11,6 +11,7 @@ pub mod PullBounds
 pub mod WaitingCounts
 pub mod ReadingStays
 pub mod Bounded
+pub mod LongerStays
 pub mod StoppedBounds
 pub mod StandsBounds
 pub mod Closed

@@ -1,19 +1,25 @@
 -- However the bytes of the control, encoder and decoder streams are cut, they are read alike.
-use Rattle.std.proofs.Common.{◌≡◌, ℕ, ◌+◌, ◌-◌, Bool, true, false, if◌then◌else◌, List, [], ◌++◌, refl, ap, sym, ◌∙◌, subst, arith, append_assoc, Option, Some, None}
+use Rattle.std.proofs.Common.{◌≡◌, ℕ, ◌+◌, ◌-◌, Bool, true, false, ◌&&◌, if◌then◌else◌, nat_lt, List, [], ◌++◌, length, length-append, inl, inr, refl, ap, sym, ◌∙◌, subst, arith, append_assoc, Option, Some, None}
+use Rattle.std.proofs.lemmas.Bool.{and_parts, cases_lt, lt-ltb, le-ltb}
 use Rattle.std.specs.Prelude.{is_some}
-use Rattle.h3_qpack.specs.DecoderState.{DecoderState}
+use Rattle.h3_field.specs.Waiting.{encoder_wait, decoder_wait}
+use Rattle.h3_proto.specs.Config.{is_limit}
 use Rattle.h3_qpack.specs.EncoderHistory.{EncoderHistory}
-use Rattle.h3_qpack.specs.Hearing.{Heard, hear, heard_with, heard_then, Listened, listen, listened_with, listened_then}
-use Rattle.h3_connection.specs.Codes.{encoder_stream_error, decoder_stream_error}
+use Rattle.h3_qpack.specs.Hearing.{Heard, Listened}
+use Rattle.h3_connection.specs.Codes.{encoder_stream_error, decoder_stream_error, excessive_load}
 use Rattle.h3_connection.specs.declared.setup.Announced.{Announced}
 use Rattle.h3_connection.specs.Endpoint.{EndpointHistory, limit_of, replied}
 use Rattle.h3_connection.specs.PeerReading.{Peer, PeerFound, with_unread, read_peer}
 use Rattle.h3_connection.proofs.PeerReadings.{then_peer, peer_more, settings_stay}
-use Rattle.h3_connection.specs.Listeners.{fault_if, heard_more, after_hearing, insertions_heard}
-use Rattle.h3_connection.specs.Control.{Found, increment, read_encoder, listened_to, read_decoder, with_table, learned, if_learned, then_decoder, after_peer, read_control}
+use Rattle.h3_connection.specs.Listeners.{fault_if, heard_more, hearing_fault, listening_fault, keeping_fault, after_hearing, insertions_heard}
+use Rattle.h3_connection.specs.ExcessiveInstructions.{exceeds, hear_up_to, listen_up_to, heard_up_to_with, listened_up_to_with}
+use Rattle.h3_connection.specs.LimitedHearingLaws.{hear_cut, hears_no_longer}
+use Rattle.h3_connection.specs.LimitedListeningLaws.{listen_cut, listens_no_longer, listens_nothing, keeps_nothing}
+use Rattle.h3_connection.specs.Control.{Found, increment, read_encoder, listened_to, kept_unread, read_decoder, with_table, learned, if_learned, then_decoder, after_peer, read_control}
 use Rattle.h3_connection.specs.DeliveryCuts.{IsSame, with_replies, DiffersInIncrements}
 use Rattle.h3_connection.proofs.Quiet.{quiet_control}
 use Rattle.h3_connection.proofs.Bounded.{hears_more}
+use Rattle.h3_connection.proofs.LongerStays.{encoder_exceeds_more, decoder_exceeds_more}
 
 -- the same fault or none, and where there is none this holds of what is left
 pub record Alike (Left : EndpointHistory → EndpointHistory → Type 0) (one two : Found) : Type 0 where
@@ -26,35 +32,29 @@ alike_same one two e = record { answer = ap (λ x. x.1) e; left = λ none. ap (�
 pub alike_as : (Left : EndpointHistory → EndpointHistory → Type 0) (one two other both : Found) → one ≡ other → two ≡ both → Alike Left other both → Alike Left one two
 alike_as Left one two other both e f h = subst (λ x. Alike Left x two) (sym e) (subst (λ x. Alike Left other x) (sym f) h)
 
--- the laws of the two listeners that are cited
-abbrev pub EncoderCuts : Type 0
-EncoderCuts = (r : DecoderState) (bytes more : List ℕ) → hear r (bytes ++ more) ≡ heard_then (hear r bytes) more
-
-abbrev pub DecoderCuts : Type 0
-DecoderCuts = (s : EncoderHistory) (bytes more : List ℕ) → listen s (bytes ++ more) ≡ listened_then (listen s bytes) more
-
--- no fault is none that was found
-no_fault : (b : Bool) (code : ℕ) → fault_if b code ≡ None → b ≡ false
-no_fault true code e = absurd (cc)
-no_fault false code e = refl
+-- no fault is no bad instruction
+no_bad : (b : Bool) (code : ℕ) (other : Option ℕ) → (if b then Some code else other) ≡ None → b ≡ false
+no_bad true code other e = absurd (cc)
+no_bad false code other e = refl
 
 -- the encoder stream
-hear_cut : EncoderCuts → (g : EndpointHistory) (a b : List ℕ) → (heard_more g.decoding a).is_bad ≡ false
-    → heard_more g.decoding (a ++ b) ≡ hear (heard_more g.decoding a).decoder ((heard_more g.decoding a).left ++ b)
-hear_cut cuts g a b good =
-    ap (hear g.decoding.decoder) (sym (append_assoc g.decoding.unread a b)) ∙ cuts g.decoding.decoder (g.decoding.unread ++ a) b
-    ∙ ap (heard_with (heard_more g.decoding a) b) good
+heard_front : (g : EndpointHistory) (a b : List ℕ) → (heard_more (limit_of g) g.decoding a).is_bad ≡ false
+    → heard_more (limit_of g) g.decoding (a ++ b) ≡ hear_up_to (limit_of g) (heard_more (limit_of g) g.decoding a).decoder ((heard_more (limit_of g) g.decoding a).left ++ b)
+heard_front g a b good =
+    ap (hear_up_to (limit_of g) g.decoding.decoder) (sym (append_assoc g.decoding.unread a b)) ∙ hear_cut (limit_of g) g.decoding.decoder (g.decoding.unread ++ a) b
+    ∙ ap (heard_up_to_with (limit_of g) (heard_more (limit_of g) g.decoding a) b) good
 
-pub encoder_cut : EncoderCuts → (g : EndpointHistory) (a b : List ℕ) → (read_encoder g a).1 ≡ None → Alike (DiffersInIncrements g.own.replies) (read_encoder g (a ++ b)) (read_encoder (read_encoder g a).0 b)
-encoder_cut cuts g a b none =
-    let h = heard_more g.decoding a in
-    let k = hear h.decoder (h.left ++ b) in
-    let is : heard_more g.decoding (a ++ b) ≡ k = hear_cut cuts g a b (no_fault h.is_bad encoder_stream_error none) in
+pub encoder_cut : (g : EndpointHistory) (a b : List ℕ) → (read_encoder g a).1 ≡ None → Alike (DiffersInIncrements g.own.replies) (read_encoder g (a ++ b)) (read_encoder (read_encoder g a).0 b)
+encoder_cut g a b none =
+    let most = limit_of g in
+    let h = heard_more most g.decoding a in
+    let k = hear_up_to most h.decoder (h.left ++ b) in
+    let is : heard_more most g.decoding (a ++ b) ≡ k = heard_front g a b (no_bad h.is_bad encoder_stream_error _ none) in
     let before = g.decoding.decoder.table.inserted in
     let sum : k.decoder.table.inserted - before ≡ (h.decoder.table.inserted - before) + (k.decoder.table.inserted - h.decoder.table.inserted) =
-    omega (arith, hears_more g.decoding.decoder (g.decoding.unread ++ a), hears_more h.decoder (h.left ++ b)) in
-    let at_once : read_encoder g (a ++ b) ≡ (replied (record g { decoding = after_hearing k }) (increment (k.decoder.table.inserted - before)), fault_if k.is_bad encoder_stream_error) =
-    ap (λ x. (replied (record g { decoding = after_hearing x }) (increment (insertions_heard g.decoding x)), fault_if x.is_bad encoder_stream_error)) is in
+    omega (arith, hears_more most g.decoding.decoder (g.decoding.unread ++ a), hears_more most h.decoder (h.left ++ b)) in
+    let at_once : read_encoder g (a ++ b) ≡ (replied (record g { decoding = after_hearing k }) (increment (k.decoder.table.inserted - before)), hearing_fault most k) =
+    ap (λ x. (replied (record g { decoding = after_hearing x }) (increment (insertions_heard g.decoding x)), hearing_fault most x)) is in
     record {
       answer = ap (λ x. x.1) at_once;
       left = λ good. record {
@@ -69,18 +69,20 @@ encoder_cut cuts g a b none =
     }
 
 -- the decoder stream
-listen_cut : DecoderCuts → (s : EncoderHistory) (unread a b : List ℕ) → (listen s (unread ++ a)).is_bad ≡ false → listen s (unread ++ (a ++ b)) ≡ listen (listen s (unread ++ a)).encoder ((listen s (unread ++ a)).left ++ b)
-listen_cut cuts s unread a b good =
-    ap (listen s) (sym (append_assoc unread a b)) ∙ cuts s (unread ++ a) b ∙ ap (listened_with (listen s (unread ++ a)) b) good
+listened_front : (most : ℕ) (s : EncoderHistory) (unread a b : List ℕ) → (listen_up_to most s (unread ++ a)).is_bad ≡ false
+    → listen_up_to most s (unread ++ (a ++ b)) ≡ listen_up_to most (listen_up_to most s (unread ++ a)).encoder ((listen_up_to most s (unread ++ a)).left ++ b)
+listened_front most s unread a b good =
+    ap (listen_up_to most s) (sym (append_assoc unread a b)) ∙ listen_cut most s (unread ++ a) b ∙ ap (listened_up_to_with most (listen_up_to most s (unread ++ a)) b) good
 
 -- what is read of the decoder stream, where it is told whether the settings came
 abbrev pub read_if : Bool → EndpointHistory → List ℕ → Found
 read_if came e bytes =
-    if came then listened_to e (listen e.encoder (e.decoder_unread ++ bytes)) else (record e { decoder_unread = e.decoder_unread ++ bytes }, None)
+    if came then listened_to e (listen_up_to (limit_of e) e.encoder (e.decoder_unread ++ bytes)) else kept_unread e (e.decoder_unread ++ bytes)
 
-read_twice : DecoderCuts → (came : Bool) (g : EndpointHistory) (a b : List ℕ) → (read_if came g a).1 ≡ None → read_if came g (a ++ b) ≡ read_if came (read_if came g a).0 b
-read_twice cuts true g a b none = ap (listened_to g) (listen_cut cuts g.encoder g.decoder_unread a b (no_fault (listen g.encoder (g.decoder_unread ++ a)).is_bad decoder_stream_error none))
-read_twice cuts false g a b none = ap (λ l. (record g { decoder_unread = l }, None)) (sym (append_assoc g.decoder_unread a b))
+read_twice : (came : Bool) (g : EndpointHistory) (a b : List ℕ) → (read_if came g a).1 ≡ None → read_if came g (a ++ b) ≡ read_if came (read_if came g a).0 b
+read_twice true g a b none =
+    ap (listened_to g) (listened_front (limit_of g) g.encoder g.decoder_unread a b (no_bad (listen_up_to (limit_of g) g.encoder (g.decoder_unread ++ a)).is_bad decoder_stream_error _ none))
+read_twice false g a b none = ap (kept_unread g) (sym (append_assoc g.decoder_unread a b))
 
 found_if : (b : Bool) (P : Found → Type 0) (x y : Found) → P x → P y → P (if b then x else y)
 found_if true P x y p q = p
@@ -89,9 +91,9 @@ found_if false P x y p q = q
 pub decoder_peer : (e : EndpointHistory) (bytes : List ℕ) → (read_decoder e bytes).0.peer ≡ e.peer
 decoder_peer e bytes = found_if (is_some e.peer.settings) (λ x. x.0.peer ≡ e.peer) _ _ refl refl
 
-pub decoder_cut : DecoderCuts → (g : EndpointHistory) (a b : List ℕ) → (read_decoder g a).1 ≡ None → read_decoder g (a ++ b) ≡ read_decoder (read_decoder g a).0 b
-decoder_cut cuts g a b none =
-    read_twice cuts (is_some g.peer.settings) g a b none ∙ sym (ap (λ p. read_if (is_some p.settings) (read_decoder g a).0 b) (decoder_peer g a))
+pub decoder_cut : (g : EndpointHistory) (a b : List ℕ) → (read_decoder g a).1 ≡ None → read_decoder g (a ++ b) ≡ read_decoder (read_decoder g a).0 b
+decoder_cut g a b none =
+    read_twice (is_some g.peer.settings) g a b none ∙ sym (ap (λ p. read_if (is_some p.settings) (read_decoder g a).0 b) (decoder_peer g a))
 
 -- the control stream: what was found is done alike by endpoints that differ in what their peer's reader has
 abbrev after_by : Option (List (ℕ × ℕ)) → EndpointHistory → PeerFound → Found
@@ -214,38 +216,59 @@ control_on_stays e bytes =
 pub decoder_on_stays : (e : EndpointHistory) (bytes : List ℕ) → (read_decoder e bytes).0.decoder_on ≡ e.decoder_on
 decoder_on_stays e bytes = found_if (is_some e.peer.settings) (λ x. x.0.decoder_on ≡ e.decoder_on) _ _ refl refl
 
--- a fault that was found in the first bytes is found in all
-bad_heard : (h : Heard) (b : List ℕ) (bad : Bool) (code : ℕ) → fault_if bad encoder_stream_error ≡ Some code → fault_if (heard_with h b bad).is_bad encoder_stream_error ≡ Some code
-bad_heard h b true code e = e
-bad_heard h b false code e = absurd (cc)
+-- a fault that was found in the first bytes is found in all: a bad instruction,
+longer_or : (b : Bool) (code other : ℕ) → fault_if b code ≡ Some other → (b ≡ true) × (Some code ≡ Some other)
+longer_or true code other e = (refl, e)
+longer_or false code other e = absurd (cc)
 
-pub encoder_fault : EncoderCuts → (g : EndpointHistory) (a b : List ℕ) (code : ℕ) → (read_encoder g a).1 ≡ Some code → (read_encoder g (a ++ b)).1 ≡ Some code
-encoder_fault cuts g a b code e =
-    let h = heard_more g.decoding a in
-    ap (λ x. fault_if x.is_bad encoder_stream_error) (ap (hear g.decoding.decoder) (sym (append_assoc g.decoding.unread a b)) ∙ cuts g.decoding.decoder (g.decoding.unread ++ a) b)
-    ∙ bad_heard h b h.is_bad code e
+bad_heard : (most : ℕ) (h : Heard) (b : List ℕ) (bad : Bool) (code : ℕ) → h.is_bad ≡ bad → hearing_fault most h ≡ Some code → hearing_fault most (heard_up_to_with most h b bad) ≡ Some code
+bad_heard most h b true code is e = sym (ap (λ x. if x then Some encoder_stream_error else fault_if (exceeds most encoder_wait h.left) excessive_load) is) ∙ e
+bad_heard most h b false code is e =
+    -- or one that is longer than the limit
+    let longer = longer_or (exceeds most encoder_wait h.left) excessive_load code (sym (ap (λ x. if x then Some encoder_stream_error else fault_if (exceeds most encoder_wait h.left) excessive_load) is) ∙ e) in
+    let still = encoder_exceeds_more most h.left b longer.0 in
+    ap (hearing_fault most) (hears_no_longer most h.decoder (h.left ++ b) still) ∙ ap (λ x. fault_if x excessive_load) still ∙ longer.1
 
-bad_listened : (l : Listened) (b : List ℕ) (bad : Bool) (code : ℕ) → fault_if bad decoder_stream_error ≡ Some code → fault_if (listened_with l b bad).is_bad decoder_stream_error ≡ Some code
-bad_listened l b true code e = e
-bad_listened l b false code e = absurd (cc)
+pub encoder_fault : (g : EndpointHistory) (a b : List ℕ) (code : ℕ) → (read_encoder g a).1 ≡ Some code → (read_encoder g (a ++ b)).1 ≡ Some code
+encoder_fault g a b code e =
+    let most = limit_of g in
+    let h = heard_more most g.decoding a in
+    ap (hearing_fault most) (ap (hear_up_to most g.decoding.decoder) (sym (append_assoc g.decoding.unread a b)) ∙ hear_cut most g.decoding.decoder (g.decoding.unread ++ a) b)
+    ∙ bad_heard most h b h.is_bad code refl e
 
-bad_read : DecoderCuts → (came : Bool) (g : EndpointHistory) (a b : List ℕ) (code : ℕ) → (read_if came g a).1 ≡ Some code → (read_if came g (a ++ b)).1 ≡ Some code
-bad_read cuts true g a b code e =
-    let l = listen g.encoder (g.decoder_unread ++ a) in
-    ap (λ x. fault_if x.is_bad decoder_stream_error) (ap (listen g.encoder) (sym (append_assoc g.decoder_unread a b)) ∙ cuts g.encoder (g.decoder_unread ++ a) b) ∙ bad_listened l b l.is_bad code e
-bad_read cuts false g a b code e = absurd (cc)
+bad_listened : (most : ℕ) (l : Listened) (b : List ℕ) (bad : Bool) (code : ℕ) → l.is_bad ≡ bad → listening_fault most l ≡ Some code → listening_fault most (listened_up_to_with most l b bad) ≡ Some code
+bad_listened most l b true code is e = sym (ap (λ x. if x then Some decoder_stream_error else fault_if (exceeds most decoder_wait l.left) excessive_load) is) ∙ e
+bad_listened most l b false code is e =
+    let longer = longer_or (exceeds most decoder_wait l.left) excessive_load code (sym (ap (λ x. if x then Some decoder_stream_error else fault_if (exceeds most decoder_wait l.left) excessive_load) is) ∙ e) in
+    let still = decoder_exceeds_more most l.left b longer.0 in
+    ap (listening_fault most) (listens_no_longer most l.encoder (l.left ++ b) still) ∙ ap (λ x. fault_if x excessive_load) still ∙ longer.1
 
-pub decoder_fault : DecoderCuts → (g : EndpointHistory) (a b : List ℕ) (code : ℕ) → (read_decoder g a).1 ≡ Some code → (read_decoder g (a ++ b)).1 ≡ Some code
-decoder_fault cuts g a b code e = bad_read cuts (is_some g.peer.settings) g a b code e
+-- or more bytes before the settings than the limit
+kept_longer : (most : ℕ) (unread more : List ℕ) (code : ℕ) → keeping_fault most unread ≡ Some code → keeping_fault most (unread ++ more) ≡ Some code
+kept_longer most unread more code e =
+    let longer = longer_or (is_limit most && nat_lt most (length unread)) excessive_load code e in
+    let said = and_parts (is_limit most) (nat_lt most (length unread)) longer.0 in
+    let still : nat_lt most (length (unread ++ more)) ≡ true =
+    elim (cases_lt most (length unread)) [
+      | inl above ↦ lt-ltb most (length (unread ++ more)) (omega (arith, above, length-append unread more))
+      | inr small ↦ let not = le-ltb most (length unread) small in let wrong : true ≡ false = sym said.1 ∙ not in absurd (cc)
+    ] in
+    ap (λ b. fault_if (b && nat_lt most (length (unread ++ more))) excessive_load) said.0 ∙ ap (λ b. fault_if b excessive_load) still ∙ longer.1
 
--- with no bytes of the decoder stream none are bad
-listens_none : (s : EncoderHistory) → (listen s []).is_bad ≡ false
-unfolding listen
-listens_none s = refl
+bad_read : (came : Bool) (g : EndpointHistory) (a b : List ℕ) (code : ℕ) → (read_if came g a).1 ≡ Some code → (read_if came g (a ++ b)).1 ≡ Some code
+bad_read true g a b code e =
+    let most = limit_of g in
+    let l = listen_up_to most g.encoder (g.decoder_unread ++ a) in
+    ap (listening_fault most) (ap (listen_up_to most g.encoder) (sym (append_assoc g.decoder_unread a b)) ∙ listen_cut most g.encoder (g.decoder_unread ++ a) b) ∙ bad_listened most l b l.is_bad code refl e
+bad_read false g a b code e = ap (keeping_fault (limit_of g)) (sym (append_assoc g.decoder_unread a b)) ∙ kept_longer (limit_of g) (g.decoder_unread ++ a) b code e
 
+pub decoder_fault : (g : EndpointHistory) (a b : List ℕ) (code : ℕ) → (read_decoder g a).1 ≡ Some code → (read_decoder g (a ++ b)).1 ≡ Some code
+decoder_fault g a b code e = bad_read (is_some g.peer.settings) g a b code e
+
+-- with no bytes of the decoder stream none are bad, or too many
 reads_none : (came : Bool) (e : EndpointHistory) → e.decoder_unread ≡ [] → (read_if came e []).1 ≡ None
-reads_none true e empty = ap (λ l. fault_if (listen e.encoder (l ++ [])).is_bad decoder_stream_error) empty ∙ ap (λ b. fault_if b decoder_stream_error) (listens_none e.encoder)
-reads_none false e empty = refl
+reads_none true e empty = ap (λ l. listening_fault (limit_of e) (listen_up_to (limit_of e) e.encoder (l ++ []))) empty ∙ ap (listening_fault (limit_of e)) (listens_nothing (limit_of e) e.encoder)
+reads_none false e empty = ap (λ l. keeping_fault (limit_of e) (l ++ [])) empty ∙ keeps_nothing (limit_of e)
 
 fault_found : (g : EndpointHistory) (b left : List ℕ) (x : PeerFound) (code : ℕ) → (g.peer.settings ≡ None → g.decoder_unread ≡ []) → ((pairs : List (ℕ × ℕ)) → g.peer.settings ≡ Some pairs → x.0.settings ≡ Some pairs)
     → (after_peer g x).1 ≡ Some code → (after_peer g (then_peer (limit_of g) g.side b left x)).1 ≡ Some code

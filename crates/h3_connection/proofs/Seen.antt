@@ -7,7 +7,7 @@ use Rattle.h3_connection.specs.StreamSets.{Streams, stream_at, set_stream}
 use Rattle.h3_connection.specs.Incoming.{Incoming, nothing_came}
 use Rattle.h3_connection.specs.Unidirectional.{Unidirectional, Role, untold, with_bytes}
 use Rattle.h3_connection.specs.Unidirectional.Role.{Untold, Control, Encoder, Decoder, Session, Push, Ignored}
-use Rattle.h3_connection.specs.Endpoint.{EndpointHistory, is_second}
+use Rattle.h3_connection.specs.Endpoint.{EndpointHistory, limit_of, is_second}
 use Rattle.h3_connection.specs.Control.{Found, read_encoder, read_decoder, read_control}
 use Rattle.h3_connection.specs.Delivering.{incoming_at, opened_at, opened, taken, only_one, unless_second, heard_as, closed_by, request_refusal}
 use Rattle.h3_connection.specs.Sending.{does}
@@ -118,9 +118,9 @@ pub record HeardAs (e f : EndpointHistory) (q : ℕ) (heard : Role × List ℕ) 
   pub closed : f.closed ≡ e.closed
   pub incoming : f.incoming ≡ e.incoming
   pub unidirectional : f.unidirectional ≡ e.unidirectional
-  pub decoding : f.decoding ≡ hears e.decoding heard
+  pub decoding : f.decoding ≡ hears (limit_of e) e.decoding heard
 
-of_quiet : (e f : EndpointHistory) (q : ℕ) (heard : Role × List ℕ) → hears e.decoding heard ≡ e.decoding → Quiet e f → HeardAs e f q heard
+of_quiet : (e f : EndpointHistory) (q : ℕ) (heard : Role × List ℕ) → hears (limit_of e) e.decoding heard ≡ e.decoding → Quiet e f → HeardAs e f q heard
 of_quiet e f q heard d k = record { side = k.side; closed = k.closed; incoming = k.incoming; unidirectional = k.unidirectional; decoding = k.decoding ∙ sym d }
 
 -- a first stream of its role

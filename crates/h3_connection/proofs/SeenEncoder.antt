@@ -5,7 +5,7 @@ use Rattle.std.proofs.lemmas.Grind.{common_steps}
 use Rattle.h3_connection.specs.StreamSets.{stream_at, set_stream}
 use Rattle.h3_connection.specs.Unidirectional.{Unidirectional, Role, untold, is_closed, role_after, with_bytes, pull_unidirectional, raw, pull_session, if_over}
 use Rattle.h3_connection.specs.Unidirectional.Role.{Untold, Control, Encoder, Decoder, Session, Push, Ignored}
-use Rattle.h3_connection.specs.Endpoint.{EndpointHistory}
+use Rattle.h3_connection.specs.Endpoint.{EndpointHistory, limit_of}
 use Rattle.h3_connection.specs.Control.{Found}
 use Rattle.h3_connection.specs.Delivering.{unidirectional_at, with_unidirectional, taken, closed_refusal, closing, read_unidirectional}
 use Rattle.h3_connection.specs.CallLists.{done}
@@ -57,10 +57,10 @@ heard_bytes e q o (role, bytes) p = heard_as_role (with_unidirectional e q (with
 -- a stream that is seen
 pub encoder_bytes_seen : (T : ℕ → Bool) (id : ℕ) (e : EndpointHistory) (s : Sight) (q : ℕ) (bytes : List ℕ) → IsSight T id e s → T q ≡ true
     → let r = done Done (taken None (closed_refusal (is_closed (unidirectional_at e q))) e (After e q bytes)) in
-    r.1.closed ≡ None → (r.0 ≡ (seen_encoder_bytes s q bytes).0) × IsSight T id r.1 (seen_encoder_bytes s q bytes).1
+    r.1.closed ≡ None → (r.0 ≡ (seen_encoder_bytes (limit_of e) s q bytes).0) × IsSight T id r.1 (seen_encoder_bytes (limit_of e) s q bytes).1
 encoder_bytes_seen T id e s q bytes h t = subst (λ g. let r = done Done (taken None (closed_refusal (is_closed (unidirectional_at e q))) e (After e q bytes)) in
     r.1.closed ≡ None → let sg = unless_refused (closed_refusal g.closed) s
-    (with_front (record s { decoding = hears s.decoding (role_after g.role bytes) }) q (record g { role = (role_after g.role bytes).0 })) in
+    (with_front (record s { decoding = hears (limit_of e) s.decoding (role_after g.role bytes) }) q (record g { role = (role_after g.role bytes).0 })) in
     (r.0 ≡ sg.0) × IsSight T id r.1 sg.1) (h.fronts q t) (go (is_closed (unidirectional_at e q)) (After e q bytes) refl)
   where
     o : Unidirectional
@@ -70,7 +70,7 @@ encoder_bytes_seen T id e s q bytes h t = subst (λ g. let r = done Done (taken 
     heard = role_after o.role bytes
 
     new : Sight
-    new = with_front (record s { decoding = hears s.decoding heard }) q (record (front_of o) { role = heard.0 })
+    new = with_front (record s { decoding = hears (limit_of e) s.decoding heard }) q (record (front_of o) { role = heard.0 })
 
     go : (closed : Bool) (found : Found) → found ≡ After e q bytes
         → let r = done Done (taken None (closed_refusal closed) e found) in
@@ -84,12 +84,12 @@ encoder_bytes_seen T id e s q bytes h t = subst (λ g. let r = done Done (taken 
           refl,
           record {
             incoming = ap (λ w. stream_at w id) k'.incoming ∙ h.incoming;
-            decoding = k'.decoding ∙ ap (λ d. hears d heard) h.decoding;
+            decoding = k'.decoding ∙ ap (λ d. hears (limit_of e) d heard) h.decoding;
             fronts = fronts_set T id e f s q (with_bytes o heard) (record (front_of o) { role = heard.0 }) h k'.unidirectional (role_of_bytes o heard);
           },
         )
 
-hears_only_encoder : (e : EndpointHistory) (q : ℕ) (heard : Role × List ℕ) → (heard.0 ≡ Encoder → ⊥) → hears e.decoding heard ≡ e.decoding
+hears_only_encoder : (e : EndpointHistory) (q : ℕ) (heard : Role × List ℕ) → (heard.0 ≡ Encoder → ⊥) → hears (limit_of e) e.decoding heard ≡ e.decoding
 hears_only_encoder e q (Encoder, bytes) f = absurd (f refl)
 hears_only_encoder e q (Untold front, bytes) f = refl
 hears_only_encoder e q (Control, bytes) f = refl
@@ -123,7 +123,7 @@ one_way_bytes_unseen T id e s q bytes h blind = go (is_closed (unidirectional_at
         let k' : HeardAs (with_unidirectional e q (with_bytes o heard)) f q heard = subst (λ x. HeardAs (with_unidirectional e q (with_bytes o heard)) x q heard) is_f k in
         let there : unidirectional_at f q ≡ with_bytes o heard = ap (λ w. unwrap_or (stream_at w q) untold) k'.unidirectional ∙ ap (λ x. unwrap_or x untold) (at_same e.unidirectional q (with_bytes o heard)) in
         let role : (unidirectional_at f q).role ≡ heard.0 = ap (λ x. x.role) there ∙ ap (λ g. g.role) (role_of_bytes o heard) in
-        let d : hears e.decoding heard ≡ e.decoding = hears_only_encoder e q heard (λ is_encoder. true_is_not_false (sym (a q (role ∙ is_encoder)) ∙ blind)) in
+        let d : hears (limit_of e) e.decoding heard ≡ e.decoding = hears_only_encoder e q heard (λ is_encoder. true_is_not_false (sym (a q (role ∙ is_encoder)) ∙ blind)) in
         record {
           incoming = ap (λ w. stream_at w id) k'.incoming ∙ h.incoming;
           decoding = k'.decoding ∙ d ∙ h.decoding;

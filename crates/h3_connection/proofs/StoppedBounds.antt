@@ -6,7 +6,7 @@ use Rattle.h3_connection.specs.Arrivals.{Arrival, BytesCame, stream_of}
 use Rattle.h3_connection.specs.Bounds.{IsBounded, StandsBounded}
 use Rattle.h3_connection.specs.Control.{increment}
 use Rattle.h3_connection.specs.Delivering.{unidirectional_at, incoming_at, with_incoming, with_unidirectional}
-use Rattle.h3_connection.specs.Endpoint.{EndpointHistory, Kind, kind_of, replied}
+use Rattle.h3_connection.specs.Endpoint.{EndpointHistory, limit_of, Kind, kind_of, replied}
 use Rattle.h3_connection.specs.Endpoint.Kind.{Request, ServerOpened, OwnUnidirectional, PeerUnidirectional}
 use Rattle.h3_connection.specs.Incoming.{Incoming, nothing_came}
 use Rattle.h3_connection.specs.Keeping.{keeping, opened_as, opened_by}
@@ -47,9 +47,9 @@ frames e p h =
     let q : Quiet f (after_frames e p) = quiet_if_learned e.peer.settings p.settings f in
     rests f (after_frames e p) q.incoming q.decoding q.announced q.closed (rests e f refl refl refl refl h)
 
-heard : (e : EndpointHistory) (d : Decoding) → HearsPart e.decoding d → IsBounded e
+heard : (e : EndpointHistory) (d : Decoding) → HearsPart (limit_of e) e.decoding d → IsBounded e
     → IsBounded (replied (record e { decoding = d }) (increment (d.decoder.table.inserted - e.decoding.decoder.table.inserted)))
-heard e d part h = hears e _ refl (rw part.left (hears_more e.decoding.decoder part.front)) refl (λ x. x) h
+heard e d part h = hears e _ refl (rw part.left (hears_more (limit_of e) e.decoding.decoder part.front)) refl (λ x. x) h
 
 -- one step of reading
 reads_on : {e new : EndpointHistory} {arrivals more : List Arrival} → ReadsOn e arrivals new more → IsBounded e → IsBounded new

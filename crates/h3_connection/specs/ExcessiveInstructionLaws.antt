@@ -1,5 +1,5 @@
 -- What holds of instructions that are longer than their reader takes.
-use Rattle.std.proofs.Common.{◌≡◌, ℕ, zero, suc, ◌+◌, ◌-◌, ◌≤◌, ◌<◌, Bool, true, false, ◌&&◌, nat_lt, List, [], ◌∷◌, ◌++◌, length, take, refl, ap, sym, ◌∙◌, subst, arith, inl, inr, ◌⊎◌}
+use Rattle.std.proofs.Common.{◌≡◌, ℕ, zero, suc, ◌+◌, ◌-◌, ◌≤◌, ◌<◌, Bool, true, false, ◌&&◌, nat_lt, List, [], ◌∷◌, ◌++◌, length, take, refl, ap, sym, ◌∙◌, arith, inl, inr}
 use Rattle.std.proofs.lemmas.Bool.{and_parts, and_right, cases_lt, lt-ltb, le-ltb}
 use Rattle.std.proofs.lemmas.List.{take-append-le}
 use Rattle.h3_field.specs.InstructionLaws.{instruction_stable, decoder_instruction_stable}
@@ -21,7 +21,7 @@ none_exceeds most waiting (first ∷ rest) none =
 -- where any is, there is a limit
 pub exceeds_limit : (most : ℕ) (waiting : List ℕ → Wait) (bytes : List ℕ) → exceeds most waiting bytes ≡ true → is_limit most ≡ true
 exceeds_limit most waiting [] e = absurd (cc)
-exceeds_limit most waiting (first ∷ rest) e = (and_parts (is_limit most) _ e).0
+exceeds_limit most waiting (first ∷ rest) e = (and_parts (is_limit most) (nat_lt most (length (take most (first ∷ rest)) + missing (waiting (take most (first ∷ rest))))) e).0
 
 -- Bytes that are no more than the limit are all asked,
 all_taken : (most : ℕ) (bytes : List ℕ) → length bytes ≤ most → take most bytes ≡ bytes
@@ -63,9 +63,10 @@ exceeding_waits most waiting (first ∷ rest) few e = by_wait (goes_on (waiting 
     by_wait : (b : Bool) → goes_on (waiting (first ∷ rest)) ≡ b → b ≡ true
     by_wait true is = refl
     by_wait false is =
-        let none : length (first ∷ rest) + missing (waiting (first ∷ rest)) ≤ most = omega (arith, few, nothing_missing (waiting (first ∷ rest)) is) in
-        let said = and_right (is_limit most) _ (sym (exceeds_short most waiting first rest few) ∙ e) in
-        let not = le-ltb _ most none in cc
+        let all = length (first ∷ rest) + missing (waiting (first ∷ rest)) in
+        let none : all ≤ most = omega (arith, few, nothing_missing (waiting (first ∷ rest)) is) in
+        let said = and_parts (is_limit most) (nat_lt most all) (sym (exceeds_short most waiting first rest few) ∙ e) in
+        let wrong : true ≡ false = sym said.1 ∙ le-ltb most all none in absurd (cc)
 
 pub exceeds_unfinished : (most : ℕ) (bytes : List ℕ) → length bytes ≤ most → exceeds most encoder_wait bytes ≡ true → instruction bytes ≡ Unfinished
 exceeds_unfinished most bytes few e = unfinished_is (instruction bytes) (sym (encoder_waits bytes) ∙ exceeding_waits most encoder_wait bytes few e)
@@ -79,18 +80,20 @@ pub exceeds_full : (most : ℕ) (waiting : List ℕ → Wait) (first : ℕ) (res
 exceeds_full most waiting first rest limit full waits =
     exceeds_short most waiting first rest (omega (arith, full))
     ∙ ap (λ b. b && nat_lt most (length (first ∷ rest) + missing (waiting (first ∷ rest)))) limit
-    ∙ lt-ltb most _ (omega (arith, full, something_missing (waiting (first ∷ rest)) waits))
+    ∙ lt-ltb most (length (first ∷ rest) + missing (waiting (first ∷ rest))) (omega (arith, full, something_missing (waiting (first ∷ rest)) waits))
 
 -- What is told to be longer stays so, whatever comes behind; and so does an instruction that is whole or bad within the limit.
 abbrev Ends : (List ℕ → Wait) → Type 0
 Ends waiting = (bytes more : List ℕ) → goes_on (waiting bytes) ≡ false → goes_on (waiting (bytes ++ more)) ≡ false
 
-taken_more : (most : ℕ) (bytes more : List ℕ) → length bytes ≤ most → take most (bytes ++ more) ≡ bytes ++ take (most - length bytes) more
-taken_more most [] more few = refl
+pub taken_more : (most : ℕ) (bytes more : List ℕ) → length bytes ≤ most → take most (bytes ++ more) ≡ bytes ++ take (most - length bytes) more
+taken_more most [] more few = let same : most ≡ most - 0 = omega arith in ap (λ n. take n more) same
 taken_more zero (byte ∷ bytes) more few = absurd (omega (arith, few))
-taken_more (suc most) (byte ∷ bytes) more few = ap (λ l. byte ∷ l) (taken_more most bytes more (omega (arith, few)))
+taken_more (suc most) (byte ∷ bytes) more few =
+    let same : most - length bytes ≡ suc most - length (byte ∷ bytes) = omega arith in
+    ap (λ l. byte ∷ l) (taken_more most bytes more (omega (arith, few))) ∙ ap (λ n. byte ∷ (bytes ++ take n more)) same
 
-taken_length : (most : ℕ) (bytes : List ℕ) → length (take most bytes) ≤ most
+pub taken_length : (most : ℕ) (bytes : List ℕ) → length (take most bytes) ≤ most
 taken_length zero bytes = omega arith
 taken_length (suc most) [] = omega arith
 taken_length (suc most) (byte ∷ bytes) = let less = taken_length most bytes in omega (arith, less)
@@ -102,16 +105,13 @@ finished_stays most waiting (first ∷ rest) more ends empty within done =
     elim (cases_lt (length (first ∷ rest)) most) [
       | inr many ↦ exceeds_front most waiting first rest more many ∙ within
       | inl few ↦
-          let taken = taken_more most (first ∷ rest) more (omega (arith, few)) in
-          let none : missing (waiting (take most ((first ∷ rest) ++ more))) ≡ 0 =
-          ap (λ l. missing (waiting l)) taken ∙ nothing_missing _ (ends (first ∷ rest) (take (most - length (first ∷ rest)) more) done) in
+          let asked = take most ((first ∷ rest) ++ more) in
+          let behind = take (most - length (first ∷ rest)) more in
+          let none : missing (waiting asked) ≡ 0 =
+          ap (λ l. missing (waiting l)) (taken_more most (first ∷ rest) more (omega (arith, few))) ∙ nothing_missing (waiting ((first ∷ rest) ++ behind)) (ends (first ∷ rest) behind done) in
           let size = taken_length most ((first ∷ rest) ++ more) in
-          ap (λ b. is_limit most && b) (le-ltb _ most (omega (arith, none, size))) ∙ never (is_limit most)
+          and_right (is_limit most) (nat_lt most (length asked + missing (waiting asked))) (le-ltb most (length asked + missing (waiting asked)) (omega (arith, none, size)))
     ]
-  where
-    never : (b : Bool) → (b && false) ≡ false
-    never true = refl
-    never false = refl
 
 done_stays : {A : Type 0} (more : List ℕ) (r later : Reading A) → Stays more r later → is_unfinished r ≡ false → is_unfinished later ≡ false
 done_stays more (Whole value rest) later stays done = ap is_unfinished stays

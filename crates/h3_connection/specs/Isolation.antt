@@ -98,14 +98,14 @@ abbrev pub is_encoder : Role → Bool
 is_encoder Encoder = true
 is_encoder _ = false
 
-abbrev pub hears : Decoding → Role × List ℕ → Decoding
-hears d (role, bytes) = if is_encoder role then after_hearing (heard_more d bytes) else d
+abbrev pub hears : ℕ → Decoding → Role × List ℕ → Decoding
+hears most d (role, bytes) = if is_encoder role then after_hearing (heard_more most d bytes) else d
 
-abbrev pub seen_encoder_bytes : Sight → ℕ → List ℕ → Seen
-seen_encoder_bytes s q bytes =
+abbrev pub seen_encoder_bytes : ℕ → Sight → ℕ → List ℕ → Seen
+seen_encoder_bytes most s q bytes =
     let heard = role_after (s.fronts q).role bytes in
     unless_refused (closed_refusal (s.fronts q).closed) s
-    (with_front (record s { decoding = hears s.decoding heard }) q (record (s.fronts q) { role = heard.0 }))
+    (with_front (record s { decoding = hears most s.decoding heard }) q (record (s.fronts q) { role = heard.0 }))
 
 abbrev pub seen_encoder_closing : Sight → ℕ → Seen
 seen_encoder_closing s q =
@@ -117,7 +117,7 @@ seen side own id s OpenRequest = (Opened id, with_seen s nothing_came)
 seen side own id s (SendHead q head) = (Done, with_awaited s (awaited_by (head_fields head)) s.incoming)
 seen side own id s (Deliver q bytes) =
     if q == id then unless_refused (request_refusal side s.incoming) s (with_seen s (kept (seen_incoming s) bytes))
-    else seen_encoder_bytes s q bytes
+    else seen_encoder_bytes own.choices.unfinished_limit s q bytes
 seen side own id s (DeliverEnd q) =
     if q == id then unless_refused (request_refusal side s.incoming) s (with_seen s (with_end (seen_incoming s)))
     else seen_encoder_closing s q

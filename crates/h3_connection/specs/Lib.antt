@@ -30,6 +30,7 @@ pub mod WaitingPieces
 pub mod WaitingPieceLaws
 pub mod Endpoint
 pub mod Control
+pub mod UnlimitedLaws
 pub mod Delivering
 pub mod CountedContent
 pub mod NoContent

@@ -1,5 +1,5 @@
 -- The peer's encoder stream, where instructions are taken up to a limit.
-use Rattle.std.proofs.Common.{◌≡◌, ℕ, zero, suc, ◌≤◌, ◌<◌, Bool, true, false, if◌then◌else◌, List, [], ◌∷◌, ◌++◌, length, Option, Some, None, refl, ap, sym, ◌∙◌, arith, inl, inr, ◌⊎◌}
+use Rattle.std.proofs.Common.{◌≡◌, ℕ, zero, suc, ◌≤◌, Bool, true, false, if◌then◌else◌, List, [], ◌∷◌, ◌++◌, length, Option, Some, None, refl, ap, sym, ◌∙◌, arith, inl, inr, ◌⊎◌}
 use Rattle.h3_field.specs.InstructionLaws.{instruction_stable}
 use Rattle.h3_field.specs.InstructionReading.{InstructionForm, instruction}
 use Rattle.h3_field.specs.Reading.{Reading, Whole, Unfinished, Bad}
@@ -49,6 +49,11 @@ hear_step most r bytes =
     ∙ ap (unless_longer (exceeds most encoder_wait bytes) r bytes)
     (form_same (hear_limited (length bytes) most) (hear_up_to most) r bytes (instruction bytes)
     (λ form rest new e. let less = instruction_less bytes rest form e in steps_same (length bytes) (length rest) most new rest (omega (arith, less)) (omega arith)))
+
+-- No bytes are nothing.
+pub hears_nothing : (most : ℕ) (r : DecoderState) → hear_up_to most r [] ≡ heard r [] false
+unfolding hear_up_to
+hears_nothing most r = refl
 
 -- An instruction that is longer than the limit is not read,
 pub hears_no_longer : (most : ℕ) (r : DecoderState) (bytes : List ℕ) → exceeds most encoder_wait bytes ≡ true → hear_up_to most r bytes ≡ heard r bytes false
@@ -155,24 +160,32 @@ test_alike most false r bytes h other is alike = alike
 steps_alike : (n most : ℕ) (r : DecoderState) (bytes : List ℕ) → LongerOr most (hear_limited n most r bytes) (hear_within n r bytes)
 steps_alike zero most r bytes = inr refl
 steps_alike (suc n) most r bytes =
-    test_alike most (exceeds most encoder_wait bytes) r bytes _ _ refl
+    test_alike most (exceeds most encoder_wait bytes) r bytes (hear_form (hear_limited n most) r bytes (instruction bytes)) (hear_form (hear_within n) r bytes (instruction bytes)) refl
     (form_alike most (hear_limited n most) (hear_within n) r bytes (instruction bytes) (λ new rest. steps_alike n most new rest))
 
 -- the fault, where this is what would be heard without a limit
 abbrev pub IsLongerOrHeard : ℕ → Heard → Heard → Type 0
 IsLongerOrHeard most h other = (hearing_fault most h ≡ Some excessive_load) ⊎ ((h ≡ other) × (hearing_fault most h ≡ fault_if other.is_bad encoder_stream_error))
 
+longer_fault : (most : ℕ) (h : Heard) → h.is_bad ≡ false → exceeds most encoder_wait h.left ≡ true → hearing_fault most h ≡ Some excessive_load
+longer_fault most h good longer = ap (λ b. if b then Some encoder_stream_error else fault_if (exceeds most encoder_wait h.left) excessive_load) good ∙ ap (λ b. fault_if b excessive_load) longer
+
 fault_alike : (most : ℕ) (h other : Heard) → LongerOr most h other → IsLongerOrHeard most h other
-fault_alike most h other (inl (good, longer)) =
-    inl (ap (λ b. if b then Some encoder_stream_error else fault_if (exceeds most encoder_wait h.left) excessive_load) good ∙ ap (λ b. fault_if b excessive_load) longer)
-fault_alike most h other (inr same) = by_length (exceeds most encoder_wait h.left) h.is_bad refl refl
+fault_alike most h other (inl is) = inl (longer_fault most h is.0 is.1)
+fault_alike most h other (inr same) = by_fault h.is_bad (exceeds most encoder_wait h.left) refl refl
   where
-    by_length : (longer bad : Bool) → exceeds most encoder_wait h.left ≡ longer → h.is_bad ≡ bad → IsLongerOrHeard most h other
-    by_length longer true is bad = inr (same, ap (λ b. if b then Some encoder_stream_error else fault_if (exceeds most encoder_wait h.left) excessive_load) bad ∙ sym (ap (λ (x : Heard). fault_if x.is_bad encoder_stream_error) (sym same) ∙ ap (λ b. fault_if b encoder_stream_error) bad))
-    by_length true false is good = fault_alike most h other (inl (good, is))
-    by_length false false is good =
-        inr (same, ap (λ b. if h.is_bad then Some encoder_stream_error else fault_if b excessive_load) is ∙ ap (λ (x : Heard). fault_if x.is_bad encoder_stream_error) same)
+    by_fault : (bad longer : Bool) → h.is_bad ≡ bad → exceeds most encoder_wait h.left ≡ longer → IsLongerOrHeard most h other
+    by_fault true longer bad is = inr (
+      same,
+      ap (λ b. if b then Some encoder_stream_error else fault_if (exceeds most encoder_wait h.left) excessive_load) bad
+          ∙ ap (λ b. fault_if b encoder_stream_error) (sym bad) ∙ ap (λ (x : Heard). fault_if x.is_bad encoder_stream_error) same,
+    )
+    by_fault false true good is = inl (longer_fault most h good is)
+    by_fault false false good is = inr (
+      same,
+      ap (λ b. if h.is_bad then Some encoder_stream_error else fault_if b excessive_load) is ∙ ap (λ (x : Heard). fault_if x.is_bad encoder_stream_error) same,
+    )
 
 pub hear_alike : (most : ℕ) (r : DecoderState) (bytes : List ℕ) → IsLongerOrHeard most (hear_up_to most r bytes) (hear r bytes)
 unfolding hear_up_to hear
-hear_alike most r bytes = fault_alike most _ _ (steps_alike (length bytes) most r bytes)
+hear_alike most r bytes = fault_alike most (hear_limited (length bytes) most r bytes) (hear_within (length bytes) r bytes) (steps_alike (length bytes) most r bytes)

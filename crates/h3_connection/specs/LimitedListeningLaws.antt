@@ -1,178 +1,198 @@
 -- The peer's decoder stream, where instructions are taken up to a limit.
-use Rattle.std.proofs.Common.{◌≡◌, ℕ, zero, suc, ◌≤◌, ◌<◌, Bool, true, false, if◌then◌else◌, List, [], ◌∷◌, ◌++◌, length, Option, Some, None, refl, ap, sym, ◌∙◌, arith, inl, inr, ◌⊎◌}
-use Rattle.h3_field.specs.InstructionLaws.{instruction_stable}
-use Rattle.h3_field.specs.InstructionReading.{InstructionForm, instruction}
+use Rattle.std.proofs.Common.{◌≡◌, ℕ, zero, suc, ◌≤◌, Bool, true, false, ◌&&◌, if◌then◌else◌, List, [], ◌∷◌, ◌++◌, length, Option, Some, None, refl, ap, sym, ◌∙◌, arith, inl, inr, ◌⊎◌}
+use Rattle.h3_field.specs.Instruction.{DecoderInstruction}
+use Rattle.h3_field.specs.InstructionLaws.{decoder_instruction_stable}
+use Rattle.h3_field.specs.InstructionReading.{decoder_instruction}
 use Rattle.h3_field.specs.Reading.{Reading, Whole, Unfinished, Bad}
-use Rattle.h3_field.specs.ShorterLaws.{instruction_less}
-use Rattle.h3_field.specs.Values.{instruction_of}
+use Rattle.h3_field.specs.ShorterLaws.{decoder_instruction_less}
 use Rattle.h3_field.specs.Waiting.{is_unfinished, decoder_wait}
 use Rattle.h3_proto.specs.Config.{is_limit}
 use Rattle.h3_qpack.specs.EncoderHistory.{EncoderHistory, encoder_after, is_refused}
-use Rattle.h3_qpack.specs.Hearing.{Heard, heard, decoder_after_form, hear_next, hear_form, hear_within, hear}
+use Rattle.h3_qpack.specs.Hearing.{Listened, listened, listen_next, listen_form, listen_within, listen}
 use Rattle.h3_connection.specs.Codes.{decoder_stream_error, excessive_load}
-use Rattle.h3_connection.specs.ExcessiveInstructionLaws.{none_exceeds, exceeds_unfinished, finished_within}
-use Rattle.h3_connection.specs.ExcessiveInstructions.{exceeds, hear_limited, hear_up_to, heard_up_to_with}
-use Rattle.h3_connection.specs.Listeners.{fault_if, hearing_fault}
+use Rattle.h3_connection.specs.ExcessiveInstructionLaws.{none_exceeds, decoder_exceeds_unfinished, decoder_finished_within}
+use Rattle.h3_connection.specs.ExcessiveInstructions.{exceeds, listen_limited, listen_up_to, listened_up_to_with}
+use Rattle.h3_connection.specs.Listeners.{fault_if, listening_fault, keeping_fault}
 
 -- one instruction, and then the rest
-next_same : (go other : EncoderHistory → List ℕ → Heard) (r : EncoderHistory) (bytes rest : List ℕ) (o : Option EncoderHistory) → ((new : EncoderHistory) → go new rest ≡ other new rest)
-    → hear_next go r bytes rest o ≡ hear_next other r bytes rest o
-next_same go other r bytes rest None same = refl
-next_same go other r bytes rest (Some new) same = same new
+next_same : (go other : EncoderHistory → List ℕ → Listened) (s : EncoderHistory) (bytes : List ℕ) (i : DecoderInstruction) (rest : List ℕ) (b : Bool) → ((new : EncoderHistory) → go new rest ≡ other new rest)
+    → listen_next go s bytes i rest b ≡ listen_next other s bytes i rest b
+next_same go other s bytes i rest true same = refl
+next_same go other s bytes i rest false same = same (encoder_after s i)
 
-form_same : (go other : EncoderHistory → List ℕ → Heard) (r : EncoderHistory) (bytes : List ℕ) (x : Reading InstructionForm) → ((form : InstructionForm) (rest : List ℕ) (new : EncoderHistory) → x ≡ Whole form rest → go new rest ≡ other new rest)
-    → hear_form go r bytes x ≡ hear_form other r bytes x
-form_same go other r bytes (Whole form rest) same = next_same go other r bytes rest (decoder_after_form r (instruction_of form)) (λ new. same form rest new refl)
-form_same go other r bytes Unfinished same = refl
-form_same go other r bytes Bad same = refl
+form_same : (go other : EncoderHistory → List ℕ → Listened) (s : EncoderHistory) (bytes : List ℕ) (x : Reading DecoderInstruction)
+    → ((i : DecoderInstruction) (rest : List ℕ) (new : EncoderHistory) → x ≡ Whole i rest → go new rest ≡ other new rest) → listen_form go s bytes x ≡ listen_form other s bytes x
+form_same go other s bytes (Whole i rest) same = next_same go other s bytes i rest (is_refused s i) (λ new. same i rest new refl)
+form_same go other s bytes Unfinished same = refl
+form_same go other s bytes Bad same = refl
 
-abbrev unless_longer : Bool → EncoderHistory → List ℕ → Heard → Heard
-unless_longer b r bytes h = if b then heard r bytes false else h
+abbrev unless_longer : Bool → EncoderHistory → List ℕ → Listened → Listened
+unless_longer b s bytes l = if b then listened s bytes false else l
 
 -- no count of steps but the least matters
-steps_same : (n m most : ℕ) (r : EncoderHistory) (bytes : List ℕ) → length bytes ≤ n → length bytes ≤ m → hear_limited n most r bytes ≡ hear_limited m most r bytes
-steps_same zero zero most r bytes h k = refl
-steps_same zero (suc m) most r [] h k = refl
-steps_same zero (suc m) most r (byte ∷ bytes) h k = absurd (omega (arith, h))
-steps_same (suc n) zero most r [] h k = refl
-steps_same (suc n) zero most r (byte ∷ bytes) h k = absurd (omega (arith, k))
-steps_same (suc n) (suc m) most r bytes h k =
-    ap (unless_longer (exceeds most decoder_wait bytes) r bytes)
-    (form_same (hear_limited n most) (hear_limited m most) r bytes (instruction bytes)
-    (λ form rest new e. let less = instruction_less bytes rest form e in steps_same n m most new rest (omega (arith, less, h)) (omega (arith, less, k))))
+steps_same : (n m most : ℕ) (s : EncoderHistory) (bytes : List ℕ) → length bytes ≤ n → length bytes ≤ m → listen_limited n most s bytes ≡ listen_limited m most s bytes
+steps_same zero zero most s bytes h k = refl
+steps_same zero (suc m) most s [] h k = refl
+steps_same zero (suc m) most s (byte ∷ bytes) h k = absurd (omega (arith, h))
+steps_same (suc n) zero most s [] h k = refl
+steps_same (suc n) zero most s (byte ∷ bytes) h k = absurd (omega (arith, k))
+steps_same (suc n) (suc m) most s bytes h k =
+    ap (unless_longer (exceeds most decoder_wait bytes) s bytes)
+    (form_same (listen_limited n most) (listen_limited m most) s bytes (decoder_instruction bytes)
+    (λ i rest new e. let less = decoder_instruction_less bytes rest i e in steps_same n m most new rest (omega (arith, less, h)) (omega (arith, less, k))))
 
-pub hear_step : (most : ℕ) (r : EncoderHistory) (bytes : List ℕ)
-    → hear_up_to most r bytes ≡ (if exceeds most decoder_wait bytes then heard r bytes false else hear_form (hear_up_to most) r bytes (instruction bytes))
-unfolding hear_up_to
-hear_step most r bytes =
-    steps_same (length bytes) (suc (length bytes)) most r bytes (omega arith) (omega arith)
-    ∙ ap (unless_longer (exceeds most decoder_wait bytes) r bytes)
-    (form_same (hear_limited (length bytes) most) (hear_up_to most) r bytes (instruction bytes)
-    (λ form rest new e. let less = instruction_less bytes rest form e in steps_same (length bytes) (length rest) most new rest (omega (arith, less)) (omega arith)))
+pub listen_step : (most : ℕ) (s : EncoderHistory) (bytes : List ℕ)
+    → listen_up_to most s bytes ≡ (if exceeds most decoder_wait bytes then listened s bytes false else listen_form (listen_up_to most) s bytes (decoder_instruction bytes))
+unfolding listen_up_to
+listen_step most s bytes =
+    steps_same (length bytes) (suc (length bytes)) most s bytes (omega arith) (omega arith)
+    ∙ ap (unless_longer (exceeds most decoder_wait bytes) s bytes)
+    (form_same (listen_limited (length bytes) most) (listen_up_to most) s bytes (decoder_instruction bytes)
+    (λ i rest new e. let less = decoder_instruction_less bytes rest i e in steps_same (length bytes) (length rest) most new rest (omega (arith, less)) (omega arith)))
+
+-- No bytes are nothing.
+pub listens_nothing : (most : ℕ) (s : EncoderHistory) → listen_up_to most s [] ≡ listened s [] false
+unfolding listen_up_to
+listens_nothing most s = refl
+
+pub keeps_nothing : (most : ℕ) → keeping_fault most [] ≡ None
+keeps_nothing most = by_limit (is_limit most)
+  where
+    by_limit : (b : Bool) → fault_if (b && false) excessive_load ≡ None
+    by_limit true = refl
+    by_limit false = refl
 
 -- An instruction that is longer than the limit is not read,
-pub hears_no_longer : (most : ℕ) (r : EncoderHistory) (bytes : List ℕ) → exceeds most decoder_wait bytes ≡ true → hear_up_to most r bytes ≡ heard r bytes false
-hears_no_longer most r bytes longer = hear_step most r bytes ∙ ap (λ b. unless_longer b r bytes (hear_form (hear_up_to most) r bytes (instruction bytes))) longer
+pub listens_no_longer : (most : ℕ) (s : EncoderHistory) (bytes : List ℕ) → exceeds most decoder_wait bytes ≡ true → listen_up_to most s bytes ≡ listened s bytes false
+listens_no_longer most s bytes longer = listen_step most s bytes ∙ ap (λ b. unless_longer b s bytes (listen_form (listen_up_to most) s bytes (decoder_instruction bytes))) longer
 
 -- and any other is.
-pub hears_within : (most : ℕ) (r : EncoderHistory) (bytes : List ℕ) → exceeds most decoder_wait bytes ≡ false → hear_up_to most r bytes ≡ hear_form (hear_up_to most) r bytes (instruction bytes)
-hears_within most r bytes within = hear_step most r bytes ∙ ap (λ b. unless_longer b r bytes (hear_form (hear_up_to most) r bytes (instruction bytes))) within
+pub listens_within : (most : ℕ) (s : EncoderHistory) (bytes : List ℕ) → exceeds most decoder_wait bytes ≡ false → listen_up_to most s bytes ≡ listen_form (listen_up_to most) s bytes (decoder_instruction bytes)
+listens_within most s bytes within = listen_step most s bytes ∙ ap (λ b. unless_longer b s bytes (listen_form (listen_up_to most) s bytes (decoder_instruction bytes))) within
 
--- **Without a limit all is heard as it was.**
-steps_unlimited : (n most : ℕ) (r : EncoderHistory) (bytes : List ℕ) → is_limit most ≡ false → hear_limited n most r bytes ≡ hear_within n r bytes
-steps_unlimited zero most r bytes none = refl
-steps_unlimited (suc n) most r bytes none =
-    ap (λ b. unless_longer b r bytes (hear_form (hear_limited n most) r bytes (instruction bytes))) (none_exceeds most decoder_wait bytes none)
-    ∙ form_same (hear_limited n most) (hear_within n) r bytes (instruction bytes) (λ form rest new e. steps_unlimited n most new rest none)
+-- **Without a limit all is read as it was.**
+steps_unlimited : (n most : ℕ) (s : EncoderHistory) (bytes : List ℕ) → is_limit most ≡ false → listen_limited n most s bytes ≡ listen_within n s bytes
+steps_unlimited zero most s bytes none = refl
+steps_unlimited (suc n) most s bytes none =
+    ap (λ b. unless_longer b s bytes (listen_form (listen_limited n most) s bytes (decoder_instruction bytes))) (none_exceeds most decoder_wait bytes none)
+    ∙ form_same (listen_limited n most) (listen_within n) s bytes (decoder_instruction bytes) (λ i rest new e. steps_unlimited n most new rest none)
 
-pub hear_unlimited : (most : ℕ) (r : EncoderHistory) (bytes : List ℕ) → is_limit most ≡ false → hear_up_to most r bytes ≡ hear r bytes
-unfolding hear_up_to hear
-hear_unlimited most r bytes none = steps_unlimited (length bytes) most r bytes none
+pub listen_unlimited : (most : ℕ) (s : EncoderHistory) (bytes : List ℕ) → is_limit most ≡ false → listen_up_to most s bytes ≡ listen s bytes
+unfolding listen_up_to listen
+listen_unlimited most s bytes none = steps_unlimited (length bytes) most s bytes none
 
-pub hearing_unlimited : (most : ℕ) (h : Heard) → is_limit most ≡ false → hearing_fault most h ≡ fault_if h.is_bad decoder_stream_error
-hearing_unlimited most h none = ap (λ b. if h.is_bad then Some decoder_stream_error else fault_if b excessive_load) (none_exceeds most decoder_wait h.left none)
+pub listening_unlimited : (most : ℕ) (l : Listened) → is_limit most ≡ false → listening_fault most l ≡ fault_if l.is_bad decoder_stream_error
+listening_unlimited most l none = ap (λ b. if l.is_bad then Some decoder_stream_error else fault_if b excessive_load) (none_exceeds most decoder_wait l.left none)
 
 -- **So are no more bytes than the limit.**
-pass_by : (b : Bool) (r : EncoderHistory) (bytes : List ℕ) (h : Heard) → (b ≡ true → h ≡ heard r bytes false) → unless_longer b r bytes h ≡ h
-pass_by true r bytes h same = sym (same refl)
-pass_by false r bytes h same = refl
+pass_by : (b : Bool) (s : EncoderHistory) (bytes : List ℕ) (l : Listened) → (b ≡ true → l ≡ listened s bytes false) → unless_longer b s bytes l ≡ l
+pass_by true s bytes l same = sym (same refl)
+pass_by false s bytes l same = refl
 
-steps_short : (n most : ℕ) (r : EncoderHistory) (bytes : List ℕ) → length bytes ≤ most → hear_limited n most r bytes ≡ hear_within n r bytes
-steps_short zero most r bytes few = refl
-steps_short (suc n) most r bytes few =
-    pass_by (exceeds most decoder_wait bytes) r bytes (hear_form (hear_limited n most) r bytes (instruction bytes))
-    (λ longer. ap (λ x. hear_form (hear_limited n most) r bytes x) (exceeds_unfinished most bytes few longer))
-    ∙ form_same (hear_limited n most) (hear_within n) r bytes (instruction bytes)
-    (λ form rest new e. let less = instruction_less bytes rest form e in steps_short n most new rest (omega (arith, less, few)))
+steps_short : (n most : ℕ) (s : EncoderHistory) (bytes : List ℕ) → length bytes ≤ most → listen_limited n most s bytes ≡ listen_within n s bytes
+steps_short zero most s bytes few = refl
+steps_short (suc n) most s bytes few =
+    pass_by (exceeds most decoder_wait bytes) s bytes (listen_form (listen_limited n most) s bytes (decoder_instruction bytes))
+    (λ longer. ap (λ x. listen_form (listen_limited n most) s bytes x) (decoder_exceeds_unfinished most bytes few longer))
+    ∙ form_same (listen_limited n most) (listen_within n) s bytes (decoder_instruction bytes)
+    (λ i rest new e. let less = decoder_instruction_less bytes rest i e in steps_short n most new rest (omega (arith, less, few)))
 
-pub hear_short : (most : ℕ) (r : EncoderHistory) (bytes : List ℕ) → length bytes ≤ most → hear_up_to most r bytes ≡ hear r bytes
-unfolding hear_up_to hear
-hear_short most r bytes few = steps_short (length bytes) most r bytes few
+pub listen_short : (most : ℕ) (s : EncoderHistory) (bytes : List ℕ) → length bytes ≤ most → listen_up_to most s bytes ≡ listen s bytes
+unfolding listen_up_to listen
+listen_short most s bytes few = steps_short (length bytes) most s bytes few
 
 -- **However the bytes are cut, they come to the same.**
-next_cut : (most : ℕ) (r : EncoderHistory) (bytes rest more : List ℕ) (o : Option EncoderHistory)
-    → ((new : EncoderHistory) → hear_up_to most new (rest ++ more) ≡ heard_up_to_with most (hear_up_to most new rest) more (hear_up_to most new rest).is_bad)
-    → hear_next (hear_up_to most) r (bytes ++ more) (rest ++ more) o
-    ≡ heard_up_to_with most (hear_next (hear_up_to most) r bytes rest o) more (hear_next (hear_up_to most) r bytes rest o).is_bad
-next_cut most r bytes rest more None each = refl
-next_cut most r bytes rest more (Some new) each = each new
+next_cut : (most : ℕ) (s : EncoderHistory) (bytes : List ℕ) (i : DecoderInstruction) (rest more : List ℕ) (b : Bool)
+    → ((new : EncoderHistory) → listen_up_to most new (rest ++ more) ≡ listened_up_to_with most (listen_up_to most new rest) more (listen_up_to most new rest).is_bad)
+    → listen_next (listen_up_to most) s (bytes ++ more) i (rest ++ more) b
+    ≡ listened_up_to_with most (listen_next (listen_up_to most) s bytes i rest b) more (listen_next (listen_up_to most) s bytes i rest b).is_bad
+next_cut most s bytes i rest more true each = refl
+next_cut most s bytes i rest more false each = each (encoder_after s i)
 
-cut_within : (n most : ℕ) (r : EncoderHistory) (bytes more : List ℕ) → length bytes ≤ n
-    → hear_up_to most r (bytes ++ more) ≡ heard_up_to_with most (hear_up_to most r bytes) more (hear_up_to most r bytes).is_bad
-cut_within n most r bytes more fits = by_length (exceeds most decoder_wait bytes) refl
+cut_within : (n most : ℕ) (s : EncoderHistory) (bytes more : List ℕ) → length bytes ≤ n
+    → listen_up_to most s (bytes ++ more) ≡ listened_up_to_with most (listen_up_to most s bytes) more (listen_up_to most s bytes).is_bad
+cut_within n most s bytes more fits = by_length (exceeds most decoder_wait bytes) refl
   where
     -- what is read of the first bytes
-    by_front : (h : Heard) → hear_up_to most r bytes ≡ h → hear_up_to most r (bytes ++ more) ≡ heard_up_to_with most h more h.is_bad
-        → hear_up_to most r (bytes ++ more) ≡ heard_up_to_with most (hear_up_to most r bytes) more (hear_up_to most r bytes).is_bad
-    by_front h is same = same ∙ sym (ap (λ (x : Heard). heard_up_to_with most x more x.is_bad) is)
+    by_front : (l : Listened) → listen_up_to most s bytes ≡ l → listen_up_to most s (bytes ++ more) ≡ listened_up_to_with most l more l.is_bad
+        → listen_up_to most s (bytes ++ more) ≡ listened_up_to_with most (listen_up_to most s bytes) more (listen_up_to most s bytes).is_bad
+    by_front l is same = same ∙ sym (ap (λ (x : Listened). listened_up_to_with most x more x.is_bad) is)
 
-    later : (x : Reading InstructionForm) → instruction (bytes ++ more) ≡ x → exceeds most decoder_wait bytes ≡ false → is_unfinished (instruction bytes) ≡ false
-        → hear_up_to most r (bytes ++ more) ≡ hear_form (hear_up_to most) r (bytes ++ more) x
-    later x is within done = hears_within most r (bytes ++ more) (finished_within most bytes more within done) ∙ ap (hear_form (hear_up_to most) r (bytes ++ more)) is
+    later : (x : Reading DecoderInstruction) → decoder_instruction (bytes ++ more) ≡ x → exceeds most decoder_wait bytes ≡ false → is_unfinished (decoder_instruction bytes) ≡ false
+        → listen_up_to most s (bytes ++ more) ≡ listen_form (listen_up_to most) s (bytes ++ more) x
+    later x is within done = listens_within most s (bytes ++ more) (decoder_finished_within most bytes more within done) ∙ ap (listen_form (listen_up_to most) s (bytes ++ more)) is
 
-    by_reading : (m : ℕ) → n ≡ m → exceeds most decoder_wait bytes ≡ false → (x : Reading InstructionForm) → instruction bytes ≡ x
-        → hear_up_to most r (bytes ++ more) ≡ heard_up_to_with most (hear_form (hear_up_to most) r bytes x) more (hear_form (hear_up_to most) r bytes x).is_bad
+    by_reading : (m : ℕ) → n ≡ m → exceeds most decoder_wait bytes ≡ false → (x : Reading DecoderInstruction) → decoder_instruction bytes ≡ x
+        → listen_up_to most s (bytes ++ more) ≡ listened_up_to_with most (listen_form (listen_up_to most) s bytes x) more (listen_form (listen_up_to most) s bytes x).is_bad
     by_reading m size within Unfinished is = refl
     by_reading m size within Bad is =
-        let stays = instruction_stable bytes more in
-        let bad : instruction (bytes ++ more) ≡ Bad = rw is at stays in
+        let stays = decoder_instruction_stable bytes more in
+        let bad : decoder_instruction (bytes ++ more) ≡ Bad = rw is at stays in
         later Bad bad within (ap is_unfinished is)
-    by_reading zero size within (Whole form rest) is = let less = instruction_less bytes rest form is in absurd (omega (arith, less, fits, size))
-    by_reading (suc m) size within (Whole form rest) is =
-        let stays = instruction_stable bytes more in
-        let whole : instruction (bytes ++ more) ≡ Whole form (rest ++ more) = rw is at stays in
-        let less = instruction_less bytes rest form is in
-        later (Whole form (rest ++ more)) whole within (ap is_unfinished is)
-        ∙ next_cut most r bytes rest more (decoder_after_form r (instruction_of form)) (λ new. cut_within m most new rest more (omega (arith, less, fits, size)))
+    by_reading zero size within (Whole i rest) is = let less = decoder_instruction_less bytes rest i is in absurd (omega (arith, less, fits, size))
+    by_reading (suc m) size within (Whole i rest) is =
+        let stays = decoder_instruction_stable bytes more in
+        let whole : decoder_instruction (bytes ++ more) ≡ Whole i (rest ++ more) = rw is at stays in
+        let less = decoder_instruction_less bytes rest i is in
+        later (Whole i (rest ++ more)) whole within (ap is_unfinished is)
+        ∙ next_cut most s bytes i rest more (is_refused s i) (λ new. cut_within m most new rest more (omega (arith, less, fits, size)))
 
     by_length : (b : Bool) → exceeds most decoder_wait bytes ≡ b
-        → hear_up_to most r (bytes ++ more) ≡ heard_up_to_with most (hear_up_to most r bytes) more (hear_up_to most r bytes).is_bad
-    by_length true longer = by_front (heard r bytes false) (hears_no_longer most r bytes longer) refl
-    by_length false within = by_front (hear_form (hear_up_to most) r bytes (instruction bytes)) (hears_within most r bytes within) (by_reading n refl within (instruction bytes) refl)
+        → listen_up_to most s (bytes ++ more) ≡ listened_up_to_with most (listen_up_to most s bytes) more (listen_up_to most s bytes).is_bad
+    by_length true longer = by_front (listened s bytes false) (listens_no_longer most s bytes longer) refl
+    by_length false within = by_front (listen_form (listen_up_to most) s bytes (decoder_instruction bytes)) (listens_within most s bytes within) (by_reading n refl within (decoder_instruction bytes) refl)
 
-pub hear_cut : (most : ℕ) (r : EncoderHistory) (bytes more : List ℕ) → hear_up_to most r (bytes ++ more) ≡ heard_up_to_with most (hear_up_to most r bytes) more (hear_up_to most r bytes).is_bad
-hear_cut most r bytes more = cut_within (length bytes) most r bytes more (omega arith)
+pub listen_cut : (most : ℕ) (s : EncoderHistory) (bytes more : List ℕ) → listen_up_to most s (bytes ++ more) ≡ listened_up_to_with most (listen_up_to most s bytes) more (listen_up_to most s bytes).is_bad
+listen_cut most s bytes more = cut_within (length bytes) most s bytes more (omega arith)
 
--- **An instruction that is too long is the fault, or all is heard as without a limit.**
-abbrev LongerOr : ℕ → Heard → Heard → Type 0
-LongerOr most h other = ((h.is_bad ≡ false) × (exceeds most decoder_wait h.left ≡ true)) ⊎ (h ≡ other)
+-- **An instruction that is too long is the fault, or all is read as without a limit.**
+abbrev LongerOr : ℕ → Listened → Listened → Type 0
+LongerOr most l other = ((l.is_bad ≡ false) × (exceeds most decoder_wait l.left ≡ true)) ⊎ (l ≡ other)
 
-next_alike : (most : ℕ) (go other : EncoderHistory → List ℕ → Heard) (r : EncoderHistory) (bytes rest : List ℕ) (o : Option EncoderHistory) → ((new : EncoderHistory) → LongerOr most (go new rest) (other new rest))
-    → LongerOr most (hear_next go r bytes rest o) (hear_next other r bytes rest o)
-next_alike most go other r bytes rest None each = inr refl
-next_alike most go other r bytes rest (Some new) each = each new
+next_alike : (most : ℕ) (go other : EncoderHistory → List ℕ → Listened) (s : EncoderHistory) (bytes : List ℕ) (i : DecoderInstruction) (rest : List ℕ) (b : Bool)
+    → ((new : EncoderHistory) → LongerOr most (go new rest) (other new rest)) → LongerOr most (listen_next go s bytes i rest b) (listen_next other s bytes i rest b)
+next_alike most go other s bytes i rest true each = inr refl
+next_alike most go other s bytes i rest false each = each (encoder_after s i)
 
-form_alike : (most : ℕ) (go other : EncoderHistory → List ℕ → Heard) (r : EncoderHistory) (bytes : List ℕ) (x : Reading InstructionForm) → ((new : EncoderHistory) (rest : List ℕ) → LongerOr most (go new rest) (other new rest))
-    → LongerOr most (hear_form go r bytes x) (hear_form other r bytes x)
-form_alike most go other r bytes (Whole form rest) each = next_alike most go other r bytes rest (decoder_after_form r (instruction_of form)) (λ new. each new rest)
-form_alike most go other r bytes Unfinished each = inr refl
-form_alike most go other r bytes Bad each = inr refl
+form_alike : (most : ℕ) (go other : EncoderHistory → List ℕ → Listened) (s : EncoderHistory) (bytes : List ℕ) (x : Reading DecoderInstruction)
+    → ((new : EncoderHistory) (rest : List ℕ) → LongerOr most (go new rest) (other new rest)) → LongerOr most (listen_form go s bytes x) (listen_form other s bytes x)
+form_alike most go other s bytes (Whole i rest) each = next_alike most go other s bytes i rest (is_refused s i) (λ new. each new rest)
+form_alike most go other s bytes Unfinished each = inr refl
+form_alike most go other s bytes Bad each = inr refl
 
-test_alike : (most : ℕ) (b : Bool) (r : EncoderHistory) (bytes : List ℕ) (h other : Heard) → exceeds most decoder_wait bytes ≡ b → LongerOr most h other → LongerOr most (unless_longer b r bytes h) other
-test_alike most true r bytes h other is alike = inl (refl, is)
-test_alike most false r bytes h other is alike = alike
+test_alike : (most : ℕ) (b : Bool) (s : EncoderHistory) (bytes : List ℕ) (l other : Listened) → exceeds most decoder_wait bytes ≡ b → LongerOr most l other → LongerOr most (unless_longer b s bytes l) other
+test_alike most true s bytes l other is alike = inl (refl, is)
+test_alike most false s bytes l other is alike = alike
 
-steps_alike : (n most : ℕ) (r : EncoderHistory) (bytes : List ℕ) → LongerOr most (hear_limited n most r bytes) (hear_within n r bytes)
-steps_alike zero most r bytes = inr refl
-steps_alike (suc n) most r bytes =
-    test_alike most (exceeds most decoder_wait bytes) r bytes _ _ refl
-    (form_alike most (hear_limited n most) (hear_within n) r bytes (instruction bytes) (λ new rest. steps_alike n most new rest))
+steps_alike : (n most : ℕ) (s : EncoderHistory) (bytes : List ℕ) → LongerOr most (listen_limited n most s bytes) (listen_within n s bytes)
+steps_alike zero most s bytes = inr refl
+steps_alike (suc n) most s bytes =
+    test_alike most (exceeds most decoder_wait bytes) s bytes (listen_form (listen_limited n most) s bytes (decoder_instruction bytes)) (listen_form (listen_within n) s bytes (decoder_instruction bytes)) refl
+    (form_alike most (listen_limited n most) (listen_within n) s bytes (decoder_instruction bytes) (λ new rest. steps_alike n most new rest))
 
--- the fault, where this is what would be heard without a limit
-abbrev pub IsLongerOrHeard : ℕ → Heard → Heard → Type 0
-IsLongerOrHeard most h other = (hearing_fault most h ≡ Some excessive_load) ⊎ ((h ≡ other) × (hearing_fault most h ≡ fault_if other.is_bad decoder_stream_error))
+-- the fault, where this is what would be read without a limit
+abbrev pub IsLongerOrListened : ℕ → Listened → Listened → Type 0
+IsLongerOrListened most l other = (listening_fault most l ≡ Some excessive_load) ⊎ ((l ≡ other) × (listening_fault most l ≡ fault_if other.is_bad decoder_stream_error))
 
-fault_alike : (most : ℕ) (h other : Heard) → LongerOr most h other → IsLongerOrHeard most h other
-fault_alike most h other (inl (good, longer)) =
-    inl (ap (λ b. if b then Some decoder_stream_error else fault_if (exceeds most decoder_wait h.left) excessive_load) good ∙ ap (λ b. fault_if b excessive_load) longer)
-fault_alike most h other (inr same) = by_length (exceeds most decoder_wait h.left) h.is_bad refl refl
+longer_fault : (most : ℕ) (l : Listened) → l.is_bad ≡ false → exceeds most decoder_wait l.left ≡ true → listening_fault most l ≡ Some excessive_load
+longer_fault most l good longer = ap (λ b. if b then Some decoder_stream_error else fault_if (exceeds most decoder_wait l.left) excessive_load) good ∙ ap (λ b. fault_if b excessive_load) longer
+
+fault_alike : (most : ℕ) (l other : Listened) → LongerOr most l other → IsLongerOrListened most l other
+fault_alike most l other (inl is) = inl (longer_fault most l is.0 is.1)
+fault_alike most l other (inr same) = by_fault l.is_bad (exceeds most decoder_wait l.left) refl refl
   where
-    by_length : (longer bad : Bool) → exceeds most decoder_wait h.left ≡ longer → h.is_bad ≡ bad → IsLongerOrHeard most h other
-    by_length longer true is bad = inr (same, ap (λ b. if b then Some decoder_stream_error else fault_if (exceeds most decoder_wait h.left) excessive_load) bad ∙ sym (ap (λ (x : Heard). fault_if x.is_bad decoder_stream_error) (sym same) ∙ ap (λ b. fault_if b decoder_stream_error) bad))
-    by_length true false is good = fault_alike most h other (inl (good, is))
-    by_length false false is good =
-        inr (same, ap (λ b. if h.is_bad then Some decoder_stream_error else fault_if b excessive_load) is ∙ ap (λ (x : Heard). fault_if x.is_bad decoder_stream_error) same)
+    by_fault : (bad longer : Bool) → l.is_bad ≡ bad → exceeds most decoder_wait l.left ≡ longer → IsLongerOrListened most l other
+    by_fault true longer bad is = inr (
+      same,
+      ap (λ b. if b then Some decoder_stream_error else fault_if (exceeds most decoder_wait l.left) excessive_load) bad
+          ∙ ap (λ b. fault_if b decoder_stream_error) (sym bad) ∙ ap (λ (x : Listened). fault_if x.is_bad decoder_stream_error) same,
+    )
+    by_fault false true good is = inl (longer_fault most l good is)
+    by_fault false false good is = inr (
+      same,
+      ap (λ b. if l.is_bad then Some decoder_stream_error else fault_if b excessive_load) is ∙ ap (λ (x : Listened). fault_if x.is_bad decoder_stream_error) same,
+    )
 
-pub hear_alike : (most : ℕ) (r : EncoderHistory) (bytes : List ℕ) → IsLongerOrHeard most (hear_up_to most r bytes) (hear r bytes)
-unfolding hear_up_to hear
-hear_alike most r bytes = fault_alike most _ _ (steps_alike (length bytes) most r bytes)
+pub listen_alike : (most : ℕ) (s : EncoderHistory) (bytes : List ℕ) → IsLongerOrListened most (listen_up_to most s bytes) (listen s bytes)
+unfolding listen_up_to listen
+listen_alike most s bytes = fault_alike most (listen_limited (length bytes) most s bytes) (listen_within (length bytes) s bytes) (steps_alike (length bytes) most s bytes)

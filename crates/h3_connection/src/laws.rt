@@ -174,10 +174,7 @@ pub fn cut_deliveries_are_answered_alike()
         SameAnswers (LeftAs (role_with e id (first ++ second)) e.own.replies) (deliver e id (first ++ second)) (deliver_cut e id first second) }
     ensures refused { (e : EndpointHistory) (id : ℕ) (first second : List ℕ) (why : Refusal) → (e.peer.settings ≡ None → e.decoder_unread ≡ []) → (deliver e id first).0 ≡ Some why →
         ((deliver e id (first ++ second)).0 ≡ Some why) × ((deliver_cut e id first second).0 ≡ Some why) }
-{
-    h3_qpack::laws::encoder_bytes_are_their_value();
-    h3_qpack::laws::decoder_bytes_are_their_value();
-}
+{}
 
 ghost use Rattle.h3_connection.specs.Delivering.{incoming_at};
 ghost use Rattle.h3_connection.specs.PullCuts.{HaveBytes, DifferInCuts, DifferInOneStream, PullsAlike};
@@ -207,10 +204,7 @@ pub fn cut_calls_are_answered_alike()
         DifferInCutsAlone (endpoint_after e (first_calls parts)) (endpoint_after f (second_calls parts)) }
     ensures delivered { (e : EndpointHistory) (id : ℕ) (first second : List ℕ) → DifferInCutsAlone e e → (deliver e id first).0 ≡ None →
         SameAnswers DifferInCutsAlone (deliver e id (first ++ second)) (deliver_cut e id first second) }
-{
-    h3_qpack::laws::encoder_bytes_are_their_value();
-    h3_qpack::laws::decoder_bytes_are_their_value();
-}
+{}
 
 ghost use Rattle.h3_connection.specs.StrictPulls.{PullsWellFormed};
 

@@ -47,6 +47,10 @@ strict section = record (plain section 0 0) { choices = record no_choices { stri
 abbrev pub limited : Announced
 limited = record (plain 1000 0 0) { choices = record no_choices { unfinished_limit = 100 } }
 
+-- and so are instructions of at most eight bytes, for a table of 220 bytes
+abbrev pub limited_shortly : Announced
+limited_shortly = record (plain 1000 220 2) { choices = record no_choices { unfinished_limit = 8 } }
+
 -- answers with each head as its field list reads
 abbrev pub item_as_list : Item → Item
 item_as_list (item.Head h) = item.Head (head (head_fields h))

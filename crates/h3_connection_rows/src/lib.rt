@@ -11,6 +11,7 @@ pub mod end_rows;
 pub mod fault_rows;
 pub mod isolation_rows;
 pub mod kept_rows;
+pub mod limit_rows;
 pub mod message_rows;
 pub mod sending_rows;
 pub mod server_cases_1;

@@ -5,10 +5,11 @@ use Rattle.std.specs.Prelude.{unwrap_or, is_some, ◌==◌}
 use Rattle.h3_field.specs.Instruction.EncoderInstruction.{SetCapacity}
 use Rattle.h3_proto.specs.Settings.{value_of}
 use Rattle.h3_qpack.specs.EncoderHistory.{using_table, EncoderHistory, encoder_after_all}
-use Rattle.h3_connection.specs.Control.{with_table, learned, listened_to, read_decoder, after_peer, read_control}
+use Rattle.h3_connection.specs.Control.{with_table, learned, read_decoder, after_peer, read_control}
+use Rattle.h3_connection.specs.UnlimitedLaws.{listened_whole, decoder_unlimited}
 use Rattle.h3_connection.specs.Endpoint.{EndpointHistory, limit_of, goaway_encoding, is_second}
 use Rattle.h3_connection.specs.declared.setup.Announced.{Announced}
-use Rattle.h3_world.specs.Setup.{has_table, announced_at}
+use Rattle.h3_world.specs.Setup.{TakesAnyLength, has_table, announced_at}
 use Rattle.std.proofs.lemmas.List.{take-append-drop}
 use Rattle.h3_field.specs.Instruction.{DecoderInstruction, decoder_bytes}
 use Rattle.h3_qpack.specs.Instructions.{AreAccepted}
@@ -58,14 +59,14 @@ learned_accepted s limits n replies h = by_test (has_table s.most_capacity limit
     by_test true = accepted_limited s limits.table limits.blocked (decoder_instructions_in n replies) front
     by_test false = front
 
-settles : (laws : StreamLaws) (a : Announced) (x : EndpointHistory) (before : Option (List (ℕ × ℕ))) (b c : Bool) (came : ℕ) (replies : List DecoderInstruction) → Announces a
+settles : (laws : StreamLaws) (a : Announced) (x : EndpointHistory) (before : Option (List (ℕ × ℕ))) (b c : Bool) (came : ℕ) (replies : List DecoderInstruction) → TakesAnyLength x.announced → Announces a
     → before ≡ (if b then Some (with_meaning a.settings) else None) → x.peer.settings ≡ (if c then Some (with_meaning a.settings) else None)
     → x.decoder_unread ≡ replies_unread b came replies → AllByRecursion IsReply replies → (b ≡ false → AreAccepted x.encoder replies) → (b ≡ true → c ≡ true)
     → settled before (if c then Some (with_meaning a.settings) else None) x ≡ without_fault (after_control b c x a.limits came replies)
-settles laws a x before true true came replies h was now left written accepted order = ap (λ s. settled s (Some (with_meaning a.settings)) x) was
-settles laws a x before true false came replies h was now left written accepted order = let e = order refl in absurd (cc)
-settles laws a x before false false came replies h was now left written accepted order = ap (λ s. settled s None x) was
-settles laws a x before false true came replies h was now left written accepted order =
+settles laws a x before true true came replies any h was now left written accepted order = ap (λ s. settled s (Some (with_meaning a.settings)) x) was
+settles laws a x before true false came replies any h was now left written accepted order = let e = order refl in absurd (cc)
+settles laws a x before false false came replies any h was now left written accepted order = ap (λ s. settled s None x) was
+settles laws a x before false true came replies any h was now left written accepted order =
     let kept = with_meaning a.settings in
     let y = knowing x a.limits in
     let n = came - 1 in
@@ -74,8 +75,7 @@ settles laws a x before false true came replies h was now left written accepted 
     ap (listen y.encoder) bytes ∙ laws.listened_fronts y.encoder replies n written (learned_accepted x.encoder a.limits n replies (accepted refl)) in
     ap (λ s. settled s (Some kept) x) was
     ∙ ap (λ e. read_decoder e []) (knows_limits x a h)
-    ∙ ap (λ s. if is_some s then listened_to y (listen y.encoder (x.decoder_unread ++ [])) else without_fault (record y { decoder_unread = x.decoder_unread ++ [] })) now
-    ∙ ap (listened_to y) reads
+    ∙ decoder_unlimited y [] any (ap is_some now) ∙ ap (listened_whole y) reads
 
 -- what it knows, as a value
 pub peer_is : (setup : Setup) (side : Side) (came : ℕ) (gs : List ℕ) (stream : Option Unidirectional) (on : Option ℕ) (peer : Peer) → HasControl setup side came gs stream on peer
@@ -141,7 +141,7 @@ control_came laws setup side e came count gs replies_came replies stream h m = b
         ∙ ap (λ s. after_peer on (read_peer no_limit s (with_unread e.peer (e.peer.unread ++ bytes)))) m.side_is
         ∙ ap (λ p. after_peer on (read_peer no_limit side (with_unread p (p.unread ++ bytes)))) is
         ∙ ap (after_peer on) reads
-        ∙ settles laws a (controlling e id (with_role Control) (Some id) peer) e.peer.settings knew knows replies_came replies m.announces h.settings refl m.left m.written m.accepted (λ t. still L came (came + count) t (omega arith))
+        ∙ settles laws a (controlling e id (with_role Control) (Some id) peer) e.peer.settings knew knows replies_came replies m.any m.announces h.settings refl m.left m.written m.accepted (λ t. still L came (came + count) t (omega arith))
 
     nothing_learned : (b c : Bool) (x : EndpointHistory) → c ≡ false → x ≡ after_control b c x a.limits replies_came replies
     nothing_learned true c x t = refl

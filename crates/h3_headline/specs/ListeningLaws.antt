@@ -8,14 +8,15 @@ use Rattle.h3_qpack.specs.Encodings.{IsWrittenInstruction}
 use Rattle.h3_qpack.specs.Hearing.{heard, hear, listened, listen}
 use Rattle.h3_qpack.specs.WholeInstructions.{whole_in, rest_in}
 use Rattle.h3_proto.specs.declared.stream.Side.{Side}
-use Rattle.h3_connection.specs.Control.{increment, read_encoder, listened_to, read_decoder}
+use Rattle.h3_connection.specs.Control.{increment, read_encoder, read_decoder}
+use Rattle.h3_connection.specs.UnlimitedLaws.{heard_whole, listened_whole, encoder_unlimited, decoder_unlimited, kept_unlimited}
 use Rattle.h3_connection.specs.Delivering.{heard_as, unless_second, with_unidirectional}
 use Rattle.h3_connection.specs.Endpoint.{EndpointHistory, is_second}
 use Rattle.h3_connection.specs.OwnIds.{other, encoder_id, decoder_id}
 use Rattle.h3_connection.specs.Unidirectional.{Unidirectional}
 use Rattle.h3_connection.specs.Unidirectional.Role.{Encoder, Untold, Decoder}
 use Rattle.h3_world.specs.declared.setup.Setup.{Setup}
-use Rattle.h3_world.specs.Setup.{announced_at}
+use Rattle.h3_world.specs.Setup.{TakesAnyLength, announced_at}
 use Rattle.h3_qpack.specs.DecoderState.{DecoderState, announcing, decoder_after_all}
 use Rattle.h3_field.specs.InstructionAnswer.{IsReply}
 use Rattle.h3_qpack.specs.EncoderHistory.{encoder_after_all, EncoderHistory}
@@ -23,7 +24,7 @@ use Rattle.h3_qpack.specs.Instructions.{AreAccepted}
 use Rattle.h3_headline.specs.Cited.{IsRead, StreamLaws}
 use Rattle.h3_headline.specs.DecoderStreamLaws.{listened_on}
 use Rattle.h3_headline.specs.EncoderStreamLaws.{heard_on}
-use Rattle.h3_headline.specs.PeerStreams.{added_since, behind_type, decoding_of, encoder_then, hearing, listening, read_as, replies_between, role_by, with_role, without_fault}
+use Rattle.h3_headline.specs.PeerStreams.{added_since, behind_type, decoding_of, encoder_then, hearing, listening, replies_between, role_by, with_role, without_fault}
 use Rattle.h3_headline.specs.RoleLaws.{is_first}
 use Rattle.h3_headline.specs.Standing.{HasDecoderStream, HasEncoderStream, came_on, replies_unread}
 use Rattle.h3_headline.specs.UnitLaws.{take_both}
@@ -39,11 +40,11 @@ some_same : {X : Type 0} (x y : X) → Some x ≡ Some y → x ≡ y
 some_same x y e = cc
 
 encoder_read : (laws : StreamLaws) (setup : Setup) (side : Side) (e : EndpointHistory) (o : Unidirectional) (came count : ℕ) (is : List EncoderInstruction) (stream : Option Unidirectional)
-    → HasEncoderStream setup side came is stream e.encoder_on e.decoding → AllByRecursion IsWrittenInstruction is
+    → TakesAnyLength e.announced → HasEncoderStream setup side came is stream e.encoder_on e.decoding → AllByRecursion IsWrittenInstruction is
     → (after : IsRead (announced_at setup side).limits.table (take (whole_in encoder_bytes (came + count - 1) is) is))
     → heard_as (with_unidirectional e (encoder_id (other side)) o) (encoder_id (other side)) Encoder (behind_type came count (flat_map encoder_bytes is))
     ≡ without_fault (hearing e (encoder_id (other side)) o (Some (encoder_id (other side))) (decoding_of after.decoder (rest_in encoder_bytes (came + count - 1) is)) (increment (added_since e.decoding.decoder after.decoder)))
-encoder_read laws setup side e o came count is stream h written after =
+encoder_read laws setup side e o came count is stream any h written after =
     let id = encoder_id (other side) in
     let first = with_unidirectional e id o in
     let bytes = behind_type came count (flat_map encoder_bytes is) in
@@ -53,16 +54,16 @@ encoder_read laws setup side e o came count is stream h written after =
     ap (λ l. hear e.decoding.decoder (l ++ bytes)) h.unread
     ∙ heard_on laws (announced_at setup side).limits.table is (came - 1) (came + count - 1) e.decoding.decoder further written h.decoder after in
     ap (λ b. unless_second b first (read_encoder on bytes)) (ap (λ x. is_second x id) h.is_on ∙ is_first came id)
-    ∙ ap (read_as on) reads
+    ∙ encoder_unlimited on bytes any ∙ ap (heard_whole on) reads
 
 -- **Further bytes of the encoder stream.**
 pub encoder_came : (laws : StreamLaws) (setup : Setup) (side : Side) (e : EndpointHistory) (came count : ℕ) (is : List EncoderInstruction) (stream : Option Unidirectional)
-    → HasEncoderStream setup side came is stream e.encoder_on e.decoding → AllByRecursion IsWrittenInstruction is
+    → TakesAnyLength e.announced → HasEncoderStream setup side came is stream e.encoder_on e.decoding → AllByRecursion IsWrittenInstruction is
     → (after : IsRead (announced_at setup side).limits.table (take (whole_in encoder_bytes (came + count - 1) is) is))
     → heard_as (with_unidirectional e (encoder_id (other side)) (with_role (role_by (came + count) Encoder))) (encoder_id (other side)) (role_by (came + count) Encoder) (behind_type came count (flat_map encoder_bytes is))
     ≡ without_fault (hearing e (encoder_id (other side)) (with_role (role_by (came + count) Encoder)) (came_on (came + count) (encoder_id (other side)))
     (decoding_of after.decoder (rest_in encoder_bytes (came + count - 1) is)) (increment (added_since e.decoding.decoder after.decoder)))
-encoder_came laws setup side e came count is stream h written after = by_test (came + count == 0) refl
+encoder_came laws setup side e came count is stream any h written after = by_test (came + count == 0) refl
   where
     id : ℕ
     id = encoder_id (other side)
@@ -76,7 +77,7 @@ encoder_came laws setup side e came count is stream h written after = by_test (c
     by_test : (b : Bool) → (came + count == 0) ≡ b
         → heard_as (with_unidirectional e id (with_role (if b then Untold [] else Encoder))) id (if b then Untold [] else Encoder) bytes
         ≡ without_fault (hearing e id (with_role (if b then Untold [] else Encoder)) (if b then None else Some id) (decoding_of after.decoder rest) (increment (added_since e.decoding.decoder after.decoder)))
-    by_test false t = encoder_read laws setup side e (with_role Encoder) came count is stream h written after
+    by_test false t = encoder_read laws setup side e (with_role Encoder) came count is stream any h written after
     by_test true t =
         let none = no_sum came count t in
         let nothing = no_sum_too came count t in
@@ -94,11 +95,11 @@ encoder_came laws setup side e came count is stream h written after = by_test (c
         ∙ ap (λ x. without_fault (hearing e id o None (decoding_of after.decoder x) (increment (added_since e.decoding.decoder after.decoder)))) left
 
 decoder_read : (laws : StreamLaws) (side : Side) (knows : Bool) (e : EndpointHistory) (o : Unidirectional) (came count : ℕ) (is : List DecoderInstruction) (stream : Option Unidirectional)
-    → is_some e.peer.settings ≡ knows → HasDecoderStream side knows came is stream e.decoder_on e.decoder_unread → AllByRecursion IsReply is
+    → TakesAnyLength e.announced → is_some e.peer.settings ≡ knows → HasDecoderStream side knows came is stream e.decoder_on e.decoder_unread → AllByRecursion IsReply is
     → (knows ≡ true → AreAccepted e.encoder (replies_between (came - 1) (came + count - 1) is))
     → heard_as (with_unidirectional e (decoder_id (other side)) o) (decoder_id (other side)) Decoder (behind_type came count (flat_map decoder_bytes is))
     ≡ without_fault (listening e (decoder_id (other side)) o (Some (decoder_id (other side))) (encoder_then knows e.encoder (came - 1) (came + count - 1) is) (replies_unread knows (came + count) is))
-decoder_read laws side knows e o came count is stream known h written accepted =
+decoder_read laws side knows e o came count is stream any known h written accepted =
     ap (λ b. unless_second b first (read_decoder on bytes)) (ap (λ x. is_second x id) h.is_on ∙ is_first came id)
     ∙ by_test knows known h.left accepted
   where
@@ -122,12 +123,10 @@ decoder_read laws side knows e o came count is stream known h written accepted =
     by_test true t left accepted =
         let reads : listen e.encoder (e.decoder_unread ++ bytes) ≡ listened (encoder_after_all e.encoder (replies_between (came - 1) (came + count - 1) is)) (rest_in decoder_bytes (came + count - 1) is) false =
         ap (λ l. listen e.encoder (l ++ bytes)) left ∙ listened_on laws e.encoder is (came - 1) (came + count - 1) further written (accepted refl) in
-        ap (λ b. if b then listened_to on (listen e.encoder (e.decoder_unread ++ bytes)) else without_fault (record on { decoder_unread = e.decoder_unread ++ bytes })) t
-        ∙ ap (listened_to on) reads
+        decoder_unlimited on bytes any t ∙ ap (listened_whole on) reads
     by_test false t left accepted =
         let all : e.decoder_unread ++ bytes ≡ take (came + count - 1) (flat_map decoder_bytes is) = ap (λ l. l ++ bytes) left ∙ take_both (came - 1) (came + count - 1) (flat_map decoder_bytes is) further in
-        ap (λ b. if b then listened_to on (listen e.encoder (e.decoder_unread ++ bytes)) else without_fault (record on { decoder_unread = e.decoder_unread ++ bytes })) t
-        ∙ ap (λ l. without_fault (record on { decoder_unread = l })) all
+        kept_unlimited on bytes any t ∙ ap (λ l. without_fault (record on { decoder_unread = l })) all
 
 none_between : (n : ℕ) (is : List DecoderInstruction) → replies_between n n is ≡ []
 none_between n is = all_dropped (take (whole_in decoder_bytes n is) is)
@@ -142,12 +141,12 @@ same_encoder false s n is = refl
 
 -- **Further bytes of the decoder stream.**
 pub decoder_came : (laws : StreamLaws) (side : Side) (knows : Bool) (e : EndpointHistory) (came count : ℕ) (is : List DecoderInstruction) (stream : Option Unidirectional)
-    → is_some e.peer.settings ≡ knows → HasDecoderStream side knows came is stream e.decoder_on e.decoder_unread → AllByRecursion IsReply is
+    → TakesAnyLength e.announced → is_some e.peer.settings ≡ knows → HasDecoderStream side knows came is stream e.decoder_on e.decoder_unread → AllByRecursion IsReply is
     → (knows ≡ true → AreAccepted e.encoder (replies_between (came - 1) (came + count - 1) is))
     → heard_as (with_unidirectional e (decoder_id (other side)) (with_role (role_by (came + count) Decoder))) (decoder_id (other side)) (role_by (came + count) Decoder) (behind_type came count (flat_map decoder_bytes is))
     ≡ without_fault (listening e (decoder_id (other side)) (with_role (role_by (came + count) Decoder)) (came_on (came + count) (decoder_id (other side)))
     (encoder_then knows e.encoder (came - 1) (came + count - 1) is) (replies_unread knows (came + count) is))
-decoder_came laws side knows e came count is stream known h written accepted = by_test (came + count == 0) refl
+decoder_came laws side knows e came count is stream any known h written accepted = by_test (came + count == 0) refl
   where
     id : ℕ
     id = decoder_id (other side)
@@ -164,7 +163,7 @@ decoder_came laws side knows e came count is stream known h written accepted = b
     by_test : (b : Bool) → (came + count == 0) ≡ b
         → heard_as (with_unidirectional e id (with_role (if b then Untold [] else Decoder))) id (if b then Untold [] else Decoder) bytes
         ≡ without_fault (listening e id (with_role (if b then Untold [] else Decoder)) (if b then None else Some id) encoder rest)
-    by_test false t = decoder_read laws side knows e (with_role Decoder) came count is stream known h written accepted
+    by_test false t = decoder_read laws side knows e (with_role Decoder) came count is stream any known h written accepted
     by_test true t =
         let none = no_sum came count t in
         let nothing = no_sum_too came count t in

@@ -50,7 +50,7 @@ encoder_delivered laws setup side e came count is t h written after =
     ∙ delivered_typed e new id came Encoder bytes t.no_fault (ap (λ s. kind_of s id) t.side_is ∙ kind_of_encoder side) h.stream_is
     (ap (λ k. bytes_at e id (take count (drop came (k ++ units))) PeerUnidirectional) type_of_encoder
     ∙ heard_typed e id 2 Encoder came count units typed_encoder h.stream_is
-    ∙ encoder_came laws setup side e came count is (stream_at e.unidirectional id) h written after)
+    ∙ encoder_came laws setup side e came count is (stream_at e.unidirectional id) t.any h written after)
 
 -- bytes of the decoder stream
 pub decoder_delivered : (laws : StreamLaws) (side : Side) (knows : Bool) (e : EndpointHistory) (came count : ℕ) (is : List DecoderInstruction) → Takes side e
@@ -68,7 +68,7 @@ decoder_delivered laws side knows e came count is t known h written fits =
     ∙ delivered_typed e new id came Decoder bytes t.no_fault (ap (λ s. kind_of s id) t.side_is ∙ kind_of_decoder side) h.stream_is
     (ap (λ k. bytes_at e id (take count (drop came (k ++ units))) PeerUnidirectional) type_of_decoder
     ∙ heard_typed e id 3 Decoder came count units typed_decoder h.stream_is
-    ∙ decoder_came laws side knows e came count is (stream_at e.unidirectional id) known h written fits)
+    ∙ decoder_came laws side knows e came count is (stream_at e.unidirectional id) t.any known h written fits)
 
 -- bytes of the control stream
 pub control_delivered : (laws : StreamLaws) (setup : Setup) (side : Side) (e : EndpointHistory) (came count : ℕ) (gs : List ℕ) (replies_came : ℕ) (replies : List DecoderInstruction) → Takes side e

@@ -90,7 +90,7 @@ writer_over setup w side id count e h sound none =
     (writer_stands setup w v writer e further wrote.instructions more _ h (streams_after setup w writer id count) (writer_after setup w side id count) there s.writer)
 
 takes : (setup : Setup) (w : World) (side : Side) (e : EndpointHistory) → StandsAt setup w side e → Takes side e
-takes setup w side e h = record { side_is = h.side_is; no_fault = h.no_fault; nothing_kept = h.nothing_kept }
+takes setup w side e h = record { side_is = h.side_is; any = subst TakesAnyLength (sym h.announced) h.any; no_fault = h.no_fault; nothing_kept = h.nothing_kept }
 
 -- the instructions that came, once more came, are read
 pub reads_all : (laws : StreamLaws) (setup : Setup) (w : World) (side : Side) (n : ℕ) → IsMadeSetup setup → IsSoundWorld setup w

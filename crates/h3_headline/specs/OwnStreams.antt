@@ -13,7 +13,7 @@ use Rattle.h3_connection.specs.Control.{increment}
 use Rattle.h3_connection.specs.declared.setup.Limits.{Limits}
 use Rattle.h3_world.specs.Delivering.{having_learned, delivered_own}
 use Rattle.h3_qpack.specs.WholeInstructions.{decoder_instructions_in, insertions_in}
-use Rattle.h3_world.specs.Setup.{announced_at}
+use Rattle.h3_world.specs.Setup.{TakesAnyLength, announced_at}
 use Rattle.h3_connection.specs.Sending.{own_advanced, advance}
 use Rattle.h3_proto.specs.declared.stream.Side.TheVariants.{Client, Server}
 use Rattle.h3_connection.specs.declared.event.Refusal.{Refusal}
@@ -107,9 +107,10 @@ pub record KeepsWriting (w : World) : Type 0 where
   pub requests : AreReadable w Client
   pub responses : AreReadable w Server
 
--- An endpoint that takes what comes: it has no fault, and keeps nothing.
+-- An endpoint that takes what comes, however long: it has no fault, and keeps nothing.
 pub record Takes (side : Side) (e : EndpointHistory) : Type 0 where
   pub side_is : e.side ≡ side
+  pub any : TakesAnyLength e.announced
   pub no_fault : e.closed ≡ None
   pub nothing_kept : e.kept ≡ []
 

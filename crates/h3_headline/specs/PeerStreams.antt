@@ -13,18 +13,16 @@ use Rattle.h3_connection.specs.Unidirectional.{Role, Unidirectional, role_after,
 use Rattle.h3_connection.specs.Unidirectional.Role.{Untold}
 use Rattle.h3_wire.specs.Encoded.{frame_encoding}
 use Rattle.h3_qpack.specs.WholeInstructions.{whole_in, rest_in, decoder_instructions_in}
-use Rattle.h3_connection.specs.Endpoint.{goaway_encoding, EndpointHistory, replied, Own}
+use Rattle.h3_connection.specs.Endpoint.{goaway_encoding, EndpointHistory, Own}
 use Rattle.h3_connection.specs.PeerReading.{Peer, PeerFound, with_unread, read_peer}
 use Rattle.h3_world.specs.OwnStreams.{settings_bytes}
 use Rattle.h3_proto.specs.declared.stream.Side.{Side}
 use Rattle.h3_connection.specs.OwnIds.{other}
 use Rattle.h3_field.specs.Instruction.{DecoderInstruction, decoder_bytes}
-use Rattle.h3_connection.specs.Control.{Found, increment, is_table_usable, with_table, if_learned, then_decoder}
+use Rattle.h3_connection.specs.Control.{Found, is_table_usable, with_table, if_learned, then_decoder}
 use Rattle.h3_qpack.specs.DecoderState.{DecoderState}
-use Rattle.h3_connection.specs.Listeners.{Decoding, after_hearing, fault_if, insertions_heard}
+use Rattle.h3_connection.specs.Listeners.{Decoding}
 use Rattle.h3_connection.specs.Delivering.{with_unidirectional}
-use Rattle.h3_qpack.specs.Hearing.{Heard}
-use Rattle.h3_connection.specs.Codes.{encoder_stream_error}
 use Rattle.h3_qpack.specs.EncoderHistory.{EncoderHistory, encoder_after_all, using_table}
 use Rattle.h3_connection.specs.declared.setup.Limits.{Limits}
 use Rattle.h3_world.specs.Setup.{TakesAnyLength, has_table, announced_at}
@@ -138,10 +136,6 @@ hearing e id o on decoding replies =
 -- the number of insertions that a decoder has read since
 abbrev pub added_since : DecoderState → DecoderState → ℕ
 added_since before after = after.table.inserted - before.table.inserted
-
--- what the whole reading gives
-abbrev pub read_as : EndpointHistory → Heard → Found
-read_as e h = (replied (record e { decoding = after_hearing h }) (increment (insertions_heard e.decoding h)), fault_if h.is_bad encoder_stream_error)
 
 -- the endpoint after bytes of the other side's decoder stream
 abbrev pub listening : EndpointHistory → ℕ → Unidirectional → Option ℕ → EncoderHistory → List ℕ → EndpointHistory

@@ -1,11 +1,12 @@
 -- What comes on a control or decoder stream, and on a request stream, is read by an endpoint that is ahead as by the one behind.
 use Rattle.std.proofs.Common.{◌≡◌, ℕ, Bool, true, false, List, [], ◌++◌, refl, sym, ap, ◌∙◌, append_assoc, append-nil, if◌then◌else◌, Option, Some, None}
 use Rattle.std.specs.Prelude.{is_some}
-use Rattle.h3_qpack.specs.Hearing.{listen}
 use Rattle.h3_connection.specs.declared.arrival.Arrival.{Arrival}
-use Rattle.h3_connection.specs.Control.{Found, listened_to, read_decoder, read_control, after_peer, then_decoder, if_learned, learned, is_table_usable, with_table}
+use Rattle.h3_connection.specs.Control.{Found, listened_to, kept_unread, read_decoder, read_control, after_peer, then_decoder, if_learned, learned, is_table_usable, with_table}
 use Rattle.h3_connection.specs.Endpoint.{EndpointHistory, limit_of}
+use Rattle.h3_connection.specs.ExcessiveInstructions.{listen_up_to}
 use Rattle.h3_connection.specs.Incoming.{Incoming}
+use Rattle.h3_connection.specs.Listeners.{keeping_fault}
 use Rattle.h3_connection.specs.PeerReading.{Peer, PeerFound, with_unread, read_peer}
 use Rattle.h3_connection.specs.StreamSets.{Streams}
 use Rattle.h3_memory.specs.Kept.{Delivery}
@@ -32,12 +33,13 @@ module _ (mine : List Delivery) (incoming : Streams Incoming) (kept : List Arriv
       left_with_none : (e : EndpointHistory) (left : List ℕ) (code : Option ℕ) → ◌≡◌ {A = Found} (record (ahead e mine held incoming kept) { decoder_unread = left }, code) (ahead (record e { decoder_unread = left }) mine (record held { decoder = [] }) incoming kept, code)
       left_with_none e left code = ap (λ l. (record (ahead e mine held incoming kept) { decoder_unread = l }, code)) (sym (append-nil left))
 
-      by_settings : (b : Bool) → (if b then listened_to f (listen behind.encoder (f.decoder_unread ++ bytes)) else (record f { decoder_unread = f.decoder_unread ++ bytes }, None))
-          ≡ over (record held { decoder = [] }) (if b then listened_to behind (listen behind.encoder all) else (record behind { decoder_unread = all }, None))
+      by_settings : (b : Bool) → (if b then listened_to f (listen_up_to (limit_of behind) behind.encoder (f.decoder_unread ++ bytes)) else kept_unread f (f.decoder_unread ++ bytes))
+          ≡ over (record held { decoder = [] }) (if b then listened_to behind (listen_up_to (limit_of behind) behind.encoder all) else kept_unread behind all)
       by_settings true =
-          ap (λ l. listened_to f (listen behind.encoder l)) same
-          ∙ left_with_none (listened_to behind (listen behind.encoder all)).0 (listen behind.encoder all).left (listened_to behind (listen behind.encoder all)).1
-      by_settings false = ap (λ l. (record f { decoder_unread = l }, None)) same ∙ left_with_none behind all None
+          let l = listen_up_to (limit_of behind) behind.encoder all in
+          ap (λ l. listened_to f (listen_up_to (limit_of behind) behind.encoder l)) same
+          ∙ left_with_none (listened_to behind l).0 l.left (listened_to behind l).1
+      by_settings false = ap (kept_unread f) same ∙ left_with_none behind all (keeping_fault (limit_of behind) all)
 
   -- What settings that come now do: nothing of the decoder stream is held then.
   none_held : Held → Held

@@ -183,7 +183,7 @@ module _ (qpack : KeptLaws) (laws : Laws) (setup : Setup) (made : IsMadeSetup se
             ∙ ap (after_peer x) reads
             ∙ ap (λ o. then_decoder o P.settings (if_learned o P.settings (record x { peer = P })) None) (ap (λ (y : Peer). y.settings) peer ∙ unknown)
             ∙ ap (λ o. then_decoder None o (if_learned None o (record x { peer = P })) None) known
-            ∙ no_bytes_listened laws.streams (L x) (learned_unread (record x { peer = P }) pairs ∙ nothing)
+            ∙ no_bytes_listened (L x) (learned_unread (record x { peer = P }) pairs ∙ nothing)
 
         -- **Nothing came of the decoder stream.**
         without_decoder : z.er.decoder_on ≡ None → Goes count ds id more p

@@ -2,19 +2,21 @@
 use Rattle.std.proofs.Common.{◌≡◌, ◌⊎◌, inl, inr, ℕ, ◌-◌, Bool, true, false, List, [], ◌∷◌, ◌++◌, refl, sym, ap, ◌∙◌, subst, if◌then◌else◌, Some, None}
 use Rattle.h3_proto.specs.declared.stream.Side.{Side}
 use Rattle.h3_qpack.specs.EncoderHistory.{EncoderHistory}
-use Rattle.h3_qpack.specs.Hearing.{listen}
 use Rattle.h3_connection.specs.declared.arrival.Arrival.{Arrival}
 use Rattle.h3_connection.specs.declared.arrival.Arrival.TheVariants.{BytesCame}
-use Rattle.h3_connection.specs.Control.{Found, increment, read_encoder, read_decoder, listened_to}
-use Rattle.h3_connection.specs.Endpoint.{EndpointHistory, replied}
+use Rattle.h3_connection.specs.Control.{Found, increment, read_encoder, read_decoder, listened_to, kept_unread}
+use Rattle.h3_connection.specs.Endpoint.{EndpointHistory, limit_of, replied}
+use Rattle.h3_connection.specs.ExcessiveInstructions.{listen_up_to}
 use Rattle.h3_connection.specs.Keeping.{read_arrival}
+use Rattle.h3_connection.specs.LimitedHearingLaws.{hear_unlimited}
+use Rattle.h3_connection.specs.LimitedListeningLaws.{listen_unlimited}
 use Rattle.h3_connection.specs.Listeners.{Decoding}
 use Rattle.h3_connection.specs.OwnIds.{other, encoder_id, decoder_id}
 use Rattle.h3_connection.specs.PartReading.{HearsPart, ListensPart}
 use Rattle.h3_connection.specs.StreamSets.{stream_at}
 use Rattle.h3_connection.specs.Unidirectional.Role.{Encoder, Decoder}
 use Rattle.h3_world.specs.declared.setup.Setup.{Setup}
-use Rattle.h3_world.specs.Setup.{IsMadeSetup}
+use Rattle.h3_world.specs.Setup.{IsMadeSetup, TakesAnyLength}
 use Rattle.h3_world.specs.World.{World, party}
 use Rattle.h3_headline.specs.Cited.{Laws}
 use Rattle.h3_headline.specs.Standing.{StandsAt}
@@ -40,7 +42,7 @@ module _ (qpack : KeptLaws) (laws : Laws) (setup : Setup) (w : World) (side : Si
   t = other side
 
   -- **A front of what is held of the encoder stream.**
-  pub hears_step : (ds : List Delivery) (id : ℕ) (d : Decoding) (more : List Arrival) → Reading setup w side mine ds f g (BytesCame id [] ∷ more) → f.encoder_on ≡ Some id → HearsPart f.decoding d
+  pub hears_step : (ds : List Delivery) (id : ℕ) (d : Decoding) (more : List Arrival) → Reading setup w side mine ds f g (BytesCame id [] ∷ more) → f.encoder_on ≡ Some id → HearsPart (limit_of f) f.decoding d
       → PartStep setup w side mine ds (replied (record f { decoding = d }) (increment (d.decoder.table.inserted - f.decoding.decoder.table.inserted))) g (BytesCame id [] ∷ more)
   hears_step [] id d more r on h = absurd r.here.kept
   hears_step (End q ∷ ds) id d more r on h = absurd r.here.kept
@@ -69,8 +71,8 @@ module _ (qpack : KeptLaws) (laws : Laws) (setup : Setup) (w : World) (side : Si
 
           part : ReadsHeld mine z.here.incoming [] z.er z.here.held (read_to mine z.here.incoming [] z.er (ahead z.er mine z.here.held z.here.incoming []) d)
           part =
-              hears_held mine z.here.incoming [] z.er z.here.held d (subst (λ x. HearsPart x d) (ap (λ (x : EndpointHistory). x.decoding) z.here.is) h)
-              (λ front left is. encoder_unfinished laws.streams z.er.decoding.decoder ((party w t).own.encoder_taken - 1) (party w t).own.instructions front left z.two.both.writes_there.instructions (sym e.encoder_stream.unread ∙ is))
+              hears_held mine z.here.incoming [] z.er z.here.held d (subst (λ (x : EndpointHistory). HearsPart (limit_of x) x.decoding d) z.here.is h)
+              (λ front left is. hear_unlimited (limit_of z.er) z.er.decoding.decoder front (subst TakesAnyLength (sym e.announced) e.any) ∙ encoder_unfinished laws.streams z.er.decoding.decoder ((party w t).own.encoder_taken - 1) (party w t).own.instructions front left z.two.both.writes_there.instructions (sym e.encoder_stream.unread ∙ is))
 
           after_is : after ≡ read_to mine z.here.incoming [] z.er (ahead z.er mine z.here.held z.here.incoming []) d
           after_is = ap (λ x. read_to mine z.here.incoming [] z.er x d) z.here.is
@@ -87,7 +89,7 @@ module _ (qpack : KeptLaws) (laws : Laws) (setup : Setup) (w : World) (side : Si
 
   -- **Of the decoder stream, once the settings are known.**
   pub listens_step : (ds : List Delivery) (id : ℕ) (encoder : EncoderHistory) (left : List ℕ) (pairs : List (ℕ × ℕ)) (more : List Arrival) → Reading setup w side mine ds f g (BytesCame id [] ∷ more) → f.decoder_on ≡ Some id
-      → f.peer.settings ≡ Some pairs → ListensPart f.encoder encoder f.decoder_unread left → PartStep setup w side mine ds (record f { encoder = encoder; decoder_unread = left }) g (BytesCame id [] ∷ more)
+      → f.peer.settings ≡ Some pairs → ListensPart (limit_of f) f.encoder encoder f.decoder_unread left → PartStep setup w side mine ds (record f { encoder = encoder; decoder_unread = left }) g (BytesCame id [] ∷ more)
   listens_step [] id encoder left pairs more r on known h = absurd r.here.kept
   listens_step (End q ∷ ds) id encoder left pairs more r on known h = absurd r.here.kept
   listens_step (Reset q ∷ ds) id encoder left pairs more r on known h = absurd r.here.kept
@@ -101,7 +103,7 @@ module _ (qpack : KeptLaws) (laws : Laws) (setup : Setup) (w : World) (side : Si
       told = came_on_is (party w t).own.decoder_taken (decoder_id t) id (sym r.two.both.here.decoder_stream.is_on ∙ sym (ap (λ (e : EndpointHistory). e.decoder_on) r.here.is) ∙ on)
 
       at : Reading setup w side mine (Bytes (decoder_id t) count ∷ ds) f g (BytesCame id [] ∷ more) → PartStep setup w side mine (Bytes (decoder_id t) count ∷ ds) after g (BytesCame id [] ∷ more)
-      at z = by_split (splits z.er.decoder_unread z.here.held.decoder h.front h.rest (sym (ap (λ (x : EndpointHistory). x.decoder_unread) z.here.is) ∙ h.cut))
+      at z = by_split (splits z.er.decoder_unread z.here.held.decoder part.front part.rest part.cut)
         where
           e : StandsAt setup w side z.er
           e = z.two.both.here
@@ -116,35 +118,38 @@ module _ (qpack : KeptLaws) (laws : Laws) (setup : Setup) (w : World) (side : Si
             on_it = ap (λ (x : EndpointHistory). x.decoder_on) (sym z.here.is) ∙ on ∙ ap Some told.1;
           }
 
-          encoder_same : f.encoder ≡ z.er.encoder
-          encoder_same = ap (λ (x : EndpointHistory). x.encoder) z.here.is
+          part : ListensPart (limit_of z.er) z.er.encoder encoder (z.er.decoder_unread ++ z.here.held.decoder) left
+          part = subst (λ (x : EndpointHistory). ListensPart (limit_of x) x.encoder encoder x.decoder_unread left) z.here.is h
 
           F : EndpointHistory
           F = ahead z.er mine z.here.held z.here.incoming []
 
           listening : List ℕ → List ℕ → EndpointHistory
-          listening front rest = record F { encoder = (listen z.er.encoder front).encoder; decoder_unread = (listen z.er.encoder front).left ++ rest }
+          listening front rest = record F { encoder = (listen_up_to (limit_of z.er) z.er.encoder front).encoder; decoder_unread = (listen_up_to (limit_of z.er) z.er.encoder front).left ++ rest }
 
-          after_is : after ≡ listening h.front h.rest
+          after_is : after ≡ listening part.front part.rest
           after_is =
               ap (λ (x : EndpointHistory). record x { encoder = encoder; decoder_unread = left }) z.here.is
-              ∙ ap (λ x. record F { encoder = x; decoder_unread = left }) (h.encoder ∙ ap (λ x. (listen x h.front).encoder) encoder_same)
-              ∙ ap (λ l. record F { encoder = (listen z.er.encoder h.front).encoder; decoder_unread = l }) (h.left_is ∙ ap (λ x. (listen x h.front).left ++ h.rest) encoder_same)
+              ∙ ap (λ x. record F { encoder = x; decoder_unread = left }) part.encoder
+              ∙ ap (λ l. record F { encoder = (listen_up_to (limit_of z.er) z.er.encoder part.front).encoder; decoder_unread = l }) part.left_is
 
-          reads_so : (read : List ℕ) → read_decoder z.er read ≡ listened_to z.er (listen z.er.encoder (z.er.decoder_unread ++ read))
-          reads_so read = ap (λ o. if Rattle.std.specs.Prelude.is_some o then listened_to z.er (listen z.er.encoder (z.er.decoder_unread ++ read)) else (record z.er { decoder_unread = z.er.decoder_unread ++ read }, None)) known_behind
+          reads_so : (read : List ℕ) → read_decoder z.er read ≡ listened_to z.er (listen_up_to (limit_of z.er) z.er.encoder (z.er.decoder_unread ++ read))
+          reads_so read =
+              ap (λ o. if Rattle.std.specs.Prelude.is_some o then listened_to z.er (listen_up_to (limit_of z.er) z.er.encoder (z.er.decoder_unread ++ read)) else kept_unread z.er (z.er.decoder_unread ++ read)) known_behind
 
-          by_split : Splits z.er.decoder_unread z.here.held.decoder h.front h.rest → PartStep setup w side mine (Bytes (decoder_id t) count ∷ ds) after g (BytesCame id [] ∷ more)
+          by_split : Splits z.er.decoder_unread z.here.held.decoder part.front part.rest → PartStep setup w side mine (Bytes (decoder_id t) count ∷ ds) after g (BytesCame id [] ∷ more)
           by_split (Beyond read is more_is) =
-              own_part qpack laws setup w side mine f g made after (decoder_id t) count ds id read h.rest more (decoder_own t) (λ none. told.0 (sym (decoder_came w t) ∙ none)) z (decoder_held t z.here.held ∙ more_is)
-              (after_is ∙ ap (λ l. listening l h.rest) is
-              ∙ ap (λ (x : Found). ahead x.0 mine (record z.here.held { decoder = h.rest }) z.here.incoming []) (sym (reads_so read) ∙ sym (decoder_reads z.er (decoder_id t) read read_as))
-              ∙ ap (λ x. ahead (read_arrival z.er (BytesCame (decoder_id t) read)).0 mine x z.here.incoming []) (sym (decoder_holding t z.here.held h.rest)))
+              own_part qpack laws setup w side mine f g made after (decoder_id t) count ds id read part.rest more (decoder_own t) (λ none. told.0 (sym (decoder_came w t) ∙ none)) z (decoder_held t z.here.held ∙ more_is)
+              (after_is ∙ ap (λ l. listening l part.rest) is
+              ∙ ap (λ (x : Found). ahead x.0 mine (record z.here.held { decoder = part.rest }) z.here.incoming []) (sym (reads_so read) ∙ sym (decoder_reads z.er (decoder_id t) read read_as))
+              ∙ ap (λ x. ahead (read_arrival z.er (BytesCame (decoder_id t) read)).0 mine x z.here.incoming []) (sym (decoder_holding t z.here.held part.rest)))
           by_split (Within over_it is more_is) =
-              let nothing = decoder_unfinished laws.streams z.er.encoder ((party w t).own.decoder_taken - 1) (party w t).own.replies h.front over_it z.two.both.writes_there.replies (sym left_is ∙ is) in
+              let nothing =
+              listen_unlimited (limit_of z.er) z.er.encoder part.front (subst TakesAnyLength (sym e.announced) e.any)
+              ∙ decoder_unfinished laws.streams z.er.encoder ((party w t).own.decoder_taken - 1) (party w t).own.replies part.front over_it z.two.both.writes_there.replies (sym left_is ∙ is) in
               subst (λ x. PartStep setup w side mine (Bytes (decoder_id t) count ∷ ds) x g (BytesCame id [] ∷ more))
-              (z.here.is ∙ sym (after_is ∙ ap (λ (x : Rattle.h3_qpack.specs.Hearing.Listened). record F { encoder = x.encoder; decoder_unread = x.left ++ h.rest }) nothing
-              ∙ ap (λ l. record F { decoder_unread = l }) (sym (sym (ap (λ (x : EndpointHistory). x.decoder_unread) z.here.is) ∙ h.cut))))
+              (z.here.is ∙ sym (after_is ∙ ap (λ (x : Rattle.h3_qpack.specs.Hearing.Listened). record F { encoder = x.encoder; decoder_unread = x.left ++ part.rest }) nothing
+              ∙ ap (λ l. record F { decoder_unread = l }) (sym part.cut)))
               (stays setup w side mine (Bytes (decoder_id t) count ∷ ds) f g (BytesCame id [] ∷ more) z)
             where
               left_is : z.er.decoder_unread ≡ Rattle.h3_qpack.specs.WholeInstructions.rest_in Rattle.h3_field.specs.Instruction.decoder_bytes ((party w t).own.decoder_taken - 1) (party w t).own.replies

@@ -4,10 +4,10 @@ use Rattle.std.specs.Prelude.{take, drop, is_some, flat_map}
 use Rattle.h3_field.specs.Instruction.{encoder_bytes, decoder_bytes}
 use Rattle.h3_proto.specs.declared.stream.Side.{Side}
 use Rattle.h3_proto.specs.declared.stream.Side.TheVariants.{Client, Server}
-use Rattle.h3_qpack.specs.Hearing.{listen}
+use Rattle.h3_connection.specs.ExcessiveInstructions.{listen_up_to}
 use Rattle.h3_connection.specs.declared.arrival.Arrival.{Arrival}
 use Rattle.h3_connection.specs.declared.arrival.Arrival.TheVariants.{BytesCame}
-use Rattle.h3_connection.specs.Control.{Found, read_control, read_encoder, read_decoder, listened_to, after_peer, then_decoder, if_learned, learned, is_table_usable, with_table}
+use Rattle.h3_connection.specs.Control.{Found, read_control, read_encoder, read_decoder, listened_to, kept_unread, after_peer, then_decoder, if_learned, learned, is_table_usable, with_table}
 use Rattle.h3_connection.specs.Delivering.{bytes_at, heard_as, unless_second, read_unidirectional, with_unidirectional, unidirectional_at}
 use Rattle.h3_connection.specs.Endpoint.{EndpointHistory, limit_of, goaway_encoding, is_second, kind_of}
 use Rattle.h3_connection.specs.Endpoint.Kind.{PeerUnidirectional}
@@ -95,7 +95,7 @@ streams_of e = (e.incoming, e.outgoing)
 decoder_leaves : (e : EndpointHistory) (bytes : List ℕ) → streams_of (read_decoder e bytes).0 ≡ streams_of e
 decoder_leaves e bytes = by_settings (is_some e.peer.settings)
   where
-    by_settings : (b : Bool) → streams_of (if b then listened_to e (listen e.encoder (e.decoder_unread ++ bytes)) else (record e { decoder_unread = e.decoder_unread ++ bytes }, None)).0 ≡ streams_of e
+    by_settings : (b : Bool) → streams_of (if b then listened_to e (listen_up_to (limit_of e) e.encoder (e.decoder_unread ++ bytes)) else kept_unread e (e.decoder_unread ++ bytes)).0 ≡ streams_of e
     by_settings true = refl
     by_settings false = refl
 

@@ -3,10 +3,11 @@ use Rattle.std.proofs.Common.{◌≡◌, ◌⊎◌, inl, inr, ℕ, ◌-◌, true
 use Rattle.std.specs.Prelude.{◌==◌}
 use Rattle.std.proofs.lemmas.Grind.{common_steps}
 use Rattle.h3_qpack.specs.DecoderState.{DecoderState}
-use Rattle.h3_qpack.specs.Hearing.{Heard, hear, heard}
+use Rattle.h3_qpack.specs.Hearing.{Heard, heard}
 use Rattle.h3_connection.specs.declared.arrival.Arrival.{Arrival}
 use Rattle.h3_connection.specs.Control.{increment, read_encoder}
-use Rattle.h3_connection.specs.Endpoint.{EndpointHistory, replied}
+use Rattle.h3_connection.specs.Endpoint.{EndpointHistory, limit_of, replied}
+use Rattle.h3_connection.specs.ExcessiveInstructions.{hear_up_to}
 use Rattle.h3_connection.specs.Incoming.{Incoming}
 use Rattle.h3_connection.specs.Listeners.{Decoding}
 use Rattle.h3_connection.specs.PartReading.{HearsPart}
@@ -54,8 +55,8 @@ module _ (mine : List Delivery) (incoming : Streams Incoming) (kept : List Arriv
       nothing n = grind (arith, common_steps)
 
   -- **A front of what is held and of what was left of an instruction, where such fronts of the latter are no instruction.**
-  pub hears_held : (held : Held) (d : Decoding) → HearsPart (ahead behind mine held incoming kept).decoding d
-      → ((front left : List ℕ) → behind.decoding.unread ≡ front ++ left → hear behind.decoding.decoder front ≡ heard behind.decoding.decoder front false)
+  pub hears_held : (held : Held) (d : Decoding) → HearsPart (limit_of behind) (ahead behind mine held incoming kept).decoding d
+      → ((front left : List ℕ) → behind.decoding.unread ≡ front ++ left → hear_up_to (limit_of behind) behind.decoding.decoder front ≡ heard behind.decoding.decoder front false)
       → ReadsHeld held (read_to (ahead behind mine held incoming kept) d)
   hears_held held d h unfinished = by_split (splits behind.decoding.unread held.encoder h.front h.rest h.cut)
     where
@@ -66,7 +67,7 @@ module _ (mine : List Delivery) (incoming : Streams Incoming) (kept : List Arriv
       D = behind.decoding.decoder
 
       after : List ℕ → List ℕ → Decoding
-      after front rest = record { decoder = (hear D front).decoder; unread = (hear D front).left ++ rest }
+      after front rest = record { decoder = (hear_up_to (limit_of behind) D front).decoder; unread = (hear_up_to (limit_of behind) D front).left ++ rest }
 
       by_split : Splits behind.decoding.unread held.encoder h.front h.rest → ReadsHeld held (read_to f d)
       by_split (Beyond read is more) =

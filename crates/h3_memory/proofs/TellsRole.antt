@@ -3,19 +3,20 @@ use Rattle.std.proofs.Common.{◌≡◌, ℕ, ◌-◌, Bool, true, false, List, 
 use Rattle.std.specs.Prelude.{◌==◌, is_some}
 use Rattle.h3_field.specs.Instruction.{DecoderInstruction}
 use Rattle.h3_proto.specs.declared.stream.Side.{Side}
-use Rattle.h3_qpack.specs.Hearing.{hear, listen}
 use Rattle.h3_connection.specs.declared.arrival.Arrival.TheVariants.{BytesCame}
-use Rattle.h3_connection.specs.Control.{Found, increment, read_control, read_encoder, read_decoder, listened_to, after_peer, then_decoder, if_learned}
+use Rattle.h3_connection.specs.Control.{Found, increment, read_control, read_encoder, read_decoder, listened_to, kept_unread, after_peer, then_decoder, if_learned}
 use Rattle.h3_connection.specs.Delivering.{bytes_at, heard_as, unless_second, read_unidirectional, with_unidirectional}
 use Rattle.h3_connection.specs.Endpoint.{EndpointHistory, limit_of, is_second, kind_of}
 use Rattle.h3_connection.specs.Endpoint.Kind.{PeerUnidirectional}
+use Rattle.h3_connection.specs.ExcessiveInstructions.{hear_up_to, listen_up_to}
 use Rattle.h3_connection.specs.Keeping.{read_arrival}
+use Rattle.h3_connection.specs.LimitedHearingLaws.{hears_nothing}
+use Rattle.h3_connection.specs.LimitedListeningLaws.{listens_nothing, keeps_nothing}
 use Rattle.h3_connection.specs.PeerReading.{Peer, read_peer, with_unread}
 use Rattle.h3_connection.specs.StreamSets.{stream_at}
 use Rattle.h3_connection.specs.StreamSetLaws.{set-same}
 use Rattle.h3_connection.specs.Unidirectional.{Unidirectional, Role, untold, role_after, with_bytes}
 use Rattle.h3_connection.specs.Unidirectional.Role.{Untold, Control, Encoder, Decoder}
-use Rattle.h3_headline.specs.Cited.{StreamLaws}
 use Rattle.h3_headline.specs.PeerStreams.{with_role}
 use Rattle.h3_headline.specs.Standing.{IsPeerStream, came_on}
 
@@ -78,10 +79,10 @@ control_reads e id bytes h =
     ∙ ap (λ o. read_control (record e { control_on = o }) bytes) (sym h.on_it)
 
 -- **With nothing left and nothing new nothing is read.**
-pub no_bytes_heard : (laws : StreamLaws) (e : EndpointHistory) → e.decoding.unread ≡ [] → read_encoder e [] ≡ (e, None)
-no_bytes_heard laws e none =
-    ap (λ l. read_as (hear e.decoding.decoder (l ++ []))) none
-    ∙ ap read_as (laws.heard_fronts e.decoding.decoder e.decoding.decoder [] 0 tt refl)
+pub no_bytes_heard : (e : EndpointHistory) → e.decoding.unread ≡ [] → read_encoder e [] ≡ (e, None)
+no_bytes_heard e none =
+    ap (λ l. read_as (hear_up_to (limit_of e) e.decoding.decoder (l ++ []))) none
+    ∙ ap read_as (hears_nothing (limit_of e) e.decoding.decoder)
     ∙ ap (λ n. saying_so n) (none_added e.decoding.decoder.table.inserted)
     ∙ ap (λ (l : List DecoderInstruction). (record e { decoding = record { decoder = e.decoding.decoder; unread = [] }; own = record e.own { replies = l } }, None)) (append-nil e.own.replies)
     ∙ ap (λ l. (record e { decoding = record { decoder = e.decoding.decoder; unread = l } }, None)) (sym none)
@@ -89,7 +90,7 @@ no_bytes_heard laws e none =
     read_as : Rattle.h3_qpack.specs.Hearing.Heard → Found
     read_as h = (
       Rattle.h3_connection.specs.Endpoint.replied (record e { decoding = Rattle.h3_connection.specs.Listeners.after_hearing h }) (increment (Rattle.h3_connection.specs.Listeners.insertions_heard e.decoding h)),
-      Rattle.h3_connection.specs.Listeners.fault_if h.is_bad Rattle.h3_connection.specs.Codes.encoder_stream_error,
+      Rattle.h3_connection.specs.Listeners.hearing_fault (limit_of e) h,
     )
 
     saying_so : List DecoderInstruction → Found
@@ -98,12 +99,14 @@ no_bytes_heard laws e none =
     none_added : (n : ℕ) → increment (n - n) ≡ []
     none_added n = let zero_more : n - n ≡ 0 = omega arith in ap increment zero_more
 
-pub no_bytes_listened : (laws : StreamLaws) (e : EndpointHistory) → e.decoder_unread ≡ [] → read_decoder e [] ≡ (e, None)
-no_bytes_listened laws e none = by_settings (is_some e.peer.settings)
+pub no_bytes_listened : (e : EndpointHistory) → e.decoder_unread ≡ [] → read_decoder e [] ≡ (e, None)
+no_bytes_listened e none = by_settings (is_some e.peer.settings)
   where
-    by_settings : (b : Bool) → (if b then listened_to e (listen e.encoder (e.decoder_unread ++ [])) else (record e { decoder_unread = e.decoder_unread ++ [] }, None)) ≡ (e, None)
-    by_settings true = ap (λ l. listened_to e (listen e.encoder (l ++ []))) none ∙ ap (listened_to e) (laws.listened_fronts e.encoder [] 0 tt tt) ∙ ap (λ l. (record e { decoder_unread = l }, None)) (sym none)
-    by_settings false = ap (λ l. (record e { decoder_unread = l }, None)) (append-nil e.decoder_unread)
+    by_settings : (b : Bool) → (if b then listened_to e (listen_up_to (limit_of e) e.encoder (e.decoder_unread ++ [])) else kept_unread e (e.decoder_unread ++ [])) ≡ (e, None)
+    by_settings true =
+        ap (λ l. listened_to e (listen_up_to (limit_of e) e.encoder (l ++ []))) none ∙ ap (listened_to e) (listens_nothing (limit_of e) e.encoder) ∙ ap (λ l. (record e { decoder_unread = l }, None)) (sym none)
+    by_settings false =
+        ap (λ l. kept_unread e (l ++ [])) none ∙ ap (λ fault. (record e { decoder_unread = [] }, fault)) (keeps_nothing (limit_of e)) ∙ ap (λ l. (record e { decoder_unread = l }, None)) (sym none)
 
 no_frames : (limit : ℕ) (side : Side) (p : Peer) → read_peer limit side (with_unread p []) ≡ (with_unread p [], None)
 unfolding read_peer

@@ -185,7 +185,7 @@ tells_encoder laws f q units h none =
           let tells : (l : List ℕ) → role_after (Untold []) (b ∷ l) ≡ (Encoder, l) = λ l. ap (λ k. role_after (Untold []) (k ∷ l)) (first_byte b 2 count bytes units is) ∙ typed_encoder.first l in
           let x : EndpointHistory = record (told_at f q Encoder) { encoder_on = Some q } in
           let read : read_arrival f (BytesCame q (b ∷ [])) ≡ found_as x =
-          tells_read f q b Encoder f.encoder_on h (tells []) refl ∙ ap (λ t. unless_second t (told_at f q Encoder) (read_encoder x [])) h.only ∙ no_bytes_heard laws x none in
+          tells_read f q b Encoder f.encoder_on h (tells []) refl ∙ ap (λ t. unless_second t (told_at f q Encoder) (read_encoder x [])) h.only ∙ no_bytes_heard x none in
           tells_held f q b Encoder f.encoder_on bytes h (tells bytes) refl
           ∙ sym (held_told x q Encoder bytes (set-here f.unidirectional q (with_role Encoder)) refl refl)
           ∙ ap (λ y. reading.held y q bytes) (next_is f x next (BytesCame q (b ∷ [])) read reads);
@@ -199,7 +199,7 @@ tells_decoder laws f q units h none =
           let tells : (l : List ℕ) → role_after (Untold []) (b ∷ l) ≡ (Decoder, l) = λ l. ap (λ k. role_after (Untold []) (k ∷ l)) (first_byte b 3 count bytes units is) ∙ typed_decoder.first l in
           let x : EndpointHistory = record (told_at f q Decoder) { decoder_on = Some q } in
           let read : read_arrival f (BytesCame q (b ∷ [])) ≡ found_as x =
-          tells_read f q b Decoder f.decoder_on h (tells []) refl ∙ ap (λ t. unless_second t (told_at f q Decoder) (read_decoder x [])) h.only ∙ no_bytes_listened laws x none in
+          tells_read f q b Decoder f.decoder_on h (tells []) refl ∙ ap (λ t. unless_second t (told_at f q Decoder) (read_decoder x [])) h.only ∙ no_bytes_listened x none in
           tells_held f q b Decoder f.decoder_on bytes h (tells bytes) refl
           ∙ sym (held_told x q Decoder bytes (set-here f.unidirectional q (with_role Decoder)) refl refl)
           ∙ ap (λ y. reading.held y q bytes) (next_is f x next (BytesCame q (b ∷ [])) read reads);

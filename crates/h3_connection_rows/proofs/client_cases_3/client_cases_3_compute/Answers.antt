@@ -11,7 +11,7 @@ use lib.Utf8.{encode}
 use Rattle.h3_header.specs.Reads.{kind_of}
 use Rattle.h3_header.specs.HeadRead.{head_of}
 use Rattle.h3_huffman.specs.Unhuffman.{unhuffman}
-use Rattle.h3_qpack.specs.Hearing.{hear, listen}
+use Rattle.h3_connection.specs.ExcessiveInstructions.{hear_up_to, listen_up_to}
 use Rattle.h3_qpack.specs.DecodedSection.{fields_in, decode_section}
 use Rattle.h3_connection.specs.Skipping.{skipped}
 use Rattle.h3_connection.specs.PeerReading.{read_peer}
@@ -20,21 +20,21 @@ use Rattle.std.proofs.Common.{refl}
 use Rattle.h3_connection_rows.proofs.client_cases_3.client_cases_3_compute.Goals as goal
 
 pub returns-clause-case_11 : goal.returns-clause-case_11
-unfolding encoding static_field static_name chars encode varint_at split_of bits code_word octets huffman static_table frame_at frame_of known is_token_byte is_utf8 kind_of head_of unhuffman hear listen fields_in decode_section skipped read_peer pull_stream
+unfolding encoding static_field static_name chars encode varint_at split_of bits code_word octets huffman static_table frame_at frame_of known is_token_byte is_utf8 kind_of head_of unhuffman hear_up_to listen_up_to fields_in decode_section skipped read_peer pull_stream
 returns-clause-case_11 c = refl
 
 pub returns-clause-case_12 : goal.returns-clause-case_12
-unfolding encoding static_field static_name chars encode varint_at split_of bits code_word octets huffman static_table frame_at frame_of known is_token_byte is_utf8 kind_of head_of unhuffman hear listen fields_in decode_section skipped read_peer pull_stream
+unfolding encoding static_field static_name chars encode varint_at split_of bits code_word octets huffman static_table frame_at frame_of known is_token_byte is_utf8 kind_of head_of unhuffman hear_up_to listen_up_to fields_in decode_section skipped read_peer pull_stream
 returns-clause-case_12 c = refl
 
 pub returns-clause-case_13 : goal.returns-clause-case_13
-unfolding encoding static_field static_name chars encode varint_at split_of bits code_word octets huffman static_table frame_at frame_of known is_token_byte is_utf8 kind_of head_of unhuffman hear listen fields_in decode_section skipped read_peer pull_stream
+unfolding encoding static_field static_name chars encode varint_at split_of bits code_word octets huffman static_table frame_at frame_of known is_token_byte is_utf8 kind_of head_of unhuffman hear_up_to listen_up_to fields_in decode_section skipped read_peer pull_stream
 returns-clause-case_13 c = refl
 
 pub returns-clause-case_14 : goal.returns-clause-case_14
-unfolding encoding static_field static_name chars encode varint_at split_of bits code_word octets huffman static_table frame_at frame_of known is_token_byte is_utf8 kind_of head_of unhuffman hear listen fields_in decode_section skipped read_peer pull_stream
+unfolding encoding static_field static_name chars encode varint_at split_of bits code_word octets huffman static_table frame_at frame_of known is_token_byte is_utf8 kind_of head_of unhuffman hear_up_to listen_up_to fields_in decode_section skipped read_peer pull_stream
 returns-clause-case_14 c = refl
 
 pub returns-clause-case_15 : goal.returns-clause-case_15
-unfolding encoding static_field static_name chars encode varint_at split_of bits code_word octets huffman static_table frame_at frame_of known is_token_byte is_utf8 kind_of head_of unhuffman hear listen fields_in decode_section skipped read_peer pull_stream
+unfolding encoding static_field static_name chars encode varint_at split_of bits code_word octets huffman static_table frame_at frame_of known is_token_byte is_utf8 kind_of head_of unhuffman hear_up_to listen_up_to fields_in decode_section skipped read_peer pull_stream
 returns-clause-case_15 c = refl

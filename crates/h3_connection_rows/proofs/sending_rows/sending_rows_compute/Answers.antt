@@ -11,7 +11,7 @@ use lib.Utf8.{encode}
 use Rattle.h3_header.specs.Reads.{kind_of}
 use Rattle.h3_header.specs.HeadRead.{head_of}
 use Rattle.h3_huffman.specs.Unhuffman.{unhuffman}
-use Rattle.h3_qpack.specs.Hearing.{hear, listen}
+use Rattle.h3_connection.specs.ExcessiveInstructions.{hear_up_to, listen_up_to}
 use Rattle.h3_qpack.specs.DecodedSection.{fields_in, decode_section}
 use Rattle.h3_connection.specs.Skipping.{skipped}
 use Rattle.h3_connection.specs.PeerReading.{read_peer}
@@ -21,17 +21,17 @@ use Rattle.std.proofs.Common.{refl}
 use Rattle.h3_connection_rows.proofs.sending_rows.sending_rows_compute.Goals as goal
 
 pub returns-clause-request : goal.returns-clause-request
-unfolding encoding static_field static_name chars encode varint_at split_of bits code_word octets huffman static_table frame_at frame_of known is_token_byte is_utf8 kind_of head_of unhuffman hear listen fields_in decode_section skipped read_peer pull_stream violation_of_request violation_of_response violation_of_trailer
+unfolding encoding static_field static_name chars encode varint_at split_of bits code_word octets huffman static_table frame_at frame_of known is_token_byte is_utf8 kind_of head_of unhuffman hear_up_to listen_up_to fields_in decode_section skipped read_peer pull_stream violation_of_request violation_of_response violation_of_trailer
 returns-clause-request c = refl
 
 pub returns-clause-uncounted : goal.returns-clause-uncounted
-unfolding encoding static_field static_name chars encode varint_at split_of bits code_word octets huffman static_table frame_at frame_of known is_token_byte is_utf8 kind_of head_of unhuffman hear listen fields_in decode_section skipped read_peer pull_stream violation_of_request violation_of_response violation_of_trailer
+unfolding encoding static_field static_name chars encode varint_at split_of bits code_word octets huffman static_table frame_at frame_of known is_token_byte is_utf8 kind_of head_of unhuffman hear_up_to listen_up_to fields_in decode_section skipped read_peer pull_stream violation_of_request violation_of_response violation_of_trailer
 returns-clause-uncounted c = refl
 
 pub returns-clause-tunnel : goal.returns-clause-tunnel
-unfolding encoding static_field static_name chars encode varint_at split_of bits code_word octets huffman static_table frame_at frame_of known is_token_byte is_utf8 kind_of head_of unhuffman hear listen fields_in decode_section skipped read_peer pull_stream violation_of_request violation_of_response violation_of_trailer
+unfolding encoding static_field static_name chars encode varint_at split_of bits code_word octets huffman static_table frame_at frame_of known is_token_byte is_utf8 kind_of head_of unhuffman hear_up_to listen_up_to fields_in decode_section skipped read_peer pull_stream violation_of_request violation_of_response violation_of_trailer
 returns-clause-tunnel c = refl
 
 pub returns-clause-response : goal.returns-clause-response
-unfolding encoding static_field static_name chars encode varint_at split_of bits code_word octets huffman static_table frame_at frame_of known is_token_byte is_utf8 kind_of head_of unhuffman hear listen fields_in decode_section skipped read_peer pull_stream violation_of_request violation_of_response violation_of_trailer
+unfolding encoding static_field static_name chars encode varint_at split_of bits code_word octets huffman static_table frame_at frame_of known is_token_byte is_utf8 kind_of head_of unhuffman hear_up_to listen_up_to fields_in decode_section skipped read_peer pull_stream violation_of_request violation_of_response violation_of_trailer
 returns-clause-response c = refl
