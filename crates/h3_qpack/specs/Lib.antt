@@ -33,6 +33,8 @@ pub mod Hearing
 pub mod ShortRows
 pub mod SectionSizes
 pub mod ShortLaws
+pub mod InstructionSizes
+pub mod ShortInstructionLaws
 pub mod ReasonLaws
 pub mod InstructionLaws
 pub mod HearingLaws

@@ -23,6 +23,7 @@ ghost use Rattle.h3_qpack.specs.Hearing.{Heard, heard, hear, heard_then, IsHeard
 ghost use Rattle.h3_qpack.specs.SectionEncoding.{Draft, draft_of, encoded_section, finds_room, found, having_inserted, held, instructions_for, is_insertable, is_insertable_ahead, marks_after, required_insert_count, sent_section};
 ghost use Rattle.h3_field.specs.Line.{FieldLine};
 ghost use Rattle.h3_qpack.specs.SectionSizes.{most_encoded};
+ghost use Rattle.h3_qpack.specs.InstructionSizes.{most_instruction};
 ghost use Rattle.h3_qpack.specs.Encodings.{decoder_of, HasInsertions, IsDecoderAt, IsWritten, IsWrittenInstruction, tried};
 ghost use Rattle.h3_field.specs.Prefix.{most_entries, IsRequiredCount};
 ghost use Rattle.h3_qpack.specs.Session.{Session, UndecodedSection, oldest, is_canceled, count_of, tracked_references, IsSound, DecodesTo};
@@ -155,6 +156,15 @@ pub fn sections_leave_their_counts()
 pub fn encoded_sections_are_short()
     ensures short { (s : EncoderHistory) (fields : List Field) → length (encoded_section s fields) ≤ most_encoded fields }
     ensures empty { (s : EncoderHistory) → length (encoded_section s []) ≡ 2 }
+{}
+
+/// An instruction of an encoder that a decoder takes is written in at most ten bytes, or in four times the capacity that the decoder announced:
+/// the strings of an entry that fits it are written in the Huffman code. An instruction of a decoder is one number, of at most ten bytes (RFC
+/// 9204, section 4.1.1).
+pub fn instructions_are_short()
+    ensures taken { (announced : ℕ) (instructions : List EncoderInstruction) (r : DecoderState) → decoder_after_all (Some (announcing announced)) instructions ≡ Some r →
+        AllByRecursion (λ i. length (encoder_bytes i) ≤ most_instruction announced) instructions }
+    ensures replies { (i : DecoderInstruction) → length (decoder_bytes i) ≤ 10 }
 {}
 
 /// Every run in bytes is a session, and answers what is expected of it: each decode exactly the fields that were encoded, or

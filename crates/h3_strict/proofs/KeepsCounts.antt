@@ -3,14 +3,14 @@ use Rattle.std.proofs.Common.{◌≡◌, ◌⊎◌, inl, inr, ℕ, ◌+◌, ◌+
 use Rattle.std.specs.Prelude.{◌==◌, is_some, unwrap_or}
 use Rattle.std.proofs.lemmas.Grind.{common_steps}
 use Rattle.h3_proto.specs.Settings.{value_of}
-use Rattle.h3_qpack.specs.Hearing.{listen}
 use Rattle.h3_connection.specs.Arrivals.{stream_of}
 use Rattle.h3_connection.specs.declared.arrival.Arrival.TheVariants.{BytesCame, EndCame, ResetCame}
 use Rattle.h3_connection.specs.declared.arrival.Arrival.{Arrival}
-use Rattle.h3_connection.specs.Control.{Found, after_peer, if_learned, is_table_usable, listened_to, read_control, read_decoder, then_decoder, with_table}
+use Rattle.h3_connection.specs.Control.{Found, after_peer, if_learned, is_table_usable, kept_unread, listened_to, read_control, read_decoder, then_decoder, with_table}
 use Rattle.h3_connection.specs.Delivering.{bytes_at, closed_by, delivery_refusal, end_at, given_up_by, given_up_once, heard_as, incoming_at, kept, opened, opened_at, read_unidirectional, reset_at, taken, unidirectional_at, unless_second, with_end}
 use Rattle.h3_connection.specs.Endpoint.{EndpointHistory, limit_of, Kind, is_second, kind_of}
 use Rattle.h3_connection.specs.Endpoint.Kind.{OwnUnidirectional, PeerUnidirectional, Request, ServerOpened}
+use Rattle.h3_connection.specs.ExcessiveInstructions.{listen_up_to}
 use Rattle.h3_connection.specs.Incoming.{Incoming, nothing_came}
 use Rattle.h3_connection.specs.Keeping.{arrives, arrives_behind, read_arrival}
 use Rattle.h3_connection.specs.Outgoing.{Outgoing, nothing_sent, takes_end}
@@ -92,7 +92,7 @@ learned_same : (e : EndpointHistory) (pairs : List (ℕ × ℕ)) (b : Bool) (f :
 learned_same e pairs true f h = h
 learned_same e pairs false f h = same_streams e
 
-if_learned_same : (before after : Option (List (ℕ × ℕ))) (e : EndpointHistory) → SameStreams e (if_learned before after e)
+pub if_learned_same : (before after : Option (List (ℕ × ℕ))) (e : EndpointHistory) → SameStreams e (if_learned before after e)
 if_learned_same None (Some pairs) e =
     let capacity = unwrap_or (value_of 1 pairs) 0 in
     let blocked = unwrap_or (value_of 7 pairs) 0 in
@@ -103,7 +103,7 @@ if_learned_same (Some pairs) after e = same_streams e
 decoder_same : (e : EndpointHistory) (bytes : List ℕ) → SameStreams e (read_decoder e bytes).0
 decoder_same e bytes = by_test (is_some e.peer.settings)
   where
-    by_test : (b : Bool) → SameStreams e (let x : Found = if b then listened_to e (listen e.encoder (e.decoder_unread ++ bytes)) else (record e { decoder_unread = e.decoder_unread ++ bytes }, None) in x).0
+    by_test : (b : Bool) → SameStreams e (let x : Found = if b then listened_to e (listen_up_to (limit_of e) e.encoder (e.decoder_unread ++ bytes)) else kept_unread e (e.decoder_unread ++ bytes) in x).0
     by_test true = record { incoming = refl; outgoing = refl; announced = refl }
     by_test false = record { incoming = refl; outgoing = refl; announced = refl }
 

@@ -2,6 +2,7 @@ mod PlainStreams
 mod PlainPulls
 mod PlainCalls
 mod PlainSends
+mod InstructionReading
 mod PlainReading
 mod PlainPulled
 mod PlainSteps
@@ -37,6 +38,8 @@ mod LimitWorlds
 mod LimitHeadlines
 mod ControlTexts
 mod ControlTaken
+mod InstructionWaits
+mod InstructionsFit
 mod DeliveriesFit
 mod LimitCarries
 mod LimitEarly

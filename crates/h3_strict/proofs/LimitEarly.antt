@@ -22,6 +22,7 @@ use Rattle.h3_world.specs.declared.event.Answer.TheVariants as answer
 use Rattle.h3_world.specs.declared.event.Event.{Event}
 use Rattle.h3_world.specs.declared.event.Event.TheVariants as event
 use Rattle.h3_world.specs.declared.setup.Setup.{Setup}
+use Rattle.h3_headline.specs.Cited.{StreamLaws}
 use Rattle.h3_headline.specs.Messages.{is_done}
 use Rattle.h3_headline.specs.SettingsLaws.{too_large_with_meaning}
 use Rattle.h3_headline.specs.Standing.{Stands, are_settings_there, with_meaning}
@@ -88,6 +89,11 @@ module _ (setup : Setup) (limits : LimitsTakeWhatIsSent setup) where
       let rules = trailer_rules e id trailer (was_accepted ends side (sender.trailer_refusal e id trailer) e _ accepted) in
       taken_by (other side) (head_fields trailer) (known_within setup (other side) e.peer.settings (head_fields trailer) (knows side) is rules.small)
 
+  delivery_taken : (ends : Ends) (side : Side) (id count : ℕ) → CarriesAt setup ends side → (b : Bool) → is_early ends (event.Deliver side id count) ≡ b
+      → (b ≡ true → IsTaken setup (event.Deliver side id count) (answered ends (event.Deliver side id count)).0) → IsTaken setup (event.Deliver side id count) (answered ends (event.Deliver side id count)).0
+  delivery_taken ends side id count c true is early = early refl
+  delivery_taken ends side id count c false is early = delivery_fits ends side (announced_at setup side) (limit_at setup (other side)) c.0 c.1 id count is
+
   event_taken : (ends : Ends) (e : Event) → Sends setup ends → (is_early ends e ≡ true → IsTaken setup e (answered ends e).0) → IsTaken setup e (answered ends e).0
   event_taken ends (event.Head side id head) sends early = head_taken ends side id head sends.knows (is_none (end_at ends side).peer.settings) refl early
   event_taken ends (event.Trailer side id trailer) sends early = trailer_taken ends side id trailer sends.knows (is_none (end_at ends side).peer.settings) refl early
@@ -97,7 +103,7 @@ module _ (setup : Setup) (limits : LimitsTakeWhatIsSent setup) where
   event_taken ends (event.Reset side id) sends early = tt
   event_taken ends (event.Cancel side id) sends early = tt
   event_taken ends (event.Goaway side id) sends early = tt
-  event_taken ends (event.Deliver side id count) sends early = let c = sends.carries side in delivery_fits ends side (announced_at setup side) (limit_at setup (other side)) c.0 c.1 id count
+  event_taken ends (event.Deliver side id count) sends early = delivery_taken ends side id count (sends.carries side) (is_early ends (event.Deliver side id count)) refl early
   event_taken ends (event.DeliverEnd side id) sends early = let c = sends.carries side in end_delivery_fits ends side (announced_at setup side) (limit_at setup (other side)) c.0 c.1 id
   event_taken ends (event.DeliverReset side id) sends early = let c = sends.carries side in reset_delivery_fits ends side (announced_at setup side) (limit_at setup (other side)) c.0 c.1 id
   event_taken ends (event.Pull side id) sends early = tt
@@ -130,7 +136,7 @@ strict_knows : (setup : Setup) (w : World) (ends : Ends) → Stands (plain_setup
 strict_knows setup w ends h Client = (are_settings_there (plain_setup (unlimited_setup setup)) Server (party w Server).own.control_taken, h.at_client.control.settings)
 strict_knows setup w ends h Server = (are_settings_there (plain_setup (unlimited_setup setup)) Client (party w Client).own.control_taken, h.at_server.control.settings)
 
-module _ (short : SectionsAreShort) (setup : Setup) (events : List Event) (made : IsMadeSetup setup) (sendable : AllByRecursion IsSendable events) (limits : LimitsTakeWhatIsSent setup) (early : EarlyAreTaken setup (new_ends setup) events) where
+module _ (short : SectionsAreShort) (streams : StreamLaws) (setup : Setup) (events : List Event) (made : IsMadeSetup setup) (sendable : AllByRecursion IsSendable events) (limits : LimitsTakeWhatIsSent setup) (early : EarlyAreTaken setup (new_ends setup) events) where
   -- **Neither asks for strict messages.**
   pub loose_taken : RunInWorlds → AsksForNone setup → AreTaken setup events (answers_of_ends (new_ends setup) events)
   loose_taken headline none = taken_from setup limits events [] events known refl tt early
@@ -141,7 +147,7 @@ module _ (short : SectionsAreShort) (setup : Setup) (events : List Event) (made 
           let ran = loose_world setup past made none sent (loose_unlimited short setup past made sent taken headline none) headline in
           record {
             knows = loose_knows setup ran.0 (ends_after (new_ends setup) past) ran.2;
-            carries = loose_carries setup made limits ran.0 (ends_after (new_ends setup) past) (loose_limits short setup past made sent taken headline none) ran.2;
+            carries = loose_carries streams setup made limits ran.0 (ends_after (new_ends setup) past) (loose_limits short setup past made sent taken headline none) ran.2;
           }
 
   -- **Both do.**
@@ -158,5 +164,5 @@ module _ (short : SectionsAreShort) (setup : Setup) (events : List Event) (made 
           subst (λ x. Stands (plain_setup (unlimited_setup setup)) ran.0 (plain_ends x)) (sym runs.leads) ran.2 in
           record {
             knows = strict_knows setup ran.0 (ends_after (new_ends setup) past) stands;
-            carries = strict_carries setup made limits ran.0 (ends_after (new_ends setup) past) (strict_limits short setup past made sent taken headline strict asked) stands;
+            carries = strict_carries streams setup made limits ran.0 (ends_after (new_ends setup) past) (strict_limits short setup past made sent taken headline strict asked) stands;
           }

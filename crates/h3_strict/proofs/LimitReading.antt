@@ -1,15 +1,17 @@
 -- What comes is too long for its reader, or it is read alike without a limit.
 use Rattle.std.proofs.Common.{◌≡◌, ℕ, Bool, true, false, if◌then◌else◌, List, [], ◌∷◌, ◌++◌, refl, ap, sym, ◌∙◌, subst, Option, Some, None}
 use Rattle.std.specs.Prelude.{is_some}
-use Rattle.h3_qpack.specs.Hearing.{listen}
+use Rattle.h3_qpack.specs.Hearing.{Heard, Listened}
 use Rattle.h3_connection.specs.Arrivals.{is_closed_in, stream_of}
 use Rattle.h3_connection.specs.Codes.{excessive_load}
-use Rattle.h3_connection.specs.Control.{Found, after_peer, if_learned, listened_to, read_control, read_decoder, read_encoder, then_decoder, with_table}
+use Rattle.h3_connection.specs.Control.{Found, after_peer, if_learned, read_control, read_decoder, read_encoder, then_decoder, with_table}
 use Rattle.h3_connection.specs.Delivering.{bytes_at, closed_by, delivery_refusal, end_at, give_up, heard_as, incoming_at, kept, opened, opened_at, read_unidirectional, refusal_at, reset_at, taken, unidirectional_at, unless_second, with_end, with_incoming, with_unidirectional}
 use Rattle.h3_connection.specs.Endpoint.{EndpointHistory, Kind, is_second, kind_of, limit_of}
 use Rattle.h3_connection.specs.Endpoint.Kind.{OwnUnidirectional, PeerUnidirectional, Request, ServerOpened}
+use Rattle.h3_connection.specs.ExcessiveInstructions.{listen_up_to}
 use Rattle.h3_connection.specs.Incoming.{Incoming}
 use Rattle.h3_connection.specs.Keeping.{arrival_refusal, arrives, arrives_behind, read_all, read_arrival, refused_behind, unkept, unless_faulty}
+use Rattle.h3_connection.specs.Listeners.{heard_more, hearing_fault, listening_fault}
 use Rattle.h3_connection.specs.PeerReading.{PeerFound, with_unread}
 use Rattle.h3_connection.specs.StreamSets.{stream_at}
 use Rattle.h3_connection.specs.Unidirectional.{Role, Unidirectional, role_after, with_bytes}
@@ -22,9 +24,10 @@ use Rattle.h3_connection.specs.declared.event.StreamFault.TheVariants as stream_
 use Rattle.h3_connection.specs.declared.setup.Announced.{Announced}
 use Rattle.h3_headline.specs.PeerStreams.{no_limit}
 use Rattle.h3_strict.specs.Limits.{limited_end}
+use Rattle.h3_strict.proofs.InstructionReading.{HearsAlike, HearsLong, HearsSame, KeepsAlike, KeepsLong, KeepsSame, ListensAlike, ListensLong, ListensSame, hears_alike, keeps_alike, listens_alike}
 use Rattle.h3_strict.proofs.KeepsCounts.{arrival_announced}
 use Rattle.h3_strict.proofs.LimitPulls.{limited_result}
-use Rattle.h3_strict.proofs.PlainReading.{IsLong, PeerPlainly, ReadsSame, closed_too_long, peer_plain}
+use Rattle.h3_strict.proofs.PlainReading.{IsLong, PeerPlainly, ReadsSame, closed_too_long, heard_as_found, kept_as_found, listened_as_found, peer_plain, read_if}
 
 abbrev endless : EndpointHistory → EndpointHistory
 endless e = limited_end no_limit e
@@ -38,19 +41,38 @@ pub data ReadsWithin (x y : Found) : Type 0 where
   IsTooLong : x.1 ≡ Some excessive_load → ReadsWithin x y
   ReadsAlike : y ≡ endless_found x → ReadsWithin x y
 
+-- the encoder stream
+encoder_within : (e : EndpointHistory) (bytes : List ℕ) → ReadsWithin (read_encoder e bytes) (read_encoder (endless e) bytes)
+encoder_within e bytes = by_limit (hears_alike (limit_of e) e.decoding.decoder (e.decoding.unread ++ bytes))
+  where
+    h : Heard
+    h = heard_more (limit_of e) e.decoding bytes
+
+    by_limit : HearsAlike (limit_of e) e.decoding.decoder (e.decoding.unread ++ bytes) → ReadsWithin (read_encoder e bytes) (read_encoder (endless e) bytes)
+    by_limit (HearsLong limit is) = IsTooLong is
+    by_limit (HearsSame same fault) = ReadsAlike (ap (λ x. heard_as_found (endless e) x (hearing_fault no_limit x)) same ∙ ap (heard_as_found (endless e) h) fault)
+
 -- the decoder stream, once the settings came and before
-abbrev read_if : Bool → EndpointHistory → List ℕ → Found
-read_if came e bytes = if came then listened_to e (listen e.encoder (e.decoder_unread ++ bytes)) else (record e { decoder_unread = e.decoder_unread ++ bytes }, None)
+decoder_within : (came : Bool) (e : EndpointHistory) (bytes : List ℕ) → ReadsWithin (read_if came e bytes) (read_if came (endless e) bytes)
+decoder_within true e bytes = by_limit (listens_alike (limit_of e) e.encoder (e.decoder_unread ++ bytes))
+  where
+    l : Listened
+    l = listen_up_to (limit_of e) e.encoder (e.decoder_unread ++ bytes)
 
-decoder_same : (came : Bool) (e : EndpointHistory) (bytes : List ℕ) → read_if came (endless e) bytes ≡ endless_found (read_if came e bytes)
-decoder_same true e bytes = refl
-decoder_same false e bytes = refl
+    by_limit : ListensAlike (limit_of e) e.encoder (e.decoder_unread ++ bytes) → ReadsWithin (read_if true e bytes) (read_if true (endless e) bytes)
+    by_limit (ListensLong limit is) = IsTooLong is
+    by_limit (ListensSame same fault) = ReadsAlike (ap (λ x. listened_as_found (endless e) x (listening_fault no_limit x)) same ∙ ap (listened_as_found (endless e) l) fault)
+decoder_within false e bytes = by_limit (keeps_alike (limit_of e) (e.decoder_unread ++ bytes))
+  where
+    by_limit : KeepsAlike (limit_of e) (e.decoder_unread ++ bytes) → ReadsWithin (read_if false e bytes) (read_if false (endless e) bytes)
+    by_limit (KeepsLong limit is) = IsTooLong is
+    by_limit (KeepsSame fault) = ReadsAlike (ap (kept_as_found (endless e) (e.decoder_unread ++ bytes)) fault)
 
-then_same : (before after : Option (List (ℕ × ℕ))) (e : EndpointHistory) (fault : Option ℕ) → then_decoder before after (endless e) fault ≡ endless_found (then_decoder before after e fault)
-then_same before after e (Some code) = refl
-then_same None (Some pairs) e None = decoder_same (is_some e.peer.settings) e []
-then_same None None e None = refl
-then_same (Some known) after e None = refl
+then_reads_within : (before after : Option (List (ℕ × ℕ))) (e : EndpointHistory) (fault : Option ℕ) → ReadsWithin (then_decoder before after e fault) (then_decoder before after (endless e) fault)
+then_reads_within before after e (Some code) = ReadsAlike refl
+then_reads_within None (Some pairs) e None = decoder_within (is_some e.peer.settings) e []
+then_reads_within None None e None = ReadsAlike refl
+then_reads_within (Some known) after e None = ReadsAlike refl
 
 table_same : (b : Bool) (e : EndpointHistory) (capacity blocked : ℕ) → (if b then with_table (endless e) capacity blocked else endless e) ≡ endless (if b then with_table e capacity blocked else e)
 table_same true e capacity blocked = refl
@@ -61,17 +83,18 @@ learned_same None (Some pairs) e = table_same _ e _ _
 learned_same None None e = refl
 learned_same (Some known) after e = refl
 
-after_same : (e : EndpointHistory) (x : PeerFound) → after_peer (endless e) x ≡ endless_found (after_peer e x)
-after_same e (p, fault) =
+after_within : (e : EndpointHistory) (x : PeerFound) → ReadsWithin (after_peer e x) (after_peer (endless e) x)
+after_within e (p, fault) =
+    let before = e.peer.settings in
     let f : EndpointHistory = record e { peer = p } in
-    ap (λ g. then_decoder e.peer.settings p.settings g fault) (learned_same e.peer.settings p.settings f)
-    ∙ then_same e.peer.settings p.settings (if_learned e.peer.settings p.settings f) fault
+    let g : EndpointHistory = if_learned before p.settings f in
+    subst (λ z. ReadsWithin (then_decoder before p.settings g fault) (then_decoder before p.settings z fault)) (sym (learned_same before p.settings f)) (then_reads_within before p.settings g fault)
 
 -- the control stream
 control_found : (e : EndpointHistory) (x y : PeerFound) → PeerPlainly (limit_of e) x y → ReadsWithin (after_peer e x) (after_peer (endless e) y)
 control_found e (p, fault) y (IsLong limit is) =
     IsTooLong (ap (λ o. (then_decoder e.peer.settings p.settings (if_learned e.peer.settings p.settings (record e { peer = p })) o).1) is)
-control_found e x y (ReadsSame same) = ReadsAlike (ap (after_peer (endless e)) same ∙ after_same e x)
+control_found e x y (ReadsSame same) = subst (λ z. ReadsWithin (after_peer e x) (after_peer (endless e) z)) (sym same) (after_within e x)
 
 control_within : (e : EndpointHistory) (bytes : List ℕ) → ReadsWithin (read_control e bytes) (read_control (endless e) bytes)
 control_within e bytes = control_found e _ _ (peer_plain (limit_of e) e.side (with_unread e.peer (e.peer.unread ++ bytes)))
@@ -87,10 +110,10 @@ heard_within e id Control bytes =
     second_within (is_second e.control_on id) e (read_control g bytes) (read_control (endless g) bytes) (control_within g bytes)
 heard_within e id Encoder bytes =
     let g : EndpointHistory = record e { encoder_on = Some id } in
-    second_within (is_second e.encoder_on id) e (read_encoder g bytes) (read_encoder (endless g) bytes) (ReadsAlike refl)
+    second_within (is_second e.encoder_on id) e (read_encoder g bytes) (read_encoder (endless g) bytes) (encoder_within g bytes)
 heard_within e id Decoder bytes =
     let g : EndpointHistory = record e { decoder_on = Some id } in
-    second_within (is_second e.decoder_on id) e (read_decoder g bytes) (read_decoder (endless g) bytes) (ReadsAlike (decoder_same (is_some e.peer.settings) g bytes))
+    second_within (is_second e.decoder_on id) e (read_decoder g bytes) (read_decoder (endless g) bytes) (decoder_within (is_some e.peer.settings) g bytes)
 heard_within e id (Session n) bytes = ReadsAlike refl
 heard_within e id (Push n) bytes = ReadsAlike refl
 heard_within e id Ignored bytes = ReadsAlike refl

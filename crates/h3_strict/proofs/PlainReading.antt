@@ -6,7 +6,7 @@ use Rattle.h3_coding.specs.Varint.{varint_at}
 use Rattle.h3_proto.specs.Config.{is_limit}
 use Rattle.h3_proto.specs.declared.stream.Side.{Side}
 use Rattle.h3_proto.specs.declared.stream.Side.TheVariants.{Client, Server}
-use Rattle.h3_qpack.specs.Hearing.{listen}
+use Rattle.h3_qpack.specs.Hearing.{Heard, Listened}
 use Rattle.h3_wire.specs.ExcessiveFrames.{is_excessive, says_too_much}
 use Rattle.h3_wire.specs.Frames.{Front, Whole, Unknown, Refused, Unfinished, frame_at}
 use Rattle.h3_wire.specs.Known.{known}
@@ -14,12 +14,14 @@ use Rattle.h3_connection.specs.Arrivals.{stream_of, is_closed_in}
 use Rattle.h3_connection.specs.declared.arrival.Arrival.{Arrival}
 use Rattle.h3_connection.specs.declared.arrival.Arrival.TheVariants.{BytesCame, EndCame, ResetCame}
 use Rattle.h3_connection.specs.Codes.{excessive_load}
-use Rattle.h3_connection.specs.Control.{Found, listened_to, read_encoder, read_decoder, with_table, if_learned, then_decoder, after_peer, read_control}
+use Rattle.h3_connection.specs.Control.{Found, increment, kept_unread, listened_to, read_encoder, read_decoder, with_table, if_learned, then_decoder, after_peer, read_control}
 use Rattle.h3_connection.specs.Delivering.{request_refusal, refusal_at, delivery_refusal, closed_by, opened_at, opened, incoming_at, with_incoming, unidirectional_at, with_unidirectional, unless_second, heard_as, read_unidirectional, kept, with_end, bytes_at, end_at, give_up, reset_at, taken}
-use Rattle.h3_connection.specs.Endpoint.{EndpointHistory, limit_of, Kind, is_second, kind_of}
+use Rattle.h3_connection.specs.Endpoint.{EndpointHistory, limit_of, Kind, is_second, kind_of, replied}
 use Rattle.h3_connection.specs.Endpoint.Kind.{Request, ServerOpened, OwnUnidirectional, PeerUnidirectional}
+use Rattle.h3_connection.specs.ExcessiveInstructions.{listen_up_to}
 use Rattle.h3_connection.specs.Incoming.{Incoming}
 use Rattle.h3_connection.specs.Keeping.{read_arrival, unless_faulty, read_all, unkept, refused_behind, arrival_refusal, arrives_behind, arrives}
+use Rattle.h3_connection.specs.Listeners.{after_hearing, heard_more, hearing_fault, insertions_heard, listening_fault}
 use Rattle.h3_connection.specs.PeerReading.{Peer, PeerFound, with_unread, read_frame, unless_fault, at_front, read_within, read_peer}
 use Rattle.h3_connection.specs.StreamSets.{Streams, stream_at}
 use Rattle.h3_connection.specs.Unidirectional.{Unidirectional, Role, role_after, with_bytes}
@@ -30,7 +32,8 @@ use Rattle.h3_connection.specs.declared.event.StreamFault.TheVariants as stream_
 use Rattle.h3_connection.specs.declared.setup.Announced.{Announced}
 use Rattle.h3_headline.specs.PeerStreams.{no_limit}
 use Rattle.h3_strict.specs.Plainly.{plain_incoming, plainly}
-use Rattle.h3_strict.proofs.KeepsCounts.{arrival_announced}
+use Rattle.h3_strict.proofs.InstructionReading.{HearsAlike, HearsLong, HearsSame, KeepsAlike, KeepsLong, KeepsSame, ListensAlike, ListensLong, ListensSame, hears_alike, keeps_alike, listens_alike}
+use Rattle.h3_strict.proofs.KeepsCounts.{arrival_announced, if_learned_same}
 use Rattle.h3_strict.proofs.PlainCalls.{CallsPlainly, taken_plainly}
 use Rattle.h3_strict.proofs.PlainSends.{gives_up_plainly, opens_as}
 use Rattle.h3_strict.proofs.PlainStreams.{at_each, set_each, in_at}
@@ -39,20 +42,60 @@ use Rattle.h3_strict.proofs.PlainStreams.{at_each, set_each, in_at}
 abbrev pub plain_found : Found → Found
 plain_found x = (plainly x.0, x.1)
 
+-- what is found is the same at the endpoint without a limit, or what came is too long
+pub data PeerPlainly (limit : ℕ) (x y : PeerFound) : Type 0 where
+  IsLong : is_limit limit ≡ true → x.1 ≡ Some excessive_load → PeerPlainly limit x y
+  ReadsSame : y ≡ x → PeerPlainly limit x y
+
+pub data ReadsPlainly (limit : ℕ) (x y : Found) : Type 0 where
+  IsTooLong : is_limit limit ≡ true → x.1 ≡ Some excessive_load → ReadsPlainly limit x y
+  ReadsAlike : y ≡ plain_found x → ReadsPlainly limit x y
+
+-- the encoder stream
+abbrev pub heard_as_found : EndpointHistory → Heard → Option ℕ → Found
+heard_as_found e h fault = (replied (record e { decoding = after_hearing h }) (increment (insertions_heard e.decoding h)), fault)
+
+encoder_plain : (e : EndpointHistory) (bytes : List ℕ) → ReadsPlainly (limit_of e) (read_encoder e bytes) (read_encoder (plainly e) bytes)
+encoder_plain e bytes = by_limit (hears_alike (limit_of e) e.decoding.decoder (e.decoding.unread ++ bytes))
+  where
+    h : Heard
+    h = heard_more (limit_of e) e.decoding bytes
+
+    by_limit : HearsAlike (limit_of e) e.decoding.decoder (e.decoding.unread ++ bytes) → ReadsPlainly (limit_of e) (read_encoder e bytes) (read_encoder (plainly e) bytes)
+    by_limit (HearsLong limit is) = IsTooLong limit is
+    by_limit (HearsSame same fault) = ReadsAlike (ap (λ x. heard_as_found (plainly e) x (hearing_fault no_limit x)) same ∙ ap (heard_as_found (plainly e) h) fault)
+
 -- the decoder stream, once the settings came and before
-abbrev read_if : Bool → EndpointHistory → List ℕ → Found
-read_if came e bytes = if came then listened_to e (listen e.encoder (e.decoder_unread ++ bytes)) else (record e { decoder_unread = e.decoder_unread ++ bytes }, None)
+abbrev pub read_if : Bool → EndpointHistory → List ℕ → Found
+read_if came e bytes = if came then listened_to e (listen_up_to (limit_of e) e.encoder (e.decoder_unread ++ bytes)) else kept_unread e (e.decoder_unread ++ bytes)
+
+abbrev pub listened_as_found : EndpointHistory → Listened → Option ℕ → Found
+listened_as_found e l fault = (record e { encoder = l.encoder; decoder_unread = l.left }, fault)
+
+abbrev pub kept_as_found : EndpointHistory → List ℕ → Option ℕ → Found
+kept_as_found e unread fault = (record e { decoder_unread = unread }, fault)
+
+decoder_plain : (came : Bool) (e : EndpointHistory) (bytes : List ℕ) → ReadsPlainly (limit_of e) (read_if came e bytes) (read_if came (plainly e) bytes)
+decoder_plain true e bytes = by_limit (listens_alike (limit_of e) e.encoder (e.decoder_unread ++ bytes))
+  where
+    l : Listened
+    l = listen_up_to (limit_of e) e.encoder (e.decoder_unread ++ bytes)
+
+    by_limit : ListensAlike (limit_of e) e.encoder (e.decoder_unread ++ bytes) → ReadsPlainly (limit_of e) (read_if true e bytes) (read_if true (plainly e) bytes)
+    by_limit (ListensLong limit is) = IsTooLong limit is
+    by_limit (ListensSame same fault) = ReadsAlike (ap (λ x. listened_as_found (plainly e) x (listening_fault no_limit x)) same ∙ ap (listened_as_found (plainly e) l) fault)
+decoder_plain false e bytes = by_limit (keeps_alike (limit_of e) (e.decoder_unread ++ bytes))
+  where
+    by_limit : KeepsAlike (limit_of e) (e.decoder_unread ++ bytes) → ReadsPlainly (limit_of e) (read_if false e bytes) (read_if false (plainly e) bytes)
+    by_limit (KeepsLong limit is) = IsTooLong limit is
+    by_limit (KeepsSame fault) = ReadsAlike (ap (kept_as_found (plainly e) (e.decoder_unread ++ bytes)) fault)
 
 -- the control stream
-decoder_plain : (came : Bool) (e : EndpointHistory) (bytes : List ℕ) → read_if came (plainly e) bytes ≡ plain_found (read_if came e bytes)
-decoder_plain true e bytes = refl
-decoder_plain false e bytes = refl
-
-then_plain : (before after : Option (List (ℕ × ℕ))) (e : EndpointHistory) (fault : Option ℕ) → then_decoder before after (plainly e) fault ≡ plain_found (then_decoder before after e fault)
-then_plain before after e (Some code) = refl
+then_plain : (before after : Option (List (ℕ × ℕ))) (e : EndpointHistory) (fault : Option ℕ) → ReadsPlainly (limit_of e) (then_decoder before after e fault) (then_decoder before after (plainly e) fault)
+then_plain before after e (Some code) = ReadsAlike refl
 then_plain None (Some pairs) e None = decoder_plain (is_some e.peer.settings) e []
-then_plain None None e None = refl
-then_plain (Some known) after e None = refl
+then_plain None None e None = ReadsAlike refl
+then_plain (Some known) after e None = ReadsAlike refl
 
 table_plain : (b : Bool) (e : EndpointHistory) (capacity blocked : ℕ) → (if b then with_table (plainly e) capacity blocked else plainly e) ≡ plainly (if b then with_table e capacity blocked else e)
 table_plain true e capacity blocked = refl
@@ -63,20 +106,16 @@ learned_plain None (Some pairs) e = table_plain _ e _ _
 learned_plain None None e = refl
 learned_plain (Some known) after e = refl
 
-after_plain : (e : EndpointHistory) (x : PeerFound) → after_peer (plainly e) x ≡ plain_found (after_peer e x)
+pub learned_limit : (before after : Option (List (ℕ × ℕ))) (e : EndpointHistory) → limit_of (if_learned before after e) ≡ limit_of e
+learned_limit before after e = ap (λ (own : Announced). own.choices.unfinished_limit) (if_learned_same before after e).announced
+
+after_plain : (e : EndpointHistory) (x : PeerFound) → ReadsPlainly (limit_of e) (after_peer e x) (after_peer (plainly e) x)
 after_plain e (p, fault) =
+    let before = e.peer.settings in
     let f : EndpointHistory = record e { peer = p } in
-    ap (λ g. then_decoder e.peer.settings p.settings g fault) (learned_plain e.peer.settings p.settings f)
-    ∙ then_plain e.peer.settings p.settings (if_learned e.peer.settings p.settings f) fault
-
--- what is found is the same at the endpoint without a limit, or what came is too long
-pub data PeerPlainly (limit : ℕ) (x y : PeerFound) : Type 0 where
-  IsLong : is_limit limit ≡ true → x.1 ≡ Some excessive_load → PeerPlainly limit x y
-  ReadsSame : y ≡ x → PeerPlainly limit x y
-
-pub data ReadsPlainly (limit : ℕ) (x y : Found) : Type 0 where
-  IsTooLong : is_limit limit ≡ true → x.1 ≡ Some excessive_load → ReadsPlainly limit x y
-  ReadsAlike : y ≡ plain_found x → ReadsPlainly limit x y
+    let g : EndpointHistory = if_learned before p.settings f in
+    subst (λ z. ReadsPlainly (limit_of e) (then_decoder before p.settings g fault) (then_decoder before p.settings z fault)) (sym (learned_plain before p.settings f))
+    (subst (λ n. ReadsPlainly n (then_decoder before p.settings g fault) (then_decoder before p.settings (plainly g) fault)) (learned_limit before p.settings f) (then_plain before p.settings g fault))
 
 behind_fault : (limit : ℕ) (x : PeerFound) (go both : Peer → PeerFound) → ((q : Peer) → PeerPlainly limit (go q) (both q)) → PeerPlainly limit (unless_fault x go) (unless_fault x both)
 behind_fault limit (q, Some code) go both h = ReadsSame refl
@@ -105,7 +144,7 @@ peer_plain limit side p = within_plain (length p.unread) limit side p
 control_found : (e : EndpointHistory) (x y : PeerFound) → PeerPlainly (limit_of e) x y → ReadsPlainly (limit_of e) (after_peer e x) (after_peer (plainly e) y)
 control_found e (p, fault) y (IsLong limit is) =
     IsTooLong limit (ap (λ o. (then_decoder e.peer.settings p.settings (if_learned e.peer.settings p.settings (record e { peer = p })) o).1) is)
-control_found e x y (ReadsSame same) = ReadsAlike (ap (after_peer (plainly e)) same ∙ after_plain e x)
+control_found e x y (ReadsSame same) = subst (λ z. ReadsPlainly (limit_of e) (after_peer e x) (after_peer (plainly e) z)) (sym same) (after_plain e x)
 
 control_plain : (e : EndpointHistory) (bytes : List ℕ) → ReadsPlainly (limit_of e) (read_control e bytes) (read_control (plainly e) bytes)
 control_plain e bytes = control_found e _ _ (peer_plain (limit_of e) e.side (with_unread e.peer (e.peer.unread ++ bytes)))
@@ -121,10 +160,10 @@ heard_plain e id Control bytes =
     second_plain (limit_of e) (is_second e.control_on id) e (read_control g bytes) (read_control (plainly g) bytes) (control_plain g bytes)
 heard_plain e id Encoder bytes =
     let g : EndpointHistory = record e { encoder_on = Some id } in
-    second_plain (limit_of e) (is_second e.encoder_on id) e (read_encoder g bytes) (read_encoder (plainly g) bytes) (ReadsAlike refl)
+    second_plain (limit_of e) (is_second e.encoder_on id) e (read_encoder g bytes) (read_encoder (plainly g) bytes) (encoder_plain g bytes)
 heard_plain e id Decoder bytes =
     let g : EndpointHistory = record e { decoder_on = Some id } in
-    second_plain (limit_of e) (is_second e.decoder_on id) e (read_decoder g bytes) (read_decoder (plainly g) bytes) (ReadsAlike (decoder_plain (is_some e.peer.settings) g bytes))
+    second_plain (limit_of e) (is_second e.decoder_on id) e (read_decoder g bytes) (read_decoder (plainly g) bytes) (decoder_plain (is_some e.peer.settings) g bytes)
 heard_plain e id (Session n) bytes = ReadsAlike refl
 heard_plain e id (Push n) bytes = ReadsAlike refl
 heard_plain e id Ignored bytes = ReadsAlike refl

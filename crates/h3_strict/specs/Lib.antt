@@ -1,6 +1,7 @@
 pub mod Plainly
 pub mod PlainEnds
 pub mod WorkedStrict
+pub mod WorkedLimits
 pub mod ServerKnows
 pub mod StrictPull
 pub mod Tallies

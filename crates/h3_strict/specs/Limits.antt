@@ -1,12 +1,12 @@
 -- Two endpoints that limit what is unfinished, the same endpoints without limits, and schedules in which each limit takes what is sent to it.
-use Rattle.std.specs.Prelude.{◌≡◌, ℕ, ◌*◌, ◌-◌, ◌^◌, ◌≤◌, Bool, true, false, List, [], ◌∷◌, is_none, length, max}
+use Rattle.std.specs.Prelude.{◌≡◌, ◌==◌, ◌&&◌, ℕ, ◌*◌, ◌-◌, ◌^◌, ◌≤◌, Bool, true, false, List, [], ◌∷◌, is_none, length, max}
 use Rattle.h3_header.specs.Head.{head_fields}
 use Rattle.h3_proto.specs.Pairs.{payload_of}
 use Rattle.h3_proto.specs.declared.stream.Side.{Side}
 use Rattle.h3_proto.specs.declared.stream.Side.TheVariants.{Client, Server}
 use Rattle.h3_connection.specs.Announcing.{section_of}
 use Rattle.h3_connection.specs.Endpoint.{EndpointHistory}
-use Rattle.h3_connection.specs.OwnIds.{other}
+use Rattle.h3_connection.specs.OwnIds.{decoder_id, other}
 use Rattle.h3_connection.specs.declared.setup.Announced.{Announced}
 use Rattle.h3_world.specs.Ends.{Ends, answered, answers_of_ends, end_at, ends_after}
 use Rattle.h3_world.specs.Setup.{announced_at}
@@ -17,9 +17,10 @@ use Rattle.h3_world.specs.declared.setup.Setup.{Setup}
 use Rattle.h3_headline.specs.Messages.{is_done}
 use Rattle.h3_strict.specs.PlainEnds.{NoneJudges, refused_by}
 use Rattle.h3_strict.specs.Plainly.{is_excess}
+use Rattle.h3_qpack.specs.InstructionSizes.{most_instruction}
 use Rattle.h3_qpack.specs.SectionSizes.{most_encoded}
 
--- it announces and judges the same, and takes frames of at most this length
+-- it announces and judges the same, and takes frames and instructions of at most this length
 abbrev pub limited : ℕ → Announced → Announced
 limited most a = record a { choices = record a.choices { unfinished_limit = most } }
 
@@ -39,7 +40,7 @@ unlimited_setup setup = record { client = unlimited setup.client; server = unlim
 abbrev pub unlimited_ends : Ends → Ends
 unlimited_ends ends = limited_ends (λ side. 2 ^ 62 - 1) ends
 
--- how long a frame the side takes
+-- how long a frame or an instruction the side takes
 abbrev pub limit_at : Setup → Side → ℕ
 limit_at setup side = (announced_at setup side).choices.unfinished_limit
 
@@ -73,19 +74,22 @@ AsksForNone setup = (side : Side) → (announced_at setup side).choices.strict_m
 abbrev pub AsksForStrict : Setup → Type 0
 AsksForStrict setup = (side : Side) → (announced_at setup side).choices.strict_messages ≡ true
 
--- Each limit takes every section that its side announces to take (RFC 9114, section 4.2.2), whatever its encoding; the other side's SETTINGS; and a
--- GOAWAY, whose id takes at most eight bytes (RFC 9000, section 16), as an empty section takes two.
+-- Each limit takes every section that its side announces to take (RFC 9114, section 4.2.2) and every instruction for the table that it announces
+-- (RFC 9204, section 3.2.3), whatever their encoding; the other side's SETTINGS; and a number of up to ten bytes, as each instruction of a decoder is
+-- (RFC 9204, section 4.1.1). The id of a GOAWAY takes at most eight (RFC 9000, section 16), and an empty section two.
 abbrev pub LimitsTakeWhatIsSent : Setup → Type 0
 LimitsTakeWhatIsSent setup = (side : Side) →
-    max 8 (max (4 * section_of (announced_at setup side)) (length (payload_of (announced_at setup (other side)).settings))) ≤ limit_at setup side
+    max (most_instruction (announced_at setup side).limits.table) (max (4 * section_of (announced_at setup side)) (length (payload_of (announced_at setup (other side)).settings))) ≤ limit_at setup side
 
--- A side that knows the other's settings sends no more than these allow. Before they came it sends any list.
+-- A side that knows the other's settings sends no more than these allow. Before they came it sends any list. What its decoder wrote and comes before
+-- its own settings waits for these, all of it: it may cancel as many streams as it likes (RFC 9204, section 4.4.2).
 abbrev pub is_early : Ends → Event → Bool
 is_early ends (event.Head side id head) = is_none (end_at ends side).peer.settings
 is_early ends (event.Trailer side id trailer) = is_none (end_at ends side).peer.settings
+is_early ends (event.Deliver side id count) = (id == decoder_id side) && is_none (end_at ends (other side)).peer.settings
 is_early ends _ = false
 
--- what is sent so early is taken too
+-- what is sent, or comes, so early is taken too
 abbrev pub EarlyAreTaken : Setup → Ends → List Event → Type 0
 EarlyAreTaken setup ends [] = Unit {0}
 EarlyAreTaken setup ends (e ∷ events) = (is_early ends e ≡ true → IsTaken setup e (answered ends e).0) × EarlyAreTaken setup (answered ends e).1 events

@@ -86,6 +86,6 @@ is_excess (Some code) = code == excessive_load
 abbrev pub exceeds : EndpointHistory → Option ℕ → Bool
 exceeds e fault = is_excess fault && is_limit (limit_of e)
 
--- A pull of the stream judges the message on it, once all that is kept was read; or too long a frame is kept.
+-- A pull of the stream judges the message on it, once all that is kept was read; or what is kept is too long.
 abbrev pub is_judged : EndpointHistory → ℕ → Bool
 is_judged e id = let x = read_all e.kept (unkept e) in exceeds e x.1 || judged_open e.closed x.0 id

@@ -1,4 +1,4 @@
-//! Worked schedules of two sides that ask for strict messages: these laws compute. The answers were worked out from the standards.
+//! Worked schedules of two sides that ask for strict messages, or limit what is unfinished: these laws compute. The answers were worked out from the standards.
 
 ghost use Rattle.std.specs.Prelude.{◌≡◌};
 ghost use Rattle.h3_world.specs.Ends.{answers_of_ends, new_ends};
@@ -20,4 +20,21 @@ pub fn worked_refusals()
 pub fn worked_judgment()
     ensures answers { answers_of_ends (new_ends strict_setup) early_run ≡ early_answers }
     ensures front { before_judged (new_ends strict_setup) early_run ≡ early_front }
+{}
+
+ghost use Rattle.h3_strict.specs.Limits.{LimitsTakeWhatIsSent};
+ghost use Rattle.h3_strict.specs.WorkedLimits.{close_client, inserting_answers, inserting_run, settled_answers, settled_run, small_server, waiting_answers, waiting_run};
+
+/// A client cancels nineteen requests, and what its decoder says of them comes to a server whose limit takes what is sent (`limits`). Before the
+/// client's settings it is too long once it passes the limit (`waits`), and behind them it is read (`settled`).
+pub fn worked_cancellations()
+    ensures limits { LimitsTakeWhatIsSent small_server }
+    ensures waits { answers_of_ends (new_ends small_server) waiting_run ≡ waiting_answers }
+    ensures settled { answers_of_ends (new_ends small_server) settled_run ≡ settled_answers }
+{}
+
+/// A server inserts a field of bytes that are rare ones for a client whose limit is as long as the lists that it announces. The insertion is longer,
+/// since every string is written in the Huffman code, and is refused as soon as that is known.
+pub fn worked_insertion()
+    ensures { answers_of_ends (new_ends close_client) inserting_run ≡ inserting_answers }
 {}
