@@ -1,17 +1,13 @@
 -- What the calls of an endpoint do to what it stores.
-use Rattle.std.specs.Prelude.{◌≡◌, ◌≢◌, ℕ, ◌^◌, nat_le, Option, Some, None, Result, Ok, Err, if◌then◌else◌}
+use Rattle.std.specs.Prelude.{◌≡◌, ◌≢◌, ℕ, Some, Result, Ok, Err}
 use Rattle.h3_proto.specs.declared.stream.Side.{Side}
-use Rattle.h3_proto.specs.declared.stream.Side.TheVariants.{Client, Server}
 use Rattle.h3_connection.specs.Endpoint.{new_endpoint}
 use Rattle.h3_connection.specs.Incoming.{nothing_came}
-use Rattle.h3_connection.specs.Lasts.{last_id}
 use Rattle.h3_connection.specs.State.{EndpointState, RequestState, nothing_waits, StandsFor, kept_at}
 use Rattle.h3_connection.specs.StreamSets.{Streams}
 use Rattle.h3_connection.specs.declared.setup.Announced.{Announced}
 use Rattle.h3_connection.specs.declared.setup.NewError.{NewError}
 use Rattle.h3_connection.specs.declared.setup.NewError.TheVariants.{OutOfMemory as NoMemory}
-use Rattle.h3_connection.specs.declared.event.Refusal.{Refusal}
-use Rattle.h3_connection.specs.declared.event.Refusal.TheVariants as refusal
 
 -- a request stream on which nothing has happened
 abbrev pub fresh_request : RequestState
@@ -26,23 +22,6 @@ MakesEnd side (Err e) s = ⊥
 abbrev pub IsNewError : NewError → Result Announced NewError → Type 0
 IsNewError e (Ok announced) = e ≡ NoMemory
 IsNewError e (Err refused) = e ≡ refused
-
-abbrev pub after_goaway : Option ℕ → Option Refusal → Option Refusal
-after_goaway (Some id) later = Some (refusal.GoingAway id)
-after_goaway None later = later
-
-abbrev pub by_side : Side → Option Refusal → Option Refusal
-by_side Server later = Some refusal.NotClient
-by_side Client later = later
-
-abbrev pub unless_closed : Option ℕ → Option Refusal → Option Refusal
-unless_closed (Some code) later = Some (refusal.Closed code)
-unless_closed None later = later
-
--- why no request stream is opened
-abbrev pub open_refused : EndpointState → Option Refusal
-open_refused s =
-    unless_closed s.closed (by_side s.side (after_goaway (last_id s.peer.goaways) (if nat_le (2 ^ 62) s.next_id then Some refusal.IdsUsedUp else None)))
 
 -- the stream of that id is now this one, and the others are as they were
 pub record Sets {X : Type 0} (old new : Streams X) (id : ℕ) (x : X) : Type 0 where

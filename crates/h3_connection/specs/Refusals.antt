@@ -1,8 +1,8 @@
--- Why a call of a sender is refused: the first reason that holds, in the order in which an endpoint judges. A world, and the history of an endpoint,
--- state their refusals by these, each over its own view of the sender.
+-- Why a call of a sender is refused: the first rule that refuses it, in the order in which an endpoint judges. A world, the history of an endpoint,
+-- and what an endpoint stores state their refusals by these: each says what sender it stands for.
 use Rattle.std.specs.Prelude.{ℕ, ◌^◌, ◌-◌, Bool, false, not, ◌&&◌, List, [], ◌∷◌, if◌then◌else◌, nat_le, nat_lt, Option, Some, None, unwrap_or}
 use Rattle.h3_field.specs.Field.{Field, section_size}
-use Rattle.h3_header.specs.Head.{Head, head_fields, has_pseudo}
+use Rattle.h3_header.specs.Head.{Head, has_pseudo}
 use Rattle.h3_proto.specs.Settings.{value_of}
 use Rattle.h3_proto.specs.StreamIds.{is_request_stream}
 use Rattle.h3_proto.specs.declared.stream.Side.{Side}
@@ -20,11 +20,26 @@ abbrev pub first_of : List (Bool × Refusal) → Option Refusal
 first_of [] = None
 first_of (rule ∷ rules) = if rule.0 then Some rule.1 else first_of rules
 
--- What a sender sees: which side it is, whether the stream is open at it, what was sent there, and the other side's settings once they came.
+-- a refusal comes before a later one
+abbrev pub or_later : Option Refusal → Option Refusal → Option Refusal
+or_later (Some r) later = Some r
+or_later None later = later
+
+-- What a sender sees of a stream: whether it is open at it, and what the stream takes next, by its place in the message (RFC 9114, section 4.1).
+pub record SenderStream : Type 0 where
+  pub is_open : Bool
+  pub takes_head : Bool
+  pub takes_body : Bool
+  pub takes_end : Bool
+
+-- by what was sent on it
+abbrev pub seen : Bool → Outgoing → SenderStream
+seen is_open o = record { is_open = is_open; takes_head = takes_head o; takes_body = takes_body o; takes_end = takes_end o }
+
+-- What a sender sees: which side it is, its stream, and the other side's settings once they came.
 pub record Sender : Type 0 where
   pub side : Side
-  pub is_open : Bool
-  pub outgoing : Outgoing
+  pub stream : SenderStream
   pub settings : Option (List (ℕ × ℕ))
 
 -- the other side takes sections of at most this size (RFC 9114, section 4.2.2), unknown until its settings come
@@ -32,45 +47,58 @@ abbrev pub is_too_large : Option (List (ℕ × ℕ)) → List Field → Bool
 is_too_large None fields = false
 is_too_large (Some pairs) fields = nat_lt (unwrap_or (value_of 6 pairs) (2 ^ 62 - 1)) (section_size fields)
 
--- A head comes first, and is one of the own side (RFC 9114, section 4.1). A strict sender refuses a malformed one.
-abbrev pub refusal_of_head : Sender → Option Malformation → Head → Option Refusal
-refusal_of_head s broken head = first_of (
-    (not s.is_open, refusal.NotOpen) ∷
-    (not (takes_head s.outgoing), refusal.OutOfOrder) ∷
-    (not (is_for (other s.side) head), refusal.WrongSide) ∷
-    unless_malformed broken (
-    (is_too_large s.settings (head_fields head), refusal.TooLarge (section_size (head_fields head))) ∷ []))
+-- The rules of sending: what refuses a call, and how it is told. First that of the stream: it is open, and takes what is sent.
+abbrev pub not_next : SenderStream → Bool → List (Bool × Refusal) → List (Bool × Refusal)
+not_next stream takes later = (not stream.is_open, refusal.NotOpen) ∷ (not takes, refusal.OutOfOrder) ∷ later
+
+-- a head is one of the own side
+abbrev pub wrong_side : Side → Head → Bool × Refusal
+wrong_side side head = (not (is_for (other side) head), refusal.WrongSide)
+
+-- a trailer has no pseudo-header fields (RFC 9114, section 4.3)
+abbrev pub with_pseudo : Head → Bool × Refusal
+with_pseudo trailer = (has_pseudo trailer, refusal.PseudoInTrailer)
+
+-- a section has no more than the other side takes
+abbrev pub too_large : Option (List (ℕ × ℕ)) → List Field → Bool × Refusal
+too_large settings fields = (is_too_large settings fields, refusal.TooLarge (section_size fields))
+
+-- a strict sender sends just the content that its head says
+abbrev pub wrong_length : Bool → Bool × Refusal
+wrong_length is_wrong = (is_wrong, refusal.Malformed malformation.ContentLength)
+
+-- What is judged of a list alone: a strict sender refuses a malformed one, and each its size.
+abbrev pub of_list : Option Malformation → Option (List (ℕ × ℕ)) → List Field → List (Bool × Refusal)
+of_list broken settings fields = unless_malformed broken (too_large settings fields ∷ [])
+
+-- A head, that goes out as these fields, comes first, and is one of the own side (RFC 9114, section 4.1).
+abbrev pub refusal_of_head : Sender → Option Malformation → Head → List Field → Option Refusal
+refusal_of_head s broken head fields = first_of (not_next s.stream s.stream.takes_head (wrong_side s.side head ∷ of_list broken s.settings fields))
 
 -- A body comes behind a head, and before the trailer. A strict sender refuses more of it than the head says.
-abbrev pub refusal_of_body : Sender → Bool → Option Refusal
-refusal_of_body s is_too_much = first_of (
-    (not s.is_open, refusal.NotOpen) ∷
-    (not (takes_body s.outgoing), refusal.OutOfOrder) ∷
-    (is_too_much, refusal.Malformed malformation.ContentLength) ∷ [])
+abbrev pub refusal_of_body : SenderStream → Bool → Option Refusal
+refusal_of_body s is_too_much = first_of (not_next s s.takes_body (wrong_length is_too_much ∷ []))
 
--- A trailer comes behind a head, and once. It has no pseudo-header fields (RFC 9114, section 4.3). A strict sender refuses one that is early or
--- malformed.
-abbrev pub refusal_of_trailer : Sender → Option Malformation → Option Malformation → Head → Option Refusal
-refusal_of_trailer s early broken trailer = first_of (
-    (not s.is_open, refusal.NotOpen) ∷
-    (not (takes_body s.outgoing), refusal.OutOfOrder) ∷
-    (has_pseudo trailer, refusal.PseudoInTrailer) ∷
-    unless_malformed early (unless_malformed broken (
-    (is_too_large s.settings (head_fields trailer), refusal.TooLarge (section_size (head_fields trailer))) ∷ [])))
+-- A trailer comes behind a head, and once. A strict sender refuses one that is early.
+abbrev pub refusal_of_trailer : Sender → Option Malformation → Option Malformation → Head → List Field → Option Refusal
+refusal_of_trailer s early broken trailer fields =
+    first_of (not_next s.stream s.stream.takes_body (with_pseudo trailer ∷ unless_malformed early (of_list broken s.settings fields)))
 
 -- The end comes behind a head. A strict sender refuses it where less was sent than the head says.
-abbrev pub refusal_of_end : Sender → Bool → Option Refusal
-refusal_of_end s is_early = first_of (
-    (not s.is_open, refusal.NotOpen) ∷
-    (not (takes_end s.outgoing), refusal.OutOfOrder) ∷
-    (is_early, refusal.Malformed malformation.ContentLength) ∷ [])
+abbrev pub refusal_of_end : SenderStream → Bool → Option Refusal
+refusal_of_end s is_early = first_of (not_next s s.takes_end (wrong_length is_early ∷ []))
 
--- A stream is given up, by a reset or by a cancellation, unless the connection needs it (RFC 9114, section 6.2.1), or that direction is over.
+-- The connection needs its critical streams (RFC 9114, section 6.2.1).
+abbrev pub needed : Bool → Bool × Refusal
+needed is_critical = (is_critical, refusal.Critical)
+
+-- a stream that is not there is not stopped, nor a direction that is over
+abbrev pub stopped : Bool → Bool → List (Bool × Refusal)
+stopped is_open is_over = (not is_open, refusal.NotOpen) ∷ (is_over, refusal.Ended) ∷ []
+
+-- A stream is given up, by a reset or by a cancellation, unless the connection needs it, or that direction is over.
 abbrev pub refusal_to_stop : Bool → Bool → Bool → Option Refusal
-refusal_to_stop is_critical is_open is_over = first_of (
-    (is_critical, refusal.Critical) ∷
-    (not is_open, refusal.NotOpen) ∷
-    (is_over, refusal.Ended) ∷ [])
+refusal_to_stop is_critical is_open is_over = first_of (needed is_critical ∷ stopped is_open is_over)
 
 -- the other side takes no more requests (RFC 9114, section 5.2)
 abbrev pub going_away : Option ℕ → Option Refusal → Option Refusal

@@ -1,13 +1,13 @@
 -- Calls of a sender, and the pulls and cancellations of a receiver, with their refusals in order.
-use Rattle.std.specs.Prelude.{ℕ, ◌+◌, ◌-◌, Bool, true, false, not, ◌&&◌, ◌||◌, List, [], ◌∷◌, ◌++◌, length, if◌then◌else◌, ◌==◌, nat_lt, Option, Some, None, is_some, unwrap_or}
+use Rattle.std.specs.Prelude.{ℕ, ◌+◌, Bool, true, false, not, ◌&&◌, ◌||◌, List, [], ◌∷◌, ◌++◌, length, if◌then◌else◌, ◌==◌, nat_lt, Option, Some, None, is_some, unwrap_or}
 use Rattle.h3_field.specs.Field.{Field}
 use Rattle.h3_qpack.specs.SectionEncoding.{sent_section}
-use Rattle.h3_connection.specs.Refusals.{Sender, refusal_of_head, refusal_of_body, refusal_of_trailer, refusal_of_end, refusal_to_stop, refusal_to_open, refusal_of_goaway}
+use Rattle.h3_connection.specs.Refusals.{Sender, SenderStream, seen, refusal_of_head, refusal_of_body, refusal_of_trailer, refusal_of_end, refusal_to_stop, refusal_to_open, refusal_of_goaway}
 use Rattle.h3_connection.specs.Sections.{written_section, own_instructions}
 use Rattle.h3_connection.specs.Pulling.{is_client, is_interim}
 use Rattle.h3_connection.specs.Lasts.{last_id}
 use Rattle.h3_header.specs.Head.{Head, head_fields}
-use Rattle.h3_connection.specs.OwnIds.{control_id, encoder_id, decoder_id, other}
+use Rattle.h3_connection.specs.OwnIds.{control_id, encoder_id, decoder_id}
 use Rattle.h3_proto.specs.declared.stream.Side.{Side}
 use Rattle.h3_proto.specs.declared.stream.Side.TheVariants.{Client, Server}
 use Rattle.h3_connection.specs.declared.event.Refusal.{Refusal}
@@ -58,24 +58,27 @@ outgoing_at e id = unwrap_or (stream_at e.outgoing id) nothing_sent
 abbrev pub is_open : EndpointHistory → ℕ → Bool
 is_open e id = is_some (stream_at e.outgoing id)
 
--- the sender on a stream
+-- a stream as its sender sees it, and the sender on it
+abbrev pub seen_at : EndpointHistory → ℕ → SenderStream
+seen_at e id = seen (is_open e id) (outgoing_at e id)
+
 abbrev pub sender_at : EndpointHistory → ℕ → Sender
-sender_at e id = record { side = e.side; is_open = is_open e id; outgoing = outgoing_at e id; settings = e.peer.settings }
+sender_at e id = record { side = e.side; stream = seen_at e id; settings = e.peer.settings }
 
 abbrev pub head_refusal : EndpointHistory → ℕ → Head → Option Refusal
 head_refusal e id head =
-    unless_closed e (refusal_of_head (sender_at e id) (broken_head e.side e.announced e.peer.settings (head_fields head)) head)
+    unless_closed e (refusal_of_head (sender_at e id) (broken_head e.side e.announced e.peer.settings (head_fields head)) head (head_fields head))
 
 -- a body of so many bytes
 abbrev pub body_refusal : EndpointHistory → ℕ → ℕ → Option Refusal
-body_refusal e id size = unless_closed e (refusal_of_body (sender_at e id) (passes_content (outgoing_at e id).content size))
+body_refusal e id size = unless_closed e (refusal_of_body (seen_at e id) (passes_content (outgoing_at e id).content size))
 
 abbrev pub trailer_refusal : EndpointHistory → ℕ → Head → Option Refusal
 trailer_refusal e id head =
-    unless_closed e (refusal_of_trailer (sender_at e id) (early_trailer (outgoing_at e id).content) (broken_trailer e.announced (head_fields head)) head)
+    unless_closed e (refusal_of_trailer (sender_at e id) (early_trailer (outgoing_at e id).content) (broken_trailer e.announced (head_fields head)) head (head_fields head))
 
 abbrev pub finish_refusal : EndpointHistory → ℕ → Option Refusal
-finish_refusal e id = unless_closed e (refusal_of_end (sender_at e id) (not (may_end (outgoing_at e id).content)))
+finish_refusal e id = unless_closed e (refusal_of_end (seen_at e id) (not (may_end (outgoing_at e id).content)))
 
 abbrev pub with_outgoing : EndpointHistory → ℕ → Outgoing → EndpointHistory
 with_outgoing e id o = record e { outgoing = set_stream e.outgoing id o }

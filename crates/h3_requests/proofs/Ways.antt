@@ -10,6 +10,7 @@ use Rattle.h3_blocked.specs.Counting.{waits_at}
 use Rattle.h3_blocked.specs.Sums.{TakesOut}
 use Rattle.h3_connection.specs.Calls.{Sets}
 use Rattle.h3_connection.specs.Incoming.{Incoming}
+use Rattle.h3_connection.specs.Refusals.{or_later}
 use Rattle.h3_connection.specs.State.{OutgoingState, RequestState, kept_at}
 use Rattle.h3_connection.specs.StreamSets.{Streams}
 use Rattle.h3_connection.specs.WaitingPieces.{bytes_of, without_front}
@@ -22,7 +23,7 @@ use Rattle.h3_requests.specs.Marks.{HaveSameMarks, IsOneMark}
 use Rattle.h3_requests.specs.Over.{AddsWays, AreAlike, AreMarked, HasWays, IsOver, IsPaired, IsWay, codeless, ended_way, over_in, over_so, reset_with, way_at, with_end_taken, without_code, ReceivesAlike, SendsAlike}
 use Rattle.h3_requests.specs.declared.over.Way.{Way}
 use Rattle.h3_connection.specs.declared.event.StreamFault.TheVariants.{Reset}
-use Rattle.h3_requests.specs.Refused.{or_later, too_much_at, refused_over, head_refused_at, body_refused_at, end_refused_at, reset_refused_at, cancel_refused_at}
+use Rattle.h3_requests.specs.Refused.{refused_over, head_refused_at, body_refused_at, data_refused_at, end_refused_at, reset_refused_at, cancel_refused_at}
 use Rattle.h3_requests.proofs.Found.{few, found, sets, takes_out}
 use Rattle.h3_requests.proofs.Listed as listed
 
@@ -509,7 +510,7 @@ refused_trailer None later h = refl
 refused_trailer (Some r) later h = rw (over_takes_body r h) refl
 
 -- or a body by its size
-pub refused_data : (o : Option RequestState) (size : ℕ) → IfSome o IsOver → Some (refused_over o refusal.OutOfOrder) ≡ or_later (body_refused_at o) (too_much_at o size)
+pub refused_data : (o : Option RequestState) (size : ℕ) → IfSome o IsOver → Some (refused_over o refusal.OutOfOrder) ≡ data_refused_at o size
 refused_data None size h = refl
 refused_data (Some r) size h = rw (over_takes_body r h) refl
 

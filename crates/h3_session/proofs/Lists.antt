@@ -11,7 +11,7 @@ use Rattle.h3_connection.specs.Endpoint.{EndpointHistory}
 use Rattle.h3_connection.specs.OwnIds.{other}
 use Rattle.h3_connection.specs.Pulling.{is_for, is_interim}
 use Rattle.h3_connection.specs.Outgoing.{takes_head, takes_body}
-use Rattle.h3_connection.specs.Refusals.{first_of, is_too_large}
+use Rattle.h3_connection.specs.Refusals.{first_of, is_too_large, wrong_side}
 use Rattle.h3_connection.specs.Sending.{does, closed_or, is_open, outgoing_at}
 use Rattle.h3_connection.specs.SendingContracts.{MayLackMemory, SendsSection}
 use Rattle.h3_connection.specs.State.{EndpointState, RequestState, StandsFor, kept_at}
@@ -21,7 +21,7 @@ use Rattle.h3_connection.specs.declared.event.Refusal.{Refusal}
 use Rattle.h3_connection.specs.declared.event.Refusal.TheVariants as refusal
 use Rattle.h3_connection.specs.declared.place.SendPlace.{SendPlace}
 use Rattle.h3_connection.specs.declared.place.SendPlace.TheVariants.{NothingSent, HeadSent}
-use Rattle.h3_requests.specs.Refused.{refused_if, head_refused_at, body_refused_at}
+use Rattle.h3_requests.specs.Refused.{head_refused_at, body_refused_at, seen_in}
 use Rattle.h3_session.specs.JudgedLists.{head_list_error, trailer_list_error, IsHeadAt, IsTrailer}
 use Rattle.h3_session.specs.Refused.{side_refused, pseudo_refused}
 use Rattle.h3_session.specs.SendingLists.{SendsList, SendsFieldList, SendsTrailerList, SendsListedHead, SendsListedTrailer, IsReadable, MayLackSize, MayLackMap, as_error, error_after, error_of, list_told, malformed, no_memory, order_refusal, place_refusal, send_fields, send_trailer_fields, send_read_head, send_read_trailer, send_listed_head, send_listed_trailer, listed_head_refusal, listed_trailer_refusal, after_head, after_trailer}
@@ -151,17 +151,16 @@ module _ (act : EndpointHistory → Option FieldsError × EndpointHistory) (own 
           refuses act s id fields later (λ e stands. begins.told differs e stands (is e stands)) differs
 
 -- a list in the place of a head
-not_memory_at : (b : Bool) → refused_if b refusal.OutOfOrder ≢ Some refusal.OutOfMemory
-not_memory_at true is = absurd (cc)
-not_memory_at false is = absurd (cc)
+not_memory_at : (a b : Bool) → first_of ((a, refusal.NotOpen) ∷ (b, refusal.OutOfOrder) ∷ []) ≢ Some refusal.OutOfMemory
+not_memory_at true b is = absurd (cc)
+not_memory_at false true is = absurd (cc)
+not_memory_at false false is = absurd (cc)
 
 head_not_memory : (there : Option RequestState) → head_refused_at there ≢ Some refusal.OutOfMemory
-head_not_memory None is = absurd (cc)
-head_not_memory (Some r) is = not_memory_at (not (sent.takes_head r.outgoing)) is
+head_not_memory there is = let v = seen_in there in not_memory_at (not v.is_open) (not v.takes_head) is
 
 body_not_memory : (there : Option RequestState) → body_refused_at there ≢ Some refusal.OutOfMemory
-body_not_memory None is = absurd (cc)
-body_not_memory (Some r) is = not_memory_at (not (sent.takes_body r.outgoing)) is
+body_not_memory there is = let v = seen_in there in not_memory_at (not v.is_open) (not v.takes_body) is
 
 -- the stream's refusal is told as it is
 plain_first : (closed : Option ℕ) (a b : Bool) (x : Refusal) → closed_or closed (if a then Some refusal.NotOpen else (if b then Some refusal.OutOfOrder else None)) ≡ Some x → error_of x ≡ error.Refused x
@@ -192,11 +191,11 @@ may_behind_early true p early broken b size may = may
 may_behind_early false p (Some why) broken b size may = tt
 may_behind_early false p None broken b size may = may_last broken b size
 
-behind_rule : (a : Bool) (p : Refusal) (rest : Option Refusal) (later : FieldsError) → option_map error.Refused (refused_if a p) ≡ Some later → (if a then Some p else rest) ≡ Some p
+behind_rule : (a : Bool) (p : Refusal) (rest : Option Refusal) (later : FieldsError) → option_map error.Refused (first_of ((a, p) ∷ [])) ≡ Some later → (if a then Some p else rest) ≡ Some p
 behind_rule true p rest later is = refl
 behind_rule false p rest later is = absurd (cc)
 
-refused_later : (a : Bool) (p : Refusal) (later : FieldsError) → option_map error.Refused (refused_if a p) ≡ Some later → error.Refused p ≡ later
+refused_later : (a : Bool) (p : Refusal) (later : FieldsError) → option_map error.Refused (first_of ((a, p) ∷ [])) ≡ Some later → error.Refused p ≡ later
 refused_later true p later is = let same : error.Refused p ≡ later = cc in same
 refused_later false p later is = absurd (cc)
 
@@ -219,7 +218,7 @@ module _ (s : EndpointState) (id : ℕ) (fields : List Field) where
       record {
         first = head_first (IsHead head);
         told = λ differs e stands is.
-            let here : option_map error.Refused (refused_if (not (is_for (other e.side) head)) refusal.WrongSide) ≡ Some later
+            let here : option_map error.Refused (first_of (wrong_side e.side head ∷ [])) ≡ Some later
             = subst (λ side. option_map error.Refused (side_refused side head) ≡ Some later) stands.side (errs differs) in
             ap (λ o. as_error (does o e (after_head e id head fields)))
             (head_behind e head is ∙ behind_rule (not (is_for (other e.side) head)) refusal.WrongSide (judged_last (broken_head e.side e.announced e.peer.settings fields) (is_too_large e.peer.settings fields) (section_size fields)) later here)

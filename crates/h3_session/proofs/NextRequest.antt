@@ -1,15 +1,17 @@
 -- The request that is opened next is known by what is stored.
 use Rattle.std.proofs.Common.{◌≡◌, ◌≤◌, ◌^◌, ◌∙◌, ℕ, Bool, true, false, if◌then◌else◌, ap}
-use Rattle.std.specs.Prelude.{nat_le, Option, Some, None, Ok, Err}
+use Rattle.std.specs.Prelude.{nat_le, not, Option, Some, None, Ok, Err}
 use Rattle.std.proofs.lemmas.Bool.{le-leb}
-use Rattle.h3_connection.specs.Calls.{after_goaway, by_side, open_refused, unless_closed}
 use Rattle.h3_connection.specs.Lasts.{last_id}
-use Rattle.h3_connection.specs.Sending.{open_refusal}
+use Rattle.h3_connection.specs.Pulling.{is_client}
+use Rattle.h3_connection.specs.Refusals.{going_away}
+use Rattle.h3_connection.specs.Sending.{closed_or, open_refusal}
 use Rattle.h3_connection.specs.State.{EndpointState}
 use Rattle.h3_connection.specs.declared.event.Refusal.{Refusal}
 use Rattle.h3_connection.specs.declared.event.Refusal.TheVariants as refusal
 use Rattle.h3_proto.specs.declared.stream.Side.{Side}
 use Rattle.h3_proto.specs.declared.stream.Side.TheVariants.{Client, Server}
+use Rattle.h3_session.specs.Refused.{open_refused}
 use Rattle.h3_session.specs.NextRequest.{ShowsNextRequest, id_unless}
 use Rattle.h3_session.proofs.SendingRefusals.{open_refusal_is}
 
@@ -24,7 +26,7 @@ shows_id s id is same = λ e h. ap Ok same ∙ shows s None is e h
 
 -- an id past the last one is refused before
 used_up : (closed : Option ℕ) (side : Side) (last : Option ℕ) (later : Bool) → later ≡ true
-    → None ≡ unless_closed closed (by_side side (after_goaway last (if later then Some refusal.IdsUsedUp else None))) → ⊥
+    → None ≡ closed_or closed (if not (is_client side) then Some refusal.NotClient else going_away last (if later then Some refusal.IdsUsedUp else None)) → ⊥
 used_up (Some code) side last true far is = absurd (cc)
 used_up None Server last true far is = absurd (cc)
 used_up None Client (Some id) true far is = absurd (cc)

@@ -1,10 +1,11 @@
 -- A cancellation by what is stored is that of every history that this stands for.
-use Rattle.std.proofs.Common.{◌≡◌, ℕ, Bool, true, false, if◌then◌else◌, List, Option, Some, None, refl, ap, sym, subst, ◌∙◌}
-use Rattle.std.specs.Prelude.{◌≢◌, OnOk, OnErr, IfErr, Result, IsSome, not, ◌||◌, is_some, unwrap_or, Ok, Err}
+use Rattle.std.proofs.Common.{◌≡◌, ℕ, Bool, true, false, List, [], ◌∷◌, Option, Some, None, refl, ap, sym, subst, ◌∙◌}
+use Rattle.std.specs.Prelude.{◌≢◌, OnOk, OnErr, IfErr, Result, IsSome, ◌||◌, is_some, unwrap_or, Ok, Err}
 use Rattle.h3_connection.specs.Calls.{IsSame, AllSame}
 use Rattle.h3_connection.specs.Delivering.{give_up, given_up_once, cancellation, incoming_at, with_incoming}
 use Rattle.h3_connection.specs.Endpoint.{EndpointHistory, is_critical_id}
 use Rattle.h3_connection.specs.Incoming.{nothing_came}
+use Rattle.h3_connection.specs.Refusals.{first_of, needed, refusal_to_stop, stopped}
 use Rattle.h3_connection.specs.Sending.{closed_or, cancel_refusal, cancel, does}
 use Rattle.h3_connection.specs.SendingContracts.{Cancels}
 use Rattle.h3_connection.specs.StandsLaws.{stands_receiving}
@@ -13,7 +14,7 @@ use Rattle.h3_connection.specs.StreamSets.{Streams, stream_at}
 use Rattle.h3_connection.specs.declared.event.Refusal.{Refusal}
 use Rattle.h3_connection.specs.declared.event.Refusal.TheVariants as refusal
 use Rattle.h3_connection.specs.declared.event.StreamFault.TheVariants as stream_fault
-use Rattle.h3_requests.specs.Refused.{or_later, refused_if, cancel_refused_at}
+use Rattle.h3_requests.specs.Refused.{cancel_refused_at, is_settled_in}
 use Rattle.h3_streams.specs.PlacedLaws.{critical_stands}
 use Rattle.h3_session.specs.Canceling.{cancel_refused, CancelsAt}
 use Rattle.h3_session.proofs.Opened.{stands_same, stands_replied, some_there, none_there}
@@ -21,22 +22,22 @@ use Rattle.h3_session.specs.Changes.{ChangesRequests}
 use Rattle.h3_session.specs.Refused.{streams_of, is_critical_in, critical_refused}
 use Rattle.h3_session.proofs.SendingRefusals.{critical_first, critical_left}
 
-first : (b : Bool) (r : Refusal) (rest : Option Refusal) → or_later (refused_if b r) rest ≡ (if b then Some r else rest)
-first true r rest = refl
-first false r rest = refl
-
-refused_there : (s : EndpointState) (e : EndpointHistory) (id : ℕ) (at : Option RequestState) → StandsFor s e → kept_at s.requests id ≡ at
-    → cancel_refused_at at ≡ (if not (is_some (stream_at e.incoming id)) then Some refusal.NotOpen else (if (incoming_at e id).is_over || is_some (incoming_at e id).fault then Some refusal.Ended else None))
-refused_there s e id None h was = rw (none_there s e id h was) refl
-refused_there s e id (Some r) h was = rw (some_there s e id r h was) refl
+refused_there : (s : EndpointState) (e : EndpointHistory) (id : ℕ) (at : Option RequestState) (critical : Bool) → StandsFor s e → kept_at s.requests id ≡ at
+    → refusal_to_stop critical (is_some at) (is_settled_in at) ≡ refusal_to_stop critical (is_some (stream_at e.incoming id)) ((incoming_at e id).is_over || is_some (incoming_at e id).fault)
+refused_there s e id None critical h was = rw (none_there s e id h was) refl
+refused_there s e id (Some r) critical h was = rw (some_there s e id r h was) refl
 
 pub cancel_refusal_is : (s : EndpointState) (e : EndpointHistory) (id : ℕ) → StandsFor s e → cancel_refused s id ≡ cancel_refusal e id
 cancel_refusal_is s e id h =
     let critical : is_critical_in s id ≡ is_critical_id e id = critical_stands s (streams_of s) e s.side id (is_critical_in s id) refl h (sym h.side) in
-    ap (λ c. closed_or c (or_later (refused_if (is_critical_in s id) refusal.Critical) (cancel_refused_at (kept_at s.requests id)))) h.closed
-    ∙ ap (λ b. closed_or e.closed (or_later (refused_if b refusal.Critical) (cancel_refused_at (kept_at s.requests id)))) critical
-    ∙ ap (closed_or e.closed) (first (is_critical_id e id) refusal.Critical (cancel_refused_at (kept_at s.requests id))
-    ∙ ap (λ o. if is_critical_id e id then Some refusal.Critical else o) (refused_there s e id (kept_at s.requests id) h refl))
+    let there = kept_at s.requests id in
+    ap (λ c. closed_or c (refusal_to_stop (is_critical_in s id) (is_some there) (is_settled_in there))) h.closed
+    ∙ ap (λ b. closed_or e.closed (refusal_to_stop b (is_some there) (is_settled_in there))) critical
+    ∙ ap (closed_or e.closed) (refused_there s e id there (is_critical_id e id) h refl)
+
+-- what refuses it behind what is asked of the connection
+abbrev cancel_rules : EndpointState → ℕ → List (Bool × Refusal)
+cancel_rules s id = stopped (is_some (kept_at s.requests id)) (is_settled_in (kept_at s.requests id))
 
 -- what is not refused is there
 there_by : (at : Option RequestState) → cancel_refused_at at ≡ None → is_some at ≡ true
@@ -44,12 +45,12 @@ there_by None h = cc
 there_by (Some r) h = refl
 
 -- no rule refuses it memory
-critical_takes_none : (closed : Option ℕ) (b : Bool) (r : Refusal) → closed_or closed (refused_if b refusal.Critical) ≡ Some r → r ≢ refusal.OutOfMemory
+critical_takes_none : (closed : Option ℕ) (b : Bool) (r : Refusal) → closed_or closed (first_of (needed b ∷ [])) ≡ Some r → r ≢ refusal.OutOfMemory
 critical_takes_none (Some code) b r is memory = cc
 critical_takes_none None true r is memory = cc
 critical_takes_none None false r is memory = absurd (cc)
 
-ended_takes_none : (b : Bool) (r : Refusal) → refused_if b refusal.Ended ≡ Some r → r ≢ refusal.OutOfMemory
+ended_takes_none : (b : Bool) (r : Refusal) → first_of ((b, refusal.Ended) ∷ []) ≡ Some r → r ≢ refusal.OutOfMemory
 ended_takes_none true r is memory = cc
 ended_takes_none false r is memory = absurd (cc)
 
@@ -145,7 +146,7 @@ canceled s new id there h rest does = record {
 
 pub cancel_critical : (s : EndpointState) (id : ℕ) (r : Refusal) → critical_refused s id ≡ Some r → Cancels s s id (Err r)
 cancel_critical s id r is =
-    let rule : cancel_refused s id ≡ Some r = critical_first s.closed (is_critical_in s id) (cancel_refused_at (kept_at s.requests id)) r is in
+    let rule : cancel_refused s id ≡ Some r = critical_first s.closed (is_critical_in s id) (cancel_rules s id) r is in
     cancel_was_refused s id r (critical_takes_none s.closed (is_critical_in s id) r is) (λ e h. sym rule ∙ cancel_refusal_is s e id h)
 
 -- the same, where nothing that is found has changed
@@ -174,7 +175,7 @@ pub cancels : (s n : EndpointState) (id : ℕ) (result : Result Unit Refusal) �
 cancels s n id result allowed rest = by result
   where
     left : cancel_refused s id ≡ cancel_refused_at (kept_at s.requests id)
-    left = critical_left s.closed (is_critical_in s id) (cancel_refused_at (kept_at s.requests id)) allowed
+    left = critical_left s.closed (is_critical_in s id) (cancel_rules s id) allowed
 
     by : (result : Result Unit Refusal) → OnOk result (CancelsAt s.requests n.requests s.own.decoder n.own.decoder id (kept_at s.requests id)) → OnOk result (cancel_refused_at (kept_at s.requests id) ≡ None)
         → IfErr result (λ r. r ≡ unwrap_or (cancel_refused_at (kept_at s.requests id)) refusal.OutOfMemory)

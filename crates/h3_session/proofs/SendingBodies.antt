@@ -6,15 +6,17 @@ use Rattle.h3_outgoing.specs.Sent as sent
 use Rattle.h3_connection.specs.Calls.{Sets, AllSame}
 use Rattle.h3_connection.specs.Endpoint.{EndpointHistory}
 use Rattle.h3_connection.specs.Outgoing.{OwnBody, with_body}
+use Rattle.h3_connection.specs.Refusals.{first_of, wrong_length}
 use Rattle.h3_connection.specs.Sending.{closed_or, counted, outgoing_at, sent_bytes, body_refusal, send_body}
 use Rattle.h3_connection.specs.SendingContracts.{SendsBody}
 use Rattle.h3_connection.specs.StandsLaws.{stands_sending}
 use Rattle.h3_connection.specs.State.{EndpointState, RequestState, StandsFor, kept_at}
 use Rattle.h3_connection.specs.StreamSets.{Streams}
+use Rattle.h3_connection.specs.StrictSending.{passes_content}
 use Rattle.h3_connection.specs.declared.event.Refusal.{Refusal}
 use Rattle.h3_connection.specs.declared.event.Refusal.TheVariants as refusal
 use Rattle.h3_session.proofs.Opened.{stands_same}
-use Rattle.h3_requests.specs.Refused.{or_later, refused_if, body_refused_at, too_much_at}
+use Rattle.h3_requests.specs.Refused.{data_refused_at}
 use Rattle.h3_session.specs.Refused.{body_refused}
 use Rattle.h3_session.proofs.Parts.{in_body, body_stays}
 use Rattle.h3_session.proofs.SendingCalls.{sender_of, refuses, acts, alike, lacks, all_same}
@@ -26,22 +28,14 @@ abbrev pub TakesBody : Option RequestState → Type 0
 TakesBody None = ⊥
 TakesBody (Some r) = sent.takes_body r.outgoing ≡ true
 
-not_refused : (b : Bool) (r : Refusal) → refused_if (not b) r ≡ None → b ≡ true
-not_refused true r h = refl
-not_refused false r h = absurd (cc)
+not_refused : (b : Bool) (r : Refusal) (rules : List (Bool × Refusal)) → first_of ((not b, r) ∷ rules) ≡ None → b ≡ true
+not_refused true r rules h = refl
+not_refused false r rules h = absurd (cc)
 
-pub order_allowed : (closed : Option ℕ) (there : Option RequestState) → closed_or closed (body_refused_at there) ≡ None → TakesBody there
-order_allowed (Some code) there h = absurd (cc)
-order_allowed None None h = absurd (cc)
-order_allowed None (Some r) h = not_refused (sent.takes_body r.outgoing) refusal.OutOfOrder h
-
-first_passed : (o later : Option Refusal) → or_later o later ≡ None → o ≡ None
-first_passed None later h = refl
-first_passed (Some r) later h = absurd (cc)
-
-pub body_allowed : (closed : Option ℕ) (there : Option RequestState) (later : Option Refusal) → closed_or closed (or_later (body_refused_at there) later) ≡ None → TakesBody there
-body_allowed (Some code) there later h = absurd (cc)
-body_allowed None there later h = order_allowed None there (first_passed (body_refused_at there) later h)
+body_allowed : (closed : Option ℕ) (there : Option RequestState) (size : ℕ) → closed_or closed (data_refused_at there size) ≡ None → TakesBody there
+body_allowed (Some code) there size h = absurd (cc)
+body_allowed None None size h = absurd (cc)
+body_allowed None (Some r) size h = not_refused (sent.takes_body r.outgoing) refusal.OutOfOrder (wrong_length (passes_content r.outgoing.content size) ∷ []) h
 
 -- a body behind the parts of a stream
 stands_with : (s : EndpointState) (new : Streams RequestState) (id : ℕ) (bytes : List ℕ) (there : Option RequestState) → kept_at s.requests id ≡ there → TakesBody there
@@ -82,7 +76,7 @@ body_refused_by s id bytes None is = body_lacks s id bytes is
 
 -- what refuses it on its stream
 abbrev data_refused : EndpointState → ℕ → List ℕ → Option Refusal
-data_refused s id bytes = or_later (body_refused_at (kept_at s.requests id)) (too_much_at (kept_at s.requests id) (length bytes))
+data_refused s id bytes = data_refused_at (kept_at s.requests id) (length bytes)
 
 still_open : (s : EndpointState) (id : ℕ) (bytes : List ℕ) → s.closed ≡ None → body_refused s id (length bytes) ≡ data_refused s id bytes
 still_open s id bytes closed = ap (λ c. closed_or c (data_refused s id bytes)) closed
@@ -91,9 +85,9 @@ pub body_closed : (s : EndpointState) (id : ℕ) (bytes : List ℕ) (code : ℕ)
 body_closed s id bytes code closed = body_refuses s id bytes (refusal.Closed code) (ap (λ c. closed_or c (data_refused s id bytes)) closed)
 
 pub body_uncounted : (s : EndpointState) (id : ℕ) (bytes : List ℕ) (size : ℕ) (r : Refusal) → s.closed ≡ None → size ≡ length bytes
-    → r ≡ unwrap_or (or_later (body_refused_at (kept_at s.requests id)) (too_much_at (kept_at s.requests id) size)) refusal.OutOfMemory → SendsBody s s id bytes (Err (r, bytes))
+    → r ≡ unwrap_or (data_refused_at (kept_at s.requests id) size) refusal.OutOfMemory → SendsBody s s id bytes (Err (r, bytes))
 body_uncounted s id bytes size r closed same is =
-    let so : r ≡ unwrap_or (data_refused s id bytes) refusal.OutOfMemory = is ∙ ap (λ n. unwrap_or (or_later (body_refused_at (kept_at s.requests id)) (too_much_at (kept_at s.requests id) n)) refusal.OutOfMemory) same in
+    let so : r ≡ unwrap_or (data_refused s id bytes) refusal.OutOfMemory = is ∙ ap (λ n. unwrap_or (data_refused_at (kept_at s.requests id) n) refusal.OutOfMemory) same in
     subst (λ r. SendsBody s s id bytes (Err (r, bytes))) (sym so) (body_refused_by s id bytes (data_refused s id bytes) (still_open s id bytes closed))
 
 sends_here : (s : EndpointState) (new : Streams RequestState) (id : ℕ) (bytes : List ℕ) → IfSome (kept_at s.requests id) (λ r. Sets s.requests new id (record r { outgoing = sent.has_body r.outgoing bytes })) → body_refused s id (length bytes) ≡ None
@@ -102,7 +96,7 @@ sends_here s new id bytes sets is =
     record {
       sends = acts (λ e. body_refusal e id (length bytes)) (λ e. counted (sent_bytes e id bytes) (length bytes)) s (record s { requests = new; sent = s.sent + length bytes + 64 })
           (λ e h. sym (body_refusal_is s e id (length bytes) h) ∙ is)
-          (λ e h. counted_stands (record s { requests = new }) (sent_bytes e id bytes) (length bytes) (stands_with s new id bytes (kept_at s.requests id) refl (body_allowed s.closed (kept_at s.requests id) (too_much_at (kept_at s.requests id) (length bytes)) is) sets e h));
+          (λ e h. counted_stands (record s { requests = new }) (sent_bytes e id bytes) (length bytes) (stands_with s new id bytes (kept_at s.requests id) refl (body_allowed s.closed (kept_at s.requests id) (length bytes) is) sets e h));
       back = λ r again never. absurd (cc);
     }
 
@@ -119,8 +113,8 @@ sends_total s new id bytes total is sets sum = subst (λ n. SendsBody s (record 
 pub sends_body : (s n : EndpointState) (id : ℕ) (bytes : List ℕ) (total : ℕ) (result : Result Unit (Refusal × List ℕ)) → s.closed ≡ None → total ≡ s.sent + length bytes + 64
     → OnOk result (n ≡ record s { requests = n.requests; sent = total }) → OnErr result (n ≡ record s { requests = n.requests })
     → OnOk result (IfSome (kept_at s.requests id) (λ r. Sets s.requests n.requests id (record r { outgoing = sent.has_body r.outgoing bytes })))
-    → OnOk result (or_later (body_refused_at (kept_at s.requests id)) (too_much_at (kept_at s.requests id) (length bytes)) ≡ None)
-    → IfErr result (λ e. e.0 ≡ unwrap_or (or_later (body_refused_at (kept_at s.requests id)) (too_much_at (kept_at s.requests id) (length bytes))) refusal.OutOfMemory)
+    → OnOk result (data_refused_at (kept_at s.requests id) (length bytes) ≡ None)
+    → IfErr result (λ e. e.0 ≡ unwrap_or (data_refused_at (kept_at s.requests id) (length bytes)) refusal.OutOfMemory)
     → IfErr result (λ e. (e.1 ≡ bytes) × AllSame s.requests n.requests) → SendsBody s n id bytes result
 sends_body s n id bytes total (Ok done) closed sum rest same sets taken why back =
     subst (λ v. SendsBody s v id bytes (Ok tt)) (sym rest) (sends_total s n.requests id bytes total (still_open s id bytes closed ∙ taken) sets sum)

@@ -1,14 +1,15 @@
 -- What a call that sends does to what is stored is what its contract says.
-use Rattle.std.proofs.Common.{◌≡◌, ℕ, ◌+◌, Bool, true, false, [], ◌∷◌, ◌++◌, Option, Some, None, Ok, Err, refl, ap, sym, subst, ◌∙◌, inl, inr}
-use Rattle.std.specs.Prelude.{◌≢◌, IfSome, OnOk, OnErr, Result, option_map, unwrap_or}
+use Rattle.std.proofs.Common.{◌≡◌, ℕ, ◌+◌, Bool, true, false, List, [], ◌∷◌, ◌++◌, Option, Some, None, Ok, Err, refl, ap, sym, subst, ◌∙◌, inl, inr}
+use Rattle.std.specs.Prelude.{◌≢◌, IfSome, OnOk, OnErr, Result, is_some, option_map, unwrap_or}
 use Rattle.std.proofs.lemmas.Bool.{cases_eq}
 use Rattle.h3_outgoing.specs.HistoryLaws.{ended, cut_off}
-use Rattle.h3_outgoing.specs.Sent.{has_ended, was_cut_off}
+use Rattle.h3_outgoing.specs.Sent.{has_ended, is_sent_off, was_cut_off}
 use Rattle.h3_connection.specs.Answers.{call_refused}
-use Rattle.h3_connection.specs.Calls.{Sets, AllSame, SameRest, IsSame, fresh_request, open_refused}
+use Rattle.h3_connection.specs.Calls.{Sets, AllSame, SameRest, IsSame, fresh_request}
 use Rattle.h3_connection.specs.Delivering.{opened_at}
 use Rattle.h3_connection.specs.Endpoint.{EndpointHistory, goaway_encoding}
 use Rattle.h3_connection.specs.Outgoing.{Outgoing, nothing_sent, with_finish, with_reset}
+use Rattle.h3_connection.specs.Refusals.{refusal_to_stop, stopped}
 use Rattle.h3_connection.specs.Sending.{does, closed_or, outgoing_at, with_outgoing, open_refusal, finish_refusal, reset_refusal, goaway_refusal, finish, reset}
 use Rattle.h3_connection.specs.SendingContracts.{DoesOrRefuses, DoesAlways, Opens, Finishes, Resets, GoesAway}
 use Rattle.h3_connection.specs.StandsLaws.{stands_sending}
@@ -17,9 +18,9 @@ use Rattle.h3_connection.specs.StreamSets.{Streams, stream_at}
 use Rattle.h3_streams.specs.Placed.{StreamsState, placed}
 use Rattle.h3_connection.specs.declared.event.Refusal.{Refusal}
 use Rattle.h3_connection.specs.declared.event.Refusal.TheVariants as refusal
-use Rattle.h3_requests.specs.Refused.{or_later, refused_if, end_refused_at, reset_refused_at}
+use Rattle.h3_requests.specs.Refused.{end_refused_at, outgoing_in, reset_refused_at}
 use Rattle.h3_session.proofs.Opened.{stands_same}
-use Rattle.h3_session.specs.Refused.{streams_of, end_refused, is_critical_in, critical_refused, reset_refused, goaway_refused}
+use Rattle.h3_session.specs.Refused.{streams_of, end_refused, is_critical_in, critical_refused, reset_refused, goaway_refused, open_refused}
 use Rattle.h3_session.proofs.ReceivingCancel.{requests_same}
 use Rattle.h3_session.proofs.SendingRefusals.{open_refusal_is, end_refusal_is, reset_refusal_is, goaway_refusal_is, end_takes_none, reset_takes_none, goaway_takes_none, critical_first, critical_left}
 use Rattle.h3_session.proofs.SendingStands.{opened_stands, goaway_stands_for}
@@ -205,7 +206,7 @@ reset_refuses s id r is =
     always_refuses (λ e. reset_refusal e id) (λ e. with_outgoing e id (with_reset (outgoing_at e id))) s r
     (λ e h. sym (reset_refusal_is s e id h) ∙ is) (λ memory. reset_takes_none s id (is ∙ ap Some memory))
 
-reset_there : (closed : Option ℕ) (critical : Bool) (there : Option RequestState) → closed_or closed (or_later (refused_if critical refusal.Critical) (reset_refused_at there)) ≡ None → there ≢ None
+reset_there : (closed : Option ℕ) (critical : Bool) (there : Option RequestState) → closed_or closed (refusal_to_stop critical (is_some there) (is_sent_off (outgoing_in there))) ≡ None → there ≢ None
 reset_there (Some code) critical there is none = absurd (cc)
 reset_there None true there is none = absurd (cc)
 reset_there None false None is none = absurd (cc)
@@ -218,8 +219,12 @@ resets_here s new id sets is =
     (λ e h. sym (reset_refusal_is s e id h) ∙ is)
     (sends s new id was_cut_off with_reset (kept_at s.requests id) cut_off refl (reset_there s.closed (is_critical_in s id) (kept_at s.requests id) is) sets)
 
+-- what refuses it behind what is asked of the connection
+abbrev reset_rules : EndpointState → ℕ → List (Bool × Refusal)
+reset_rules s id = stopped (is_some (kept_at s.requests id)) (is_sent_off (outgoing_in (kept_at s.requests id)))
+
 pub reset_critical : (s : EndpointState) (id : ℕ) (r : Refusal) → critical_refused s id ≡ Some r → Resets s s id (Err r)
-reset_critical s id r is = reset_refuses s id r (critical_first s.closed (is_critical_in s id) (reset_refused_at (kept_at s.requests id)) r is)
+reset_critical s id r is = reset_refuses s id r (critical_first s.closed (is_critical_in s id) (reset_rules s id) r is)
 
 reset_here : (s : EndpointState) (new : Streams RequestState) (id : ℕ) (result : Result Unit Refusal) → reset_refused s id ≡ reset_refused_at (kept_at s.requests id)
     → OnOk result (IfSome (kept_at s.requests id) (λ r. Sets s.requests new id (record r { outgoing = was_cut_off r.outgoing })))
@@ -232,7 +237,7 @@ pub resets : (s n : EndpointState) (id : ℕ) (result : Result Unit Refusal) →
     → call_refused result ≡ reset_refused_at (kept_at s.requests id) → OnErr result (AllSame s.requests n.requests) → Resets s n id result
 resets s n id result allowed rest sets rule same =
     subst (λ v. Resets s v id result) (sym rest)
-    (reset_here s n.requests id result (critical_left s.closed (is_critical_in s id) (reset_refused_at (kept_at s.requests id)) allowed) sets rule same)
+    (reset_here s n.requests id result (critical_left s.closed (is_critical_in s id) (reset_rules s id) allowed) sets rule same)
 
 -- `goaway`
 goes_away_here : (s : EndpointState) (id : ℕ) → goaway_refused s id ≡ None

@@ -1,6 +1,6 @@
 -- What a head or trailer that is sent does to what is stored is what its contract says.
 use Rattle.std.proofs.Common.{◌≡◌, ℕ, Bool, true, false, if◌then◌else◌, List, [], ◌∷◌, ◌++◌, take, Option, Some, None, Result, Err, refl, ap, sym, subst, ◌∙◌}
-use Rattle.std.specs.Prelude.{◌≢◌, not, ◌&&◌, option_map, unwrap_or}
+use Rattle.std.specs.Prelude.{◌≢◌, not, ◌&&◌, unwrap_or}
 use Rattle.h3_field.specs.Field.{Field, section_size}
 use Rattle.h3_header.specs.Head.{Head}
 use Rattle.h3_outgoing.specs.Sent as sent
@@ -8,22 +8,21 @@ use Rattle.h3_connection.specs.Answers.{call_refused}
 use Rattle.h3_connection.specs.Calls.{IsSame, AllSame}
 use Rattle.h3_connection.specs.Endpoint.{EndpointHistory}
 use Rattle.h3_connection.specs.Outgoing.{OwnPart, OwnInterim, OwnHead, OwnTrailer, is_unsent}
-use Rattle.h3_connection.specs.OwnIds.{other}
-use Rattle.h3_connection.specs.Pulling.{is_for, is_interim}
+use Rattle.h3_connection.specs.Pulling.{is_interim}
 use Rattle.h3_connection.specs.Sections.{written_section, with_insertions}
-use Rattle.h3_connection.specs.Refusals.{is_too_large}
+use Rattle.h3_connection.specs.Refusals.{first_of, is_too_large, or_later}
 use Rattle.h3_connection.specs.Sending.{does, closed_or, appended, encoded, outgoing_at, fields_cost, counted, head_part}
 use Rattle.h3_connection.specs.SendingContracts.{CutsOff, MayLackMemory, SendsSection}
 use Rattle.h3_connection.specs.State.{EndpointState, RequestState, StandsFor, kept_at, place_of}
 use Rattle.h3_connection.specs.StreamSets.{Streams}
-use Rattle.h3_connection.specs.StrictSending.{broken_head, broken_trailer}
+use Rattle.h3_connection.specs.StrictSending.{broken_head, broken_trailer, unless_malformed}
 use Rattle.h3_connection.specs.declared.event.Malformation.{Malformation}
 use Rattle.h3_connection.specs.WaitingPieces.{piece_of, frame_piece}
 use Rattle.h3_connection.specs.declared.event.Refusal.{Refusal}
 use Rattle.h3_connection.specs.declared.event.Refusal.TheVariants as refusal
 use Rattle.h3_connection.specs.declared.place.SendPlace.{SendPlace}
 use Rattle.h3_connection.specs.declared.place.SendPlace.TheVariants.{NothingSent, HeadSent, TrailerSent}
-use Rattle.h3_requests.specs.Refused.{or_later, refused_if, head_refused_at, body_refused_at, early_trailer_at}
+use Rattle.h3_requests.specs.Refused.{head_refused_at, body_refused_at, early_trailer_at}
 use Rattle.h3_session.proofs.Opened.{stands_same}
 use Rattle.h3_session.specs.SendingLists.{SendsListedHead, SendsListedTrailer, after_head, after_trailer, listed_head_refusal, listed_trailer_refusal, send_listed_head, send_listed_trailer}
 use Rattle.h3_session.specs.Refused.{list_refused, refused_behind, broken_behind, side_refused, pseudo_refused, head_refused, trailer_refused}
@@ -36,7 +35,7 @@ use Rattle.h3_session.proofs.SendingRefusals.{head_refusal_is, trailer_refusal_i
 use Rattle.h3_session.proofs.SendingSections.{not_begun}
 
 -- A section by its rule, which ends in the size, and by the part that it is.
-lacks_by : (e f : EndpointHistory) (broken : Option Malformation) (b : Bool) (size : ℕ) → MayLackMemory (does (or_later (option_map refusal.Malformed broken) (refused_if b (refusal.TooLarge size))) e f).0
+lacks_by : (e f : EndpointHistory) (broken : Option Malformation) (b : Bool) (size : ℕ) → MayLackMemory (does (first_of (unless_malformed broken ((b, refusal.TooLarge size) ∷ []))) e f).0
 lacks_by e f (Some why) b size = tt
 lacks_by e f None true size = tt
 lacks_by e f None false size = tt
@@ -151,14 +150,14 @@ abbrev TakesHead : Option RequestState → Type 0
 TakesHead None = ⊥
 TakesHead (Some r) = sent.takes_head r.outgoing ≡ true
 
-not_first : (b : Bool) (r : Refusal) (rest : Option Refusal) → or_later (refused_if (not b) r) rest ≡ None → b ≡ true
+not_first : (b : Bool) (r : Refusal) (rest : Option Refusal) → or_later (first_of ((not b, r) ∷ [])) rest ≡ None → b ≡ true
 not_first true r rest h = refl
 not_first false r rest h = absurd (cc)
 
-head_allowed : (b : Bool) (closed : Option ℕ) (there : Option RequestState) → closed_or closed (or_later (head_refused_at there) (refused_if b refusal.WrongSide)) ≡ None → TakesHead there
-head_allowed b (Some code) there h = absurd (cc)
-head_allowed b None None h = absurd (cc)
-head_allowed b None (Some r) h = not_first (sent.takes_head r.outgoing) refusal.OutOfOrder (refused_if b refusal.WrongSide) h
+head_allowed : (later : Option Refusal) (closed : Option ℕ) (there : Option RequestState) → closed_or closed (or_later (head_refused_at there) later) ≡ None → TakesHead there
+head_allowed later (Some code) there h = absurd (cc)
+head_allowed later None None h = absurd (cc)
+head_allowed later None (Some r) h = not_first (sent.takes_head r.outgoing) refusal.OutOfOrder later h
 
 head_is : (s : EndpointState) (e : EndpointHistory) (id : ℕ) (head : Head) (fields : List Field) (there : Option RequestState) → StandsFor s e → kept_at s.requests id ≡ there → TakesHead there
     → IsPart e id fields (place_behind (is_interim head.status)) (head_part head (written_section e.encoder id fields))
@@ -190,7 +189,7 @@ head_sends old new id head given fields place result none are at h =
     let sent_here : SendsFields (asking id fields) old new id fields (place_behind (is_interim head.status)) (call_refused result)
     = subst (λ p. SendsFields (asking id fields) old new id fields p (call_refused result)) at (subst (λ fs. SendsFields (asking id fs) old new id fs place (call_refused result)) are h) in
     section_sends (λ e. listed_head_refusal e id head fields) (λ e. after_head e id head fields) old id fields (broken_head old.side old.announced old.peer.settings fields) (asking id fields) new (place_behind (is_interim head.status)) (call_refused result) (λ e. head_part head (written_section e.encoder id fields))
-    (head_rule old id head fields none) (λ e stands. head_is old e id head fields (kept_at old.requests id) stands refl (head_allowed (not (is_for (other old.side) head)) old.closed (kept_at old.requests id) none)) (λ e. refl)
+    (head_rule old id head fields none) (λ e stands. head_is old e id head fields (kept_at old.requests id) stands refl (head_allowed (side_refused old.side head) old.closed (kept_at old.requests id) none)) (λ e. refl)
     (behind_head (is_interim head.status) old fields) sent_here
 
 head_open : (s : EndpointState) (id : ℕ) (head : Head) → s.closed ≡ None → head_refused s id head ≡ or_later (head_refused_at (kept_at s.requests id)) (side_refused s.side head)

@@ -1,22 +1,20 @@
 -- Lists of fields that go out as they are, in their order: what each reads as says whether it may go, as of a head or trailer (RFC 9114,
 -- sections 4.1 to 4.3).
-use Rattle.std.specs.Prelude.{◌≡◌, ◌≢◌, ℕ, ◌≤◌, not, List, [], ◌∷◌, length, Option, Some, None, option_map, Result, Ok, Err}
-use Rattle.h3_field.specs.Field.{Field, section_size}
-use Rattle.h3_header.specs.Head.{Head, has_pseudo}
+use Rattle.std.specs.Prelude.{◌≡◌, ◌≢◌, ℕ, ◌≤◌, List, [], length, Option, Some, None, option_map, Result, Ok, Err}
+use Rattle.h3_field.specs.Field.{Field}
+use Rattle.h3_header.specs.Head.{Head}
 use Rattle.h3_header.specs.HeadRead.{HeadRead, HeadRefusal, IsHead, IsNone, head_of}
 use Rattle.h3_connection.specs.Answers.{call_refused}
 use Rattle.h3_connection.specs.Calls.{IsSame}
 use Rattle.h3_connection.specs.Endpoint.{EndpointHistory}
-use Rattle.h3_connection.specs.Outgoing.{takes_head, takes_body}
 use Rattle.h3_connection.specs.Outgoing.OwnPart.{OwnTrailer}
-use Rattle.h3_connection.specs.OwnIds.{other}
-use Rattle.h3_connection.specs.Pulling.{is_for, malformation_of}
+use Rattle.h3_connection.specs.Pulling.{malformation_of}
 use Rattle.h3_connection.specs.Sections.{written_section}
-use Rattle.h3_connection.specs.Refusals.{first_of, is_too_large}
-use Rattle.h3_connection.specs.Sending.{does, unless_closed, is_open, outgoing_at, appended, asked, counted, encoded, fields_cost, head_part}
+use Rattle.h3_connection.specs.Refusals.{first_of, not_next, refusal_of_head, refusal_of_trailer}
+use Rattle.h3_connection.specs.Sending.{does, unless_closed, outgoing_at, seen_at, sender_at, appended, asked, counted, encoded, fields_cost, head_part}
 use Rattle.h3_connection.specs.SendingContracts.{CutsOff, MayLackMemory, SendsSection}
 use Rattle.h3_connection.specs.State.{EndpointState, StandsFor}
-use Rattle.h3_connection.specs.StrictSending.{broken_head, broken_trailer, early_trailer, unless_malformed}
+use Rattle.h3_connection.specs.StrictSending.{broken_head, broken_trailer, early_trailer}
 use Rattle.h3_connection.specs.declared.event.Refusal.{Refusal}
 use Rattle.h3_connection.specs.declared.event.Refusal.TheVariants as refusal
 use Rattle.h3_session.specs.declared.endpoint.lists.FieldsError.{FieldsError}
@@ -24,12 +22,7 @@ use Rattle.h3_session.specs.declared.endpoint.lists.FieldsError.TheVariants as e
 
 -- A head that is sent as this list: as `send_head`, which sends `head_fields`.
 abbrev pub listed_head_refusal : EndpointHistory → ℕ → Head → List Field → Option Refusal
-listed_head_refusal e id head fields = unless_closed e (first_of (
-    (not (is_open e id), refusal.NotOpen) ∷
-    (not (takes_head (outgoing_at e id)), refusal.OutOfOrder) ∷
-    (not (is_for (other e.side) head), refusal.WrongSide) ∷
-    unless_malformed (broken_head e.side e.announced e.peer.settings fields) (
-    (is_too_large e.peer.settings fields, refusal.TooLarge (section_size fields)) ∷ [])))
+listed_head_refusal e id head fields = unless_closed e (refusal_of_head (sender_at e id) (broken_head e.side e.announced e.peer.settings fields) head fields)
 
 abbrev pub after_head : EndpointHistory → ℕ → Head → List Field → EndpointHistory
 after_head e id head fields = asked (counted (appended (encoded e id fields) id (head_part head (written_section e.encoder id fields))) (fields_cost fields)) id fields
@@ -39,12 +32,8 @@ send_listed_head e id head fields = does (listed_head_refusal e id head fields) 
 
 -- A trailer that is sent as this list: as `send_trailer`.
 abbrev pub listed_trailer_refusal : EndpointHistory → ℕ → Head → List Field → Option Refusal
-listed_trailer_refusal e id trailer fields = unless_closed e (first_of (
-    (not (is_open e id), refusal.NotOpen) ∷
-    (not (takes_body (outgoing_at e id)), refusal.OutOfOrder) ∷
-    (has_pseudo trailer, refusal.PseudoInTrailer) ∷
-    unless_malformed (early_trailer (outgoing_at e id).content) (unless_malformed (broken_trailer e.announced fields) (
-    (is_too_large e.peer.settings fields, refusal.TooLarge (section_size fields)) ∷ []))))
+listed_trailer_refusal e id trailer fields =
+    unless_closed e (refusal_of_trailer (sender_at e id) (early_trailer (outgoing_at e id).content) (broken_trailer e.announced fields) trailer fields)
 
 abbrev pub after_trailer : EndpointHistory → ℕ → List Field → EndpointHistory
 after_trailer e id fields = counted (appended (encoded e id fields) id (OwnTrailer (written_section e.encoder id fields))) (fields_cost fields)
@@ -60,15 +49,11 @@ SendsListedTrailer old new id trailer fields result = SendsSection (λ e. send_l
 
 -- Why a stream takes no head now, whatever is in it.
 abbrev pub place_refusal : EndpointHistory → ℕ → Option Refusal
-place_refusal e id = unless_closed e (first_of (
-    (not (is_open e id), refusal.NotOpen) ∷
-    (not (takes_head (outgoing_at e id)), refusal.OutOfOrder) ∷ []))
+place_refusal e id = unless_closed e (first_of (not_next (seen_at e id) (seen_at e id).takes_head []))
 
 -- Why it takes no trailer.
 abbrev pub order_refusal : EndpointHistory → ℕ → Option Refusal
-order_refusal e id = unless_closed e (first_of (
-    (not (is_open e id), refusal.NotOpen) ∷
-    (not (takes_body (outgoing_at e id)), refusal.OutOfOrder) ∷ []))
+order_refusal e id = unless_closed e (first_of (not_next (seen_at e id) (seen_at e id).takes_body []))
 
 -- That comes before what is malformed.
 abbrev pub error_after : Option Refusal → FieldsError → FieldsError

@@ -1,11 +1,11 @@
 -- Why a call is refused: the first reason that holds, in the order in which an endpoint judges.
-use Rattle.std.specs.Prelude.{ℕ, ◌*◌, Bool, false, ◌||◌, List, length, Option, None, is_some}
-use Rattle.h3_header.specs.Head.{Head}
+use Rattle.std.specs.Prelude.{ℕ, ◌*◌, Bool, false, ◌||◌, length, Option, None, is_some}
+use Rattle.h3_header.specs.Head.{Head, head_fields}
 use Rattle.h3_proto.specs.declared.stream.Side.{Side}
 use Rattle.h3_proto.specs.declared.stream.Side.TheVariants.{Client, Server}
 use Rattle.h3_connection.specs.Lasts.{last_id}
 use Rattle.h3_connection.specs.OwnIds.{other, is_own}
-use Rattle.h3_connection.specs.Refusals.{Sender, refusal_of_head, refusal_of_body, refusal_of_trailer, refusal_of_end, refusal_to_stop, refusal_to_open, refusal_of_goaway}
+use Rattle.h3_connection.specs.Refusals.{Sender, SenderStream, seen, refusal_of_head, refusal_of_body, refusal_of_trailer, refusal_of_end, refusal_to_stop, refusal_to_open, refusal_of_goaway}
 use Rattle.h3_connection.specs.declared.event.Refusal.{Refusal}
 use Rattle.h3_world.specs.declared.setup.Setup.{Setup}
 use Rattle.h3_world.specs.World.{World, party}
@@ -22,21 +22,24 @@ next_id w = 4 * length w.exchanges
 abbrev pub open_refusal : Setup → World → Side → Option Refusal
 open_refusal setup w side = refusal_to_open side (last_id (goaways_came setup w (other side))) (next_id w)
 
--- the sender on a stream, by what is known of the other side's settings
-abbrev pub sender_at : World → Side → ℕ → Option (List (ℕ × ℕ)) → Sender
-sender_at w side id known = record { side = side; is_open = is_open w side id; outgoing = outgoing_of (flow w side id); settings = known }
+-- a stream as its sender sees it, and the sender on it, by what is known of the other side's settings
+abbrev pub seen_at : World → Side → ℕ → SenderStream
+seen_at w side id = seen (is_open w side id) (outgoing_of (flow w side id))
+
+abbrev pub sender_at : Setup → World → Side → ℕ → Sender
+sender_at setup w side id = record { side = side; stream = seen_at w side id; settings = settings_known setup w side }
 
 abbrev pub head_refusal : Setup → World → Side → ℕ → Head → Option Refusal
-head_refusal setup w side id head = refusal_of_head (sender_at w side id (settings_known setup w side)) None head
+head_refusal setup w side id head = refusal_of_head (sender_at setup w side id) None head (head_fields head)
 
 abbrev pub body_refusal : World → Side → ℕ → Option Refusal
-body_refusal w side id = refusal_of_body (sender_at w side id None) false
+body_refusal w side id = refusal_of_body (seen_at w side id) false
 
 abbrev pub trailer_refusal : Setup → World → Side → ℕ → Head → Option Refusal
-trailer_refusal setup w side id trailer = refusal_of_trailer (sender_at w side id (settings_known setup w side)) None None trailer
+trailer_refusal setup w side id trailer = refusal_of_trailer (sender_at setup w side id) None None trailer (head_fields trailer)
 
 abbrev pub finish_refusal : World → Side → ℕ → Option Refusal
-finish_refusal w side id = refusal_of_end (sender_at w side id None) false
+finish_refusal w side id = refusal_of_end (seen_at w side id) false
 
 -- the six critical streams of both sides (RFC 9114, section 6.2.1, and RFC 9204, section 4.2)
 abbrev pub is_critical : ℕ → Bool

@@ -3,12 +3,13 @@ ghost use Rattle.std.specs.Prelude.{◌≡◌, ◌++◌, None, length, unwrap_or
 ghost use Rattle.h3_connection.specs.Answers.{call_refused};
 ghost use Rattle.h3_connection.specs.Calls.{Sets, AllSame};
 ghost use Rattle.h3_connection.specs.Delivering.{given_up_once, cancellation};
+ghost use Rattle.h3_connection.specs.Refusals.{or_later};
 ghost use Rattle.h3_connection.specs.State.{kept_at};
 ghost use Rattle.h3_connection.specs.declared.event.Refusal.TheVariants.{OutOfMemory};
 ghost use Rattle.h3_connection.specs.declared.event.StreamFault.TheVariants.{Canceled};
 ghost use Rattle.h3_incoming.specs.Replying.{encodings};
 ghost use Rattle.h3_outgoing.specs.Sent.{has_body, has_ended, was_cut_off};
-ghost use Rattle.h3_requests.specs.Refused.{or_later, head_refused_at, body_refused_at, early_trailer_at, too_much_at, end_refused_at, reset_refused_at, cancel_refused_at};
+ghost use Rattle.h3_requests.specs.Refused.{head_refused_at, body_refused_at, data_refused_at, early_trailer_at, end_refused_at, reset_refused_at, cancel_refused_at};
 
 use super::RequestStreams;
 use crate::room::SectionRoom;
@@ -87,8 +88,8 @@ impl RequestStreams {
     /// `Err` changes nothing, and hands the body back.
     pub fn send_data(&mut self, id: StreamId, body: Bytes) -> Result<(), (Refusal, Bytes)>
         ensures ok { OnOk result (IfSome (kept_at self.old id) (λ r. Sets self.old self.new id (record r { outgoing = has_body r.outgoing body }))) }
-        ensures taken { OnOk result (or_later (body_refused_at (kept_at self.old id)) (too_much_at (kept_at self.old id) (length body)) ≡ None) }
-        ensures why { IfErr result (λ e. e.0 ≡ unwrap_or (or_later (body_refused_at (kept_at self.old id)) (too_much_at (kept_at self.old id) (length body))) OutOfMemory) }
+        ensures taken { OnOk result (data_refused_at (kept_at self.old id) (length body) ≡ None) }
+        ensures why { IfErr result (λ e. e.0 ≡ unwrap_or (data_refused_at (kept_at self.old id) (length body)) OutOfMemory) }
         ensures err { IfErr result (λ e. (e.1 ≡ body) × AllSame self.old self.new) }
     {
         let Some(stream) = self.streams.get_mut(id) else {

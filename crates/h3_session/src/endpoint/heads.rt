@@ -9,12 +9,12 @@ ghost use Rattle.h3_connection.specs.Calls.{AllSame};
 ghost use Rattle.h3_connection.specs.Endpoint.{EndpointHistory};
 ghost use Rattle.h3_connection.specs.OwnIds.{other};
 ghost use Rattle.h3_connection.specs.Pulling.{is_for, is_interim};
-ghost use Rattle.h3_connection.specs.Refusals.{is_too_large};
+ghost use Rattle.h3_connection.specs.Refusals.{is_too_large, or_later};
 ghost use Rattle.h3_connection.specs.Sending.{fields_cost, remembers};
 ghost use Rattle.h3_connection.specs.SendingContracts.{SendsHead, SendsTrailer, CutsOff};
 ghost use Rattle.h3_connection.specs.State.{StandsFor, kept_at};
 ghost use Rattle.h3_connection.specs.declared.event.Refusal.TheVariants.{OutOfMemory};
-ghost use Rattle.h3_requests.specs.Refused.{or_later, head_refused_at, body_refused_at, early_trailer_at};
+ghost use Rattle.h3_requests.specs.Refused.{head_refused_at, body_refused_at, early_trailer_at};
 ghost use Rattle.h3_session.specs.Refused.{side_refused, pseudo_refused, size_refused, refused_behind};
 ghost use Rattle.h3_session.specs.SendingFields.{Encodes, StopsEncoding, Queues, Remembers, SendsFields, IsJudged, asking, counts_responses};
 

@@ -1,7 +1,7 @@
 //! What an endpoint sends.
 ghost use Rattle.std.specs.Prelude.{◌≡◌, ◌≤◌, ◌+◌, ◌^◌, ◌++◌, true, false, None, length, not, unwrap_or, IfErr, IfNone, IfSome, OnOk, OnErr, option_copied};
 ghost use Rattle.h3_connection.specs.Answers.{call_refused};
-ghost use Rattle.h3_connection.specs.Calls.{AllSame, Sets, open_refused};
+ghost use Rattle.h3_connection.specs.Calls.{AllSame, Sets};
 ghost use Rattle.h3_connection.specs.Endpoint.{goaway_encoding};
 ghost use Rattle.h3_connection.specs.Pulling.{is_client};
 ghost use Rattle.h3_connection.specs.ReadingContracts.{LendsOutgoing, ShowsWaiting};
@@ -10,9 +10,9 @@ ghost use Rattle.h3_unidirectional.specs.Owned.{waiting_on, having_taken};
 ghost use Rattle.h3_connection.specs.State.{kept_at};
 ghost use Rattle.h3_connection.specs.declared.event.Refusal.TheVariants.{OutOfMemory};
 ghost use Rattle.h3_outgoing.specs.Sent.{has_body, has_ended, was_cut_off};
-ghost use Rattle.h3_requests.specs.Refused.{or_later, body_refused_at, too_much_at, end_refused_at, reset_refused_at};
+ghost use Rattle.h3_requests.specs.Refused.{data_refused_at, end_refused_at, reset_refused_at};
 ghost use Rattle.h3_session.specs.NextRequest.{ShowsNextRequest};
-ghost use Rattle.h3_session.specs.Refused.{sender_in, critical_refused, goaway_refused};
+ghost use Rattle.h3_session.specs.Refused.{sender_in, critical_refused, goaway_refused, open_refused};
 
 use super::Endpoint;
 use bytes::Bytes;
@@ -99,8 +99,8 @@ impl Endpoint {
         ensures rest { OnOk result (self.new ≡ record self.old { requests = self.new.requests; sent = sent }) }
         ensures same { OnErr result (self.new ≡ record self.old { requests = self.new.requests }) }
         ensures ok { OnOk result (IfSome (kept_at self.old.requests id) (λ r. Sets self.old.requests self.new.requests id (record r { outgoing = has_body r.outgoing body }))) }
-        ensures taken { OnOk result (or_later (body_refused_at (kept_at self.old.requests id)) (too_much_at (kept_at self.old.requests id) (length body)) ≡ None) }
-        ensures why { IfErr result (λ e. e.0 ≡ unwrap_or (or_later (body_refused_at (kept_at self.old.requests id)) (too_much_at (kept_at self.old.requests id) (length body))) OutOfMemory) }
+        ensures taken { OnOk result (data_refused_at (kept_at self.old.requests id) (length body) ≡ None) }
+        ensures why { IfErr result (λ e. e.0 ≡ unwrap_or (data_refused_at (kept_at self.old.requests id) (length body)) OutOfMemory) }
         ensures err { IfErr result (λ e. (e.1 ≡ body) × AllSame self.old.requests self.new.requests) }
     {
         match self.requests.send_data(id, body) {
@@ -114,7 +114,7 @@ impl Endpoint {
 
     // Why a body is refused whose bytes cannot be counted: what refuses it on its stream comes before want of memory.
     fn uncounted_refusal(&self, id: StreamId, size: usize) -> Refusal
-        ensures { result ≡ unwrap_or (or_later (body_refused_at (kept_at self.now.requests id)) (too_much_at (kept_at self.now.requests id) size)) OutOfMemory }
+        ensures { result ≡ unwrap_or (data_refused_at (kept_at self.now.requests id) size) OutOfMemory }
     {
         let Some(stream) = self.requests.outgoing(id) else {
             return Refusal::NotOpen;
