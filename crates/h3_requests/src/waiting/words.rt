@@ -39,6 +39,7 @@ impl Words {
     }
 
     /// The word of a number.
+    #[inline(always)]
     pub(crate) fn get(&self, number: u64) -> Word
         ensures { result ≡ word_at self.now number }
     {
@@ -49,6 +50,7 @@ impl Words {
     }
 
     /// Puts a word there. An `Err` changes nothing: memory was refused.
+    #[inline(always)]
     pub(crate) fn put(&mut self, number: u64, word: Word) -> Result<(), AllocError>
         ensures ok { OnOk result (IsOneSet number word (word_at self.old) (word_at self.new)) }
         ensures err { OnErr result (HaveSameBits (word_at self.old) (word_at self.new)) }
@@ -85,6 +87,7 @@ impl Words {
     }
 
     /// Changes a word that is there. It takes no memory.
+    #[inline(always)]
     pub(crate) fn set(&mut self, number: u64, word: Word)
         requires { is_empty (word_at self.old number) ≡ false }
         ensures { IsOneSet number word (word_at self.old) (word_at self.new) }
