@@ -6,7 +6,8 @@ use Rattle.std.proofs.lemmas.Grind.{common_steps}
 use Rattle.std.proofs.lemmas.Nat.{pow-add}
 use Rattle.std.proofs.lemmas.Nat.Bits.{bit_at-zero, bit_at-trailing_zeros, bit_at_above}
 use Rattle.std.proofs.Math.Nat.{div-div-eq-div-mul}
-use Rattle.h3_requests.specs.Waiting.{is_in, IsFirstWord}
+use Rattle.h3_requests.specs.FirstWord.{IsFirstWord}
+use Rattle.h3_requests.specs.Waiting.{is_in}
 use Rattle.h3_connection.specs.NextWaiting.{IsLeast}
 
 -- a bit of a shifted word

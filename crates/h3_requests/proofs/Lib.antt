@@ -1,6 +1,7 @@
 pub mod Alike
 pub mod Beside
 pub mod Counts
+pub mod FirstNear
 pub mod Found
 pub mod Listed
 pub mod Places

@@ -14,8 +14,9 @@ use Rattle.std.specs.Map.{keys_of, lookup}
 use Rattle.std.specs.Ordering.{is_le, nat_cmp}
 use Rattle.std.specs.declared.cmp.Ordering.TheVariants.{Less}
 use Rattle.std.specs.declared.ops.Bound.TheVariants.{Included, Unbounded}
-use Rattle.h3_requests.specs.Waiting.{waiting_of, IsFirstWord}
-use Rattle.h3_requests.specs.declared.waiting.Word.{Word}
+use Rattle.h3_requests.specs.FirstWord.{IsFirstWord}
+use Rattle.h3_requests.specs.Words.{waiting_of}
+use Rattle.h3_requests.specs.declared.waiting.word.Word.{Word}
 
 abbrev pub waits_in : List (ℕ × Word) → ℕ → ℕ
 waits_in es q = waiting_of (lookup (is_at (nat_cmp q)) es)

@@ -6,6 +6,7 @@ pub mod HasBytes
 pub mod Lending
 pub mod Limited
 pub mod Coming
+pub mod FirstWord
 pub mod Listed
 pub mod Marks
 pub mod Over
@@ -15,3 +16,4 @@ pub mod Row
 pub mod RowLending
 pub mod Stored
 pub mod UnderWayLending
+pub mod Words

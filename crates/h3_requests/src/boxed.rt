@@ -1,6 +1,7 @@
 //! A request stream in a block of its own, so that a table of streams moves its address and no more.
 ghost use Rattle.std.specs.Borrow.{sem};
 ghost use Rattle.std.specs.Prelude.{◌≡◌, IfOk};
+ghost use Rattle.h3_connection.specs.Calls.{fresh_request};
 ghost use Rattle.h3_requests.specs.Boxed.{LendsWhole};
 
 use crate::stream::RequestStream;
@@ -43,6 +44,13 @@ impl BoxedStream {
         ensures { result ≡ self.now.incoming.waits_for }
     {
         self.stream.incoming.waits_for()
+    }
+
+    // The stream is dropped, and one on which nothing has happened stands in its block. It takes no memory.
+    pub(crate) fn renew(&mut self, alloc: Global)
+        ensures { self.new ≡ fresh_request }
+    {
+        self.stream.renew(alloc);
     }
 
     // The stream, to be changed.

@@ -7,6 +7,7 @@ mod map;
 mod over;
 mod ready;
 mod room;
+mod spare;
 pub mod stream;
 pub mod streams;
 mod under_way;

@@ -4,7 +4,7 @@ ghost use Rattle.std.specs.Option.{option_copied_mut};
 ghost use Rattle.std.specs.Prelude.{◌≡◌, [], true, false, None, is_some, IfOk, IfSome, OnErr, OnOk, option_copied};
 ghost use Rattle.h3_blocked.specs.Counting.{waits_at};
 ghost use Rattle.h3_blocked.specs.Sums.{TakesOut};
-ghost use Rattle.h3_connection.specs.Calls.{Sets};
+ghost use Rattle.h3_connection.specs.Calls.{fresh_request, Sets};
 ghost use Rattle.h3_connection.specs.State.{kept_at};
 ghost use Rattle.h3_connection.specs.StreamSets.{HaveDistinctIds};
 ghost use Rattle.h3_requests.specs.Lending.{LendsStream};
@@ -87,15 +87,10 @@ impl StreamMap {
         self.under_way.get_mut(id.into_inner())
     }
 
-    // Puts the stream there, and answers what the one that was there waits for. An `Err` changes nothing: no stream was under way
-    // there, and memory was refused.
-    pub(crate) fn insert(
-        &mut self,
-        alloc: Global,
-        id: StreamId,
-        stream: RequestStream,
-    ) -> Result<usize, AllocError>
-        ensures ok { OnOk result (Sets (streams_in self.old) (streams_in self.new) id stream) }
+    // Puts a stream there on which nothing has happened, and answers what the one that was there waits for. An `Err` changes nothing: no
+    // stream was under way there, and memory was refused.
+    pub(crate) fn open(&mut self, alloc: Global, id: StreamId) -> Result<usize, AllocError>
+        ensures ok { OnOk result (Sets (streams_in self.old) (streams_in self.new) id fresh_request) }
         ensures before { IfOk result (λ count. count ≡ waits_at (kept_at (streams_in self.old) id)) }
         ensures over { OnErr result (IfSome (kept_at (streams_in self.old) id) IsOver) }
         ensures err { OnErr result (streams_in self.new ≡ streams_in self.old) }
@@ -104,16 +99,13 @@ impl StreamMap {
         let number = id.into_inner();
         if let Some(there) = self.get_mut(id) {
             let before = there.incoming.waits_for();
-            *there = stream;
+            there.renew(alloc);
             return Ok(before);
         }
         let Ok(()) = self.over.reserve(alloc, id) else {
             return Err(AllocError);
         };
-        let Ok(stream) = BoxedStream::new(alloc, stream) else {
-            return Err(AllocError);
-        };
-        let Ok(()) = self.under_way.insert(number, stream) else {
+        let Ok(()) = self.under_way.open(alloc, number) else {
             return Err(AllocError);
         };
         Ok(0)
@@ -170,6 +162,7 @@ impl StreamMap {
 
     // A stream of which this tells that it is over takes a few bytes from now on, unless no memory was taken for that or there are
     // too many ways in which streams are over.
+    #[inline(always)]
     pub(crate) fn retire_if(&mut self, id: StreamId, is_over: bool)
         ensures { streams_in self.new ≡ streams_in self.old }
     {
@@ -178,6 +171,7 @@ impl StreamMap {
         }
     }
 
+    #[inline(never)]
     fn retire(&mut self, id: StreamId)
         ensures { streams_in self.new ≡ streams_in self.old }
     {
@@ -189,7 +183,7 @@ impl StreamMap {
             return;
         }
         if self.over.put(id, stream) {
-            self.under_way.remove(number);
+            self.under_way.retire(self.over.allocator(), number);
         }
     }
 }

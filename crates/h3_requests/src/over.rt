@@ -69,6 +69,11 @@ impl OverStreams {
         }
     }
 
+    /// What memory is taken from.
+    pub(crate) fn allocator(&self) -> Global {
+        *self.ways.allocator()
+    }
+
     /// Whether the stream of that id is among them.
     pub(crate) fn contains(&self, id: StreamId) -> bool
         ensures value { result ≡ is_some (kept_at self.now id) }

@@ -40,6 +40,14 @@ impl RequestStream {
         }
     }
 
+    // It is dropped, and one on which nothing has happened takes its place. It takes no memory.
+    #[inline(never)]
+    pub(crate) fn renew(&mut self, alloc: Global)
+        ensures { self.new ≡ fresh_request }
+    {
+        *self = RequestStream::new(alloc);
+    }
+
     /// What came on it.
     pub fn incoming(&self) -> &IncomingStream
         ensures { result.now ≡ self.now.incoming }

@@ -7,7 +7,6 @@ ghost use Rattle.h3_requests.specs.Over.{IsOver};
 
 use crate::map::StreamMap;
 use crate::ready::ReadyStreams;
-use crate::stream::RequestStream;
 use h3_blocked::Blocked;
 use h3_proto::stream::StreamId;
 use std::alloc::{AllocError, Global};
@@ -65,7 +64,7 @@ impl RequestStreams {
         ensures over { OnErr result (IfSome (kept_at self.old id) IsOver) }
         ensures err { OnErr result (self.new ≡ self.old) }
     {
-        let Ok(before) = self.streams.insert(alloc, id, RequestStream::new(alloc)) else {
+        let Ok(before) = self.streams.open(alloc, id) else {
             return Err(AllocError);
         };
         self.blocked.replace(before, 0);

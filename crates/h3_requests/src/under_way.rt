@@ -3,11 +3,12 @@ ghost use Rattle.std.specs.Borrow.{sem};
 ghost use Rattle.std.specs.Option.{option_copied_mut};
 ghost use Rattle.std.specs.Prelude.{◌≡◌, [], None, is_some, option_copied, OnErr, OnOk};
 ghost use Rattle.h3_blocked.specs.Sums.{TakesOut};
-ghost use Rattle.h3_connection.specs.Calls.{Sets};
+ghost use Rattle.h3_connection.specs.Calls.{fresh_request, Sets};
 ghost use Rattle.h3_connection.specs.State.{kept_at};
 ghost use Rattle.h3_requests.specs.UnderWayLending.{LendsUnderWay};
 
 use crate::boxed::BoxedStream;
+use crate::spare::Spare;
 use crate::stream::RequestStream;
 use std::alloc::{AllocError, Global};
 use std::collections::BTreeMap;
@@ -23,6 +24,8 @@ pub(crate) struct StreamsUnderWay {
     row: Row,
     // those that found their place taken
     others: BTreeMap<u64, BoxedStream>,
+    // the block of a stream that went
+    spare: Spare,
 }
 
 impl Model for StreamsUnderWay {
@@ -46,6 +49,7 @@ impl StreamsUnderWay {
         StreamsUnderWay {
             row: Row::new(alloc),
             others: BTreeMap::new(alloc),
+            spare: Spare::new(),
         }
     }
 
@@ -83,6 +87,18 @@ impl StreamsUnderWay {
         }
     }
 
+    /// Puts a stream there on which nothing has happened, where none is. An `Err` changes nothing: memory was refused.
+    pub(crate) fn open(&mut self, alloc: Global, id: u64) -> Result<(), AllocError>
+        requires { kept_at self.old id ≡ None }
+        ensures ok { OnOk result (Sets self.old self.new id fresh_request) }
+        ensures err { OnErr result (self.new ≡ self.old) }
+    {
+        let Ok(stream) = self.spare.take(alloc) else {
+            return Err(AllocError);
+        };
+        self.insert(id, stream)
+    }
+
     /// Puts a stream there, where none is. An `Err` changes nothing: memory was refused.
     pub(crate) fn insert(&mut self, id: u64, stream: BoxedStream) -> Result<(), AllocError>
         requires { kept_at self.old id ≡ None }
@@ -109,5 +125,13 @@ impl StreamsUnderWay {
             return Some(stream);
         }
         self.others.remove(&id)
+    }
+    /// Drops the stream of this id, and keeps its block for the next one. It takes no memory.
+    pub(crate) fn retire(&mut self, alloc: Global, id: u64)
+        ensures { TakesOut self.old self.new id }
+    {
+        if let Some(stream) = self.remove(id) {
+            self.spare.keep(alloc, stream);
+        }
     }
 }

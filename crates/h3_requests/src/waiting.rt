@@ -2,12 +2,19 @@
 ghost use Rattle.std.specs.Prelude.{◌≡◌, ◌≢◌, ◌<◌, ◌≤◌, ◌+◌, ◌*◌, ◌/◌, ◌%◌, ◌^◌, ◌==◌, ℕ, true, false, bit_and, bit_or, IfSome, IfNone, OnOk, OnErr};
 ghost use Rattle.std.specs.Int.{bit_not, w64};
 ghost use Rattle.h3_connection.specs.NextWaiting.{IsLeast};
-ghost use Rattle.h3_requests.specs.Waiting.{has_place, is_waiting, places_at, waiting_at, IsFirstWord, IsOneWord, HaveSameWords};
+ghost use Rattle.h3_requests.specs.FirstWord.{IsFirstWord};
+ghost use Rattle.h3_requests.specs.Waiting.{has_place, is_waiting, places_at, waiting_at, IsOneWord, HaveSameWords};
 ghost use Rattle.h3_requests.specs.Ready.{IsOneTest};
 
 use h3_proto::stream::StreamId;
 use std::alloc::{AllocError, Global};
-use std::collections::BTreeMap;
+
+mod near;
+mod word;
+mod words;
+
+use word::Word;
+use words::Words;
 
 /// The ids of request streams are four apart (RFC 9000, section 2.1).
 const STEP: u64 = 4;
@@ -18,19 +25,12 @@ const WORD: u64 = 64;
 /// So many words have the bits of all request streams.
 const WORDS: u64 = 1 << 54;
 
-/// Of 64 streams, one behind the other, which have a place, and on which something waits.
-#[derive(Clone, Copy)]
-struct Word {
-    places: u64,
-    waiting: u64,
-}
-
 /// The streams on which something waits, by a bit each in words of 64, and those that have a place: one that has a place is put in with no
 /// memory.
 #[derive(Drop)]
 pub(crate) struct WaitingStreams {
     // of each number the streams from 256 times that on, where one has a place or something waits on it
-    words: BTreeMap<u64, Word>,
+    words: Words,
 }
 
 /// The number of the word in which a stream has its bit.
@@ -68,7 +68,7 @@ impl WaitingStreams {
         ensures { (q : ℕ) → is_waiting result q ≡ false }
     {
         WaitingStreams {
-            words: BTreeMap::new(alloc),
+            words: Words::new(alloc),
         }
     }
 
@@ -91,18 +91,14 @@ impl WaitingStreams {
         ensures err { OnErr result (HaveSameWords (places_at self.old) (places_at self.new)) }
         ensures waiting { HaveSameWords (waiting_at self.old) (waiting_at self.new) }
     {
-        if let Some(word) = self.words.get_mut(&number) {
-            word.places |= bits;
-            return Ok(());
-        }
-        let word = Word {
-            places: bits,
-            waiting: 0,
-        };
-        let Ok(_) = self.words.insert(number, word) else {
-            return Err(AllocError);
-        };
-        Ok(())
+        let word = self.words.get(number);
+        self.words.put(
+            number,
+            Word {
+                places: word.places | bits,
+                waiting: word.waiting,
+            },
+        )
     }
 
     /// On a stream that has a place something waits from now on. It takes no memory.
@@ -121,9 +117,14 @@ impl WaitingStreams {
         ensures waiting { IsOneWord number (bit_or (waiting_at self.old number) bits) (waiting_at self.old) (waiting_at self.new) }
         ensures places { HaveSameWords (places_at self.old) (places_at self.new) }
     {
-        if let Some(word) = self.words.get_mut(&number) {
-            word.waiting |= bits;
-        }
+        let word = self.words.get(number);
+        self.words.set(
+            number,
+            Word {
+                places: word.places,
+                waiting: word.waiting | bits,
+            },
+        );
     }
 
     /// Nothing waits on a stream any longer, and its place goes. It takes no memory.
@@ -138,19 +139,22 @@ impl WaitingStreams {
         self.take_bits(word_of(number), bit_of(number));
     }
 
-    // Takes bits out of a word. One without bits goes.
+    // Takes bits out of a word.
     fn take_bits(&mut self, number: u64, bits: u64)
         ensures waiting { IsOneWord number (bit_and (waiting_at self.old number) (bit_not w64 bits)) (waiting_at self.old) (waiting_at self.new) }
         ensures places { IsOneWord number (bit_and (places_at self.old number) (bit_not w64 bits)) (places_at self.old) (places_at self.new) }
     {
-        let Some(word) = self.words.get_mut(&number) else {
+        let word = self.words.get(number);
+        if word.is_empty() {
             return;
-        };
-        word.places &= !bits;
-        word.waiting &= !bits;
-        if word.places == 0 && word.waiting == 0 {
-            self.words.remove(&number);
         }
+        self.words.set(
+            number,
+            Word {
+                places: word.places & !bits,
+                waiting: word.waiting & !bits,
+            },
+        );
     }
 
     /// The first stream from this id on on which something waits. It takes no memory, and looks at 64 streams at once.
@@ -185,40 +189,35 @@ impl WaitingStreams {
         self.take_places(word_of(number), bit_of(number));
     }
 
-    // Takes places out of a word. One without bits goes.
+    // Takes places out of a word.
     fn take_places(&mut self, number: u64, bits: u64)
         ensures waiting { HaveSameWords (waiting_at self.old) (waiting_at self.new) }
         ensures places { IsOneWord number (bit_and (places_at self.old number) (bit_not w64 bits)) (places_at self.old) (places_at self.new) }
     {
-        let Some(word) = self.words.get_mut(&number) else {
+        let word = self.words.get(number);
+        if word.is_empty() {
             return;
-        };
-        word.places &= !bits;
-        if word.places == 0 && word.waiting == 0 {
-            self.words.remove(&number);
         }
+        self.words.set(
+            number,
+            Word {
+                places: word.places & !bits,
+                waiting: word.waiting,
+            },
+        );
     }
 
     // On which streams of a word something waits.
     fn waiting_in(&self, number: u64) -> u64
         ensures { result ≡ waiting_at self.now number }
     {
-        match self.words.get(&number) {
-            Some(word) => word.waiting,
-            None => 0,
-        }
+        self.words.get(number).waiting
     }
 
     // The first word from this number on that has a stream on which something waits.
     fn next_word(&self, from: u64) -> Option<(u64, u64)>
         ensures { IsFirstWord (waiting_at self.now) from result }
     {
-        for (number, word) in self.words.range(from..) {
-            let waiting = word.waiting;
-            if waiting != 0 {
-                return Some((*number, waiting));
-            }
-        }
-        None
+        self.words.next(from)
     }
 }

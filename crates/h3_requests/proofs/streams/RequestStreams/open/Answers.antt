@@ -1,7 +1,5 @@
 -- The count of the stream that was there goes with it.
-use Rattle.std.proofs.Common.{ap}
-use Rattle.std.specs.Prelude.{Some}
-use Rattle.h3_requests.specs.HasBytes.{has_bytes, has_end, may_end}
+use Rattle.std.proofs.Common.{refl}
 use Rattle.h3_requests.proofs.Counts.{has_count_at}
 use Rattle.h3_requests.proofs.Sendable.{inserted}
 use Rattle.h3_requests.proofs.streams.RequestStreams.open.Goals as goal
@@ -11,5 +9,5 @@ replace-requires-clause-among c = has_count_at _ _ c.args.id _ c.in-Ok.ensures.b
 
 pub invariant_of-self-2 : goal.invariant_of-self-2
 invariant_of-self-2 c =
-    inserted _ _ _ _ _ _ c.args.id _ _ c.in-Ok.ensures.ok c.in-Ok.ensures.distinct (ap (λ r. r.incoming.waits_for) c.new.ensures) (ap (λ r. has_bytes (Some r)) c.new.ensures) (ap (λ r. has_end (Some r)) c.new.ensures) (ap (λ r. may_end (Some r)) c.new.ensures) c.in-Ok.ensures.before
+    inserted _ _ _ _ _ _ c.args.id _ _ c.in-Ok.ensures.ok c.in-Ok.ensures.distinct refl refl refl refl c.in-Ok.ensures.before
     c.replace.ensures.sound c.replace.ensures.replaced c.leave.ensures.bytes c.leave.ensures.taken c.leave.ensures.places c.self.invariant

@@ -26,7 +26,9 @@ within_limit-requires-clause-among g c = has_count_at _ (streams_in c.self.insid
 
 pub invariant_of-self-then-answer_settled : goal.invariant_of-self-then-answer_settled
 invariant_of-self-then-answer_settled g c =
-    replaced _ _ _ _ _ c.args.id c.in-Some.stream.now _ (c.get_mut.follows.holds _) (search rules) c.within_limit.ensures.sound (search rules) (search rules) (kept_again c.pass.ensures.same c.pass.ensures.sound c.self.invariant)
+    let stands : Replaces c.pass.new.self c.within_limit.new.counts c.in-Some.stream.now.incoming.waits_for c.within_limit.new.stream.waits_for =
+    subst (λ (r : RequestState). Replaces c.pass.new.self c.within_limit.new.counts r.incoming.waits_for c.within_limit.new.stream.waits_for) c.stream.view_is c.within_limit.ensures.replaced in
+    replaced _ _ _ _ _ c.args.id c.in-Some.stream.now _ (c.get_mut.follows.holds _) (search rules) c.within_limit.ensures.sound stands (search rules) (kept_again c.pass.ensures.same c.pass.ensures.sound c.self.invariant)
 
 pub returns-then-answer_settled-clause-answer : goal.returns-then-answer_settled-clause-answer
 returns-then-answer_settled-clause-answer g c = λ passed.
@@ -58,8 +60,13 @@ replace-requires-clause-among g c =
 pub within_limit-requires-2-clause-among : goal.within_limit-requires-2-clause-among
 within_limit-requires-2-clause-among g c =
     let now : RequestState = record { incoming = c.pull_into.new.self; outgoing = c.stream.inside.outgoing } in
+    let waited : Replaces c.make_room.new.self c.replace.new.self c.stream.inside.incoming.waits_for c.pull_into.new.self.waits_for =
+    subst (λ n. Replaces c.make_room.new.self c.replace.new.self n c.pull_into.new.self.waits_for) c.waits_for-before.ensures
+    (subst (λ n. Replaces c.make_room.new.self c.replace.new.self c.waits_for-before.result n) c.waits_for.ensures c.replace.ensures.replaced) in
+    let stands : Replaces c.make_room.new.self c.replace.new.self c.in-Some.stream.now.incoming.waits_for c.pull_into.new.self.waits_for =
+    subst (λ (r : RequestState). Replaces c.make_room.new.self c.replace.new.self r.incoming.waits_for c.pull_into.new.self.waits_for) c.stream.view_is waited in
     let between : AreKept c.replace.new.self c.self.inside.ready (streams_in (c.get_mut.follows.lender now)) =
-    replaced _ _ _ _ _ c.args.id c.in-Some.stream.now now (c.get_mut.follows.holds now) (search rules) c.replace.ensures.sound (search rules) (search rules) (kept_again c.make_room.ensures.same c.make_room.ensures.sound (kept_again c.pass.ensures.same c.pass.ensures.sound c.self.invariant)) in
+    replaced _ _ _ _ _ c.args.id c.in-Some.stream.now now (c.get_mut.follows.holds now) (search rules) c.replace.ensures.sound stands (search rules) (kept_again c.make_room.ensures.same c.make_room.ensures.sound (kept_again c.pass.ensures.same c.pass.ensures.sound c.self.invariant)) in
     let found : under_way_at c.self.inside.streams c.args.id ≡ Some c.in-Some.stream.now = search rules in
     let there : kept_at (streams_in (c.get_mut.follows.lender now)) c.args.id ≡ Some now = ((c.get_mut.follows.holds now).0 (ap is_some found)).here in
     has_count_at _ (streams_in (c.get_mut.follows.lender now)) c.args.id _ (sym (ap waits_at there)) between.counted

@@ -13,10 +13,10 @@ pub invariant_of-self-then-not-has_remaining : goal.invariant_of-self-then-not-h
 invariant_of-self-then-not-has_remaining c = written _ _ _ _ c.args.id c.in-Some.stream.now _ (c.get_mut.follows.holds _) (search rules) (search rules) (search rules) c.self.invariant
 
 pub invariant_of-self-in_default-reserve : goal.invariant_of-self-in_default-reserve
-invariant_of-self-in_default-reserve c = room_kept c.reserve.ensures.same c.reserve.ensures.ends (written _ _ _ _ c.args.id c.in-Some.stream.now _ (c.get_mut.follows.holds _) (search rules) (search rules) (search rules) c.self.invariant)
+invariant_of-self-in_default-reserve c = room_kept {s = c.self.inside.ready} {t = c.reserve.new.self} c.reserve.ensures.same c.reserve.ensures.ends (written _ _ _ _ c.args.id c.in-Some.stream.now _ (c.get_mut.follows.holds _) (search rules) (search rules) (search rules) c.self.invariant)
 
 pub invariant_of-self-in-Err : goal.invariant_of-self-in-Err
-invariant_of-self-in-Err c = room_kept c.reserve.ensures.same c.reserve.ensures.ends (written _ _ _ _ c.args.id c.in-Some.stream.now _ (c.get_mut.follows.holds _) (search rules) (search rules) (search rules) c.self.invariant)
+invariant_of-self-in-Err c = room_kept {s = c.self.inside.ready} {t = c.reserve.new.self} c.reserve.ensures.same c.reserve.ensures.ends (written _ _ _ _ c.args.id c.in-Some.stream.now _ (c.get_mut.follows.holds _) (search rules) (search rules) (search rules) c.self.invariant)
 
 pub invariant_of-self-2 : goal.invariant_of-self-2
-invariant_of-self-2 c = settled _ c.reserve.new.self c.settle.new.self _ _ c.args.id _ c.in-Some.stream.now _ (c.get_mut.follows.holds _) (search rules) (search rules) c.settle.ensures.bytes (search rules) c.settle.ensures.ends (search (rules, body_end)) (search (rules, body_end)) (room_kept c.reserve.ensures.same c.reserve.ensures.ends c.self.invariant)
+invariant_of-self-2 c = settled _ c.reserve.new.self c.settle.new.self _ _ c.args.id _ c.in-Some.stream.now _ (c.get_mut.follows.holds _) (search rules) (search rules) c.settle.ensures.bytes (search rules) c.settle.ensures.ends (search (rules, body_end)) (search (rules, body_end)) (room_kept {s = c.self.inside.ready} {t = c.reserve.new.self} c.reserve.ensures.same c.reserve.ensures.ends c.self.invariant)
