@@ -1,5 +1,5 @@
 -- A list that is kept from a place on, around its end.
-use Rattle.std.proofs.Common.{◌≡◌, ◌<◌, ℕ, zero, suc, ◌+◌, ◌-◌, List, [], ◌∷◌, ◌++◌, Bool, true, false, ◌||◌, length, take, drop, refl, sym, ap, ◌∙◌, arith, append-nil, take-append-drop}
+use Rattle.std.proofs.Common.{◌≡◌, ◌<◌, ℕ, zero, suc, ◌+◌, List, ◌∷◌, ◌++◌, Bool, true, false, ◌||◌, length, take, drop, refl, sym, ap, ◌∙◌, arith, append-nil, take-append-drop}
 use Rattle.std.proofs.Math.ListN.{set}
 use Rattle.std.proofs.Math.Seq.{take-append-add}
 use Rattle.std.proofs.lemmas.List.{drop_all, drop-set, length-drop, take-set, take-take}
