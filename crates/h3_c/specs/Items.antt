@@ -1,5 +1,5 @@
 -- What C gets of the item that was pulled last.
-use Rattle.std.specs.Prelude.{◌≡◌, ℕ, ◌-◌, ◌^◌, Bool, false, List, [], length, min, unwrap_or, is_some, Option, Some, None}
+use Rattle.std.specs.Prelude.{◌≡◌, ℕ, ◌-◌, ◌^◌, Bool, true, false, List, [], length, min, unwrap_or, is_some, Option, Some, None}
 use Rattle.h3_field.specs.Field.{Field}
 use Rattle.h3_header.specs.Head.{Head, head_fields}
 use Rattle.h3_connection.specs.declared.event.Fault.TheVariants as fault
@@ -119,3 +119,7 @@ has_list (last.Listed p) = is_some (list_of p)
 abbrev pub AreFields : Option (List Field) → Last → Type 0
 AreFields None last = Unit {0}
 AreFields (Some fields) last = fields ≡ last_fields last
+
+-- so many bytes the names and values of the list have that it keeps
+abbrev pub IsListLen : ℕ → Last → Type 0
+IsListLen len last = has_list last ≡ true → len ≡ row_len (last_fields last)

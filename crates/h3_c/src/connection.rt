@@ -32,29 +32,35 @@ pub struct Connection {
     last: Last,
     // the fields of the head or trailer that was pulled, once they were asked for
     fields: Option<Vec<HeaderField>>,
+    // how many bytes the names and values of the list have that was pulled
+    list_len: usize,
+    // memory for the list that is sent: no field is in it between two calls
+    spare: Vec<HeaderField>,
 }
 
 impl Model for Connection {
     ghost use Rattle.h3_c.specs.Seen.{Seen};
-    ghost use Rattle.h3_c.specs.Items.{AreFields};
-    ghost use Rattle.std.specs.Prelude.{option_map};
+    ghost use Rattle.h3_c.specs.Items.{AreFields, IsListLen};
+    ghost use Rattle.std.specs.Prelude.{◌≡◌, [], option_map};
 
     ghost Value = { Seen };
 
     ghost view = { λ c. record { endpoint = c.endpoint; last = c.last } };
 
-    ghost invariant = { λ c. AreFields (option_map (λ f. f.items) c.fields) c.last };
+    ghost invariant = { λ c. AreFields (option_map (λ f. f.items) c.fields) c.last × IsListLen c.list_len c.last × (c.spare.items ≡ []) };
 }
 
 impl Connection {
     /// Nothing was pulled yet.
-    pub(crate) fn of(endpoint: Endpoint) -> Connection
+    pub(crate) fn of(alloc: Global, endpoint: Endpoint) -> Connection
         ensures { result ≡ record { endpoint = endpoint; last = Last.Pulled Pull.Pending } }
     {
         Connection {
             endpoint,
             last: Last::Pulled(Pull::Pending),
             fields: None,
+            list_len: 0,
+            spare: Vec::new(alloc),
         }
     }
 }
@@ -81,7 +87,7 @@ fn made_in_range(alloc: Global, given: &GivenConfig) -> Result<Box<Connection>, 
     ensures refused { IfErr result (Unmakes given.now) }
 {
     match endpoint_of(alloc, given) {
-        Ok(endpoint) => match boxed(alloc, Connection::of(endpoint)) {
+        Ok(endpoint) => match boxed(alloc, Connection::of(alloc, endpoint)) {
             Ok(connection) => Ok(connection),
             Err(_) => Err(MEMORY),
         },

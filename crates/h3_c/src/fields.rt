@@ -1,5 +1,6 @@
 //! Heads as C hands them in: the sizes of each name and value, and all their bytes in one row.
-ghost use Rattle.std.specs.Prelude.{◌≡◌, ◌≤◌, ◌+◌, ◌++◌, ◌∷◌, [], length, take, drop, IfOk, IfErr, OnOk, Some};
+ghost use Rattle.std.specs.Prelude.{◌≡◌, ◌<◌, ◌≤◌, ◌+◌, ◌++◌, ◌∷◌, [], length, take, drop, IfOk, IfErr, OnOk, Some};
+ghost use Rattle.std.specs.Vec.{vec_len, vec_capacity};
 ghost use Rattle.h3_header.specs.HeadRead.{IsHead};
 ghost use Rattle.h3_c.specs.Given.{field_at_front, fields_cut, head_given};
 ghost use Rattle.h3_c.specs.Giving.{RefusesFields, RefusesHead};
@@ -8,7 +9,10 @@ ghost use Rattle.h3_c.specs.Numbers.{memory};
 use crate::numbers::{ARGUMENT, MEMORY, Told, unread};
 use h3_field::HeaderField;
 use h3_header::Header;
-use std::alloc::{AllocError, Global};
+use std::alloc::Global;
+
+/// So many fields have room between two calls, at most.
+const MOST_SPARE: usize = 32;
 
 /// How long a name and its value are, in bytes: `h3_field_size` of the header.
 #[repr(C)]
@@ -42,41 +46,46 @@ fn field_at_front(size: FieldSize, rest: &'static [u8]) -> HeaderField
     HeaderField::from_static(name, value)
 }
 
-// Adds the field at the front of the bytes, for which there mostly is room.
-fn push_field(
-    fields: &mut Vec<HeaderField>,
-    size: FieldSize,
-    rest: &'static [u8],
-) -> Result<(), AllocError>
-    requires { size.name + size.value ≤ length rest.now }
-    ensures { OnOk result (fields.new.items ≡ fields.old.items ++ field_at_front size rest.now ∷ []) }
+// Adds the field at the front of the bytes, for which there is room.
+fn push_field(fields: &mut Vec<HeaderField>, size: FieldSize, rest: &'static [u8])
+    requires bytes { size.name + size.value ≤ length rest.now }
+    requires room { vec_len fields.old < vec_capacity fields.old }
+    ensures items { fields.new.items ≡ fields.old.items ++ field_at_front size rest.now ∷ [] }
+    ensures len { vec_len fields.new ≡ vec_len fields.old + 1 }
+    ensures capacity { vec_capacity fields.new ≡ vec_capacity fields.old }
 {
-    fields.push(field_at_front(size, rest))?;
-    Ok(())
+    fields.push_reserved(field_at_front(size, rest));
 }
 
-// A list with room for so many.
-fn list_for(alloc: Global, count: usize) -> Result<Vec<HeaderField>, Told>
-    ensures ok { IfOk result (λ v. v.items ≡ []) }
+// Room for so many in an empty list.
+fn make_room(fields: &mut Vec<HeaderField>, count: usize) -> Result<(), Told>
+    requires { fields.old.items ≡ [] }
+    ensures same { fields.new.items ≡ [] }
+    ensures len { vec_len fields.new ≡ 0 }
+    ensures ok { OnOk result (count ≤ vec_capacity fields.new) }
     ensures err { IfErr result (λ told. told ≡ memory) }
 {
-    match Vec::with_capacity(alloc, count) {
-        Ok(list) => Ok(list),
+    match fields.reserve(count) {
+        Ok(()) => Ok(()),
         Err(_) => Err(MEMORY),
     }
 }
 
-/// The fields, where the sizes are those of all bytes. Names and values stay where they lie: no field may outlive the call of C.
+/// The fields go to an empty list, where the sizes are those of all bytes. Names and values stay where they lie: no field may outlive the
+/// call of C. After a refusal some may be in the list.
 #[tactic(auto, using(crate::proofs::Cuts::start, crate::proofs::Cuts::lacks))]
 pub(crate) fn cut_fields(
-    alloc: Global,
+    fields: &mut Vec<HeaderField>,
     sizes: &[FieldSize],
     bytes: &'static [u8],
-) -> Result<Vec<HeaderField>, Told>
-    ensures ok { IfOk result (λ v. fields_cut sizes.now bytes.now ≡ Some v.items) }
+) -> Result<(), Told>
+    requires { fields.old.items ≡ [] }
+    ensures ok { OnOk result (fields_cut sizes.now bytes.now ≡ Some fields.new.items) }
     ensures err { IfErr result (RefusesFields (fields_cut sizes.now bytes.now)) }
 {
-    let mut fields = list_for(alloc, sizes.len())?;
+    if let Err(told) = make_room(fields, sizes.len()) {
+        return Err(told);
+    }
     let mut rest = bytes;
     for at in 0..sizes.len() {
         let size = sizes[at];
@@ -84,15 +93,24 @@ pub(crate) fn cut_fields(
         if rest.len() < len {
             return Err(ARGUMENT);
         }
-        let Ok(()) = push_field(&mut fields, size, rest) else {
-            return Err(MEMORY);
-        };
+        push_field(fields, size, rest);
         rest = behind(rest, len);
     }
     if rest.len() > 0 {
         return Err(ARGUMENT);
     }
-    Ok(fields)
+    Ok(())
+}
+
+/// No field is left in a list. Its memory is kept for the next one, unless it has room for many.
+pub(crate) fn let_go(alloc: Global, fields: &mut Vec<HeaderField>)
+    ensures { fields.new.items ≡ [] }
+{
+    if fields.capacity() > MOST_SPARE {
+        *fields = Vec::new(alloc);
+        return;
+    }
+    fields.clear();
 }
 
 /// The head of what C gave, whose values stay where they lie: it may not outlive the call of C.
@@ -105,10 +123,10 @@ pub(crate) fn given_head(
     ensures ok { IfOk result (λ h. head_given sizes.now bytes.now ≡ Some (IsHead h)) }
     ensures err { IfErr result (RefusesHead (head_given sizes.now bytes.now)) }
 {
-    let fields = match cut_fields(alloc, sizes, bytes) {
-        Ok(fields) => fields,
-        Err(told) => return Err(told),
-    };
+    let mut fields = Vec::new(alloc);
+    if let Err(told) = cut_fields(&mut fields, sizes, bytes) {
+        return Err(told);
+    }
     h3_header::laws::lists_are_their_value();
     match Header::try_from(alloc, fields) {
         Ok(header) => Ok(header),

@@ -1,5 +1,5 @@
 //! What the last pull answered, of either kind.
-ghost use Rattle.std.specs.Prelude.{◌≡◌, false, IfOk, IfSome, IfNone};
+ghost use Rattle.std.specs.Prelude.{◌≡◌, true, false, IfOk, IfSome, IfNone};
 ghost use Rattle.h3_incoming.specs.declared.fields.FieldsPull.TheVariants as answer;
 ghost use Rattle.h3_c.specs.Items.{has_list, last_bytes, last_fields, list_shown, listed_shown};
 
@@ -21,6 +21,7 @@ impl Last {
     /// The list that it keeps.
     pub(crate) fn list(&self) -> Option<&[HeaderField]>
         ensures some { IfSome result (λ l. l.now ≡ last_fields self.now) }
+        ensures there { IfSome result (λ l. has_list self.now ≡ true) }
         ensures none { IfNone result (has_list self.now ≡ false) }
     {
         match self {
@@ -55,46 +56,46 @@ impl Last {
     }
 }
 
-fn list_shown(kind: u32, list: &FieldList) -> PulledItem
-    ensures { result ≡ list_shown kind list.now }
+fn show_list(kind: u32, list: &FieldList, shown: &mut PulledItem)
+    ensures { shown.new ≡ list_shown kind list.now }
 {
     let status = match list.status() {
         Some(status) => status.as_u16() as u32,
         None => 0,
     };
-    PulledItem {
+    *shown = PulledItem {
         kind,
         status,
         number: 0,
         fields: list.fields().len(),
         len: bytes_in(list.fields()),
-    }
+    };
 }
 
-/// What a pull of lists answered, as C sees it.
-pub(crate) fn listed_shown(answer: &FieldsPull) -> PulledItem
-    ensures { result ≡ listed_shown answer.now }
+/// Writes what a pull of lists answered, as C sees it.
+pub(crate) fn show_listed(answer: &FieldsPull, shown: &mut PulledItem)
+    ensures { shown.new ≡ listed_shown answer.now }
 {
     match answer {
-        FieldsPull::Item(item) => item_shown(item),
-        FieldsPull::Pending => plain(9),
-        FieldsPull::Waiting(count) => numbered(10, *count as u64),
-        FieldsPull::NoMessages => plain(11),
-        FieldsPull::Fault(fault) => fault_given(fault),
+        FieldsPull::Item(item) => show_item(item, shown),
+        FieldsPull::Pending => *shown = plain(9),
+        FieldsPull::Waiting(count) => *shown = numbered(10, *count as u64),
+        FieldsPull::NoMessages => *shown = plain(11),
+        FieldsPull::Fault(fault) => *shown = fault_given(fault),
     }
 }
 
-fn item_shown(item: &FieldsItem) -> PulledItem
-    ensures { result ≡ listed_shown (answer.Item item.now) }
+fn show_item(item: &FieldsItem, shown: &mut PulledItem)
+    ensures { shown.new ≡ listed_shown (answer.Item item.now) }
 {
     match item {
-        FieldsItem::Interim(list) => list_shown(1, list),
-        FieldsItem::Head(list) => list_shown(2, list),
-        FieldsItem::Body(bytes) => bytes_shown(3, bytes),
-        FieldsItem::Trailer(list) => list_shown(4, list),
-        FieldsItem::TooLarge(size) => numbered(5, *size),
-        FieldsItem::Session(id) => numbered(6, id.into_inner()),
-        FieldsItem::Raw(bytes) => bytes_shown(7, bytes),
-        FieldsItem::End => plain(8),
+        FieldsItem::Interim(list) => show_list(1, list, shown),
+        FieldsItem::Head(list) => show_list(2, list, shown),
+        FieldsItem::Body(bytes) => *shown = bytes_shown(3, bytes),
+        FieldsItem::Trailer(list) => show_list(4, list, shown),
+        FieldsItem::TooLarge(size) => *shown = numbered(5, *size),
+        FieldsItem::Session(id) => *shown = numbered(6, id.into_inner()),
+        FieldsItem::Raw(bytes) => *shown = bytes_shown(7, bytes),
+        FieldsItem::End => *shown = plain(8),
     }
 }

@@ -7,20 +7,21 @@ ghost use Rattle.h3_c.specs.Rows.{is_short, row_len, row_of, size_of, sizes_of};
 use crate::fields::FieldSize;
 use crate::numbers::{OK, ROOM, Told};
 use h3_field::HeaderField;
-use h3_outgoing::outgoing::put_front;
 
-/// Hands out all fields, if there is room for all of them.
+/// Hands out all fields, whose names and values have `len` bytes, if there is room for all of them.
 pub(crate) fn fields_at_once(
     fields: &[HeaderField],
+    len: usize,
     sizes: &mut [FieldSize],
     bytes: &mut [u8],
 ) -> Told
+    requires { len ≡ row_len fields.now }
     ensures { GivesFields fields.now result sizes.old sizes.new bytes.old bytes.new }
 {
     if fields.len() > sizes.len() {
         return ROOM;
     }
-    if bytes_in(fields) > bytes.len() {
+    if len > bytes.len() {
         return ROOM;
     }
     if !are_short_within(fields, bytes.len()) {
@@ -76,30 +77,32 @@ fn put_fields(fields: &[HeaderField], sizes: &mut [FieldSize], bytes: &mut [u8])
     let mut at = 0usize;
     for index in 0..fields.len() {
         let field = &fields[index];
-        sizes[index] = size_of(field);
-        at = put_field(field, at, bytes);
+        let name = field.name();
+        let value = field.value();
+        sizes[index] = size_of(name, value);
+        at = put_field(name, value, at, bytes);
     }
 }
 
-// Its size, whose numbers have 32 bits.
-fn size_of(field: &HeaderField) -> FieldSize
-    requires { is_short field.now ≡ true }
-    ensures { result ≡ size_of field.now }
+// The size of a field, whose numbers have 32 bits.
+fn size_of(name: &[u8], value: &[u8]) -> FieldSize
+    requires { is_short (record { name = name.now; value = value.now }) ≡ true }
+    ensures { result ≡ size_of (record { name = name.now; value = value.now }) }
 {
     FieldSize {
-        name: field.name().len() as u32,
-        value: field.value().len() as u32,
+        name: name.len() as u32,
+        value: value.len() as u32,
     }
 }
 
 // Writes a name and its value from a place on, and answers the place behind them.
-fn put_field(field: &HeaderField, at: usize, bytes: &mut [u8]) -> usize
-    requires { at + (length field.now.name + length field.now.value) ≤ length bytes.old }
-    ensures place { result ≡ at + (length field.now.name + length field.now.value) }
-    ensures front { bytes.new ≡ take at bytes.old ++ (field.now.name ++ (field.now.value ++ drop (at + (length field.now.name + length field.now.value)) bytes.old)) }
+fn put_field(name: &[u8], value: &[u8], at: usize, bytes: &mut [u8]) -> usize
+    requires { at + (length name.now + length value.now) ≤ length bytes.old }
+    ensures place { result ≡ at + (length name.now + length value.now) }
+    ensures front { bytes.new ≡ take at bytes.old ++ (name.now ++ (value.now ++ drop (at + (length name.now + length value.now)) bytes.old)) }
 {
-    let behind_name = put_at(field.name(), at, bytes);
-    put_at(field.value(), behind_name, bytes)
+    let behind_name = put_at(name, at, bytes);
+    put_at(value, behind_name, bytes)
 }
 
 // Copies bytes into a buffer from a place on, and answers the place behind them.
@@ -108,5 +111,7 @@ fn put_at(bytes: &[u8], at: usize, out: &mut [u8]) -> usize
     ensures place { result ≡ at + length bytes.now }
     ensures front { out.new ≡ take at out.old ++ (bytes.now ++ drop (at + length bytes.now) out.old) }
 {
-    at + put_front(bytes, &mut out[at..])
+    let behind = at + bytes.len();
+    out[at..behind].copy_from_slice(bytes);
+    behind
 }

@@ -112,7 +112,7 @@ impl WaitingFrames {
     pub(crate) fn release(&mut self)
         ensures { self.new.frames ≡ self.old.frames }
     {
-        if self.later.is_empty() {
+        if self.later.is_empty() && self.later.capacity() > 0 {
             let alloc = *self.later.allocator();
             self.later = VecDeque::new(alloc);
         }

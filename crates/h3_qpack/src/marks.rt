@@ -1,5 +1,5 @@
 //! What an economical encoder keeps of the values that it wrote as literals.
-ghost use Rattle.std.specs.Prelude.{◌≡◌, ℕ, List};
+ghost use Rattle.std.specs.Prelude.{◌≡◌, ◌<◌, ◌+◌, ℕ, List};
 ghost use Rattle.h3_qpack.specs.Marks.{value_mark, no_marks, with_mark, is_marked};
 
 use std::marker::Model;
@@ -24,20 +24,23 @@ fn value_mark(value: &[u8]) -> u32
     mark as u32
 }
 
-/// The marks of the last values, the newest first. A contract sees them as a list of 32 numbers.
+/// The marks of the last values, each in front of the next older one, and the last in front of the first. A contract sees them as a list of 32
+/// numbers, the newest first.
 #[derive(Drop)]
 pub(crate) struct Marks {
     marks: [u32; MARKS],
+    // the place of the newest
+    newest: usize,
 }
 
 impl Model for Marks {
-    ghost use Rattle.std.specs.Prelude.{◌≡◌, ℕ, List, length};
+    ghost use Rattle.std.specs.Prelude.{◌≡◌, ◌<◌, ◌++◌, ℕ, List, drop, length, take};
 
     ghost Value = { List ℕ };
 
-    ghost view = { λ m. m.marks };
+    ghost view = { λ m. drop m.newest m.marks ++ take m.newest m.marks };
 
-    ghost invariant = { λ m. length m.marks ≡ 32 };
+    ghost invariant = { λ m. (length m.marks ≡ 32) × (m.newest < 32) };
 }
 
 impl Marks {
@@ -45,7 +48,10 @@ impl Marks {
     pub(crate) fn new() -> Marks
         ensures { result ≡ no_marks }
     {
-        Marks { marks: [0; MARKS] }
+        Marks {
+            marks: [0; MARKS],
+            newest: 0,
+        }
     }
 
     /// Whether a value of this mark is among the last ones.
@@ -61,8 +67,20 @@ impl Marks {
         ensures { self.new ≡ with_mark self.old value.now }
     {
         let mark = value_mark(value);
-        let all = &mut self.marks[..];
-        all.copy_within(0..MARKS - 1, 1);
-        all[0] = mark;
+        let oldest = place_before(self.newest);
+        self.marks[oldest] = mark;
+        self.newest = oldest;
     }
+}
+
+/// The place in front of one, which is the last in front of the first.
+fn place_before(place: usize) -> usize
+    requires { place < 32 }
+    ensures first { place ≡ 0 → result ≡ 31 }
+    ensures others { 0 < place → result + 1 ≡ place }
+{
+    if place == 0 {
+        return MARKS - 1;
+    }
+    place - 1
 }

@@ -4,12 +4,11 @@ ghost use Rattle.h3_connection.specs.SendingContracts.{SendsHead, SendsTrailer};
 ghost use Rattle.h3_session.specs.SendingLists.{SendsFieldList, SendsTrailerList};
 ghost use Rattle.h3_c.specs.Exported.{Calls, OnStream, OrMemory, SendsCut, SendsGiven};
 ghost use Rattle.h3_c.specs.Given.{fields_cut, head_given};
-ghost use Rattle.h3_c.specs.Numbers.{call_told, list_told};
+ghost use Rattle.h3_c.specs.Numbers.{call_told};
 
 use super::Connection;
-use crate::fields::{FieldSize, cut_fields, given_head};
+use crate::fields::{FieldSize, cut_fields, given_head, let_go};
 use crate::numbers::{ARGUMENT, Told, called, listed};
-use h3_field::HeaderField;
 use h3_header::Header;
 use h3_proto::stream::StreamId;
 use std::alloc::Global;
@@ -91,21 +90,17 @@ impl Connection {
         let Ok(stream) = StreamId::try_from(id) else {
             return ARGUMENT;
         };
-        match cut_fields(alloc, sizes, bytes) {
-            Ok(fields) => {
-                let told = self.put_fields(stream, fields.as_slice());
-                drop(fields);
+        match cut_fields(&mut self.spare, sizes, bytes) {
+            Ok(()) => {
+                let told = listed(&self.endpoint.send_fields(stream, self.spare.as_slice()));
+                let_go(alloc, &mut self.spare);
                 told
             }
-            Err(told) => told,
+            Err(told) => {
+                let_go(alloc, &mut self.spare);
+                told
+            }
         }
-    }
-
-    // (a function of its own: each exit of one that owns the fields would drop them)
-    fn put_fields(&mut self, stream: StreamId, fields: &[HeaderField]) -> Told
-        ensures { Calls list_told result self.old self.new (λ call. SendsFieldList self.old.endpoint self.new.endpoint stream fields.now call) }
-    {
-        listed(&self.endpoint.send_fields(stream, fields))
     }
 
     /// A list goes out on a stream in the place of a trailer.
@@ -122,20 +117,20 @@ impl Connection {
         let Ok(stream) = StreamId::try_from(id) else {
             return ARGUMENT;
         };
-        match cut_fields(alloc, sizes, bytes) {
-            Ok(fields) => {
-                let told = self.put_trailer_fields(stream, fields.as_slice());
-                drop(fields);
+        match cut_fields(&mut self.spare, sizes, bytes) {
+            Ok(()) => {
+                let told = listed(
+                    &self
+                        .endpoint
+                        .send_trailer_fields(stream, self.spare.as_slice()),
+                );
+                let_go(alloc, &mut self.spare);
                 told
             }
-            Err(told) => told,
+            Err(told) => {
+                let_go(alloc, &mut self.spare);
+                told
+            }
         }
-    }
-
-    // (a function of its own: each exit of one that owns the fields would drop them)
-    fn put_trailer_fields(&mut self, stream: StreamId, fields: &[HeaderField]) -> Told
-        ensures { Calls list_told result self.old self.new (λ call. SendsTrailerList self.old.endpoint self.new.endpoint stream fields.now call) }
-    {
-        listed(&self.endpoint.send_trailer_fields(stream, fields))
     }
 }

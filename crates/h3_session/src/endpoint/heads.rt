@@ -22,7 +22,7 @@ use super::Endpoint;
 use h3_coding::varint::VarInt;
 use h3_connection::event::Refusal;
 use h3_connection::place::SendPlace;
-use h3_field::HeaderField;
+use h3_field::{HeaderField, section_size};
 use h3_header::Header;
 use h3_messages::Content;
 use h3_outgoing::EncodedSection;
@@ -212,7 +212,7 @@ impl Endpoint {
         ensures err { IfErr result (λ refusal. refusal ≢ Refusal.OutOfMemory → size_refused self.now.peer.settings fields.now ≡ Some refusal) }
         ensures memory { IfErr result (λ refusal. refusal ≡ Refusal.OutOfMemory → 2 ^ 56 ≤ self.now.sent + fields_cost fields.now + 64) }
     {
-        let Some(size) = section_size(fields) else {
+        let Some(size) = size_of(fields) else {
             return Err(Refusal::OutOfMemory);
         };
         if self.is_too_large(size) {
@@ -324,20 +324,13 @@ fn withdraw(streams: &mut ConnectionStreams, id: StreamId, count: usize)
 }
 
 /// The size of fields (RFC 9114, section 4.2.2), in bytes, where it is below `SIZE_LIMIT`.
-fn section_size(fields: &[HeaderField]) -> Option<u64>
+fn size_of(fields: &[HeaderField]) -> Option<u64>
     ensures some { IfSome result (λ size. (size ≡ section_size fields.now) × (size < 2 ^ 62)) }
     ensures none { IfNone result (2 ^ 62 ≤ section_size fields.now) }
 {
-    let mut size: u64 = 0;
-    for field in fields {
-        let more = field.mem_size() as u64;
-        if more >= SIZE_LIMIT {
-            return None;
-        }
-        size += more;
-        if size >= SIZE_LIMIT {
-            return None;
-        }
+    let size = section_size(fields);
+    if size >= SIZE_LIMIT {
+        return None;
     }
     Some(size)
 }

@@ -129,7 +129,16 @@ impl Endpoint {
         out
     }
 
-    // The same, with the answer in the place of what `out` was.
+    /// The same, with the answer in the place of what `out` was, which is let go. So the answer is not moved, and a caller that keeps it has
+    /// it where it was made.
+    pub fn pull_fields_into(&mut self, id: StreamId, out: &mut FieldsPull)
+        ensures pulls { PullsNext self.old self.new id (pull_of out.new) }
+        ensures list { ListsNext self.old id (list_of out.new) }
+    {
+        self.pull_into(id, out);
+    }
+
+    // The same of an answer of either kind.
     #[tactic(auto, using(crate::proofs::PullingKept::pull_closed, crate::proofs::PullingKept::pull_alone, crate::proofs::PullingKept::pull_settled, crate::proofs::PullingKept::pull_behind, crate::proofs::PullingKept::pull_faulty, crate::proofs::PullingKept::pull_lacked, crate::proofs::Listing::lists_no_next, crate::proofs::Listing::lists_settled))]
     fn pull_into<O: Answer>(&mut self, id: StreamId, out: &mut O)
         ensures pulls { PullsNext self.old self.new id (O.told out.new) }

@@ -1,3 +1,4 @@
+use Rattle.std.proofs.Common.{◌∙◌, ◌+◌, ap, arith}
 use Rattle.h3_c.specs.Given.{fields_cut}
 use Rattle.h3_c.proofs.Cuts.{next, short, whole, too_many}
 use Rattle.h3_c.proofs.fields.cut_fields.Goals as goal
@@ -9,7 +10,9 @@ returns-then-rest-len-clause-err c =
 pub loop-at-preserved : goal.loop-at-preserved
 loop-at-preserved c = record {
   cut = next c.args.sizes.now c.loop-at.at c.loop-at.fields.items _ c.loop-at.rest.now _ (fields_cut c.args.sizes.now c.args.bytes.now) c.loop-at-test.true c.if-rest-len.false
-      c.in-Ok.ensures c.behind-rest.ensures c.loop-at.invariant.cut;
+      c.push_field.ensures.items c.behind-rest.ensures c.loop-at.invariant.cut;
+  len = c.push_field.ensures.len ∙ ap (λ n. n + 1) c.loop-at.invariant.len;
+  room = omega (arith, c.push_field.ensures.capacity, c.loop-at.invariant.room);
 }
 
 pub returns-then-rest-gt0-clause-err : goal.returns-then-rest-gt0-clause-err

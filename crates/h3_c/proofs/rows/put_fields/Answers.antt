@@ -9,8 +9,9 @@ loop-index-preserved c =
     let f = c.index-fields-index.result in
     let is : get_or fields i f ≡ f = search rules in
     record {
-      sizes = rw c.size_of.ensures (sizes_next fields i f c.loop-index.sizes c.args.sizes.now c.loop-index-test.true is c.requires.count c.loop-index.invariant.sizes);
+      sizes = rw c.size_of.ensures (rw (c.name-name.ensures, c.value-value.ensures)
+          (sizes_next fields i f c.loop-index.sizes c.args.sizes.now c.loop-index-test.true is c.requires.count c.loop-index.invariant.sizes));
       bytes = bytes_next fields i c.loop-index.at c.put_field-at.result f c.loop-index.bytes c.put_field-at.new.bytes c.args.bytes.now c.loop-index-test.true is c.requires.room c.loop-index.invariant.bytes
-          c.put_field-at.ensures.place c.put_field-at.ensures.front;
+          (rw (c.name-name.ensures, c.value-value.ensures) at c.put_field-at.ensures.place) (rw (c.name-name.ensures, c.value-value.ensures) at c.put_field-at.ensures.front);
       short = (short_next fields i f c.loop-index-test.true is c.loop-index.invariant.short).1;
     }
