@@ -262,3 +262,18 @@ one_byte table at is less inside =
     let one : at + 1 - at ≡ 1 = omega arith in
     let byte : get_or table at at ≡ at = ap (λ t. get_or t at at) is ∙ get_or-map-range_with_len (λ b. b) 0 256 at at at less (omega arith) in
     ap₂ take one (drop_more table at at inside) ∙ ap (λ b. b ∷ []) byte
+
+-- whether no element is left
+pub none_left : {T : Type 0} (unread : T → List ℕ) (es : List (Element T)) → length (joined (all_of unread) es) ≡ 0 → AreFilled unread es → all_cuts unread es ≡ []
+none_left unread [] none filled = refl
+none_left unread (x ∷ es) none filled =
+    let first = filled 0 x (omega arith) in
+    let size = length-append (all_of unread x) (joined (all_of unread) es) in
+    absurd (omega (arith, none, first, size))
+
+pub some_left : {T : Type 0} (unread : T → List ℕ) (es : List (Element T)) → 0 < length (joined (all_of unread) es) → AreFilled unread es → 0 < length (all_cuts unread es)
+some_left unread [] some filled = absurd (omega (arith, some))
+some_left unread (x ∷ es) some filled =
+    let first = cuts_some unread x (filled 0 x (omega arith)) in
+    let size = length-append (cuts unread x) (all_cuts unread es) in
+    omega (arith, first, size)

@@ -38,6 +38,9 @@ at_kind : (kind : ℕ) (bytes mid : List ℕ) (b : Bool) → varint_at bytes ≡
 unfolding unknown_size
 at_kind kind bytes mid b e t = ap (size_by (length bytes)) e ∙ ap (λ x. if x then None else size_with (length bytes) (varint_at mid)) t
 
+pub known_kind : (kind : ℕ) (bytes mid : List ℕ) → varint_at bytes ≡ Some (kind, mid) → is_known_type kind ≡ true → unknown_size bytes ≡ None
+known_kind kind bytes mid e t = at_kind kind bytes mid true e t
+
 by_number : (bytes : List ℕ) (size kind : ℕ) (mid : List ℕ) → is_known_type kind ≡ false → varint_at bytes ≡ Some (kind, mid) → unknown_size bytes ≡ Some size → IsUnknownHead bytes size
 by_number bytes size kind mid t e is = elim (cases_number mid) [
   | inl none ↦ let wrong : None ≡ Some size = sym (at_kind kind bytes mid false e t ∙ ap (size_with (length bytes)) none) ∙ is in absurd (cc)

@@ -1,10 +1,11 @@
 -- Pieces joined, one more and one less.
-use Rattle.std.proofs.Common.{◌≡◌, ℕ, ◌+◌, ◌<◌, List, [], ◌∷◌, ◌++◌, length, drop, get_or, append-nil, append_assoc, length-append, ap, sym, refl, ◌∙◌, inl, inr, arith, Option, Some, None}
+use Rattle.std.proofs.Common.{◌≡◌, ℕ, ◌+◌, ◌-◌, ◌<◌, List, [], ◌∷◌, ◌++◌, length, take, drop, get_or, append-nil, append_assoc, length-append, ap, sym, refl, subst, ◌∙◌, inl, inr, arith, Option, Some, None}
 use Rattle.std.specs.Prelude.{map, slice_set}
 use Rattle.std.specs.List.{concat}
 use Rattle.std.proofs.lemmas.List.Folds.{concat-append}
-use Rattle.std.proofs.lemmas.List.{drop-drop, drop_more, drop_at, drop_all, length-drop}
+use Rattle.std.proofs.lemmas.List.{drop-drop, drop_more, drop_at, drop_all, drop-append-le, length-drop, take_all, take_at}
 use Rattle.std.proofs.lemmas.Bool.{cases_lt}
+use Rattle.bytes.specs.Unread.{IsChunkOf}
 use Rattle.h3_wire.specs.Pieces.{joined, with_piece, first_of}
 
 pub joined-push : {T : Type 0} (unread : T → List ℕ) (xs : List T) (x : T) → joined unread (xs ++ x ∷ []) ≡ joined unread xs ++ unread x
@@ -74,3 +75,19 @@ pub first_cut : (items : List (List ℕ)) (first front rest : List ℕ) → 0 < 
 first_cut [] first front rest some is e = absurd (omega arith)
 first_cut (x ∷ xs) first front rest some is e =
     ap (λ l. l ++ concat (map (λ b. b) xs)) (sym is ∙ sym e) ∙ append_assoc front rest (concat (map (λ b. b) xs))
+
+-- the rest of a piece is what lies together in front of what follows it
+pub chunk_here : (p more : List ℕ) (f : ℕ) → f < length p → IsChunkOf (take (length p - f) (drop f p)) (drop f (p ++ more))
+chunk_here p more f less =
+    let size = length-drop f p in
+    let all : take (length p - f) (drop f p) ≡ drop f p = take_all (length p - f) (drop f p) (omega (arith, size)) in
+    let both = length-append (drop f p) more in
+    let here : IsChunkOf (drop f p) (drop f p ++ more) = record { front = take_at (drop f p) more (length (drop f p)) refl; fits = omega (arith, both); some = λ _. omega (arith, size, less) } in
+    subst (λ c. IsChunkOf c (drop f (p ++ more))) (sym all) (subst (IsChunkOf (drop f p)) (sym (drop-append-le f p more (omega (arith, less)))) here)
+
+pub chunk_past : (p left : List ℕ) (f : ℕ) → p ≡ [] → left ≡ [] → IsChunkOf (take (length p - f) (drop f p)) left
+chunk_past p left f e none =
+    let zero : 0 - f ≡ 0 = omega arith in
+    let all : take (length p - f) (drop f p) ≡ [] = ap (λ l. take (length l - f) (drop f l)) e ∙ ap (λ n. take n (drop f [])) zero in
+    let here : IsChunkOf [] [] = record { front = refl; fits = omega arith; some = λ h. h } in
+    subst (λ c. IsChunkOf c left) (sym all) (subst (IsChunkOf []) (sym none) here)

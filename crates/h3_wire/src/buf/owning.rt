@@ -2,7 +2,8 @@
 ghost use Rattle.std.specs.Prelude.{◌≡◌};
 
 use super::BufList;
-use bytes::Bytes;
+use super::queue::Queue;
+use bytes::{Buf, Bytes};
 use std::alloc::{AllocError, Global};
 
 /// Puts a copy in a block of its own in the place of bytes that have no block, or share one. They stay the same bytes, also at an `Err`:
@@ -22,6 +23,35 @@ impl BufList<Bytes> {
     /// one. Only the pieces are looked at that were added since this was done last. Nothing else changes, also at an `Err`: memory was
     /// refused, and the next call does the rest.
     pub fn own(&mut self, alloc: Global) -> Result<(), AllocError>
+        ensures { self.new ≡ self.old }
+    {
+        self.own_front(alloc)?;
+        self.behind.own(alloc)
+    }
+
+    // The same of the first piece alone.
+    fn own_front(&mut self, alloc: Global) -> Result<(), AllocError>
+        ensures { self.new ≡ self.old }
+    {
+        if !self.behind.was_all_added() {
+            return Ok(());
+        }
+        match &mut self.front {
+            Some(first) => own(first, alloc),
+            None => Ok(()),
+        }
+    }
+}
+
+impl<T: Buf> Queue<T> {
+    // Whether more pieces were added since `own` than the queue has elements: then one before it was.
+    fn was_all_added(&self) -> bool {
+        self.added > self.bufs.len()
+    }
+}
+
+impl Queue<Bytes> {
+    fn own(&mut self, alloc: Global) -> Result<(), AllocError>
         ensures { self.new ≡ self.old }
     {
         let count = self.bufs.len();

@@ -73,13 +73,24 @@ impl FrameBuffer {
         ensures counts { Counts self.old.decoder (concat self.old.pieces) result self.new.decoder }
         ensures pieces { self.new.pieces ≡ ending (length (concat self.new.pieces)) self.old.pieces }
     {
-        if self.unread.passing() == 0 {
-            return self.decode(alloc);
-        }
-        if self.pass_unknown() {
+        if self.is_at_frame() {
             return self.decode(alloc);
         }
         Ok(None)
+    }
+
+    // Whether a frame begins at the front: none is under way there, or the unknown one that was is whole, and is passed. (A function of its
+    // own: the frame is read at one place, where it is to lie.)
+    #[inline]
+    fn is_at_frame(&mut self) -> bool
+        ensures same { self.old.passing ≡ 0 → (result ≡ true) × (self.new ≡ self.old) }
+        ensures waits { result ≡ false → IsStillUnderWay self.old self.new }
+        ensures passed { 0 < self.old.passing → result ≡ true → IsPassed self.old self.new }
+    {
+        if self.unread.passing() == 0 {
+            return true;
+        }
+        self.pass_unknown()
     }
 
     // An unknown frame is under way, of which some bytes were let go. Where it is whole it is passed.

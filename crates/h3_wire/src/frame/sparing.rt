@@ -13,7 +13,7 @@ use super::errors::FrameStreamError;
 use super::excess;
 use super::let_go::LetGo;
 use crate::buf::BufList;
-use crate::proto::frame::{Frame, PayloadLen};
+use crate::proto::frame::{Frame, FrameHead, PayloadLen};
 use bytes::{Buf, Bytes};
 use h3_coding::coding::BufExt;
 use std::alloc::{AllocError, Global};
@@ -220,8 +220,21 @@ fn is_longer(len: usize, size: Option<usize>) -> bool
 }
 
 // How many bytes the frame at the front has, where its head is whole and its type is unknown.
-#[tactic(auto, unfolding(crate::specs::UnknownSize::unknown_size))]
 fn unknown_size(pieces: &BufList<Bytes>) -> Option<usize>
+    ensures { result ≡ unknown_size (concat pieces.now.pieces) }
+{
+    if let Some(head) = FrameHead::at_front(pieces.first_bytes()) {
+        if is_known_type(head.kind) {
+            return None;
+        }
+    }
+    unknown_size_anywhere(pieces)
+}
+
+// The same, wherever the head lies. It stays apart, so that a known type is told without a cursor.
+#[tactic(auto, unfolding(crate::specs::UnknownSize::unknown_size))]
+#[inline(never)]
+fn unknown_size_anywhere(pieces: &BufList<Bytes>) -> Option<usize>
     ensures { result ≡ unknown_size (concat pieces.now.pieces) }
 {
     let mut cursor = pieces.cursor();

@@ -1,10 +1,16 @@
-use Rattle.std.proofs.Common.{◌<◌, length, arith, refl, ap, ◌∙◌}
+use Rattle.std.proofs.Common.{◌≡◌, ℕ, ◌+◌, ◌-◌, ◌<◌, ◌≤◌, ◌++◌, [], ◌∷◌, List, length, drop, nat_le, arith, refl, ap, sym, subst, ◌∙◌, None, Some}
+use Rattle.std.specs.List.{concat}
+use Rattle.h3_wire.specs.Elements.{front_room, held}
 use Rattle.h3_wire.specs.Pieces.{Listed, first_bytes}
-use Rattle.h3_wire.proofs.ElementLemmas.{at_first}
+use Rattle.h3_wire.proofs.FrontLemmas.{held_none, held_some}
 use Rattle.h3_wire.proofs.buf.BufList+Bytes.first_bytes.Goals as goal
 
 pub returns-in-Some : goal.returns-in-Some
 returns-in-Some c =
-    let items = c.self.inside.bufs.items in
-    let some : 0 < length items = omega (arith, c.in-Some.ensures.variant.0 refl) in
-    c.first.ensures ∙ at_first (λ b. b) items c.in-Some.first.now some c.in-Some.ensures.lookup c.self.invariant.1 ∙ ap (λ (l : Listed). first_bytes l.pieces) c.self.view_is
+    let shown = held_some (λ b. b) c.self.inside.front _ c.self.inside.behind.pieces c.in-Some.is in
+    c.as_slice.ensures ∙ ap first_bytes (sym shown) ∙ ap (λ (l : Listed). first_bytes l.pieces) c.self.view_is
+
+pub returns-in-None : goal.returns-in-None
+returns-in-None c =
+    let shown = held_none (λ b. b) c.self.inside.front c.self.inside.behind.pieces c.in-None.is in
+    c.first_bytes.ensures ∙ ap first_bytes (sym shown) ∙ ap (λ (l : Listed). first_bytes l.pieces) c.self.view_is

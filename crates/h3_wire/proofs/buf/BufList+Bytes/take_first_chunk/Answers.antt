@@ -1,17 +1,17 @@
-use Rattle.std.proofs.Common.{◌≡◌, ◌<◌, ◌∷◌, length, length-append, arith, refl, ap, sym, ◌∙◌}
-use Rattle.std.specs.Option.{is_some}
-use Rattle.std.proofs.lemmas.List.Elements.{All-rest}
-use Rattle.h3_wire.specs.Elements.{all_of}
-use Rattle.h3_wire.specs.Pieces.{joined}
-use Rattle.h3_wire.proofs.ElementLemmas.{set_same}
+use Rattle.std.proofs.Common.{◌++◌, ap, sym, ◌∙◌, None, Some}
+use Rattle.h3_wire.specs.Elements.{held}
+use Rattle.h3_wire.specs.Pieces.{Listed, first_of}
+use Rattle.h3_wire.proofs.FrontLemmas.{held_none, held_some}
 use Rattle.h3_wire.proofs.buf.BufList+Bytes.take_first_chunk.Goals as goal
 
-pub invariant_of-self-2 : goal.invariant_of-self-2
-invariant_of-self-2 c =
-    let items = c.self.inside.bufs.items in
-    let some : 0 < length items = omega (arith, c.in_ok-front_mut.ensures.variant.0 refl) in
-    let same = set_same items c.in_ok-front_mut.field-0.now c.take_one.new.self some c.in_ok-front_mut.ensures.value (c.take_one.ensures.same (ap is_some c.in_default.is)) in
-    let rest = c.pop_front.new.self.items in
-    let split : items ≡ c.in_ok-first.first ∷ rest = sym same ∙ c.in_ok-first.ensures.items in
-    let sizes = ap (λ l. length (joined (all_of (λ b. b)) l)) split ∙ length-append (all_of (λ b. b) c.in_ok-first.first) (joined (all_of (λ b. b)) rest) in
-    (omega (arith, sizes, c.self.invariant.0, c.remaining.ensures), All-rest (λ e. 0 < length (all_of (λ b. b) e)) c.in_ok-first.first rest items split c.self.invariant.1)
+pub returns-in-Some-clause-pieces : goal.returns-in-Some-clause-pieces
+returns-in-Some-clause-pieces c =
+    let ps = c.self.inside.behind.pieces in
+    let shown = held_some (λ b. b) c.self.inside.front _ ps (sym c.take.ensures.value ∙ c.in-Some.is) in
+    ap (λ f. (Some c.in-Some.first, held (λ b. b) f ++ ps)) c.take.ensures.after ∙ ap first_of (sym shown) ∙ ap (λ (l : Listed). first_of l.pieces) c.self.view_is
+
+pub returns-in-None-clause-pieces : goal.returns-in-None-clause-pieces
+returns-in-None-clause-pieces c =
+    let taken = c.take_first_chunk in
+    let shown = held_none (λ b. b) c.self.inside.front c.self.inside.behind.pieces (sym c.take.ensures.value ∙ c.in-None.is) in
+    ap (λ f. (taken.result, held (λ b. b) f ++ taken.new.self.pieces)) c.take.ensures.after ∙ taken.ensures.pieces ∙ ap first_of (sym shown) ∙ ap (λ (l : Listed). first_of l.pieces) c.self.view_is

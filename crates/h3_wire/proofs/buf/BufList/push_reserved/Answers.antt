@@ -7,4 +7,4 @@ pub returns-clause-bytes : goal.returns-clause-bytes
 returns-clause-bytes g c =
     let pieces = c.args.self.now.pieces in
     let more = g.T.Buf.unread c.args.piece in
-    ap concat c.append.ensures.pieces ∙ concat-append pieces (more ∷ []) ∙ ap (λ l. concat pieces ++ l) (append-nil more)
+    ap concat c.put.ensures.pieces ∙ concat-append pieces (more ∷ []) ∙ ap (λ l. concat pieces ++ l) (append-nil more)

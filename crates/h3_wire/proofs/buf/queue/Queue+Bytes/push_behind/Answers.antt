@@ -2,7 +2,7 @@ use Rattle.std.proofs.Common.{◌+◌, ◌-◌, ◌<◌, ◌++◌, [], ◌∷◌
 use Rattle.std.specs.List.{concat}
 use Rattle.h3_wire.specs.Pieces.{Listed}
 use Rattle.h3_wire.proofs.ElementLemmas.{byte_behind, byte_filled, byte_more, concat-all_cuts}
-use Rattle.h3_wire.proofs.buf.BufList+Bytes.push_behind.Goals as goal
+use Rattle.h3_wire.proofs.buf.queue.Queue+Bytes.push_behind.Goals as goal
 
 pub overflow_add-self : goal.overflow_add-self
 overflow_add-self c =

@@ -5,7 +5,7 @@ use Rattle.h3_wire.specs.Elements.{all_cuts, all_of, cuts}
 use Rattle.h3_wire.specs.Pieces.{Listed, joined}
 use Rattle.h3_wire.proofs.ElementLemmas.{concat-all_cuts, cuts-push}
 use Rattle.h3_wire.proofs.PieceLemmas.{length-joined-push}
-use Rattle.h3_wire.proofs.buf.BufList.append.Goals as goal
+use Rattle.h3_wire.proofs.buf.queue.Queue.append.Goals as goal
 
 pub overflow_add-self : goal.overflow_add-self
 overflow_add-self g c =
