@@ -124,11 +124,7 @@ impl Decoding {
     }
 
     #[tactic(auto, using(crate::proofs::Waits::is_fault))]
-    fn read_into(
-        &mut self,
-        most: u64,
-        replies: &mut Vec<u8>,
-    ) -> Result<Option<Code>, AllocError>
+    fn read_into(&mut self, most: u64, replies: &mut Vec<u8>) -> Result<Option<Code>, AllocError>
         requires { goes_on (encoder_wait self.old.unread) ≡ false }
         ensures front { HearsFront most self.old self.new }
         ensures ok { IfOk result (λ fault. Hears most self.old self.new [] fault replies.old.items replies.new.items) }
@@ -160,11 +156,7 @@ impl Decoding {
     /// (RFC 9114, section 10.5). Where memory is refused the instructions that were read stand, and the increment counts them; the others
     /// stay unread, and the next reading goes on with them. Bytes that are known to leave the instruction at the front unfinished are not
     /// read again, so a stream costs no more however it is cut.
-    pub fn read(
-        &mut self,
-        most: u64,
-        out: &mut WaitingBytes,
-    ) -> Result<Option<Code>, AllocError>
+    pub fn read(&mut self, most: u64, out: &mut WaitingBytes) -> Result<Option<Code>, AllocError>
         ensures ok { IfOk result (λ fault. Hears most self.old self.new [] fault out.old out.new) }
         ensures increment { out.new ≡ out.old ++ increment_for (self.new.decoder.table.inserted - self.old.decoder.table.inserted) }
         ensures refused { OnErr result (StopsHearing most self.old self.new) }
