@@ -20,7 +20,7 @@ same_count : (n m : ℕ) → wait.Bytes n ≡ wait.Bytes m → n ≡ m
 same_count n m e = cc
 
 first_lacks : (waiting : List ℕ → Wait) (more : List ℕ) (count : ℕ) → waiting [] ≡ wait.Bytes 1 → waiting [] ≡ wait.Bytes count → length more < count → waiting more ≡ wait.Bytes (count - length more)
-first_lacks waiting [] count none is few = is
+first_lacks waiting [] count none is few = let same : count ≡ count - 0 = omega arith in is ∙ ap (λ n. wait.Bytes n) same
 first_lacks waiting (byte ∷ more) count none is few = let one = same_count 1 count (sym none ∙ is) in absurd (omega (arith, one, few))
 
 integer_lacks : (size : ℕ) (next : ℕ → List ℕ → Wait) → ((n : ℕ) → Lacks (next n)) → Lacks (integer_wait size next)

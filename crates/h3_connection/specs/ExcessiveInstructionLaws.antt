@@ -25,11 +25,8 @@ exceeds_limit most waiting (first ∷ rest) e = (and_parts (is_limit most) (nat_
 
 -- Bytes that are no more than the limit are all asked,
 all_taken : (most : ℕ) (bytes : List ℕ) → length bytes ≤ most → take most bytes ≡ bytes
-all_taken most [] few = by_count most
-  where
-    by_count : (n : ℕ) → take n [] ≡ []
-    by_count zero = refl
-    by_count (suc n) = refl
+all_taken zero [] few = refl
+all_taken (suc most) [] few = refl
 all_taken zero (byte ∷ bytes) few = absurd (omega (arith, few))
 all_taken (suc most) (byte ∷ bytes) few = ap (λ l. byte ∷ l) (all_taken most bytes (omega (arith, few)))
 
@@ -46,14 +43,20 @@ exceeds_front most waiting first rest more many = ap (λ l. is_limit most && nat
 nothing_missing : (w : Wait) → goes_on w ≡ false → missing w ≡ 0
 nothing_missing wait.Nothing e = refl
 nothing_missing wait.Integer e = absurd (cc)
-nothing_missing (wait.Bytes zero) e = refl
-nothing_missing (wait.Bytes (suc count)) e = absurd (cc)
+nothing_missing (wait.Bytes count) e =
+    elim (cases_lt 0 count) [
+      | inl some ↦ let wrong : true ≡ false = sym (lt-ltb 0 count some) ∙ e in absurd (cc)
+      | inr none ↦ let zero_more : count ≡ 0 = omega (arith, none) in zero_more
+    ]
 
 something_missing : (w : Wait) → goes_on w ≡ true → 0 < missing w
 something_missing wait.Nothing e = absurd (cc)
-something_missing wait.Integer e = omega arith
-something_missing (wait.Bytes zero) e = absurd (cc)
-something_missing (wait.Bytes (suc count)) e = omega arith
+something_missing wait.Integer e = let one : 0 < 1 = omega arith in one
+something_missing (wait.Bytes count) e =
+    elim (cases_lt 0 count) [
+      | inl some ↦ some
+      | inr none ↦ let wrong : true ≡ false = sym e ∙ le-ltb 0 count none in absurd (cc)
+    ]
 
 -- Where the bytes are no more than the limit, an instruction that exceeds it is not whole.
 exceeding_waits : (most : ℕ) (waiting : List ℕ → Wait) (bytes : List ℕ) → length bytes ≤ most → exceeds most waiting bytes ≡ true → goes_on (waiting bytes) ≡ true
@@ -100,7 +103,7 @@ taken_length (suc most) (byte ∷ bytes) = let less = taken_length most bytes in
 
 finished_stays : (most : ℕ) (waiting : List ℕ → Wait) (bytes more : List ℕ) → Ends waiting → waiting [] ≡ wait.Bytes 1 → exceeds most waiting bytes ≡ false → goes_on (waiting bytes) ≡ false
     → exceeds most waiting (bytes ++ more) ≡ false
-finished_stays most waiting [] more ends empty within done = let waits = ap goes_on empty in absurd (cc)
+finished_stays most waiting [] more ends empty within done = let waits : goes_on (waiting []) ≡ true = ap goes_on empty in absurd (cc)
 finished_stays most waiting (first ∷ rest) more ends empty within done =
     elim (cases_lt (length (first ∷ rest)) most) [
       | inr many ↦ exceeds_front most waiting first rest more many ∙ within

@@ -102,38 +102,41 @@ next_cut : (most : ℕ) (r : DecoderState) (bytes rest more : List ℕ) (o : Opt
 next_cut most r bytes rest more None each = refl
 next_cut most r bytes rest more (Some new) each = each new
 
-cut_within : (n most : ℕ) (r : DecoderState) (bytes more : List ℕ) → length bytes ≤ n
-    → hear_up_to most r (bytes ++ more) ≡ heard_up_to_with most (hear_up_to most r bytes) more (hear_up_to most r bytes).is_bad
-cut_within n most r bytes more fits = by_length (exceeds most encoder_wait bytes) refl
+abbrev SameCut : ℕ → DecoderState → List ℕ → List ℕ → Type 0
+SameCut most r bytes more = hear_up_to most r (bytes ++ more) ≡ heard_up_to_with most (hear_up_to most r bytes) more (hear_up_to most r bytes).is_bad
+
+cut_front : (most : ℕ) (r : DecoderState) (bytes more : List ℕ) → ((form : InstructionForm) (rest : List ℕ) (new : DecoderState) → instruction bytes ≡ Whole form rest → SameCut most new rest more) → SameCut most r bytes more
+cut_front most r bytes more each = by_length (exceeds most encoder_wait bytes) refl
   where
     -- what is read of the first bytes
-    by_front : (h : Heard) → hear_up_to most r bytes ≡ h → hear_up_to most r (bytes ++ more) ≡ heard_up_to_with most h more h.is_bad
-        → hear_up_to most r (bytes ++ more) ≡ heard_up_to_with most (hear_up_to most r bytes) more (hear_up_to most r bytes).is_bad
+    by_front : (h : Heard) → hear_up_to most r bytes ≡ h → hear_up_to most r (bytes ++ more) ≡ heard_up_to_with most h more h.is_bad → SameCut most r bytes more
     by_front h is same = same ∙ sym (ap (λ (x : Heard). heard_up_to_with most x more x.is_bad) is)
 
     later : (x : Reading InstructionForm) → instruction (bytes ++ more) ≡ x → exceeds most encoder_wait bytes ≡ false → is_unfinished (instruction bytes) ≡ false
         → hear_up_to most r (bytes ++ more) ≡ hear_form (hear_up_to most) r (bytes ++ more) x
     later x is within done = hears_within most r (bytes ++ more) (finished_within most bytes more within done) ∙ ap (hear_form (hear_up_to most) r (bytes ++ more)) is
 
-    by_reading : (m : ℕ) → n ≡ m → exceeds most encoder_wait bytes ≡ false → (x : Reading InstructionForm) → instruction bytes ≡ x
+    by_reading : exceeds most encoder_wait bytes ≡ false → (x : Reading InstructionForm) → instruction bytes ≡ x
         → hear_up_to most r (bytes ++ more) ≡ heard_up_to_with most (hear_form (hear_up_to most) r bytes x) more (hear_form (hear_up_to most) r bytes x).is_bad
-    by_reading m size within Unfinished is = refl
-    by_reading m size within Bad is =
+    by_reading within Unfinished is = refl
+    by_reading within Bad is =
         let stays = instruction_stable bytes more in
         let bad : instruction (bytes ++ more) ≡ Bad = rw is at stays in
         later Bad bad within (ap is_unfinished is)
-    by_reading zero size within (Whole form rest) is = let less = instruction_less bytes rest form is in absurd (omega (arith, less, fits, size))
-    by_reading (suc m) size within (Whole form rest) is =
+    by_reading within (Whole form rest) is =
         let stays = instruction_stable bytes more in
         let whole : instruction (bytes ++ more) ≡ Whole form (rest ++ more) = rw is at stays in
-        let less = instruction_less bytes rest form is in
         later (Whole form (rest ++ more)) whole within (ap is_unfinished is)
-        ∙ next_cut most r bytes rest more (decoder_after_form r (instruction_of form)) (λ new. cut_within m most new rest more (omega (arith, less, fits, size)))
+        ∙ next_cut most r bytes rest more (decoder_after_form r (instruction_of form)) (λ new. each form rest new is)
 
-    by_length : (b : Bool) → exceeds most encoder_wait bytes ≡ b
-        → hear_up_to most r (bytes ++ more) ≡ heard_up_to_with most (hear_up_to most r bytes) more (hear_up_to most r bytes).is_bad
+    by_length : (b : Bool) → exceeds most encoder_wait bytes ≡ b → SameCut most r bytes more
     by_length true longer = by_front (heard r bytes false) (hears_no_longer most r bytes longer) refl
-    by_length false within = by_front (hear_form (hear_up_to most) r bytes (instruction bytes)) (hears_within most r bytes within) (by_reading n refl within (instruction bytes) refl)
+    by_length false within = by_front (hear_form (hear_up_to most) r bytes (instruction bytes)) (hears_within most r bytes within) (by_reading within (instruction bytes) refl)
+
+cut_within : (n most : ℕ) (r : DecoderState) (bytes more : List ℕ) → length bytes ≤ n → SameCut most r bytes more
+cut_within zero most r bytes more fits = cut_front most r bytes more (λ form rest new is. let less = instruction_less bytes rest form is in absurd (omega (arith, less, fits)))
+cut_within (suc n) most r bytes more fits =
+    cut_front most r bytes more (λ form rest new is. let less = instruction_less bytes rest form is in cut_within n most new rest more (omega (arith, less, fits)))
 
 pub hear_cut : (most : ℕ) (r : DecoderState) (bytes more : List ℕ) → hear_up_to most r (bytes ++ more) ≡ heard_up_to_with most (hear_up_to most r bytes) more (hear_up_to most r bytes).is_bad
 hear_cut most r bytes more = cut_within (length bytes) most r bytes more (omega arith)

@@ -1,5 +1,6 @@
 -- The peer's decoder stream, where instructions are taken up to a limit.
-use Rattle.std.proofs.Common.{◌≡◌, ℕ, zero, suc, ◌≤◌, Bool, true, false, ◌&&◌, if◌then◌else◌, List, [], ◌∷◌, ◌++◌, length, Option, Some, None, refl, ap, sym, ◌∙◌, arith, inl, inr, ◌⊎◌}
+use Rattle.std.proofs.Common.{◌≡◌, ℕ, zero, suc, ◌≤◌, Bool, true, false, ◌&&◌, if◌then◌else◌, List, [], ◌∷◌, ◌++◌, length, Some, None, refl, ap, sym, ◌∙◌, arith, inl, inr, ◌⊎◌}
+use Rattle.std.proofs.lemmas.Bool.{le-ltb}
 use Rattle.h3_field.specs.Instruction.{DecoderInstruction}
 use Rattle.h3_field.specs.InstructionLaws.{decoder_instruction_stable}
 use Rattle.h3_field.specs.InstructionReading.{decoder_instruction}
@@ -56,7 +57,7 @@ unfolding listen_up_to
 listens_nothing most s = refl
 
 pub keeps_nothing : (most : ℕ) → keeping_fault most [] ≡ None
-keeps_nothing most = by_limit (is_limit most)
+keeps_nothing most = ap (λ b. fault_if (is_limit most && b) excessive_load) (le-ltb most 0 (omega arith)) ∙ by_limit (is_limit most)
   where
     by_limit : (b : Bool) → fault_if (b && false) excessive_load ≡ None
     by_limit true = refl
@@ -109,38 +110,41 @@ next_cut : (most : ℕ) (s : EncoderHistory) (bytes : List ℕ) (i : DecoderInst
 next_cut most s bytes i rest more true each = refl
 next_cut most s bytes i rest more false each = each (encoder_after s i)
 
-cut_within : (n most : ℕ) (s : EncoderHistory) (bytes more : List ℕ) → length bytes ≤ n
-    → listen_up_to most s (bytes ++ more) ≡ listened_up_to_with most (listen_up_to most s bytes) more (listen_up_to most s bytes).is_bad
-cut_within n most s bytes more fits = by_length (exceeds most decoder_wait bytes) refl
+abbrev SameCut : ℕ → EncoderHistory → List ℕ → List ℕ → Type 0
+SameCut most s bytes more = listen_up_to most s (bytes ++ more) ≡ listened_up_to_with most (listen_up_to most s bytes) more (listen_up_to most s bytes).is_bad
+
+cut_front : (most : ℕ) (s : EncoderHistory) (bytes more : List ℕ) → ((i : DecoderInstruction) (rest : List ℕ) (new : EncoderHistory) → decoder_instruction bytes ≡ Whole i rest → SameCut most new rest more) → SameCut most s bytes more
+cut_front most s bytes more each = by_length (exceeds most decoder_wait bytes) refl
   where
     -- what is read of the first bytes
-    by_front : (l : Listened) → listen_up_to most s bytes ≡ l → listen_up_to most s (bytes ++ more) ≡ listened_up_to_with most l more l.is_bad
-        → listen_up_to most s (bytes ++ more) ≡ listened_up_to_with most (listen_up_to most s bytes) more (listen_up_to most s bytes).is_bad
+    by_front : (l : Listened) → listen_up_to most s bytes ≡ l → listen_up_to most s (bytes ++ more) ≡ listened_up_to_with most l more l.is_bad → SameCut most s bytes more
     by_front l is same = same ∙ sym (ap (λ (x : Listened). listened_up_to_with most x more x.is_bad) is)
 
     later : (x : Reading DecoderInstruction) → decoder_instruction (bytes ++ more) ≡ x → exceeds most decoder_wait bytes ≡ false → is_unfinished (decoder_instruction bytes) ≡ false
         → listen_up_to most s (bytes ++ more) ≡ listen_form (listen_up_to most) s (bytes ++ more) x
     later x is within done = listens_within most s (bytes ++ more) (decoder_finished_within most bytes more within done) ∙ ap (listen_form (listen_up_to most) s (bytes ++ more)) is
 
-    by_reading : (m : ℕ) → n ≡ m → exceeds most decoder_wait bytes ≡ false → (x : Reading DecoderInstruction) → decoder_instruction bytes ≡ x
+    by_reading : exceeds most decoder_wait bytes ≡ false → (x : Reading DecoderInstruction) → decoder_instruction bytes ≡ x
         → listen_up_to most s (bytes ++ more) ≡ listened_up_to_with most (listen_form (listen_up_to most) s bytes x) more (listen_form (listen_up_to most) s bytes x).is_bad
-    by_reading m size within Unfinished is = refl
-    by_reading m size within Bad is =
+    by_reading within Unfinished is = refl
+    by_reading within Bad is =
         let stays = decoder_instruction_stable bytes more in
         let bad : decoder_instruction (bytes ++ more) ≡ Bad = rw is at stays in
         later Bad bad within (ap is_unfinished is)
-    by_reading zero size within (Whole i rest) is = let less = decoder_instruction_less bytes rest i is in absurd (omega (arith, less, fits, size))
-    by_reading (suc m) size within (Whole i rest) is =
+    by_reading within (Whole i rest) is =
         let stays = decoder_instruction_stable bytes more in
         let whole : decoder_instruction (bytes ++ more) ≡ Whole i (rest ++ more) = rw is at stays in
-        let less = decoder_instruction_less bytes rest i is in
         later (Whole i (rest ++ more)) whole within (ap is_unfinished is)
-        ∙ next_cut most s bytes i rest more (is_refused s i) (λ new. cut_within m most new rest more (omega (arith, less, fits, size)))
+        ∙ next_cut most s bytes i rest more (is_refused s i) (λ new. each i rest new is)
 
-    by_length : (b : Bool) → exceeds most decoder_wait bytes ≡ b
-        → listen_up_to most s (bytes ++ more) ≡ listened_up_to_with most (listen_up_to most s bytes) more (listen_up_to most s bytes).is_bad
+    by_length : (b : Bool) → exceeds most decoder_wait bytes ≡ b → SameCut most s bytes more
     by_length true longer = by_front (listened s bytes false) (listens_no_longer most s bytes longer) refl
-    by_length false within = by_front (listen_form (listen_up_to most) s bytes (decoder_instruction bytes)) (listens_within most s bytes within) (by_reading n refl within (decoder_instruction bytes) refl)
+    by_length false within = by_front (listen_form (listen_up_to most) s bytes (decoder_instruction bytes)) (listens_within most s bytes within) (by_reading within (decoder_instruction bytes) refl)
+
+cut_within : (n most : ℕ) (s : EncoderHistory) (bytes more : List ℕ) → length bytes ≤ n → SameCut most s bytes more
+cut_within zero most s bytes more fits = cut_front most s bytes more (λ i rest new is. let less = decoder_instruction_less bytes rest i is in absurd (omega (arith, less, fits)))
+cut_within (suc n) most s bytes more fits =
+    cut_front most s bytes more (λ i rest new is. let less = decoder_instruction_less bytes rest i is in cut_within n most new rest more (omega (arith, less, fits)))
 
 pub listen_cut : (most : ℕ) (s : EncoderHistory) (bytes more : List ℕ) → listen_up_to most s (bytes ++ more) ≡ listened_up_to_with most (listen_up_to most s bytes) more (listen_up_to most s bytes).is_bad
 listen_cut most s bytes more = cut_within (length bytes) most s bytes more (omega arith)
