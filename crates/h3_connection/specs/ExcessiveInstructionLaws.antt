@@ -11,6 +11,7 @@ use Rattle.h3_field.specs.declared.waiting.Wait.{Wait}
 use Rattle.h3_field.specs.declared.waiting.Wait.TheVariants as wait
 use Rattle.h3_proto.specs.Config.{is_limit}
 use Rattle.h3_connection.specs.ExcessiveInstructions.{missing, exceeds}
+use Rattle.h3_connection.specs.LimitedReading.{Ends}
 
 -- **With no limit no instruction is too long.**
 pub none_exceeds : (most : ℕ) (waiting : List ℕ → Wait) (bytes : List ℕ) → is_limit most ≡ false → exceeds most waiting bytes ≡ false
@@ -83,9 +84,6 @@ exceeds_full most waiting first rest limit full waits =
     ∙ lt-ltb most (length (first ∷ rest) + missing (waiting (first ∷ rest))) (omega (arith, full, something_missing (waiting (first ∷ rest)) waits))
 
 -- What is told to be longer stays so, whatever comes behind; and so does an instruction that is whole or bad within the limit.
-abbrev Ends : (List ℕ → Wait) → Type 0
-Ends waiting = (bytes more : List ℕ) → goes_on (waiting bytes) ≡ false → goes_on (waiting (bytes ++ more)) ≡ false
-
 pub taken_more : (most : ℕ) (bytes more : List ℕ) → length bytes ≤ most → take most (bytes ++ more) ≡ bytes ++ take (most - length bytes) more
 taken_more most [] more few = let same : most ≡ most - 0 = omega arith in ap (λ n. take n more) same
 taken_more zero (byte ∷ bytes) more few = absurd (omega (arith, few))

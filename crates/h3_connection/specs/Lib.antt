@@ -15,6 +15,7 @@ pub mod ExcessiveInstructionLaws
 pub mod Listeners
 pub mod LimitedHearingLaws
 pub mod LimitedListeningLaws
+pub mod LimitedReading
 pub mod StreamSets
 pub mod StreamSetLaws
 pub mod Arrivals

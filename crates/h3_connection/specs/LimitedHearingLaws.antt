@@ -12,6 +12,7 @@ use Rattle.h3_qpack.specs.Hearing.{Heard, heard, decoder_after_form, hear_next, 
 use Rattle.h3_connection.specs.Codes.{encoder_stream_error, excessive_load}
 use Rattle.h3_connection.specs.ExcessiveInstructionLaws.{none_exceeds, exceeds_unfinished, finished_within}
 use Rattle.h3_connection.specs.ExcessiveInstructions.{exceeds, hear_limited, hear_up_to, heard_up_to_with}
+use Rattle.h3_connection.specs.LimitedReading.{IsLongerOrHeard, StopsOrHears, heard_unless_longer}
 use Rattle.h3_connection.specs.Listeners.{fault_if, hearing_fault}
 
 -- one instruction, and then the rest
@@ -26,9 +27,6 @@ form_same go other r bytes (Whole form rest) same = next_same go other r bytes r
 form_same go other r bytes Unfinished same = refl
 form_same go other r bytes Bad same = refl
 
-abbrev unless_longer : Bool → DecoderState → List ℕ → Heard → Heard
-unless_longer b r bytes h = if b then heard r bytes false else h
-
 -- no count of steps but the least matters
 steps_same : (n m most : ℕ) (r : DecoderState) (bytes : List ℕ) → length bytes ≤ n → length bytes ≤ m → hear_limited n most r bytes ≡ hear_limited m most r bytes
 steps_same zero zero most r bytes h k = refl
@@ -37,7 +35,7 @@ steps_same zero (suc m) most r (byte ∷ bytes) h k = absurd (omega (arith, h))
 steps_same (suc n) zero most r [] h k = refl
 steps_same (suc n) zero most r (byte ∷ bytes) h k = absurd (omega (arith, k))
 steps_same (suc n) (suc m) most r bytes h k =
-    ap (unless_longer (exceeds most encoder_wait bytes) r bytes)
+    ap (heard_unless_longer (exceeds most encoder_wait bytes) r bytes)
     (form_same (hear_limited n most) (hear_limited m most) r bytes (instruction bytes)
     (λ form rest new e. let less = instruction_less bytes rest form e in steps_same n m most new rest (omega (arith, less, h)) (omega (arith, less, k))))
 
@@ -46,7 +44,7 @@ pub hear_step : (most : ℕ) (r : DecoderState) (bytes : List ℕ)
 unfolding hear_up_to
 hear_step most r bytes =
     steps_same (length bytes) (suc (length bytes)) most r bytes (omega arith) (omega arith)
-    ∙ ap (unless_longer (exceeds most encoder_wait bytes) r bytes)
+    ∙ ap (heard_unless_longer (exceeds most encoder_wait bytes) r bytes)
     (form_same (hear_limited (length bytes) most) (hear_up_to most) r bytes (instruction bytes)
     (λ form rest new e. let less = instruction_less bytes rest form e in steps_same (length bytes) (length rest) most new rest (omega (arith, less)) (omega arith)))
 
@@ -57,17 +55,17 @@ hears_nothing most r = refl
 
 -- An instruction that is longer than the limit is not read,
 pub hears_no_longer : (most : ℕ) (r : DecoderState) (bytes : List ℕ) → exceeds most encoder_wait bytes ≡ true → hear_up_to most r bytes ≡ heard r bytes false
-hears_no_longer most r bytes longer = hear_step most r bytes ∙ ap (λ b. unless_longer b r bytes (hear_form (hear_up_to most) r bytes (instruction bytes))) longer
+hears_no_longer most r bytes longer = hear_step most r bytes ∙ ap (λ b. heard_unless_longer b r bytes (hear_form (hear_up_to most) r bytes (instruction bytes))) longer
 
 -- and any other is.
 pub hears_within : (most : ℕ) (r : DecoderState) (bytes : List ℕ) → exceeds most encoder_wait bytes ≡ false → hear_up_to most r bytes ≡ hear_form (hear_up_to most) r bytes (instruction bytes)
-hears_within most r bytes within = hear_step most r bytes ∙ ap (λ b. unless_longer b r bytes (hear_form (hear_up_to most) r bytes (instruction bytes))) within
+hears_within most r bytes within = hear_step most r bytes ∙ ap (λ b. heard_unless_longer b r bytes (hear_form (hear_up_to most) r bytes (instruction bytes))) within
 
 -- **Without a limit all is heard as it was.**
 steps_unlimited : (n most : ℕ) (r : DecoderState) (bytes : List ℕ) → is_limit most ≡ false → hear_limited n most r bytes ≡ hear_within n r bytes
 steps_unlimited zero most r bytes none = refl
 steps_unlimited (suc n) most r bytes none =
-    ap (λ b. unless_longer b r bytes (hear_form (hear_limited n most) r bytes (instruction bytes))) (none_exceeds most encoder_wait bytes none)
+    ap (λ b. heard_unless_longer b r bytes (hear_form (hear_limited n most) r bytes (instruction bytes))) (none_exceeds most encoder_wait bytes none)
     ∙ form_same (hear_limited n most) (hear_within n) r bytes (instruction bytes) (λ form rest new e. steps_unlimited n most new rest none)
 
 pub hear_unlimited : (most : ℕ) (r : DecoderState) (bytes : List ℕ) → is_limit most ≡ false → hear_up_to most r bytes ≡ hear r bytes
@@ -78,7 +76,7 @@ pub hearing_unlimited : (most : ℕ) (h : Heard) → is_limit most ≡ false →
 hearing_unlimited most h none = ap (λ b. if h.is_bad then Some encoder_stream_error else fault_if b excessive_load) (none_exceeds most encoder_wait h.left none)
 
 -- **So are no more bytes than the limit.**
-pass_by : (b : Bool) (r : DecoderState) (bytes : List ℕ) (h : Heard) → (b ≡ true → h ≡ heard r bytes false) → unless_longer b r bytes h ≡ h
+pass_by : (b : Bool) (r : DecoderState) (bytes : List ℕ) (h : Heard) → (b ≡ true → h ≡ heard r bytes false) → heard_unless_longer b r bytes h ≡ h
 pass_by true r bytes h same = sym (same refl)
 pass_by false r bytes h same = refl
 
@@ -144,38 +142,31 @@ pub hear_cut : (most : ℕ) (r : DecoderState) (bytes more : List ℕ) → hear_
 hear_cut most r bytes more = cut_within (length bytes) most r bytes more (omega arith)
 
 -- **An instruction that is too long is the fault, or all is heard as without a limit.**
-abbrev LongerOr : ℕ → Heard → Heard → Type 0
-LongerOr most h other = ((h.is_bad ≡ false) × (exceeds most encoder_wait h.left ≡ true)) ⊎ (h ≡ other)
-
-next_alike : (most : ℕ) (go other : DecoderState → List ℕ → Heard) (r : DecoderState) (bytes rest : List ℕ) (o : Option DecoderState) → ((new : DecoderState) → LongerOr most (go new rest) (other new rest))
-    → LongerOr most (hear_next go r bytes rest o) (hear_next other r bytes rest o)
+next_alike : (most : ℕ) (go other : DecoderState → List ℕ → Heard) (r : DecoderState) (bytes rest : List ℕ) (o : Option DecoderState) → ((new : DecoderState) → StopsOrHears most (go new rest) (other new rest))
+    → StopsOrHears most (hear_next go r bytes rest o) (hear_next other r bytes rest o)
 next_alike most go other r bytes rest None each = inr refl
 next_alike most go other r bytes rest (Some new) each = each new
 
-form_alike : (most : ℕ) (go other : DecoderState → List ℕ → Heard) (r : DecoderState) (bytes : List ℕ) (x : Reading InstructionForm) → ((new : DecoderState) (rest : List ℕ) → LongerOr most (go new rest) (other new rest))
-    → LongerOr most (hear_form go r bytes x) (hear_form other r bytes x)
+form_alike : (most : ℕ) (go other : DecoderState → List ℕ → Heard) (r : DecoderState) (bytes : List ℕ) (x : Reading InstructionForm) → ((new : DecoderState) (rest : List ℕ) → StopsOrHears most (go new rest) (other new rest))
+    → StopsOrHears most (hear_form go r bytes x) (hear_form other r bytes x)
 form_alike most go other r bytes (Whole form rest) each = next_alike most go other r bytes rest (decoder_after_form r (instruction_of form)) (λ new. each new rest)
 form_alike most go other r bytes Unfinished each = inr refl
 form_alike most go other r bytes Bad each = inr refl
 
-test_alike : (most : ℕ) (b : Bool) (r : DecoderState) (bytes : List ℕ) (h other : Heard) → exceeds most encoder_wait bytes ≡ b → LongerOr most h other → LongerOr most (unless_longer b r bytes h) other
+test_alike : (most : ℕ) (b : Bool) (r : DecoderState) (bytes : List ℕ) (h other : Heard) → exceeds most encoder_wait bytes ≡ b → StopsOrHears most h other → StopsOrHears most (heard_unless_longer b r bytes h) other
 test_alike most true r bytes h other is alike = inl (refl, is)
 test_alike most false r bytes h other is alike = alike
 
-steps_alike : (n most : ℕ) (r : DecoderState) (bytes : List ℕ) → LongerOr most (hear_limited n most r bytes) (hear_within n r bytes)
+steps_alike : (n most : ℕ) (r : DecoderState) (bytes : List ℕ) → StopsOrHears most (hear_limited n most r bytes) (hear_within n r bytes)
 steps_alike zero most r bytes = inr refl
 steps_alike (suc n) most r bytes =
     test_alike most (exceeds most encoder_wait bytes) r bytes (hear_form (hear_limited n most) r bytes (instruction bytes)) (hear_form (hear_within n) r bytes (instruction bytes)) refl
     (form_alike most (hear_limited n most) (hear_within n) r bytes (instruction bytes) (λ new rest. steps_alike n most new rest))
 
--- the fault, where this is what would be heard without a limit
-abbrev pub IsLongerOrHeard : ℕ → Heard → Heard → Type 0
-IsLongerOrHeard most h other = (hearing_fault most h ≡ Some excessive_load) ⊎ ((h ≡ other) × (hearing_fault most h ≡ fault_if other.is_bad encoder_stream_error))
-
 longer_fault : (most : ℕ) (h : Heard) → h.is_bad ≡ false → exceeds most encoder_wait h.left ≡ true → hearing_fault most h ≡ Some excessive_load
 longer_fault most h good longer = ap (λ b. if b then Some encoder_stream_error else fault_if (exceeds most encoder_wait h.left) excessive_load) good ∙ ap (λ b. fault_if b excessive_load) longer
 
-fault_alike : (most : ℕ) (h other : Heard) → LongerOr most h other → IsLongerOrHeard most h other
+fault_alike : (most : ℕ) (h other : Heard) → StopsOrHears most h other → IsLongerOrHeard most h other
 fault_alike most h other (inl is) = inl (longer_fault most h is.0 is.1)
 fault_alike most h other (inr same) = by_fault h.is_bad (exceeds most encoder_wait h.left) refl refl
   where

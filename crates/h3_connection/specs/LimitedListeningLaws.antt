@@ -13,6 +13,7 @@ use Rattle.h3_qpack.specs.Hearing.{Listened, listened, listen_next, listen_form,
 use Rattle.h3_connection.specs.Codes.{decoder_stream_error, excessive_load}
 use Rattle.h3_connection.specs.ExcessiveInstructionLaws.{none_exceeds, decoder_exceeds_unfinished, decoder_finished_within}
 use Rattle.h3_connection.specs.ExcessiveInstructions.{exceeds, listen_limited, listen_up_to, listened_up_to_with}
+use Rattle.h3_connection.specs.LimitedReading.{IsLongerOrListened, StopsOrListens, listened_unless_longer}
 use Rattle.h3_connection.specs.Listeners.{fault_if, listening_fault, keeping_fault}
 
 -- one instruction, and then the rest
@@ -27,9 +28,6 @@ form_same go other s bytes (Whole i rest) same = next_same go other s bytes i re
 form_same go other s bytes Unfinished same = refl
 form_same go other s bytes Bad same = refl
 
-abbrev unless_longer : Bool → EncoderHistory → List ℕ → Listened → Listened
-unless_longer b s bytes l = if b then listened s bytes false else l
-
 -- no count of steps but the least matters
 steps_same : (n m most : ℕ) (s : EncoderHistory) (bytes : List ℕ) → length bytes ≤ n → length bytes ≤ m → listen_limited n most s bytes ≡ listen_limited m most s bytes
 steps_same zero zero most s bytes h k = refl
@@ -38,7 +36,7 @@ steps_same zero (suc m) most s (byte ∷ bytes) h k = absurd (omega (arith, h))
 steps_same (suc n) zero most s [] h k = refl
 steps_same (suc n) zero most s (byte ∷ bytes) h k = absurd (omega (arith, k))
 steps_same (suc n) (suc m) most s bytes h k =
-    ap (unless_longer (exceeds most decoder_wait bytes) s bytes)
+    ap (listened_unless_longer (exceeds most decoder_wait bytes) s bytes)
     (form_same (listen_limited n most) (listen_limited m most) s bytes (decoder_instruction bytes)
     (λ i rest new e. let less = decoder_instruction_less bytes rest i e in steps_same n m most new rest (omega (arith, less, h)) (omega (arith, less, k))))
 
@@ -47,7 +45,7 @@ pub listen_step : (most : ℕ) (s : EncoderHistory) (bytes : List ℕ)
 unfolding listen_up_to
 listen_step most s bytes =
     steps_same (length bytes) (suc (length bytes)) most s bytes (omega arith) (omega arith)
-    ∙ ap (unless_longer (exceeds most decoder_wait bytes) s bytes)
+    ∙ ap (listened_unless_longer (exceeds most decoder_wait bytes) s bytes)
     (form_same (listen_limited (length bytes) most) (listen_up_to most) s bytes (decoder_instruction bytes)
     (λ i rest new e. let less = decoder_instruction_less bytes rest i e in steps_same (length bytes) (length rest) most new rest (omega (arith, less)) (omega arith)))
 
@@ -61,17 +59,17 @@ keeps_nothing most = ap (λ b. fault_if b excessive_load) (and_right (is_limit m
 
 -- An instruction that is longer than the limit is not read,
 pub listens_no_longer : (most : ℕ) (s : EncoderHistory) (bytes : List ℕ) → exceeds most decoder_wait bytes ≡ true → listen_up_to most s bytes ≡ listened s bytes false
-listens_no_longer most s bytes longer = listen_step most s bytes ∙ ap (λ b. unless_longer b s bytes (listen_form (listen_up_to most) s bytes (decoder_instruction bytes))) longer
+listens_no_longer most s bytes longer = listen_step most s bytes ∙ ap (λ b. listened_unless_longer b s bytes (listen_form (listen_up_to most) s bytes (decoder_instruction bytes))) longer
 
 -- and any other is.
 pub listens_within : (most : ℕ) (s : EncoderHistory) (bytes : List ℕ) → exceeds most decoder_wait bytes ≡ false → listen_up_to most s bytes ≡ listen_form (listen_up_to most) s bytes (decoder_instruction bytes)
-listens_within most s bytes within = listen_step most s bytes ∙ ap (λ b. unless_longer b s bytes (listen_form (listen_up_to most) s bytes (decoder_instruction bytes))) within
+listens_within most s bytes within = listen_step most s bytes ∙ ap (λ b. listened_unless_longer b s bytes (listen_form (listen_up_to most) s bytes (decoder_instruction bytes))) within
 
 -- **Without a limit all is read as it was.**
 steps_unlimited : (n most : ℕ) (s : EncoderHistory) (bytes : List ℕ) → is_limit most ≡ false → listen_limited n most s bytes ≡ listen_within n s bytes
 steps_unlimited zero most s bytes none = refl
 steps_unlimited (suc n) most s bytes none =
-    ap (λ b. unless_longer b s bytes (listen_form (listen_limited n most) s bytes (decoder_instruction bytes))) (none_exceeds most decoder_wait bytes none)
+    ap (λ b. listened_unless_longer b s bytes (listen_form (listen_limited n most) s bytes (decoder_instruction bytes))) (none_exceeds most decoder_wait bytes none)
     ∙ form_same (listen_limited n most) (listen_within n) s bytes (decoder_instruction bytes) (λ i rest new e. steps_unlimited n most new rest none)
 
 pub listen_unlimited : (most : ℕ) (s : EncoderHistory) (bytes : List ℕ) → is_limit most ≡ false → listen_up_to most s bytes ≡ listen s bytes
@@ -82,7 +80,7 @@ pub listening_unlimited : (most : ℕ) (l : Listened) → is_limit most ≡ fals
 listening_unlimited most l none = ap (λ b. if l.is_bad then Some decoder_stream_error else fault_if b excessive_load) (none_exceeds most decoder_wait l.left none)
 
 -- **So are no more bytes than the limit.**
-pass_by : (b : Bool) (s : EncoderHistory) (bytes : List ℕ) (l : Listened) → (b ≡ true → l ≡ listened s bytes false) → unless_longer b s bytes l ≡ l
+pass_by : (b : Bool) (s : EncoderHistory) (bytes : List ℕ) (l : Listened) → (b ≡ true → l ≡ listened s bytes false) → listened_unless_longer b s bytes l ≡ l
 pass_by true s bytes l same = sym (same refl)
 pass_by false s bytes l same = refl
 
@@ -148,38 +146,31 @@ pub listen_cut : (most : ℕ) (s : EncoderHistory) (bytes more : List ℕ) → l
 listen_cut most s bytes more = cut_within (length bytes) most s bytes more (omega arith)
 
 -- **An instruction that is too long is the fault, or all is read as without a limit.**
-abbrev LongerOr : ℕ → Listened → Listened → Type 0
-LongerOr most l other = ((l.is_bad ≡ false) × (exceeds most decoder_wait l.left ≡ true)) ⊎ (l ≡ other)
-
 next_alike : (most : ℕ) (go other : EncoderHistory → List ℕ → Listened) (s : EncoderHistory) (bytes : List ℕ) (i : DecoderInstruction) (rest : List ℕ) (b : Bool)
-    → ((new : EncoderHistory) → LongerOr most (go new rest) (other new rest)) → LongerOr most (listen_next go s bytes i rest b) (listen_next other s bytes i rest b)
+    → ((new : EncoderHistory) → StopsOrListens most (go new rest) (other new rest)) → StopsOrListens most (listen_next go s bytes i rest b) (listen_next other s bytes i rest b)
 next_alike most go other s bytes i rest true each = inr refl
 next_alike most go other s bytes i rest false each = each (encoder_after s i)
 
 form_alike : (most : ℕ) (go other : EncoderHistory → List ℕ → Listened) (s : EncoderHistory) (bytes : List ℕ) (x : Reading DecoderInstruction)
-    → ((new : EncoderHistory) (rest : List ℕ) → LongerOr most (go new rest) (other new rest)) → LongerOr most (listen_form go s bytes x) (listen_form other s bytes x)
+    → ((new : EncoderHistory) (rest : List ℕ) → StopsOrListens most (go new rest) (other new rest)) → StopsOrListens most (listen_form go s bytes x) (listen_form other s bytes x)
 form_alike most go other s bytes (Whole i rest) each = next_alike most go other s bytes i rest (is_refused s i) (λ new. each new rest)
 form_alike most go other s bytes Unfinished each = inr refl
 form_alike most go other s bytes Bad each = inr refl
 
-test_alike : (most : ℕ) (b : Bool) (s : EncoderHistory) (bytes : List ℕ) (l other : Listened) → exceeds most decoder_wait bytes ≡ b → LongerOr most l other → LongerOr most (unless_longer b s bytes l) other
+test_alike : (most : ℕ) (b : Bool) (s : EncoderHistory) (bytes : List ℕ) (l other : Listened) → exceeds most decoder_wait bytes ≡ b → StopsOrListens most l other → StopsOrListens most (listened_unless_longer b s bytes l) other
 test_alike most true s bytes l other is alike = inl (refl, is)
 test_alike most false s bytes l other is alike = alike
 
-steps_alike : (n most : ℕ) (s : EncoderHistory) (bytes : List ℕ) → LongerOr most (listen_limited n most s bytes) (listen_within n s bytes)
+steps_alike : (n most : ℕ) (s : EncoderHistory) (bytes : List ℕ) → StopsOrListens most (listen_limited n most s bytes) (listen_within n s bytes)
 steps_alike zero most s bytes = inr refl
 steps_alike (suc n) most s bytes =
     test_alike most (exceeds most decoder_wait bytes) s bytes (listen_form (listen_limited n most) s bytes (decoder_instruction bytes)) (listen_form (listen_within n) s bytes (decoder_instruction bytes)) refl
     (form_alike most (listen_limited n most) (listen_within n) s bytes (decoder_instruction bytes) (λ new rest. steps_alike n most new rest))
 
--- the fault, where this is what would be read without a limit
-abbrev pub IsLongerOrListened : ℕ → Listened → Listened → Type 0
-IsLongerOrListened most l other = (listening_fault most l ≡ Some excessive_load) ⊎ ((l ≡ other) × (listening_fault most l ≡ fault_if other.is_bad decoder_stream_error))
-
 longer_fault : (most : ℕ) (l : Listened) → l.is_bad ≡ false → exceeds most decoder_wait l.left ≡ true → listening_fault most l ≡ Some excessive_load
 longer_fault most l good longer = ap (λ b. if b then Some decoder_stream_error else fault_if (exceeds most decoder_wait l.left) excessive_load) good ∙ ap (λ b. fault_if b excessive_load) longer
 
-fault_alike : (most : ℕ) (l other : Listened) → LongerOr most l other → IsLongerOrListened most l other
+fault_alike : (most : ℕ) (l other : Listened) → StopsOrListens most l other → IsLongerOrListened most l other
 fault_alike most l other (inl is) = inl (longer_fault most l is.0 is.1)
 fault_alike most l other (inr same) = by_fault l.is_bad (exceeds most decoder_wait l.left) refl refl
   where

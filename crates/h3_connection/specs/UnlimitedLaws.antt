@@ -9,13 +9,8 @@ use Rattle.h3_connection.specs.Endpoint.{EndpointHistory, limit_of, replied}
 use Rattle.h3_connection.specs.ExcessiveInstructions.{listen_up_to}
 use Rattle.h3_connection.specs.LimitedHearingLaws.{hear_unlimited, hearing_unlimited}
 use Rattle.h3_connection.specs.LimitedListeningLaws.{listen_unlimited, listening_unlimited}
+use Rattle.h3_connection.specs.LimitedReading.{heard_whole, listened_whole}
 use Rattle.h3_connection.specs.Listeners.{fault_if, hearing_fault, after_hearing, insertions_heard}
-
-abbrev pub heard_whole : EndpointHistory → Heard → Found
-heard_whole e h = (replied (record e { decoding = after_hearing h }) (increment (insertions_heard e.decoding h)), fault_if h.is_bad encoder_stream_error)
-
-abbrev pub listened_whole : EndpointHistory → Listened → Found
-listened_whole e l = (record e { encoder = l.encoder; decoder_unread = l.left }, fault_if l.is_bad decoder_stream_error)
 
 pub encoder_unlimited : (e : EndpointHistory) (bytes : List ℕ) → is_limit (limit_of e) ≡ false → read_encoder e bytes ≡ heard_whole e (hear e.decoding.decoder (e.decoding.unread ++ bytes))
 encoder_unlimited e bytes none =

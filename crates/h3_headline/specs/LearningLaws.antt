@@ -6,7 +6,8 @@ use Rattle.h3_field.specs.Instruction.EncoderInstruction.{SetCapacity}
 use Rattle.h3_proto.specs.Settings.{value_of}
 use Rattle.h3_qpack.specs.EncoderHistory.{using_table, EncoderHistory, encoder_after_all}
 use Rattle.h3_connection.specs.Control.{with_table, learned, read_decoder, after_peer, read_control}
-use Rattle.h3_connection.specs.UnlimitedLaws.{listened_whole, decoder_unlimited}
+use Rattle.h3_connection.specs.LimitedReading.{listened_whole}
+use Rattle.h3_connection.specs.UnlimitedLaws.{decoder_unlimited}
 use Rattle.h3_connection.specs.Endpoint.{EndpointHistory, limit_of, goaway_encoding, is_second}
 use Rattle.h3_connection.specs.declared.setup.Announced.{Announced}
 use Rattle.h3_world.specs.Setup.{TakesAnyLength, has_table, announced_at}

@@ -9,7 +9,8 @@ use Rattle.h3_qpack.specs.Hearing.{heard, hear, listened, listen}
 use Rattle.h3_qpack.specs.WholeInstructions.{whole_in, rest_in}
 use Rattle.h3_proto.specs.declared.stream.Side.{Side}
 use Rattle.h3_connection.specs.Control.{increment, read_encoder, read_decoder}
-use Rattle.h3_connection.specs.UnlimitedLaws.{heard_whole, listened_whole, encoder_unlimited, decoder_unlimited, kept_unlimited}
+use Rattle.h3_connection.specs.LimitedReading.{heard_whole, listened_whole}
+use Rattle.h3_connection.specs.UnlimitedLaws.{encoder_unlimited, decoder_unlimited, kept_unlimited}
 use Rattle.h3_connection.specs.Delivering.{heard_as, unless_second, with_unidirectional}
 use Rattle.h3_connection.specs.Endpoint.{EndpointHistory, is_second}
 use Rattle.h3_connection.specs.OwnIds.{other, encoder_id, decoder_id}

@@ -57,10 +57,10 @@ impl Content {
     }
 
     // What is awaited behind a request that asks this.
-    pub(crate) fn behind_asking(asked: Asked) -> Content
-        ensures { result ≡ awaited asked }
+    pub(crate) fn behind_asking(request: Asked) -> Content
+        ensures { result ≡ awaited request }
     {
-        match asked {
+        match request {
             Asked::Head => Content::NoContent,
             Asked::Connect => Content::Tunnel,
             Asked::Other => Content::Unsaid,

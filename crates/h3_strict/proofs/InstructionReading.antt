@@ -7,8 +7,9 @@ use Rattle.h3_qpack.specs.EncoderHistory.{EncoderHistory}
 use Rattle.h3_qpack.specs.Hearing.{Heard, Listened, hear, listen}
 use Rattle.h3_connection.specs.Codes.{decoder_stream_error, encoder_stream_error, excessive_load}
 use Rattle.h3_connection.specs.ExcessiveInstructions.{hear_up_to, listen_up_to}
-use Rattle.h3_connection.specs.LimitedHearingLaws.{IsLongerOrHeard, hear_alike, hear_unlimited, hearing_unlimited}
-use Rattle.h3_connection.specs.LimitedListeningLaws.{IsLongerOrListened, listen_alike, listen_unlimited, listening_unlimited}
+use Rattle.h3_connection.specs.LimitedHearingLaws.{hear_alike, hear_unlimited, hearing_unlimited}
+use Rattle.h3_connection.specs.LimitedListeningLaws.{listen_alike, listen_unlimited, listening_unlimited}
+use Rattle.h3_connection.specs.LimitedReading.{IsLongerOrHeard, IsLongerOrListened}
 use Rattle.h3_connection.specs.Listeners.{fault_if, hearing_fault, keeping_fault, listening_fault}
 use Rattle.h3_headline.specs.PeerStreams.{no_limit}
 
