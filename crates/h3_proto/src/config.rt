@@ -94,7 +94,8 @@ pub struct Choices {
     /// The own encoder keeps out of its table what never comes again, and does not name what is soon to go. Where its peer lets no section
     /// wait, it inserts for later sections what it may not name yet.
     pub economical_table: bool,
-    /// The greatest length that a frame may say whose payload is kept until it is whole (RFC 9114, section 10.5). 2^62 - 1 or more: none.
+    /// The greatest length that a frame may say whose payload is kept until it is whole, and the greatest of an instruction of the peer's
+    /// encoder or decoder (RFC 9114, section 10.5). 2^62 - 1 or more: none.
     pub unfinished_limit: u64,
 }
 
@@ -232,7 +233,9 @@ impl Config {
 
     /// The greatest length, in bytes, that a frame of the peer may say whose payload is kept until it is whole: one of a known type other than
     /// DATA (RFC 9114, section 7.2). One that says more is a fault of the connection, H3_EXCESSIVE_LOAD (sections 8.1 and 10.5), as soon as its
-    /// type and length came. 2^62 - 1 by default, which no length exceeds: there is no limit then; a greater value is the same.
+    /// type and length came. So is a longer instruction of the peer's encoder or decoder stream (RFC 9204, sections 4.3 and 4.4), as soon as what
+    /// came tells that it is longer, and more than this of its decoder stream before its settings. 2^62 - 1 by default, which no length
+    /// exceeds: there is no limit then; a greater value is the same.
     /// A limit below the greatest size of a field section is refused when an endpoint is made, so it goes with `with_max_field_section_size`. An
     /// encoder that writes every string in the Huffman code, as this library's, may need four times that size.
     pub fn with_unfinished_limit(mut self, max: u64) -> Self
