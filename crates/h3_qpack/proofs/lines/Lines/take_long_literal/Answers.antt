@@ -5,7 +5,7 @@ use Rattle.h3_field.specs.LineAnswer.{literal_line}
 use Rattle.h3_field.specs.SectionLaws.{line_literal}
 use Rattle.h3_field.specs.ShorterLaws.{literal_less}
 use Rattle.h3_qpack.proofs.LinesAt.{begins_with, refused_line}
-use Rattle.h3_qpack.proofs.lines.Lines.take_literal.Goals as goal
+use Rattle.h3_qpack.proofs.lines.Lines.take_long_literal.Goals as goal
 
 pub returns-in-Ok : goal.returns-in-Ok
 returns-in-Ok c =
