@@ -31,6 +31,9 @@ pub struct HeaderField {
     form: Form,
 }
 
+// A short field takes no more room than the longest form does.
+const _: () = prove!(size_of::<HeaderField>() == 56);
+
 /// Where the bytes of a field's name and value lie.
 #[derive(Drop)]
 pub(crate) enum Form {
