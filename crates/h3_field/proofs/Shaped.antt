@@ -4,10 +4,10 @@ use Rattle.h3_field.specs.Reading.{Reading, Whole, Unfinished, Bad, then_read}
 use Rattle.std.specs.Prelude.{Vec}
 use Rattle.std.specs.declared.alloc.Global.{Global}
 use Rattle.h3_field.specs.IntegerAnswer.{AnswersInteger}
-use Rattle.h3_field.specs.StringReading.{Payload, string}
+use Rattle.h3_field.specs.StringReading.{Payload, StandsFor, string}
 use Rattle.h3_field.specs.StringAnswer.{AnswersPayload, AnswersBytes, of_integer}
 use Rattle.h3_field.specs.Shapes as shape
-use Rattle.h3_field.specs.ShapeAnswer.{AtString, behind, AnswersIndexAndString, AnswersBothStrings, AnswersTwoStrings}
+use Rattle.h3_field.specs.ShapeAnswer.{AtString, behind, AnswersIndexAndString, AnswersBothStrings, AnswersTwoStrings, IsIndexAndString, AreTwoStrings}
 use Rattle.h3_field.specs.declared.prefix_int.Error as integer_error
 use Rattle.h3_field.specs.declared.prefix_int.Error.TheVariants.{Overflow, UnexpectedEnd}
 use Rattle.h3_field.specs.declared.parse_error.ParseError.{ParseError}
@@ -104,3 +104,32 @@ value_read (Whole h rest) old mid new head value bytes is k b =
     rw (← same) (value_there head value (string 8 rest) old rest new bytes (rw is.1 at k) b)
 value_read Unfinished old mid new head value bytes is k b = absurd (cc)
 value_read Bad old mid new head value bytes is k b = absurd (cc)
+
+-- the same where the strings are read with no memory
+short_there : (head : ℕ × ℕ) (value : ℕ × Payload) (r : Reading (ℕ × Payload)) (mid new s : List ℕ) → AnswersPayload r mid new (Ok value) → StandsFor value.1 s → IsIndexAndString (value_of head r) (record { flags = head.0; index = head.1 }) s new
+short_there head value (Whole v rest) mid new s h k =
+    let same : value ≡ v = cc in
+    rw (← same) (refl, refl, k, h.1)
+short_there head value Unfinished mid new s h k = absurd (cc)
+short_there head value Bad mid new s h k = absurd (cc)
+
+pub short_read : (r : Reading (ℕ × ℕ)) (old mid new s : List ℕ) (head : ℕ × ℕ) (value : ℕ × Payload) → AnswersInteger r old mid (Ok head) → AnswersPayload (string 8 mid) mid new (Ok value) → StandsFor value.1 s → IsIndexAndString (index_of r) (record { flags = head.0; index = head.1 }) s new
+short_read (Whole h rest) old mid new s head value is k b =
+    let same : head ≡ h = cc in
+    rw (← same) (short_there head value (string 8 rest) rest new s (rw is.1 at k) b)
+short_read Unfinished old mid new s head value is k b = absurd (cc)
+short_read Bad old mid new s head value is k b = absurd (cc)
+
+second_short : (name value : ℕ × Payload) (r : Reading (ℕ × Payload)) (mid new s t : List ℕ) → AnswersPayload r mid new (Ok value) → StandsFor name.1 s → StandsFor value.1 t → AreTwoStrings (both_of name r) s t new
+second_short name value (Whole v rest) mid new s t h k b =
+    let same : value ≡ v = cc in
+    rw (← same) (k, b, h.1)
+second_short name value Unfinished mid new s t h k b = absurd (cc)
+second_short name value Bad mid new s t h k b = absurd (cc)
+
+pub both_short : (r : Reading (ℕ × Payload)) (old mid new s t : List ℕ) (name value : ℕ × Payload) → AnswersPayload r old mid (Ok name) → AnswersPayload (string 8 mid) mid new (Ok value) → StandsFor name.1 s → StandsFor value.1 t → AreTwoStrings (two_of r) s t new
+both_short (Whole n rest) old mid new s t name value h k a b =
+    let same : name ≡ n = cc in
+    rw (← same) (second_short name value (string 8 rest) rest new s t (rw h.1 at k) a b)
+both_short Unfinished old mid new s t name value h k a b = absurd (cc)
+both_short Bad old mid new s t name value h k a b = absurd (cc)

@@ -1,5 +1,5 @@
 -- What the forms of a field stand for, and what a part of one does.
-use Rattle.std.specs.Prelude.{ℕ, ⊤, ◌≤◌, List, length, take, drop}
+use Rattle.std.specs.Prelude.{ℕ, ⊤, ◌<◌, ◌≤◌, List, length, take, drop}
 use Rattle.h3_field.specs.Field.{Field}
 use Rattle.h3_field.specs.declared.field.Form.{Form}
 use Rattle.h3_field.specs.declared.field.Form.TheVariants as form
@@ -12,14 +12,18 @@ field_in (form.StaticName name value) = record { name = name.now; value = value.
 field_in (form.StaticValue name value) = record { name = name.items; value = value.now }
 field_in (form.Owned name value) = record { name = name.items; value = value.items }
 field_in (form.Block bytes name_length) = record { name = take name_length bytes.items; value = drop name_length bytes.items }
+field_in (form.ShortValue value name) = record { name = name.now; value = value }
+field_in (form.Short field) = field
 
--- the name of a block lies within it
+-- The name of a block lies within it. A short field has a value, so that memory for its name is memory for both.
 abbrev pub IsForm : Form → Type 0
 IsForm (form.Static _ _) = ⊤
 IsForm (form.StaticName _ _) = ⊤
 IsForm (form.StaticValue _ _) = ⊤
 IsForm (form.Owned _ _) = ⊤
 IsForm (form.Block bytes name_length) = name_length ≤ length bytes.items
+IsForm (form.ShortValue _ _) = ⊤
+IsForm (form.Short field) = 0 < length field.value
 
 abbrev pub part_bytes : Part → List ℕ
 part_bytes (part.Static bytes) = bytes.now

@@ -14,6 +14,7 @@ use Rattle.h3_field.specs.declared.block.indexed.IndexedWithPostBase.{IndexedWit
 use Rattle.h3_field.specs.declared.block.literal.LiteralWithNameRef as named
 use Rattle.h3_field.specs.declared.block.literal.LiteralWithPostBaseNameRef.{LiteralWithPostBaseNameRef}
 use Rattle.h3_field.specs.declared.block.literal.Literal.{Literal}
+use Rattle.h3_field.specs.declared.block.literal.NameRef as name_ref
 
 -- the line that each value is
 abbrev pub indexed_line : indexed.Indexed → FieldLine
@@ -26,6 +27,10 @@ post_base_line l = of.PostBaseField l.0
 abbrev pub named_line : named.LiteralWithNameRef → FieldLine
 named_line (named.TheVariants.Static index value) = of.StaticName index value.items
 named_line (named.TheVariants.Dynamic index value) = of.RelativeName index value.items
+
+abbrev pub short_named_line : List ℕ → name_ref.NameRef → FieldLine
+short_named_line value (name_ref.TheVariants.Static index) = of.StaticName index value
+short_named_line value (name_ref.TheVariants.Dynamic index) = of.RelativeName index value
 
 abbrev pub post_base_named_line : LiteralWithPostBaseNameRef → FieldLine
 post_base_named_line l = of.PostBaseName l.index l.value.items

@@ -10,6 +10,7 @@ use Rattle.h3_field.specs.declared.prefix_int.Error.TheVariants.{Overflow, Unexp
 use Rattle.h3_field.specs.declared.prefix_string.Error as string
 use Rattle.h3_field.specs.declared.parse_error.ParseError.{ParseError}
 use Rattle.h3_field.specs.declared.parse_error.ParseError.TheVariants.{Integer, String, InvalidPrefix, InvalidBase, OutOfMemory}
+use Rattle.h3_field.specs.declared.shapes.FlaggedIndex.{FlaggedIndex}
 use Rattle.h3_field.specs.declared.shapes.IndexAndString.{IndexAndString}
 use Rattle.h3_field.specs.declared.shapes.TwoStrings.{TwoStrings}
 
@@ -72,3 +73,15 @@ AnswersTwoStrings (Whole p rest) old new (Ok r) = StandsFor p.name r.name.items 
 AnswersTwoStrings (Whole p rest) old new (Err e) = IsRefused (TakeMemory p.name p.value) (StandsForNone p.name ⊎ StandsForNone p.value) e × (new ≡ old)
 AnswersTwoStrings Unfinished old new result = (result ≡ Err (error_at AtString UnexpectedEnd)) × (new ≡ old)
 AnswersTwoStrings Bad old new result = (result ≡ Err (error_at AtString Overflow)) × (new ≡ old)
+
+-- what is read is this integer and this string, and what stands behind them is left
+abbrev pub IsIndexAndString : Reading shape.IndexAndString → FlaggedIndex → List ℕ → List ℕ → Type 0
+IsIndexAndString (Whole p rest) head value new = (head.flags ≡ p.flags) × (head.index ≡ p.index) × StandsFor p.value value × (new ≡ rest)
+IsIndexAndString Unfinished head value new = ⊥
+IsIndexAndString Bad head value new = ⊥
+
+-- what is read is these two strings
+abbrev pub AreTwoStrings : Reading shape.TwoStrings → List ℕ → List ℕ → List ℕ → Type 0
+AreTwoStrings (Whole p rest) name value new = StandsFor p.name name × StandsFor p.value value × (new ≡ rest)
+AreTwoStrings Unfinished name value new = ⊥
+AreTwoStrings Bad name value new = ⊥

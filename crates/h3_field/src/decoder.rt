@@ -1,17 +1,18 @@
 //! Field sections that name no dynamic entry, decoded (RFC 9204, section 4.5).
-ghost use Rattle.std.specs.Prelude.{◌≡◌, ◌<◌, ◌≤◌, [], true, false, length, OnOk, MatchResult, ◌∷◌, ◌++◌, vec_capacity};
+ghost use Rattle.std.specs.Prelude.{◌≡◌, ◌<◌, ◌≤◌, [], true, false, length, OnOk, IfSome, IfNone, MatchResult, ◌∷◌, ◌++◌, vec_capacity};
 ghost use Rattle.h3_field.specs.Ends.{IsEndOf};
 ghost use Rattle.h3_field.specs.Shapes.{begins};
 ghost use Rattle.h3_field.specs.Section.{AnswersSection, Fields};
 ghost use Rattle.h3_field.specs.IntegerReading.{integer};
-ghost use Rattle.h3_field.specs.SectionAnswer.{AnswersField, IsRefusal, IsNameRefusal, IsNamedRefusal};
+ghost use Rattle.h3_field.specs.SectionAnswer.{AnswersField, HasField, IsRefusal, IsNameRefusal, IsNamedRefusal};
 
-use crate::block::{HeaderBlockField, HeaderPrefix, Indexed, Literal, LiteralWithNameRef};
+use crate::block::{HeaderBlockField, HeaderPrefix, Indexed, Literal, LiteralWithNameRef, NameRef};
 use crate::cursor::SliceCursor;
 use crate::decoder_error::DecoderError;
 use crate::field::HeaderField;
 use crate::parse_error::ParseError;
 use crate::prefix_int;
+use crate::prefix_string::ShortString;
 use crate::static_::StaticTable;
 use std::alloc::{AllocError, Global};
 use std::borrow::CowSlice;
@@ -73,8 +74,44 @@ fn refusal_of_named(buf: &SliceCursor<'_>, e: ParseError) -> DecoderError
     }
 }
 
+/// The field of a line with a literal value and the name of a static entry, where it takes no memory. None: it may take some, or the line
+/// is refused. Then nothing is taken.
+fn take_short_named(buf: &mut SliceCursor<'_>) -> Option<HeaderField>
+    requires some { 0 < length buf.old }
+    requires own { begins 64 127 buf.old ≡ true }
+    ensures some { IfSome result (λ f. HasField buf.old f buf.new) }
+    ensures none { IfNone result (buf.new ≡ buf.old) }
+{
+    let mut ahead = SliceCursor::new(buf.chunk());
+    let mut value = ShortString::new();
+    let Some(NameRef::Static(index)) = LiteralWithNameRef::decode_short(&mut ahead, &mut value)
+    else {
+        return None;
+    };
+    let Ok(name) = StaticTable::get_name(index) else {
+        return None;
+    };
+    let Some(field) = HeaderField::short_with_static_name(name, value.as_slice()) else {
+        return None;
+    };
+    *buf = ahead;
+    Some(field)
+}
+
 /// The field of a line with a literal value and the name of an entry.
 fn take_named(alloc: Global, buf: &mut SliceCursor<'_>) -> Result<HeaderField, DecoderError>
+    requires some { 0 < length buf.old }
+    requires own { begins 64 127 buf.old ≡ true }
+    ensures { AnswersField buf.old buf.new result }
+{
+    match take_short_named(buf) {
+        Some(field) => Ok(field),
+        None => take_long_named(alloc, buf),
+    }
+}
+
+/// The same with memory for the value.
+fn take_long_named(alloc: Global, buf: &mut SliceCursor<'_>) -> Result<HeaderField, DecoderError>
     requires some { 0 < length buf.old }
     requires own { begins 64 127 buf.old ≡ true }
     ensures { AnswersField buf.old buf.new result }
@@ -91,6 +128,18 @@ fn take_named(alloc: Global, buf: &mut SliceCursor<'_>) -> Result<HeaderField, D
 
 /// The field of a line with a literal name and value.
 fn take_literal(alloc: Global, buf: &mut SliceCursor<'_>) -> Result<HeaderField, DecoderError>
+    requires some { 0 < length buf.old }
+    requires own { begins 32 63 buf.old ≡ true }
+    ensures { AnswersField buf.old buf.new result }
+{
+    match Literal::decode_short(buf) {
+        Some(field) => Ok(field),
+        None => take_long_literal(alloc, buf),
+    }
+}
+
+/// The same with memory for both.
+fn take_long_literal(alloc: Global, buf: &mut SliceCursor<'_>) -> Result<HeaderField, DecoderError>
     requires some { 0 < length buf.old }
     requires own { begins 32 63 buf.old ≡ true }
     ensures { AnswersField buf.old buf.new result }

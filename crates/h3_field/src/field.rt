@@ -1,5 +1,5 @@
 //! A field of two byte strings, static or owned.
-ghost use Rattle.std.specs.Prelude.{◌≡◌, ◌++◌, ◌∷◌, codes, string_bytes, IfOk, OnErr, Some, encode_utf8_all, nat_eq, min, ◌^◌, ◌-◌, ◌+◌, ◌<◌, ◌≤◌, length, take, drop};
+ghost use Rattle.std.specs.Prelude.{◌≡◌, ◌++◌, ◌∷◌, codes, string_bytes, IfOk, OnErr, IfSome, IfNone, ◌⊎◌, Some, encode_utf8_all, nat_eq, min, ◌^◌, ◌-◌, ◌+◌, ◌<◌, ◌≤◌, length, take, drop};
 ghost use Rattle.std.specs.Cow.{cow_slice_items};
 ghost use Rattle.std.specs.Vec.{vec_len, vec_capacity};
 ghost use Rattle.h3_field.specs.Field.{field_size, section_size};
@@ -14,6 +14,7 @@ ghost use Rattle.bstr.specs.Utf8.{lossy_chars};
 
 use crate::octets::are_bytes;
 use crate::part::Part;
+use crate::short::{ShortField, ShortValue};
 use bstr::{BStr, ByteVec};
 use std::alloc::{AllocError, Global};
 use std::borrow::CowSlice;
@@ -24,11 +25,14 @@ use std::marker::Model;
 /// What a field counts beside its bytes (RFC 9204, section 3.2.1).
 pub const ESTIMATED_OVERHEAD_BYTES: usize = 32;
 
-/// A name and a value, in at most 56 bytes beside the memory that it owns. A contract sees the two byte lists.
+/// A name and a value, in at most 56 bytes beside the memory that it owns: a short field owns none. A contract sees the two byte lists.
 #[derive(Drop)]
 pub struct HeaderField {
     form: Form,
 }
+
+// A short field takes no more room than the longest form does.
+const _: () = prove!(size_of::<HeaderField>() == 56);
 
 /// Where the bytes of a field's name and value lie.
 #[derive(Drop)]
@@ -39,6 +43,9 @@ pub(crate) enum Form {
     Owned(Vec<u8>, Vec<u8>),
     /// The name and then the value in one block, and the length of the name.
     Block(Vec<u8>, usize),
+    ShortValue(ShortValue, &'static [u8]),
+    /// A name, and a value of at least one byte.
+    Short(ShortField),
 }
 
 impl Model for HeaderField {
@@ -110,13 +117,63 @@ impl HeaderField {
         }
     }
 
-    /// A field of copies, in one block. It takes no memory where both are empty.
+    /// A static name and a copy of a value. It takes no memory where the value has at most 36 bytes.
+    pub fn with_copied_value(
+        alloc: Global,
+        name: &'static [u8],
+        value: &[u8],
+    ) -> Result<HeaderField, AllocError>
+        ensures ok { IfOk result (λ f. f ≡ record { name = name.now; value = value.now }) }
+        ensures err { OnErr result (36 < length value.now) }
+    {
+        if let Some(value) = ShortValue::of(value) {
+            return Ok(HeaderField {
+                form: Form::ShortValue(value, name),
+            });
+        }
+        let value = Vec::from_slice(alloc, value)?;
+        Ok(HeaderField::with_static_name(name, value))
+    }
+
+    /// A static name and a copy of a value, which take no memory. None: the value is too long.
+    pub fn short_with_static_name(name: &'static [u8], value: &[u8]) -> Option<HeaderField>
+        ensures some { IfSome result (λ f. f ≡ record { name = name.now; value = value.now }) }
+        ensures none { IfNone result (36 < length value.now) }
+    {
+        match ShortValue::of(value) {
+            Some(value) => Some(HeaderField {
+                form: Form::ShortValue(value, name),
+            }),
+            None => None,
+        }
+    }
+
+    /// Copies of a name and a value, which take no memory. None: the value is empty, or they are too long.
+    pub fn short(name: &[u8], value: &[u8]) -> Option<HeaderField>
+        ensures some { IfSome result (λ f. f ≡ record { name = name.now; value = value.now }) }
+        ensures none { IfNone result ((length value.now ≡ 0) ⊎ (50 < length name.now + length value.now)) }
+    {
+        if value.is_empty() {
+            return None;
+        }
+        match ShortField::of(name, value) {
+            Some(field) => Some(HeaderField {
+                form: Form::Short(field),
+            }),
+            None => None,
+        }
+    }
+
+    /// A field of copies: a short one takes no memory, and any other lies in one block. It takes no memory where both are empty.
     pub fn copied(alloc: Global, name: &[u8], value: &[u8]) -> Result<HeaderField, AllocError>
         ensures ok { IfOk result (λ f. f ≡ record { name = name.now; value = value.now }) }
         ensures err { OnErr result (0 < length name.now + length value.now) }
     {
         if name.is_empty() && value.is_empty() {
             return Ok(HeaderField::from_static(b"", b""));
+        }
+        if let Some(field) = HeaderField::short(name, value) {
+            return Ok(field);
         }
         let mut bytes = Vec::with_capacity(alloc, name.len().saturating_add(value.len()))?;
         bytes.extend_from_slice(name)?;
@@ -139,7 +196,7 @@ impl HeaderField {
         Ok(HeaderField::new(name, value))
     }
 
-    /// The name and the value. Only a field in one block takes memory, for a copy of its value.
+    /// The name and the value. Only a field in one block and a short one take memory, for copies of what has no block of its own.
     pub fn into_inner(
         self,
         alloc: Global,
@@ -158,6 +215,13 @@ impl HeaderField {
             }
             Form::Owned(name, value) => Ok((CowSlice::Owned(name), CowSlice::Owned(value))),
             Form::Block(bytes, name_length) => split(alloc, bytes, name_length),
+            Form::ShortValue(value, name) => {
+                Ok((CowSlice::Borrowed(name), copy_of(alloc, value.as_slice())?))
+            }
+            Form::Short(field) => {
+                let name = copy_of(alloc, field.name())?;
+                Ok((name, copy_of(alloc, field.value())?))
+            }
         }
     }
 
@@ -171,6 +235,8 @@ impl HeaderField {
             Form::StaticValue(name, _) => name.as_slice(),
             Form::Owned(name, _) => name.as_slice(),
             Form::Block(bytes, name_length) => &bytes.as_slice()[..*name_length],
+            Form::ShortValue(_, name) => *name,
+            Form::Short(field) => field.name(),
         }
     }
 
@@ -184,6 +250,8 @@ impl HeaderField {
             Form::StaticValue(_, value) => *value,
             Form::Owned(_, value) => value.as_slice(),
             Form::Block(bytes, name_length) => &bytes.as_slice()[*name_length..],
+            Form::ShortValue(value, _) => value.as_slice(),
+            Form::Short(field) => field.value(),
         }
     }
 
@@ -194,6 +262,7 @@ impl HeaderField {
         match &self.form {
             Form::Static(name, _) => Part::Static(*name),
             Form::StaticName(name, _) => Part::Static(*name),
+            Form::ShortValue(_, name) => Part::Static(*name),
             _ => Part::Lent(self.name()),
         }
     }
@@ -229,6 +298,8 @@ impl HeaderField {
             Form::StaticValue(name, _) => name.len(),
             Form::Owned(name, value) => name.len().saturating_add(value.len()),
             Form::Block(bytes, _) => bytes.len(),
+            Form::ShortValue(value, _) => value.as_slice().len(),
+            Form::Short(field) => field.name().len().saturating_add(field.value().len()),
         }
     }
 
@@ -250,6 +321,17 @@ impl HeaderField {
         text.extend_from_slice(self.value())?;
         text.into_string_lossy()
     }
+}
+
+/// A copy. It takes no memory where there is nothing to copy.
+fn copy_of(alloc: Global, bytes: &[u8]) -> Result<CowSlice<'static, u8>, AllocError>
+    ensures ok { IfOk result (λ copy. cow_slice_items copy ≡ bytes.now) }
+    ensures err { OnErr result (0 < length bytes.now) }
+{
+    if bytes.is_empty() {
+        return Ok(CowSlice::Borrowed(b""));
+    }
+    Ok(CowSlice::Owned(Vec::from_slice(alloc, bytes)?))
 }
 
 /// The name and the value of a block. The block stays the name's.

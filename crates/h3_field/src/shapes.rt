@@ -1,5 +1,5 @@
 //! What lines and instructions are made of: an integer, an integer and a string, or two strings.
-ghost use Rattle.std.specs.Prelude.{◌≡◌, ◌<◌, ◌≤◌, ◌-◌, ◌^◌, ◌++◌, true, false, length, slice_index, is_some, if◌then◌else◌, MatchOption, IfOk, OnOk, OnErr};
+ghost use Rattle.std.specs.Prelude.{◌≡◌, ◌<◌, ◌≤◌, ◌-◌, ◌^◌, ◌++◌, true, false, length, slice_index, is_some, if◌then◌else◌, MatchOption, IfSome, IfNone, IfOk, OnOk, OnErr};
 ghost use Rattle.std.specs.Result.{IsOkUnless};
 ghost use Rattle.h3_field.specs.Ends.{IsEndOf};
 ghost use Rattle.h3_field.specs.Integer.{prefixed};
@@ -9,13 +9,14 @@ ghost use Rattle.h3_field.specs.StringLiteral.{string_literal};
 ghost use Rattle.h3_field.specs.declared.prefix_string.Error.TheVariants as string_error;
 ghost use Rattle.h3_field.specs.Shapes.{begins, index_and_string, two_strings};
 ghost use Rattle.h3_field.specs.Values.{string_of};
-ghost use Rattle.h3_field.specs.ShapeAnswer.{behind, AnswersIndexAndString, AnswersBothStrings, AnswersTwoStrings};
+ghost use Rattle.h3_field.specs.ShapeAnswer.{behind, IsIndexAndString, AreTwoStrings, AnswersIndexAndString, AnswersBothStrings, AnswersTwoStrings};
 ghost use Rattle.h3_field.specs.declared.parse_error.ParseError.TheVariants as parse_error;
 
 use crate::cursor::SliceCursor;
+use crate::field::HeaderField;
 use crate::parse_error::ParseError;
 use crate::prefix_int;
-use crate::prefix_string::{self, Payload, take_payload};
+use crate::prefix_string::{self, Payload, ShortString, take_payload};
 use std::alloc::Global;
 
 /// The first byte, where there is one and it is not from `low` to `high`.
@@ -75,6 +76,72 @@ pub(crate) fn take_index_and_string(
         Err(prefix_string::Error::OutOfMemory) => Err(ParseError::OutOfMemory),
         Err(e) => Err(ParseError::String(e)),
     }
+}
+
+/// An integer and the flags above it.
+#[derive(Clone, Copy)]
+pub(crate) struct FlaggedIndex {
+    pub(crate) flags: u8,
+    pub(crate) index: u64,
+}
+
+/// Takes an integer and a string from the front, and reads the string into `value`. None: the string may be long, or the read is
+/// refused. Then nothing is taken.
+pub(crate) fn take_index_and_short(
+    size: u8,
+    buf: &mut SliceCursor<'_>,
+    value: &mut ShortString,
+) -> Option<FlaggedIndex>
+    requires least { 1 ≤ size }
+    requires most { size ≤ 8 }
+    ensures some { IfSome result (λ head. IsIndexAndString (index_and_string size buf.old) head value.new buf.new) }
+    ensures none { IfNone result (buf.new ≡ buf.old) }
+{
+    let mut ahead = SliceCursor::new(buf.chunk());
+    let Ok((flags, index)) = prefix_int::decode(size, &mut ahead) else {
+        return None;
+    };
+    let Ok((_, payload)) = take_payload(8, &mut ahead) else {
+        return None;
+    };
+    if !value.read(&payload) {
+        return None;
+    }
+    *buf = ahead;
+    Some(FlaggedIndex { flags, index })
+}
+
+/// Takes two strings from the front, as a field that takes no memory. None: the field may be long, its value is empty, or the read is
+/// refused. Then nothing is taken.
+pub(crate) fn take_short_field(size: u8, buf: &mut SliceCursor<'_>) -> Option<HeaderField>
+    requires least { 2 ≤ size }
+    requires most { size ≤ 8 }
+    ensures some { IfSome result (λ f. AreTwoStrings (two_strings size buf.old) f.name f.value buf.new) }
+    ensures none { IfNone result (buf.new ≡ buf.old) }
+{
+    let mut ahead = SliceCursor::new(buf.chunk());
+    let Ok((_, first)) = take_payload(size, &mut ahead) else {
+        return None;
+    };
+    let Ok((_, second)) = take_payload(8, &mut ahead) else {
+        return None;
+    };
+    if second.encoded().is_empty() {
+        return None;
+    }
+    let mut value = ShortString::new();
+    if !value.read(&second) {
+        return None;
+    }
+    let mut name = ShortString::new();
+    if !name.read(&first) {
+        return None;
+    }
+    let Some(field) = HeaderField::short(name.as_slice(), value.as_slice()) else {
+        return None;
+    };
+    *buf = ahead;
+    Some(field)
 }
 
 /// Two strings, one behind the other.

@@ -1,5 +1,6 @@
 -- A line at the front of some bytes, and the field that it is of.
-use Rattle.std.proofs.Common.{◌≡◌, ℕ, ◌<◌, List, length, Some, None, Ok, Err, sym, ◌∙◌}
+use Rattle.std.proofs.Common.{◌≡◌, ℕ, ◌<◌, List, length, Option, Some, None, Ok, Err, sym, ap, ◌∙◌}
+use Rattle.std.specs.Prelude.{IfSome}
 use Rattle.h3_field.specs.Field.{Field}
 use Rattle.h3_field.specs.Reading.{Reading, Whole, Unfinished, Bad}
 use Rattle.h3_field.specs.Line.{FieldLine}
@@ -67,3 +68,8 @@ refused_line place h base line_of Unfinished old new e is k =
 refused_line place h base line_of Bad old new e is k =
     let same : e ≡ error_at place Overflow = cc in
     rw same (bad_at (BeginsWithString old) (BeginsWithNone h base old) place Overflow (not_read h base old Bad is (λ form rest x. absurd (cc))))
+
+-- a field that a name and a value are of, where it is made
+pub made_of : (made named : Option Field) (f : Field) → named ≡ Some f → IfSome made (λ g. g ≡ f) → IfSome made (λ g. named ≡ Some g)
+made_of None named f e is = tt
+made_of (Some g) named f e is = e ∙ ap Some (sym is)

@@ -1,18 +1,20 @@
 //! The field lines of a section, read over a table (RFC 9204, section 4.5).
-ghost use Rattle.std.specs.Prelude.{◌≡◌, ◌+◌, ◌-◌, ◌^◌, ◌<◌, ◌≤◌, true, length, min, bytes_eq, IfOk, Some, None, MatchResult};
+ghost use Rattle.std.specs.Prelude.{◌≡◌, ◌+◌, ◌-◌, ◌^◌, ◌<◌, ◌≤◌, true, length, min, bytes_eq, IfSome, IfNone, IfOk, Some, None, MatchResult};
 ghost use Rattle.h3_field.specs.Field.{Field, field_size};
 ghost use Rattle.h3_field.specs.Shapes.{begins};
 ghost use Rattle.h3_field.specs.declared.decoder_error.DecoderError.TheVariants.{InvalidIndex};
 ghost use Rattle.h3_field.specs.declared.vas.Error.TheVariants.{RelativeIndex, PostbaseIndex};
 ghost use Rattle.h3_table.specs.TableState.{entry_at};
-ghost use Rattle.h3_qpack.specs.SectionAnswers.{AnswersLineAt};
+ghost use Rattle.h3_field.specs.LineAnswer.{short_named_line};
+ghost use Rattle.h3_qpack.specs.Meaning.{field_at};
+ghost use Rattle.h3_qpack.specs.SectionAnswers.{AnswersLineAt, BeginsWith};
 
 use h3_field::block::{
     HeaderBlockField, Indexed, IndexedWithPostBase, Literal, LiteralWithNameRef,
-    LiteralWithPostBaseNameRef,
+    LiteralWithPostBaseNameRef, NameRef,
 };
 use h3_field::static_::StaticTable;
-use h3_field::{DecoderError, HeaderField, SliceCursor, prefix_int, vas};
+use h3_field::{DecoderError, HeaderField, ShortString, SliceCursor, prefix_int, vas};
 use h3_table::entries::{Entries, Entry, MOST_INSERTIONS};
 use std::alloc::{AllocError, Global};
 use std::borrow::CowSlice;
@@ -276,8 +278,57 @@ impl<'t> Lines<'t> {
         }
     }
 
+    /// The field of a line with a literal value and the name of an entry, where it takes no memory. None: it may take some, or the line
+    /// is refused. Then nothing is taken.
+    fn take_short_named(&self, buf: &mut SliceCursor<'_>) -> Option<HeaderField>
+        requires some { 0 < length buf.old }
+        requires own { begins 64 127 buf.old ≡ true }
+        ensures some { IfSome result (λ f. BeginsWith self.now.table self.now.base buf.old f buf.new) }
+        ensures none { IfNone result (buf.new ≡ buf.old) }
+    {
+        let mut ahead = SliceCursor::new(buf.chunk());
+        let mut value = ShortString::new();
+        let Some(name) = LiteralWithNameRef::decode_short(&mut ahead, &mut value) else {
+            return None;
+        };
+        let Some(field) = self.short_field(name, value.as_slice()) else {
+            return None;
+        };
+        *buf = ahead;
+        Some(field)
+    }
+
+    /// The field of the name of an entry and a value, where it takes no memory.
+    fn short_field(&self, name: NameRef, value: &[u8]) -> Option<HeaderField>
+        ensures { IfSome result (λ f. field_at self.now.table self.now.base (short_named_line value.now name) ≡ Some f) }
+    {
+        match name {
+            NameRef::Static(index) => match StaticTable::get_name(index) {
+                Ok(name) => HeaderField::short_with_static_name(name, value),
+                Err(_) => None,
+            },
+            NameRef::Dynamic(index) => match relative(self.entries, self.base, index) {
+                Ok(entry) => entry.with_short_value(value),
+                Err(_) => None,
+            },
+        }
+    }
+
     /// The field of a line with a literal value and the name of an entry.
+    #[inline(never)]
     fn take_named(&self, buf: &mut SliceCursor<'_>) -> Result<LineField<'t>, DecoderError>
+        requires some { 0 < length buf.old }
+        requires own { begins 64 127 buf.old ≡ true }
+        ensures { AnswersLineAt self.now.table self.now.base buf.old buf.new result }
+    {
+        match self.take_short_named(buf) {
+            Some(field) => Ok(LineField::own(field)),
+            None => self.take_long_named(buf),
+        }
+    }
+
+    /// The same with memory for the value.
+    fn take_long_named(&self, buf: &mut SliceCursor<'_>) -> Result<LineField<'t>, DecoderError>
         requires some { 0 < length buf.old }
         requires own { begins 64 127 buf.old ≡ true }
         ensures { AnswersLineAt self.now.table self.now.base buf.old buf.new result }
@@ -300,8 +351,47 @@ impl<'t> Lines<'t> {
         }
     }
 
+    /// The field of a line with a literal value and the name of an entry, by its distance from the base on, where it takes no memory. None:
+    /// it may take some, or the line is refused. Then nothing is taken.
+    fn take_short_post_base_named(&self, buf: &mut SliceCursor<'_>) -> Option<HeaderField>
+        requires some { 0 < length buf.old }
+        requires own { begins 0 15 buf.old ≡ true }
+        ensures some { IfSome result (λ f. BeginsWith self.now.table self.now.base buf.old f buf.new) }
+        ensures none { IfNone result (buf.new ≡ buf.old) }
+    {
+        let mut ahead = SliceCursor::new(buf.chunk());
+        let mut value = ShortString::new();
+        let Some(index) = LiteralWithPostBaseNameRef::decode_short(&mut ahead, &mut value) else {
+            return None;
+        };
+        let Ok(entry) = post_base(self.entries, self.base, index) else {
+            return None;
+        };
+        let Some(field) = entry.with_short_value(value.as_slice()) else {
+            return None;
+        };
+        *buf = ahead;
+        Some(field)
+    }
+
     /// The field of a line with a literal value and the name of an entry, by its distance from the base on.
+    #[inline(never)]
     fn take_post_base_named(&self, buf: &mut SliceCursor<'_>) -> Result<LineField<'t>, DecoderError>
+        requires some { 0 < length buf.old }
+        requires own { begins 0 15 buf.old ≡ true }
+        ensures { AnswersLineAt self.now.table self.now.base buf.old buf.new result }
+    {
+        match self.take_short_post_base_named(buf) {
+            Some(field) => Ok(LineField::own(field)),
+            None => self.take_long_post_base_named(buf),
+        }
+    }
+
+    /// The same with memory for the value.
+    fn take_long_post_base_named(
+        &self,
+        buf: &mut SliceCursor<'_>,
+    ) -> Result<LineField<'t>, DecoderError>
         requires some { 0 < length buf.old }
         requires own { begins 0 15 buf.old ≡ true }
         ensures { AnswersLineAt self.now.table self.now.base buf.old buf.new result }
@@ -321,7 +411,20 @@ impl<'t> Lines<'t> {
     }
 
     /// The field of a line with a literal name and value.
+    #[inline(never)]
     fn take_literal(&self, buf: &mut SliceCursor<'_>) -> Result<LineField<'t>, DecoderError>
+        requires some { 0 < length buf.old }
+        requires own { begins 32 63 buf.old ≡ true }
+        ensures { AnswersLineAt self.now.table self.now.base buf.old buf.new result }
+    {
+        match Literal::decode_short(buf) {
+            Some(field) => Ok(LineField::own(field)),
+            None => self.take_long_literal(buf),
+        }
+    }
+
+    /// The same with memory for both.
+    fn take_long_literal(&self, buf: &mut SliceCursor<'_>) -> Result<LineField<'t>, DecoderError>
         requires some { 0 < length buf.old }
         requires own { begins 32 63 buf.old ≡ true }
         ensures { AnswersLineAt self.now.table self.now.base buf.old buf.new result }

@@ -89,13 +89,22 @@ impl<'t> Entry<'t> {
         HeaderField::with_copied_name(self.name, value)
     }
 
-    /// A copy, with one allocation: of the value where the name is static, and of both in one block else. An empty value or block takes none.
+    /// A field of the entry's name and another value, which takes no memory. None: they are too long for that, or the value is empty.
+    pub fn with_short_value(&self, value: &[u8]) -> Option<HeaderField>
+        ensures { IfSome result (λ f. f ≡ record { name = self.now.name; value = value.now }) }
+    {
+        if let Some(name) = self.static_name {
+            return HeaderField::short_with_static_name(name, value);
+        }
+        HeaderField::short(self.name, value)
+    }
+
+    /// A copy, with at most one allocation: of the value where the name is static, and of both in one block else. A short copy takes none.
     pub fn copy(&self, alloc: Global) -> Result<HeaderField, AllocError>
         ensures { IfOk result (λ f. f ≡ self.now) }
     {
         if let Some(name) = self.static_name {
-            let value = Vec::from_slice(alloc, self.value)?;
-            return Ok(HeaderField::with_static_name(name, value));
+            return HeaderField::with_copied_value(alloc, name, self.value);
         }
         HeaderField::copied(alloc, self.name, self.value)
     }

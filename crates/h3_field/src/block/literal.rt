@@ -1,28 +1,38 @@
 //! Lines with a literal value (RFC 9204, sections 4.5.4 to 4.5.6). The bit N is written 0, and read either way: that a line
 //! with N stays a literal at a next hop is not enforced (docs/RFC.md).
-ghost use Rattle.std.specs.Prelude.{◌≡◌, ◌<◌, ◌^◌, ◌++◌, true, false, length, slice_index, IfOk, OnOk, OnErr, Err};
+ghost use Rattle.std.specs.Prelude.{◌≡◌, ◌<◌, ◌^◌, ◌++◌, true, false, length, slice_index, IfSome, IfNone, IfOk, OnOk, OnErr, Ok, Err};
 ghost use Rattle.std.specs.Result.{IsOkUnless};
 ghost use Rattle.h3_field.specs.Line.{line_bytes};
 ghost use Rattle.h3_field.specs.Line.FieldLine.{StaticName, RelativeName, PostBaseName};
 ghost use Rattle.h3_field.specs.Line.{FieldLine as line};
 ghost use Rattle.h3_field.specs.Ends.{IsEndOf};
 ghost use Rattle.h3_field.specs.Room.{HasRoom, line_value};
-ghost use Rattle.h3_field.specs.ShapeAnswer.{AtString, behind};
+ghost use Rattle.h3_field.specs.Field.{Field};
+ghost use Rattle.h3_field.specs.ShapeAnswer.{AtInteger, AtString, behind};
 ghost use Rattle.h3_field.specs.IntegerReading.{integer};
 ghost use Rattle.h3_field.specs.Shapes.{begins};
 ghost use Rattle.h3_field.specs.LineReading.{named, post_base_named, literal};
-ghost use Rattle.h3_field.specs.LineAnswer.{AnswersLine, IsWritable, named_line, post_base_named_line, literal_line};
+ghost use Rattle.h3_field.specs.LineAnswer.{AnswersLine, IsWritable, named_line, short_named_line, post_base_named_line, literal_line};
 ghost use Rattle.h3_field.specs.declared.parse_error.ParseError.TheVariants.{InvalidPrefix};
 ghost use Rattle.h3_field.specs.declared.prefix_string.Error.TheVariants.{OutOfMemory};
 ghost use Rattle.h3_field.specs.declared.block.literal.LiteralWithNameRef.TheVariants as named_ref;
 
 use crate::cursor::SliceCursor;
+use crate::field::HeaderField;
 use crate::parse_error::ParseError;
-use crate::prefix_string;
+use crate::prefix_string::{self, ShortString};
 use crate::shapes::{
-    other_first, put_index_and_string, put_two_strings, take_index_and_string, take_two_strings,
+    other_first, put_index_and_string, put_two_strings, take_index_and_short,
+    take_index_and_string, take_short_field, take_two_strings,
 };
 use std::alloc::Global;
+
+/// The name of a static entry, or of a dynamic one by its distance below the base.
+#[derive(Clone, Copy)]
+pub enum NameRef {
+    Static(usize),
+    Dynamic(usize),
+}
 
 /// A line with the name of a static entry, or of a dynamic one by its distance below the base: the literal field line with
 /// name reference, `| 0 | 1 | N | T | name index (4+) | H | value length (7+) | value |` (RFC 9204, section 4.5.4).
@@ -88,6 +98,23 @@ impl LiteralWithNameRef {
                 }
             }
             Err(e) => Err(e),
+        }
+    }
+
+    /// Takes the line from the front, and reads its value into `value`, with no memory. None: the value may be long, or the read is
+    /// refused. Then nothing is taken.
+    pub fn decode_short(buf: &mut SliceCursor<'_>, value: &mut ShortString) -> Option<NameRef>
+        ensures some { IfSome result (λ name. AnswersLine (short_named_line value.new) AtInteger (named buf.old) buf.old buf.new (Ok name)) }
+        ensures none { IfNone result (buf.new ≡ buf.old) }
+    {
+        let Some(head) = take_index_and_short(4, buf, value) else {
+            return None;
+        };
+        let index = head.index as usize;
+        if head.flags % 2 == 1 {
+            Some(NameRef::Static(index))
+        } else {
+            Some(NameRef::Dynamic(index))
         }
     }
 
@@ -192,6 +219,18 @@ impl LiteralWithPostBaseNameRef {
         }
     }
 
+    /// Takes the line from the front, and reads its value into `value`, with no memory: the post-base index of its name. None: the value
+    /// may be long, or the read is refused. Then nothing is taken.
+    pub fn decode_short(buf: &mut SliceCursor<'_>, value: &mut ShortString) -> Option<usize>
+        ensures some { IfSome result (λ index. AnswersLine (λ i. PostBaseName i value.new) AtInteger (post_base_named buf.old) buf.old buf.new (Ok index)) }
+        ensures none { IfNone result (buf.new ≡ buf.old) }
+    {
+        let Some(head) = take_index_and_short(3, buf, value) else {
+            return None;
+        };
+        Some(head.index as usize)
+    }
+
     /// Appends the line. A refusal appends nothing.
     pub fn encode(&self, buf: &mut Vec<u8>) -> Result<(), prefix_string::Error>
         requires { IsWritable (post_base_named_line self.now) }
@@ -247,6 +286,15 @@ impl Literal {
             }),
             Err(e) => Err(e),
         }
+    }
+
+    /// Takes the line from the front as a field that takes no memory. None: the field may be long, or the read is refused. Then nothing is
+    /// taken.
+    pub fn decode_short(buf: &mut SliceCursor<'_>) -> Option<HeaderField>
+        ensures some { IfSome result (λ field. AnswersLine (λ (f : Field). line.Literal f.name f.value) AtString (literal buf.old) buf.old buf.new (Ok field)) }
+        ensures none { IfNone result (buf.new ≡ buf.old) }
+    {
+        take_short_field(4, buf)
     }
 
     /// Appends the line. A refusal appends nothing.

@@ -6,7 +6,7 @@ mod literal;
 mod prefix;
 
 pub use indexed::{Indexed, IndexedWithPostBase};
-pub use literal::{Literal, LiteralWithNameRef, LiteralWithPostBaseNameRef};
+pub use literal::{Literal, LiteralWithNameRef, LiteralWithPostBaseNameRef, NameRef};
 pub use prefix::HeaderPrefix;
 
 /// Which line a first byte begins.

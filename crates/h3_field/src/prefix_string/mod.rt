@@ -11,6 +11,7 @@ ghost use Rattle.h3_field.specs.declared.prefix_string.Error.TheVariants as erro
 
 mod bitwin;
 mod payload;
+mod short_string;
 pub mod string_decode;
 pub mod string_encode;
 
@@ -18,6 +19,7 @@ use crate::cursor::SliceCursor;
 use crate::prefix_int;
 pub use bitwin::BitWindow;
 pub(crate) use payload::{Payload, take_payload};
+pub use short_string::ShortString;
 use std::alloc::{AllocError, Global};
 use std::fmt;
 pub use string_decode::{DecodeIter, HpackStringDecode};

@@ -80,6 +80,19 @@ fn zeros_with_room(alloc: Global, count: usize, spare: usize) -> Result<Vec<u8>,
 }
 
 impl<'a> Payload<'a> {
+    /// The bytes, before they are decoded.
+    pub(crate) fn encoded(&self) -> &'a [u8]
+        ensures { result.now ≡ self.now.bytes }
+    {
+        self.bytes
+    }
+
+    pub(crate) fn is_huffman(&self) -> bool
+        ensures { result ≡ self.now.is_huffman }
+    {
+        self.is_huffman
+    }
+
     /// The string that it stands for, in a block with room for `spare` bytes more. The empty string has no block.
     pub(crate) fn to_bytes(&self, alloc: Global, spare: usize) -> Result<Vec<u8>, Error>
         ensures answer { AnswersBytes self.now result }

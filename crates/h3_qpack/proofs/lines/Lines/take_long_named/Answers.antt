@@ -7,7 +7,7 @@ use Rattle.h3_field.specs.SectionLaws.{named_entry, line_named}
 use Rattle.h3_field.specs.ShorterLaws.{named_less}
 use Rattle.h3_field.specs.StaticTableLaws.{static_none}
 use Rattle.h3_qpack.proofs.LinesAt.{begins_with, begins_with_none, refused_line}
-use Rattle.h3_qpack.proofs.lines.Lines.take_named.Goals as goal
+use Rattle.h3_qpack.proofs.lines.Lines.take_long_named.Goals as goal
 
 pub returns-in-Ok : goal.returns-in-Ok
 returns-in-Ok c =

@@ -6,7 +6,7 @@ use Rattle.h3_field.specs.LineAnswer.{post_base_named_line}
 use Rattle.h3_field.specs.ShorterLaws.{post_base_named_less}
 use Rattle.h3_field.specs.SectionLaws.{line_post_base_named}
 use Rattle.h3_qpack.proofs.LinesAt.{begins_with, refused_line}
-use Rattle.h3_qpack.proofs.lines.Lines.take_post_base_named.Goals as goal
+use Rattle.h3_qpack.proofs.lines.Lines.take_long_post_base_named.Goals as goal
 
 pub returns-in-Ok-post_base : goal.returns-in-Ok-post_base
 returns-in-Ok-post_base c =

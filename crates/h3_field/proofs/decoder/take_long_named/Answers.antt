@@ -7,7 +7,7 @@ use Rattle.h3_field.specs.SectionLaws.{named_entry, line_named}
 use Rattle.h3_field.proofs.NoLines.{has_field, no_static_name}
 use Rattle.h3_field.specs.ShorterLaws.{named_less}
 use Rattle.h3_field.proofs.NamedLines.{refused_named}
-use Rattle.h3_field.proofs.decoder.take_named.Goals as goal
+use Rattle.h3_field.proofs.decoder.take_long_named.Goals as goal
 
 pub returns-in-Ok : goal.returns-in-Ok
 returns-in-Ok c =
