@@ -43,6 +43,14 @@ impl ReadyStreams {
         Ok(())
     }
 
+    // Whether room was taken last for this stream.
+    fn was_last(&self, id: StreamId) -> bool {
+        let Some(reserved) = self.reserved else {
+            return false;
+        };
+        reserved.into_inner() == id.into_inner()
+    }
+
     // The room that was taken last goes where it is another stream's, so that no more than one has room in vain.
     fn release_other(&mut self, id: StreamId)
         ensures same { (q : ℕ) → is_ready self.new q ≡ is_ready self.old q }
@@ -65,7 +73,7 @@ impl ReadyStreams {
         ensures ending { (q : ℕ) → is_waiting self.new.ends q ≡ is_waiting self.old.ends q }
         ensures places { (q : ℕ) → has_place self.old.ends q ≡ true → has_place self.new.ends q ≡ true }
     {
-        if self.bytes.has_place(id) && self.ends.has_place(id) {
+        if self.was_last(id) && self.bytes.has_place(id) && self.ends.has_place(id) {
             return Ok(());
         }
         self.ends.reserve(id)?;
