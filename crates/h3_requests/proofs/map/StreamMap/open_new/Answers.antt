@@ -6,6 +6,13 @@ use Rattle.h3_requests.specs.Over.{IsOver}
 use Rattle.h3_requests.proofs.Found.{distinct_in, few, over_found, put_in}
 use Rattle.h3_requests.proofs.map.StreamMap.open_new.Goals as goal
 
+pub returns-in_default-clause-over : goal.returns-in_default-clause-over
+returns-in_default-clause-over c =
+    subst (λ o. IfSome o IsOver) (sym (over_found c.args.self.now c.into_inner-number.result c.args.id c.into_inner-number.ensures.value c.into_inner-number.ensures.bound c.requires)) c.reserve.ensures.over
+
+pub returns-in_default-clause-distinct : goal.returns-in_default-clause-distinct
+returns-in_default-clause-distinct c = distinct_in (record { under_way = c.args.self.now.under_way; over = c.reserve.new.self })
+
 pub returns-in_default-open-clause-over : goal.returns-in_default-open-clause-over
 returns-in_default-open-clause-over c =
     subst (λ o. IfSome o IsOver) (sym (over_found c.args.self.now c.into_inner-number.result c.args.id c.into_inner-number.ensures.value c.into_inner-number.ensures.bound c.requires)) c.reserve.ensures.over
