@@ -57,6 +57,15 @@ stored_alike u v o p q under_way over = ap (λ x. either x (kept_at p q)) under_
 pub under : (s : StreamMap) (number id : ℕ) (o : Option RequestState) → number ≡ id → number < 2 ^ 62 → o ≡ kept_at s.under_way number → kept_at (streams_in s) id ≡ either o (over_at s id)
 under s number id o is below same = found (stored_at s) id (few number id is below) ∙ ap (λ x. either x (over_at s id)) (ap (kept_at s.under_way) (sym is) ∙ sym same)
 
+-- what is found of one that is not under way is what is over
+pub over_found : (s : StreamMap) (number id : ℕ) → number ≡ id → number < 2 ^ 62 → under_way_at s id ≡ None → kept_at (streams_in s) id ≡ over_at s id
+over_found s number id is below none = found (stored_at s) id (few number id is below) ∙ ap (λ o. either o (over_at s id)) none
+
+-- where none is found none is under way
+pub none_under : {X : Type 0} (o p : Option X) → either o p ≡ None → o ≡ None
+none_under None p h = refl
+none_under (Some x) p h = absurd (cc)
+
 -- nothing is stored,
 pub none_stored : (s : StreamMap) → s.under_way ≡ [] → s.over ≡ [] → streams_in s ≡ []
 none_stored s under_way over = listed.nothing (stored_at s) (λ q. ap (λ l. either (kept_at l q) (over_at s q)) under_way ∙ ap (λ l. kept_at l q) over)

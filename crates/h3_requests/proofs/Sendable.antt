@@ -201,6 +201,13 @@ inserted counts others s t old new id count r sets distinct nothing none no_end 
           (λ may. absurd (let wrong : false ≡ true = sym (ap may_end sets.here ∙ unsent) ∙ may in cc)) sets.others h.ends;
     }
 
+-- or where none was
+pub came : (counts : Blocked) (s : ReadyStreams) (old new : Streams RequestState) (id : ℕ) (r : RequestState) → Sets old new id r → HaveDistinctIds new
+    → r.incoming.waits_for ≡ 0 → has_bytes (Some r) ≡ false → has_end (Some r) ≡ false → may_end (Some r) ≡ false → kept_at old id ≡ None → AreKept counts s old → AreKept counts s new
+came counts s old new id r sets distinct nothing none no_end unsent absent h =
+    inserted counts counts s s old new id 0 r sets distinct nothing none no_end unsent (sym (ap waits_at absent)) h.counted.sound (λ n. refl)
+    (record { own = h.ready id ∙ ap has_bytes absent; others = λ q differs. refl }) (record { own = h.ends.ending id ∙ ap has_end absent; others = λ q differs. refl }) (λ q differs. refl) h
+
 -- and one went
 pub removed : (counts others : Blocked) (s t : ReadyStreams) (old new : Streams RequestState) (id count : ℕ) → TakesOut old new id → HaveDistinctIds new
     → count ≡ waits_at (kept_at old id) → IsSound others → Replaces counts others count 0 → IsOneTest id false (is_ready s) (is_ready t)

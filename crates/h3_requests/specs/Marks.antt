@@ -1,5 +1,5 @@
 -- A mark for each request stream, by its id.
-use Rattle.std.specs.Prelude.{◌≡◌, ◌≢◌, ℕ, ◌/◌, ◌%◌, List, [], ◌==◌, if◌then◌else◌, slice_index_or, Option, Some, None}
+use Rattle.std.specs.Prelude.{◌≡◌, ◌≢◌, ℕ, ◌/◌, ◌%◌, Bool, ◌&&◌, List, [], length, nat_lt, ◌==◌, if◌then◌else◌, slice_index_or, Option, Some, None}
 use Rattle.std.specs.Ordering.{nat_cmp}
 use Rattle.std.specs.BTreeMap.{is_at}
 use Rattle.std.specs.Map.{lookup}
@@ -12,8 +12,12 @@ abbrev pub marks_of : Option (Vec ℕ) → List ℕ
 marks_of None = []
 marks_of (Some page) = page.items
 
+-- whether it is the number of the page that came last
+abbrev pub is_last : Marks → ℕ → Bool
+is_last m number = (number == m.number) && nat_lt 0 (length m.last.items)
+
 abbrev pub page_marks : Marks → ℕ → List ℕ
-page_marks m number = marks_of (lookup (is_at (nat_cmp number)) m.pages.entries)
+page_marks m number = if is_last m number then m.last.items else marks_of (lookup (is_at (nat_cmp number)) m.pages.entries)
 
 -- the mark of a stream, and 0 where none was set
 abbrev pub mark_at : Marks → ℕ → ℕ

@@ -96,19 +96,33 @@ impl StreamMap {
         ensures err { OnErr result (streams_in self.new ≡ streams_in self.old) }
         ensures distinct { HaveDistinctIds (streams_in self.new) }
     {
-        let number = id.into_inner();
         if let Some(there) = self.get_mut(id) {
             let before = there.incoming.waits_for();
             there.renew(alloc);
             return Ok(before);
         }
+        let Ok(()) = self.open_new(alloc, id) else {
+            return Err(AllocError);
+        };
+        Ok(0)
+    }
+
+    // The same where none is under way. One that is over may be there.
+    pub(crate) fn open_new(&mut self, alloc: Global, id: StreamId) -> Result<(), AllocError>
+        requires { under_way_at self.old id ≡ None }
+        ensures ok { OnOk result (Sets (streams_in self.old) (streams_in self.new) id fresh_request) }
+        ensures over { IfSome (kept_at (streams_in self.old) id) IsOver }
+        ensures err { OnErr result (streams_in self.new ≡ streams_in self.old) }
+        ensures distinct { HaveDistinctIds (streams_in self.new) }
+    {
+        let number = id.into_inner();
         let Ok(()) = self.over.reserve(alloc, id) else {
             return Err(AllocError);
         };
         let Ok(()) = self.under_way.open(alloc, number) else {
             return Err(AllocError);
         };
-        Ok(0)
+        Ok(())
     }
 
     // Takes the stream out, where it is there, and answers what it waits for. It takes no memory.

@@ -43,6 +43,14 @@ impl ReadyStreams {
         Ok(())
     }
 
+    // Whether room was taken last for this stream.
+    fn was_last(&self, id: StreamId) -> bool {
+        let Some(reserved) = self.reserved else {
+            return false;
+        };
+        reserved.into_inner() == id.into_inner()
+    }
+
     // The room that was taken last goes where it is another stream's, so that no more than one has room in vain.
     fn release_other(&mut self, id: StreamId)
         ensures same { (q : ℕ) → is_ready self.new q ≡ is_ready self.old q }
@@ -57,7 +65,7 @@ impl ReadyStreams {
         self.bytes.release(reserved);
     }
 
-    /// Room for a stream on which a head goes out, for its bytes and for its end. What is ready stays as it was.
+    /// Room for a stream on which a head goes out, for its bytes and for its end, where it has none. What is ready stays as it was.
     pub(crate) fn reserve_both(&mut self, id: StreamId) -> Result<(), AllocError>
         ensures listed { OnOk result (is_listed self.new id ≡ true) }
         ensures placed { OnOk result (has_place self.new.ends id ≡ true) }
@@ -65,6 +73,9 @@ impl ReadyStreams {
         ensures ending { (q : ℕ) → is_waiting self.new.ends q ≡ is_waiting self.old.ends q }
         ensures places { (q : ℕ) → has_place self.old.ends q ≡ true → has_place self.new.ends q ≡ true }
     {
+        if self.was_last(id) && self.bytes.has_place(id) && self.ends.has_place(id) {
+            return Ok(());
+        }
         self.ends.reserve(id)?;
         self.reserve(id)
     }

@@ -1,5 +1,5 @@
 //! The request streams of a connection, by their ids.
-ghost use Rattle.std.specs.Prelude.{◌≡◌, [], OnOk, OnErr, IfSome};
+ghost use Rattle.std.specs.Prelude.{◌≡◌, [], None, OnOk, OnErr, IfSome};
 ghost use Rattle.h3_blocked.specs.Sums.{TakesOut};
 ghost use Rattle.h3_connection.specs.Calls.{fresh_request, Sets};
 ghost use Rattle.h3_connection.specs.State.{kept_at};
@@ -69,6 +69,20 @@ impl RequestStreams {
         };
         self.blocked.replace(before, 0);
         self.ready.leave(id);
+        Ok(())
+    }
+
+    // The same where no stream is there: none waits on it then.
+    fn open_new(&mut self, alloc: Global, id: StreamId) -> Result<(), AllocError>
+        requires { kept_at self.old id ≡ None }
+        ensures ok { OnOk result (Sets self.old self.new id fresh_request) }
+        ensures err { OnErr result (self.new ≡ self.old) }
+    {
+        // (for the proof: an id has 62 bits)
+        id.into_inner();
+        let Ok(()) = self.streams.open_new(alloc, id) else {
+            return Err(AllocError);
+        };
         Ok(())
     }
 

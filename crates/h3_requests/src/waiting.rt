@@ -72,6 +72,15 @@ impl WaitingStreams {
         }
     }
 
+    /// Whether a request stream has a place.
+    pub(crate) fn has_place(&self, id: StreamId) -> bool
+        ensures { result ≡ has_place self.now id }
+    {
+        let number = id.into_inner();
+        let word = self.words.get(word_of(number));
+        number % STEP == 0 && (word.places >> (number / STEP % WORD)) % 2 == 1
+    }
+
     /// A place for a request stream, so that something can come to wait on it with no memory. On which it waits stays as it was.
     pub(crate) fn reserve(&mut self, id: StreamId) -> Result<(), AllocError>
         ensures placed { OnOk result (has_place self.new id ≡ true) }

@@ -1,5 +1,5 @@
 //! Streams of the peer in a map by their ids.
-ghost use Rattle.std.specs.Prelude.{◌≡◌, ◌+◌, ◌<◌, ◌^◌, length, IsSome, IfSome, IfNone, Some, None, is_some, is_none, IfOk, IfErr, OnOk, OnErr};
+ghost use Rattle.std.specs.Prelude.{◌≡◌, ◌≢◌, ◌+◌, ◌<◌, ◌^◌, ℕ, length, IsSome, IfSome, IfNone, Some, None, is_some, is_none, IfOk, IfErr, OnOk, OnErr};
 ghost use Rattle.std.specs.List.{concat};
 ghost use Rattle.h3_connection.specs.Calls.{Sets, AllSame};
 ghost use Rattle.h3_connection.specs.State.{kept_at};
@@ -131,6 +131,14 @@ fn receive_there(
     stream.receive(bytes)
 }
 
+/// Takes the stream of this id out, where there is one.
+fn take_out(streams: &mut BTreeMap<u64, UnidirectionalStream>, id: StreamId)
+    ensures here { kept_at streams.new.entries id ≡ None }
+    ensures others { (q : ℕ) → q ≢ id → kept_at streams.new.entries q ≡ kept_at streams.old.entries q }
+{
+    drop(streams.remove(&id.into_inner()));
+}
+
 /// Bytes come, and open the stream where it is not there. A refusal changes nothing, and hands the bytes back.
 pub(crate) fn receive(
     streams: &mut BTreeMap<u64, UnidirectionalStream>,
@@ -149,7 +157,7 @@ pub(crate) fn receive(
         Ok(received) => Ok(received),
         Err(back) => {
             if is_new {
-                streams.remove(&id.into_inner());
+                take_out(streams, id);
             }
             Err(back)
         }

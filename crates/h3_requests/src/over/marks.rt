@@ -1,9 +1,10 @@
 //! A mark of one byte for each request stream, by its id. No call moves more than a page, however many there are.
-ghost use Rattle.std.specs.Prelude.{◌≡◌, ◌<◌, ◌/◌, ◌%◌, ◌==◌, ℕ, [], true, false, slice_index_or};
-ghost use Rattle.h3_requests.specs.Marks.{mark_at, page_marks, HaveSameMarks, IsOneMark};
+ghost use Rattle.std.specs.Prelude.{◌≡◌, ◌<◌, ◌≤◌, ◌/◌, ◌%◌, ◌==◌, ℕ, [], length, true, false, slice_index_or, slice_set, OnOk};
+ghost use Rattle.h3_requests.specs.Marks.{is_last, mark_at, page_marks, HaveSameMarks, IsOneMark};
 
 use std::alloc::{AllocError, Global};
 use std::collections::BTreeMap;
+use std::mem;
 
 /// The ids of request streams are four apart (RFC 9000, section 2.1).
 const STEP: u64 = 4;
@@ -14,7 +15,10 @@ const PAGE: u64 = 128;
 /// Marks by the ids of their streams. One that is 0 is not there.
 #[derive(Drop)]
 pub(crate) struct Marks {
-    // of each page the marks up to that of its last stream for which room was taken
+    // the page that came last, where one has come, and its number: so streams that follow one another are found with no search
+    number: u64,
+    last: Vec<u8>,
+    // of each other page the marks up to that of its last stream for which room was taken
     pages: BTreeMap<u64, Vec<u8>>,
 }
 
@@ -43,12 +47,42 @@ fn has_place(id: u64) -> bool
 // Makes a page so long that it has this place.
 fn lengthen(page: &mut Vec<u8>, place: usize) -> Result<(), AllocError>
     requires { place < 128 }
-    ensures { (k : ℕ) → slice_index_or page.new.items k 0 ≡ slice_index_or page.old.items k 0 }
+    ensures same { (k : ℕ) → slice_index_or page.new.items k 0 ≡ slice_index_or page.old.items k 0 }
+    ensures longer { length page.old.items ≤ length page.new.items }
 {
-    if place < page.len() {
+    let len = page.len();
+    if place < len {
+        return Ok(());
+    }
+    if place == len {
+        page.reserve(1)?;
+        page.push_reserved(0);
         return Ok(());
     }
     page.resize(place + 1, 0)
+}
+
+// The mark at a place of a page, or 0.
+fn mark_in(page: &[u8], place: usize) -> u8
+    ensures { result ≡ slice_index_or page.now place 0 }
+{
+    match page.get(place) {
+        Some(mark) => *mark,
+        None => 0,
+    }
+}
+
+// Sets the mark at a place of a page, where it has that place, and tells whether it has.
+fn set_in(page: &mut [u8], place: usize, mark: u8) -> bool
+    ensures set { result ≡ true → (place < length page.old) × (page.new ≡ slice_set page.old place mark) }
+    ensures same { result ≡ false → page.new ≡ page.old }
+    ensures none { result ≡ false → length page.old ≤ place }
+{
+    if place >= page.len() {
+        return false;
+    }
+    page[place] = mark;
+    true
 }
 
 impl Marks {
@@ -57,8 +91,17 @@ impl Marks {
         ensures { (id : ℕ) → mark_at result id ≡ 0 }
     {
         Marks {
+            number: 0,
+            last: Vec::new(alloc),
             pages: BTreeMap::new(alloc),
         }
+    }
+
+    // Whether it is the number of the page that came last.
+    fn is_last(&self, number: u64) -> bool
+        ensures { result ≡ is_last self.now number }
+    {
+        number == self.number && self.last.len() > 0
     }
 
     /// The mark of a stream, or 0.
@@ -68,11 +111,12 @@ impl Marks {
         if !has_place(id) {
             return 0;
         }
-        let Some(page) = self.pages.get(&page_of(id)) else {
-            return 0;
-        };
-        match page.get(place_of(id)) {
-            Some(mark) => *mark,
+        let number = page_of(id);
+        if self.is_last(number) {
+            return mark_in(&self.last, place_of(id));
+        }
+        match self.pages.get(&number) {
+            Some(page) => mark_in(page, place_of(id)),
             None => 0,
         }
     }
@@ -83,13 +127,17 @@ impl Marks {
     {
         let number = page_of(id);
         let place = place_of(id);
+        if self.is_last(number) {
+            return lengthen(&mut self.last, place);
+        }
         let Some(page) = self.pages.get_mut(&number) else {
             return self.add_page(alloc, number, place);
         };
         lengthen(page, place)
     }
 
-    // A new page, as long as it has to be.
+    // A new page, as long as it has to be. It is the last one then.
+    #[inline(never)]
     fn add_page(&mut self, alloc: Global, number: u64, place: usize) -> Result<(), AllocError>
         requires within { place < 128 }
         requires absent { page_marks self.old number ≡ [] }
@@ -97,10 +145,28 @@ impl Marks {
     {
         let mut page = Vec::new(alloc);
         lengthen(&mut page, place)?;
-        let Ok(_) = self.pages.insert(number, page) else {
-            return Err(AllocError);
-        };
+        self.put_by(alloc)?;
+        self.number = number;
+        self.last = page;
         Ok(())
+    }
+
+    // The page that came last goes to the others. An `Err` changes nothing: memory was refused.
+    fn put_by(&mut self, alloc: Global) -> Result<(), AllocError>
+        ensures same { (number : ℕ) → page_marks self.new number ≡ page_marks self.old number }
+        ensures none { OnOk result (self.new.last.items ≡ []) }
+    {
+        if self.last.is_empty() {
+            return Ok(());
+        }
+        let last = mem::replace(&mut self.last, Vec::new(alloc));
+        match self.pages.insert(self.number, last) {
+            Ok(_) => Ok(()),
+            Err(failed) => {
+                self.last = failed.value.1;
+                Err(AllocError)
+            }
+        }
     }
 
     /// Sets the mark of a stream for which memory was taken. Elsewhere nothing changes, and it says so.
@@ -112,14 +178,14 @@ impl Marks {
         if !has_place(id) {
             return false;
         }
-        let Some(page) = self.pages.get_mut(&page_of(id)) else {
+        let number = page_of(id);
+        let place = place_of(id);
+        if self.is_last(number) {
+            return set_in(&mut self.last, place, mark);
+        }
+        let Some(page) = self.pages.get_mut(&number) else {
             return false;
         };
-        let place = place_of(id);
-        if place >= page.len() {
-            return false;
-        }
-        page[place] = mark;
-        true
+        set_in(page, place, mark)
     }
 }

@@ -14,8 +14,10 @@ ghost use Rattle.h3_incoming.specs.Answering.{Lists};
 ghost use Rattle.h3_requests.specs.Coming.{fields_at};
 ghost use Rattle.h3_requests.specs.Limited.{AnswersOver, AreReceivers, PullsWithin, ResumesThere, unopened_answer};
 ghost use Rattle.h3_requests.specs.Over.{IsOver};
+ghost use Rattle.h3_requests.specs.Stored.{over_at};
 
 use super::RequestStreams;
+use crate::map::StreamMap;
 use crate::stream::RequestStream;
 use h3_blocked::Blocked;
 use h3_connection::event::Fault;
@@ -65,7 +67,7 @@ impl RequestStreams {
         self.blocked.pass(inserted);
         let Some(stream) = self.streams.get_mut(id) else {
             let are_too_many = self.blocked.above(inserted) as u64 > limit;
-            return answer_over(self.streams.get_over(id), side, are_too_many, out);
+            return answer_at(&self.streams, id, side, are_too_many, out);
         };
         if answer_settled(&stream.incoming, out) {
             return within_limit(
@@ -98,6 +100,24 @@ impl RequestStreams {
         let is_over = stream.is_over();
         self.streams.retire_if(id, is_over);
     }
+}
+
+/// Answers for the stream of this id, which is not under way.
+// (a function of its own: a pull of a stream that is under way has no room for one that is over)
+#[inline(never)]
+fn answer_at<O: Answer>(
+    streams: &StreamMap,
+    id: StreamId,
+    side: Side,
+    are_too_many: bool,
+    out: &mut O,
+)
+    ensures absent { IfNone (over_at streams.now id) (O.told out.new ≡ unopened_answer side) }
+    ensures there { IfSome (over_at streams.now id) (λ r. AnswersOver r.incoming are_too_many (O.told out.new)) }
+    ensures memory { is_memory (O.told out.new) ≡ false }
+    ensures none { O.listed out.new ≡ None }
+{
+    answer_over(streams.get_over(id), side, are_too_many, out)
 }
 
 /// Answers for a stream that is not under way: for one that is over, or for none.

@@ -90,7 +90,7 @@ impl RequestStreams {
         ensures back { IfErr result (λ b. b ≡ bytes) }
         ensures err { OnErr result (AllSame self.old self.new) }
     {
-        let Ok(()) = self.open(alloc, id) else {
+        let Ok(()) = self.open_new(alloc, id) else {
             return Err(bytes);
         };
         let Err(bytes) = self.deliver_there(id, bytes) else {

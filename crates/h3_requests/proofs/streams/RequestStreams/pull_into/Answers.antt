@@ -1,7 +1,7 @@
 -- The counts go along, and the limit is judged by them.
 use Rattle.std.proofs.Common.{rules, ◌≡◌, Some, refl, sym, subst, ap, ◌∙◌}
 use Rattle.std.specs.Option.{option_copied_mut}
-use Rattle.std.specs.Prelude.{is_some, nat_lt, IfSome}
+use Rattle.std.specs.Prelude.{is_some, nat_lt, IfSome, Option}
 use Rattle.h3_blocked.specs.Counting.{above, Replaces, waits_at}
 use Rattle.h3_connection.specs.Incoming.{Incoming}
 use Rattle.h3_connection.specs.Pulling.{pull_stream}
@@ -113,10 +113,10 @@ pub returns-in_default-clause-answer : goal.returns-in_default-clause-answer
 returns-in_default-clause-answer g c = λ passed.
     let found : kept_at c.args.self.now c.args.id ≡ over_at c.self.inside.streams c.args.id =
     ap (λ l. kept_at l c.args.id) (sym c.self.view_is) ∙ c.get_mut.ensures.found ∙ ap (λ o. either o (over_at c.self.inside.streams c.args.id)) (sym c.get_mut.ensures.value ∙ ap option_copied_mut c.in_default.is) in
-    let there : c.get_over.result ≡ over_at c.self.inside.streams c.args.id = search (rules, c.get_over.ensures.value) in
-    let answers : IfSome c.get_over.result (λ q. AnswersOver q.incoming (nat_lt c.args.announced.now.limits.blocked (above c.inserted-inserted.result c.pass.new.self)) (g.O.Answer.told c.answer_over.new.out)) =
-    subst (λ n. IfSome c.get_over.result (λ q. AnswersOver q.incoming (nat_lt c.args.announced.now.limits.blocked n) (g.O.Answer.told c.answer_over.new.out)))
-    c.above.ensures c.answer_over.ensures.there in
-    let h = pulled_over c.args.side c.args.announced.now c.args.id c.args.decoder.now c.args.self.now c.pass.new.self c.inserted-inserted.result c.get_over.result (g.O.Answer.told c.answer_over.new.out) c.args.replies.now.items
-    (subst (AreCounted c.pass.new.self) c.self.view_is (kept_again c.pass.ensures.same c.pass.ensures.sound c.self.invariant).counted) (found ∙ sym there) answers c.inserted-inserted.ensures.value in
+    let o : Option RequestState = over_at c.self.inside.streams c.args.id in
+    let answers : IfSome o (λ q. AnswersOver q.incoming (nat_lt c.args.announced.now.limits.blocked (above c.inserted-inserted.result c.pass.new.self)) (g.O.Answer.told c.answer_at.new.out)) =
+    subst (λ n. IfSome o (λ q. AnswersOver q.incoming (nat_lt c.args.announced.now.limits.blocked n) (g.O.Answer.told c.answer_at.new.out)))
+    c.above.ensures (search (rules, c.answer_at.ensures.there)) in
+    let h = pulled_over c.args.side c.args.announced.now c.args.id c.args.decoder.now c.args.self.now c.pass.new.self c.inserted-inserted.result o (g.O.Answer.told c.answer_at.new.out) c.args.replies.now.items
+    (subst (AreCounted c.pass.new.self) c.self.view_is (kept_again c.pass.ensures.same c.pass.ensures.sound c.self.invariant).counted) found answers c.inserted-inserted.ensures.value in
     search (rules, h)
