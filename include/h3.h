@@ -276,12 +276,12 @@ typedef struct {
                                        * the table stays empty there */
   uint64_t unfinished_limit;          /* the greatest length, in bytes, that a frame may say which is kept until it is whole: any known one but DATA.
                                        * One that says more closes the connection with code 0x107 (H3_EXCESSIVE_LOAD), as soon as its type and
-                                       * length came: on a request stream a pull tells, on the control stream the delivery. So does a longer
-                                       * instruction of the peer's encoder or decoder stream (RFC 9204, sections 4.3 and 4.4), as soon as what
-                                       * came tells that it is longer, and more than this of its decoder stream before its settings. A field
-                                       * section as it is written is such a frame: no less than max_field_section_size is taken. An encoder
-                                       * that writes every string in the Huffman code, as this library's, may need four times that, and so an
-                                       * insertion into the table may need some four times `table`. 2^62 - 1 and more: there is no limit */
+                                       * length came: on a request stream a pull tells, on the control stream the delivery. A longer instruction
+                                       * of the peer's encoder or decoder stream (RFC 9204, sections 4.3 and 4.4) does the same, as soon as its
+                                       * bytes tell its length. So does more than this of a decoder stream before its side's settings. A field
+                                       * section is such a frame: a limit below max_field_section_size is refused. This library's encoder writes
+                                       * every string in the Huffman code, so its sections may need four times max_field_section_size, and its
+                                       * insertions four times `table`. 2^62 - 1 and more: there is no limit */
 } h3_config;
 
 /* A client whose limits are fit for a peer that is not trusted: it takes field sections of at most 65,536 bytes, and has a dynamic table of 4,096
