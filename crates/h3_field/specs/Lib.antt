@@ -45,6 +45,8 @@ pub mod ReadBackLaws
 pub mod StaticTableLaws
 pub mod IntegerWritingLaws
 pub mod FieldForm
+pub mod FieldBlock
+pub mod FieldRow
 pub mod FieldLaws
 pub mod ShorterLaws
 pub mod Room

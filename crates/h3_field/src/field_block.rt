@@ -1,0 +1,123 @@
+//! Fields in one block of memory, which serves again: their names and values lie end to end.
+ghost use Rattle.std.specs.Prelude.{◌≡◌, ◌++◌, ◌+◌, ◌∷◌, [], length, OnOk, OnErr, IfOk};
+
+use crate::field::HeaderField;
+use crate::fields::Fields;
+use std::alloc::{AllocError, Global};
+use std::marker::Model;
+
+/// Where the bytes of a field lie in its block: the name from `start` to `middle`, and the value from there to `end`.
+#[derive(Copy, Clone)]
+pub(crate) struct FieldPlace {
+    pub(crate) start: usize,
+    pub(crate) middle: usize,
+    pub(crate) end: usize,
+}
+
+/// Fields in two blocks of memory that serve again for the next list: one has the bytes of all names and values, end to end, and one
+/// where each of them ends. A contract sees the list.
+#[derive(Drop)]
+pub struct FieldBlock {
+    bytes: Vec<u8>,
+    places: Vec<FieldPlace>,
+}
+
+impl Model for FieldBlock {
+    ghost use Rattle.std.specs.Prelude.{List};
+    ghost use Rattle.h3_field.specs.Field.{Field};
+    ghost use Rattle.h3_field.specs.FieldBlock.{fields_at, IsBlock};
+
+    ghost Value = { List Field };
+
+    ghost view = { λ b. fields_at b.bytes.items b.places.items };
+
+    ghost invariant = { λ b. IsBlock b.bytes.items b.places.items };
+}
+
+impl FieldBlock {
+    ghost use Rattle.h3_field.specs.FieldBlock.{end_to_end};
+
+    /// A block of no fields. It takes no memory.
+    pub fn new(alloc: Global) -> FieldBlock
+        ensures { result ≡ [] }
+    {
+        FieldBlock {
+            bytes: Vec::new(alloc),
+            places: Vec::new(alloc),
+        }
+    }
+
+    /// How many fields there are.
+    pub fn len(&self) -> usize
+        ensures { result ≡ length self.now }
+    {
+        self.places.len()
+    }
+
+    /// The fields.
+    pub fn fields(&self) -> Fields<'_>
+        ensures { result ≡ self.now }
+    {
+        Fields::of_block(self.places.as_slice(), self.bytes.as_slice())
+    }
+
+    /// The bytes of all names and values: the name of a field, its value, and so on with the next field.
+    pub fn bytes(&self) -> &[u8]
+        ensures { result.now ≡ end_to_end self.now }
+    {
+        self.bytes.as_slice()
+    }
+
+    /// Lets all fields go. Their memory stays for the next ones.
+    pub fn clear(&mut self)
+        ensures { self.new ≡ [] }
+    {
+        self.bytes.clear();
+        self.places.clear();
+    }
+
+    /// Adds copies of a name and a value. A refusal adds nothing.
+    pub fn push(&mut self, name: &[u8], value: &[u8]) -> Result<(), AllocError>
+        ensures ok { OnOk result (self.new ≡ self.old ++ (record { name = name.now; value = value.now }) ∷ []) }
+        ensures err { OnErr result (self.new ≡ self.old) }
+    {
+        let start = self.bytes.len();
+        let (middle, end) = match put_two(&mut self.bytes, name, value) {
+            Ok(ends) => ends,
+            Err(e) => return Err(e),
+        };
+        if let Err(_) = self.places.push(FieldPlace { start, middle, end }) {
+            self.bytes.truncate(start);
+            return Err(AllocError);
+        }
+        Ok(())
+    }
+
+    /// The fields, each with bytes of its own.
+    pub fn to_fields(&self, alloc: Global) -> Result<Vec<HeaderField>, AllocError>
+        ensures { IfOk result (λ fields. fields.items ≡ self.now) }
+    {
+        let fields = self.fields();
+        let mut list = Vec::with_capacity(alloc, fields.len())?;
+        for place in 0..fields.len() {
+            let field = fields.get(place);
+            list.push(HeaderField::copied(alloc, field.name(), field.value())?)?;
+        }
+        Ok(list)
+    }
+}
+
+// Appends both, and answers where each ends. A refusal appends nothing.
+fn put_two(bytes: &mut Vec<u8>, name: &[u8], value: &[u8]) -> Result<(usize, usize), AllocError>
+    ensures ok { IfOk result (λ ends. (bytes.new.items ≡ bytes.old.items ++ name.now ++ value.now) × (ends.0 ≡ length bytes.old.items + length name.now) × (ends.1 ≡ length bytes.new.items)) }
+    ensures err { OnErr result (bytes.new.items ≡ bytes.old.items) }
+{
+    let start = bytes.len();
+    bytes.extend_from_slice(name)?;
+    let middle = bytes.len();
+    if let Err(e) = bytes.extend_from_slice(value) {
+        bytes.truncate(start);
+        return Err(e);
+    }
+    Ok((middle, bytes.len()))
+}

@@ -1,0 +1,118 @@
+//! Fields that are read by their places, in a list or in a block.
+ghost use Rattle.std.specs.Prelude.{◌≡◌, ◌<◌, length, slice_get, Some};
+ghost use Rattle.h3_field.specs.FieldBlock.{fields_at, IsBlock};
+
+use crate::field::HeaderField;
+use crate::field_block::FieldPlace;
+use std::marker::Model;
+
+/// A name and a value that lie elsewhere. A contract sees the two byte lists.
+#[derive(Drop)]
+pub struct FieldRef<'a> {
+    name: &'a [u8],
+    value: &'a [u8],
+}
+
+impl<'a> Model for FieldRef<'a> {
+    ghost use Rattle.h3_field.specs.Field.{Field};
+
+    ghost Value = { Field };
+
+    ghost view = { λ f. record { name = f.name.now; value = f.value.now } };
+}
+
+impl<'a> FieldRef<'a> {
+    /// A name and a value.
+    pub fn new(name: &'a [u8], value: &'a [u8]) -> FieldRef<'a>
+        ensures { result ≡ record { name = name.now; value = value.now } }
+    {
+        FieldRef { name, value }
+    }
+
+    /// The bytes of the name.
+    pub fn name(&self) -> &'a [u8]
+        ensures { result.now ≡ self.now.name }
+    {
+        self.name
+    }
+
+    /// The bytes of the value.
+    pub fn value(&self) -> &'a [u8]
+        ensures { result.now ≡ self.now.value }
+    {
+        self.value
+    }
+}
+
+/// Fields that lie in a list or in a block. A contract sees the list.
+#[derive(Drop)]
+pub struct Fields<'a> {
+    row: Row<'a>,
+}
+
+/// Where they lie.
+#[derive(Copy, Clone)]
+pub(crate) enum Row<'a> {
+    List(&'a [HeaderField]),
+    Block(&'a [FieldPlace], &'a [u8]),
+}
+
+impl<'a> Model for Fields<'a> {
+    ghost use Rattle.std.specs.Prelude.{List};
+    ghost use Rattle.h3_field.specs.Field.{Field};
+    ghost use Rattle.h3_field.specs.FieldRow.{fields_in_row, IsRow};
+
+    ghost Value = { List Field };
+
+    ghost view = { λ f. fields_in_row f.row };
+
+    ghost invariant = { λ f. IsRow f.row };
+}
+
+impl<'a> Fields<'a> {
+    /// Those of a list.
+    pub fn of(fields: &'a [HeaderField]) -> Fields<'a>
+        ensures { result ≡ fields.now }
+    {
+        Fields {
+            row: Row::List(fields),
+        }
+    }
+
+    // Those of a block.
+    pub(crate) fn of_block(places: &'a [FieldPlace], bytes: &'a [u8]) -> Fields<'a>
+        requires { IsBlock bytes.now places.now }
+        ensures { result ≡ fields_at bytes.now places.now }
+    {
+        Fields {
+            row: Row::Block(places, bytes),
+        }
+    }
+
+    /// How many there are.
+    pub fn len(&self) -> usize
+        ensures { result ≡ length self.now }
+    {
+        match self.row {
+            Row::List(fields) => fields.len(),
+            Row::Block(places, _) => places.len(),
+        }
+    }
+
+    /// The field at a place, counted from 0.
+    pub fn get(&self, place: usize) -> FieldRef<'a>
+        requires { place < length self.now }
+        ensures { slice_get self.now place ≡ Some result }
+    {
+        match self.row {
+            Row::List(fields) => {
+                let field = &fields[place];
+                FieldRef::new(field.name(), field.value())
+            }
+            Row::Block(places, bytes) => {
+                let at = places[place];
+                FieldRef::new(&bytes[at.start..at.middle], &bytes[at.middle..at.end])
+            }
+        }
+    }
+}
