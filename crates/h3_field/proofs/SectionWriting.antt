@@ -1,5 +1,8 @@
 -- A field section in the midst of its writing.
 use Rattle.std.proofs.Common.{◌≡◌, ℕ, ◌+◌, ◌-◌, ◌^◌, ◌<◌, ◌≤◌, min, List, [], ◌∷◌, ◌++◌, length, take, drop, get_or, refl, ap, sym, ◌∙◌, arith, append_assoc, append-nil}
+use Rattle.std.proofs.Common.{Some}
+use Rattle.std.specs.List.{slice_get}
+use Rattle.std.proofs.lemmas.Grind.{common_steps, gets}
 use Rattle.std.proofs.lemmas.List.{take_more, take_all, take_at, take-append-drop}
 use Rattle.std.proofs.lemmas.List.Concat.{flat_map-append}
 use Rattle.std.proofs.lemmas.List.Sums.{sum_by-append, sum_by-cons}
@@ -61,3 +64,7 @@ put_all start items fields index size p all =
 
 pub put_refused : (start items new : List ℕ) (fields : List Field) (index size : ℕ) → Put start items fields index size → new ≡ items → take (length start) new ≡ start
 put_refused start items new fields index size p e = rw (e, p.items_are) (take_at start (section_bytes (take index fields)) (length start) refl)
+
+-- a field that was looked up by its place, as the other lemmas have it
+pub lent_at : (fields : List Field) (i : ℕ) (f : Field) → slice_get fields i ≡ Some f → f ≡ get_or fields i f
+lent_at fields i f e = grind (arith, common_steps, gets)

@@ -11,16 +11,17 @@ ghost use Rattle.h3_field.specs.declared.encoder_error.EncoderError.TheVariants.
 use crate::block::{HeaderPrefix, Indexed, Literal, LiteralWithNameRef};
 use crate::encoder_error::EncoderError;
 use crate::field::HeaderField;
+use crate::fields::{FieldRef, Fields};
 use crate::static_::StaticTable;
 
 /// Appends the line of a field: an entry of the static table, or a literal with a static or literal name.
-fn put_field(field: &HeaderField, block: &mut Vec<u8>) -> Result<(), EncoderError>
+fn put_field(field: &FieldRef<'_>, block: &mut Vec<u8>) -> Result<(), EncoderError>
     requires { field_size field.now < 2 ^ 62 }
     ensures memory { IsOkUnless result OutOfMemory }
     ensures ok { OnOk result (block.new.items ≡ block.old.items ++ line_bytes (static_line field.now)) }
     ensures err { OnErr result (block.new.items ≡ block.old.items) }
 {
-    if let Some(index) = StaticTable::find(field) {
+    if let Some(index) = StaticTable::find_lent(field) {
         Indexed::Static(index).encode(block)?;
         return Ok(());
     }
@@ -33,7 +34,7 @@ fn put_field(field: &HeaderField, block: &mut Vec<u8>) -> Result<(), EncoderErro
 }
 
 /// Appends a section of count 0 and base 0. A refusal may leave a part of it.
-fn put_section(block: &mut Vec<u8>, fields: &[HeaderField]) -> Result<u64, EncoderError>
+fn put_section(block: &mut Vec<u8>, fields: &Fields<'_>) -> Result<u64, EncoderError>
     requires { section_size fields.now < 2 ^ 62 }
     ensures memory { IsOkUnless result OutOfMemory }
     ensures ok { OnOk result (block.new.items ≡ block.old.items ++ section_bytes fields.now) }
@@ -45,8 +46,9 @@ fn put_section(block: &mut Vec<u8>, fields: &[HeaderField]) -> Result<u64, Encod
     HeaderPrefix::new(0, 0, 0, 0).encode(block)?;
     let mut size: u64 = 0;
     // (the label names the loop in its proof)
-    'fields: for field in fields {
-        put_field(field, block)?;
+    'fields: for place in 0..fields.len() {
+        let field = fields.get(place);
+        put_field(&field, block)?;
         // (for the proof: name and value are bytes)
         field.are_bytes();
         size += field.mem_size() as u64;
@@ -57,6 +59,22 @@ fn put_section(block: &mut Vec<u8>, fields: &[HeaderField]) -> Result<u64, Encod
 /// Appends a field section that names no dynamic entry, and answers the sum of the sizes of its fields. A refusal
 /// appends nothing.
 pub fn encode_stateless(block: &mut Vec<u8>, fields: &[HeaderField]) -> Result<u64, EncoderError>
+    requires { section_size fields.now < 2 ^ 62 }
+    ensures memory { IsOkUnless result OutOfMemory }
+    ensures ok { OnOk result (block.new.items ≡ block.old.items ++ section_bytes fields.now) }
+    ensures size { IfOk result (λ size. size ≡ section_size fields.now) }
+    ensures bytes { OnOk result (AllByRecursion IsFieldOfBytes fields.now) }
+    ensures fits { OnOk result (length (section_bytes fields.now) < 2 ^ 63) }
+    ensures err { OnErr result (block.new.items ≡ block.old.items) }
+{
+    encode_stateless_lent(block, &Fields::of(fields))
+}
+
+/// The same for fields that lie in a list or in a block.
+pub fn encode_stateless_lent(
+    block: &mut Vec<u8>,
+    fields: &Fields<'_>,
+) -> Result<u64, EncoderError>
     requires { section_size fields.now < 2 ^ 62 }
     ensures memory { IsOkUnless result OutOfMemory }
     ensures ok { OnOk result (block.new.items ≡ block.old.items ++ section_bytes fields.now) }

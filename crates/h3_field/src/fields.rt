@@ -1,9 +1,12 @@
 //! Fields that are read by their places, in a list or in a block.
-ghost use Rattle.std.specs.Prelude.{◌≡◌, ◌<◌, length, slice_get, Some};
+ghost use Rattle.std.specs.Prelude.{◌≡◌, ◌<◌, ◌^◌, ◌-◌, min, length, slice_get, Some};
+ghost use Rattle.h3_field.specs.Field.{field_size};
+ghost use Rattle.h3_field.specs.ReadBack.{IsFieldOfBytes};
 ghost use Rattle.h3_field.specs.FieldBlock.{fields_at, IsBlock};
 
-use crate::field::HeaderField;
+use crate::field::{ESTIMATED_OVERHEAD_BYTES, HeaderField};
 use crate::field_block::FieldPlace;
+use crate::octets::are_bytes;
 use std::marker::Model;
 
 /// A name and a value that lie elsewhere. A contract sees the two byte lists.
@@ -29,6 +32,13 @@ impl<'a> FieldRef<'a> {
         FieldRef { name, value }
     }
 
+    /// Those of a field.
+    pub fn of(field: &'a HeaderField) -> FieldRef<'a>
+        ensures { result ≡ field.now }
+    {
+        FieldRef::new(field.name(), field.value())
+    }
+
     /// The bytes of the name.
     pub fn name(&self) -> &'a [u8]
         ensures { result.now ≡ self.now.name }
@@ -41,6 +51,24 @@ impl<'a> FieldRef<'a> {
         ensures { result.now ≡ self.now.value }
     {
         self.value
+    }
+
+    /// Each item of name and value is a byte. It does nothing: a proof that needs the fact calls it.
+    pub fn are_bytes(&self)
+        ensures { IsFieldOfBytes self.now }
+    {
+        are_bytes(self.name);
+        are_bytes(self.value);
+    }
+
+    /// The bytes of name and value and 32 more, or the greatest number where the sum passes it (RFC 9204, section 3.2.1).
+    pub fn mem_size(&self) -> usize
+        ensures { result ≡ min (2 ^ 64 - 1) (field_size self.now) }
+    {
+        self.name
+            .len()
+            .saturating_add(self.value.len())
+            .saturating_add(ESTIMATED_OVERHEAD_BYTES)
     }
 }
 
@@ -106,8 +134,7 @@ impl<'a> Fields<'a> {
     {
         match self.row {
             Row::List(fields) => {
-                let field = &fields[place];
-                FieldRef::new(field.name(), field.value())
+                FieldRef::of(&fields[place])
             }
             Row::Block(places, bytes) => {
                 let at = places[place];

@@ -17,7 +17,7 @@ use crate::encoder_view::DynamicTableEncoder;
 use crate::marks::Marks;
 use crate::section::Section;
 use crate::view::DynamicTableDecoder;
-use h3_field::HeaderField;
+use h3_field::FieldRef;
 pub use h3_field::dynamic::Error;
 use h3_table::blocking::BlockingCounts;
 use h3_table::entries::{Entries, Entry, MAX_CAPACITY, MOST_INSERTIONS, Match, size_of};
@@ -214,7 +214,7 @@ impl DynamicTable {
     pub(crate) fn newest(
         &self,
         what: Match,
-        field: &HeaderField,
+        field: &FieldRef<'_>,
         above: usize,
         most: usize,
     ) -> Option<usize>
@@ -305,7 +305,7 @@ impl DynamicTable {
 
     /// How many entries are evicted once the field is inserted, where it may be: the entries to be evicted are known to be
     /// received, no tracked section names them, and they are below `oldest`.
-    pub(crate) fn room_for(&self, field: &HeaderField, oldest: usize) -> Option<usize>
+    pub(crate) fn room_for(&self, field: &FieldRef<'_>, oldest: usize) -> Option<usize>
         ensures some { IfSome result (λ n. MayInsertInto self.now field.now oldest × (n ≡ evicted (with_entry self.now.table field.now)) × (evicted self.now.table ≤ n)) }
         ensures none { IfNone result (MayInsertInto self.now field.now oldest → ⊥) }
     {
@@ -344,7 +344,7 @@ impl DynamicTable {
 
     /// Whether a field is worth an entry, where an entry of it drains or none does: an economical encoder inserts anew what drains, what is
     /// the first of its name, what was among the last literals, and anything where nothing would drain.
-    pub(crate) fn is_worth(&self, field: &HeaderField, drains: bool) -> bool
+    pub(crate) fn is_worth(&self, field: &FieldRef<'_>, drains: bool) -> bool
         ensures { result ≡ is_worth_in self.now drains field.now }
     {
         if !self.economical || drains {
@@ -363,7 +363,7 @@ impl DynamicTable {
     }
 
     /// Keeps the mark of a field that was written as a literal, where the encoder is economical.
-    pub(crate) fn note(&mut self, field: &HeaderField)
+    pub(crate) fn note(&mut self, field: &FieldRef<'_>)
         ensures { self.new ≡ noted self.old field.now }
     {
         if self.economical {
@@ -375,7 +375,7 @@ impl DynamicTable {
     /// blocked, the field is worth an entry, and no entry equals it but such as drain. It also answers up to which number none does.
     pub(crate) fn room_ahead(
         &self,
-        field: &HeaderField,
+        field: &FieldRef<'_>,
         section: &Section,
     ) -> Option<(usize, usize)>
         ensures some { IfSome result (λ p. MayInsertAhead self.now section.now field.now × (p.0 ≡ evicted (with_entry self.now.table field.now)) × (evicted self.now.table ≤ p.0)) }
@@ -406,7 +406,7 @@ impl DynamicTable {
     }
 
     /// Inserts a field that may be: the oldest entries, up to `after`, are evicted. Where memory is refused nothing changes.
-    pub(crate) fn insert(&mut self, field: &HeaderField, after: usize) -> Result<(), AllocError>
+    pub(crate) fn insert(&mut self, field: &FieldRef<'_>, after: usize) -> Result<(), AllocError>
         requires after { after ≡ evicted (with_entry self.old.table field.now) }
         requires from { evicted self.old.table ≤ after }
         requires few { self.old.table.inserted + 1 < 2 ^ 62 }

@@ -23,7 +23,7 @@ use crate::writing::{put_fields, put_section};
 use h3_field::stream::{
     DecoderInstruction, DynamicTableSizeUpdate, HeaderAck, InsertCountIncrement, StreamCancel,
 };
-use h3_field::{EncoderError, HeaderField, SliceCursor, dynamic, encode_stateless};
+use h3_field::{EncoderError, Fields, HeaderField, SliceCursor, dynamic, encode_stateless_lent};
 use h3_table::entries::MAX_CAPACITY;
 use std::alloc::Global;
 use std::marker::Model;
@@ -300,8 +300,27 @@ impl Encoder {
         ensures unwritten { OnErr result (block.new.items ≡ block.old.items) }
         ensures cut_off { OnErr result ((s : EncoderHistory) → self.old ≡ encoder_state s → IsCutOff s (writing_on s stream) fields.now self.new encoder_buf.old.items encoder_buf.new.items) }
     {
+        self.encode_lent(stream, block, encoder_buf, &Fields::of(fields))
+    }
+
+    /// The same for fields that lie in a list or in a block.
+    pub fn encode_lent(
+        &mut self,
+        stream: u64,
+        block: &mut Vec<u8>,
+        encoder_buf: &mut Vec<u8>,
+        fields: &Fields<'_>,
+    ) -> Result<usize, EncoderError>
+        requires { section_size fields.now < 2 ^ 62 }
+        ensures memory { IsOkUnless result OutOfMemory }
+        ensures sent { IfOk result (λ count. (s : EncoderHistory) → self.old ≡ encoder_state s →
+            IsSent s stream fields.now count self.new block.old.items block.new.items encoder_buf.old.items encoder_buf.new.items) }
+        ensures grows { length encoder_buf.old.items ≤ length encoder_buf.new.items }
+        ensures unwritten { OnErr result (block.new.items ≡ block.old.items) }
+        ensures cut_off { OnErr result ((s : EncoderHistory) → self.old ≡ encoder_state s → IsCutOff s (writing_on s stream) fields.now self.new encoder_buf.old.items encoder_buf.new.items) }
+    {
         if self.table.is_canceled(stream) {
-            encode_stateless(block, fields)?;
+            encode_stateless_lent(block, fields)?;
             return Ok(0);
         }
         self.lines.clear();

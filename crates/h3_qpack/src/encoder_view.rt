@@ -8,7 +8,7 @@ ghost use Rattle.h3_qpack.specs.EncoderView.{AnswersField, AnswersName, section_
 
 use crate::dynamic::DynamicTable;
 use crate::section::Section;
-use h3_field::HeaderField;
+use h3_field::{FieldRef, HeaderField};
 use h3_field::dynamic::Error;
 use h3_field::static_::StaticTable;
 use h3_table::entries::Match;
@@ -62,7 +62,7 @@ pub enum DynamicInsertionResult {
 fn insertion_of(
     table: &DynamicTable,
     base: usize,
-    field: &HeaderField,
+    field: &FieldRef<'_>,
     static_index: Option<usize>,
     after: usize,
 ) -> DynamicInsertionResult
@@ -174,7 +174,8 @@ impl<'a> DynamicTableEncoder<'a> {
         }
         let most = self.section.most_usable(self.table, self.section.base);
         let evicted = self.table.evicted();
-        let Some(absolute) = self.table.newest(Match::Field, field, evicted, most) else {
+        let lent = FieldRef::of(field);
+        let Some(absolute) = self.table.newest(Match::Field, &lent, evicted, most) else {
             return DynamicLookupResult::NotFound;
         };
         let index = self.section.base - absolute;
@@ -195,7 +196,8 @@ impl<'a> DynamicTableEncoder<'a> {
         }
         let most = self.section.most_usable(self.table, self.table.inserted());
         let evicted = self.table.evicted();
-        let Some(absolute) = self.table.newest(Match::Name, field, evicted, most) else {
+        let lent = FieldRef::of(field);
+        let Some(absolute) = self.table.newest(Match::Name, &lent, evicted, most) else {
             return DynamicLookupResult::NotFound;
         };
         let base = self.section.base;
@@ -220,13 +222,14 @@ impl<'a> DynamicTableEncoder<'a> {
         if !self.section.may_block {
             return Ok(DynamicInsertionResult::NotInserted);
         }
-        let Some(after) = self.table.room_for(field, self.section.oldest) else {
+        let lent = FieldRef::of(field);
+        let Some(after) = self.table.room_for(&lent, self.section.oldest) else {
             return Ok(DynamicInsertionResult::NotInserted);
         };
         let static_index = StaticTable::find_name(field.name());
-        let answer = insertion_of(self.table, self.section.base, field, static_index, after);
+        let answer = insertion_of(self.table, self.section.base, &lent, static_index, after);
         let number = self.table.inserted() + 1;
-        let Ok(()) = self.table.insert(field, after) else {
+        let Ok(()) = self.table.insert(&lent, after) else {
             return Err(Error::OutOfMemory);
         };
         self.section.name(number);

@@ -4,7 +4,7 @@ ghost use Rattle.h3_qpack.specs.Drafting.{begun, naming, most_usable, IsOver, Is
 ghost use Rattle.h3_qpack.specs.Missed.{IsMissedFor};
 
 use crate::dynamic::DynamicTable;
-use h3_field::HeaderField;
+use h3_field::FieldRef;
 use h3_field::static_::StaticTable;
 use h3_table::entries::Match;
 
@@ -88,7 +88,7 @@ impl Section {
     }
 
     /// How a field is written that is no entry and may not be inserted.
-    fn choose_literal(&self, table: &DynamicTable, field: &HeaderField) -> Choice
+    fn choose_literal(&self, table: &DynamicTable, field: &FieldRef<'_>) -> Choice
         requires { IsLiteral table.now self.now field.now }
         ensures rule { IsChosen table.now self.now field.now result }
         ensures possible { IsPossible table.now self.now field.now result }
@@ -106,13 +106,13 @@ impl Section {
     }
 
     /// How a field is written: a static entry, else an older entry that does not drain, else a new one, else a literal.
-    pub(crate) fn choose(&self, table: &DynamicTable, field: &HeaderField) -> Choice
+    pub(crate) fn choose(&self, table: &DynamicTable, field: &FieldRef<'_>) -> Choice
         requires { self.now.base ≤ table.now.table.inserted }
         ensures rule { IsChosen table.now self.now field.now result }
         ensures possible { IsPossible table.now self.now field.now result }
         ensures missed { IsMissedFor table.now.table field.now result }
     {
-        if let Some(index) = StaticTable::find(field) {
+        if let Some(index) = StaticTable::find_lent(field) {
             return Choice::Static(index);
         }
         let most = self.most_usable(table, self.base);

@@ -25,7 +25,7 @@ use h3_field::block::{
 };
 use h3_field::static_::StaticTable;
 use h3_field::stream::{Duplicate, InsertWithNameRef, InsertWithoutNameRef};
-use h3_field::{EncoderError, HeaderField};
+use h3_field::{EncoderError, FieldRef, Fields};
 use h3_table::entries::Match;
 use std::alloc::AllocError;
 
@@ -35,7 +35,7 @@ use std::alloc::AllocError;
 fn put_insertion(
     table: &DynamicTable,
     searched: usize,
-    field: &HeaderField,
+    field: &FieldRef<'_>,
     static_index: Option<usize>,
     after: usize,
     encoder_buf: &mut Vec<u8>,
@@ -71,7 +71,7 @@ fn put_insertion(
 fn put_entry(
     table: &mut DynamicTable,
     searched: usize,
-    field: &HeaderField,
+    field: &FieldRef<'_>,
     after: usize,
     encoder_buf: &mut Vec<u8>,
 ) -> Result<(), EncoderError>
@@ -100,7 +100,7 @@ fn put_entry(
 fn put_inserted(
     table: &mut DynamicTable,
     base: usize,
-    field: &HeaderField,
+    field: &FieldRef<'_>,
     after: usize,
     searched: usize,
     lines: &mut Vec<u8>,
@@ -147,7 +147,7 @@ fn put_entry_name(
 fn put_chosen(
     table: &mut DynamicTable,
     section: &mut Section,
-    field: &HeaderField,
+    field: &FieldRef<'_>,
     choice: Choice,
     lines: &mut Vec<u8>,
     encoder_buf: &mut Vec<u8>,
@@ -199,7 +199,7 @@ fn put_chosen(
 fn put_ahead(
     table: &mut DynamicTable,
     section: &Section,
-    field: &HeaderField,
+    field: &FieldRef<'_>,
     encoder_buf: &mut Vec<u8>,
 ) -> Result<(), EncoderError>
     requires over { IsOver table.old.table section.now }
@@ -220,7 +220,7 @@ fn put_ahead(
 fn put_field(
     table: &mut DynamicTable,
     section: &mut Section,
-    field: &HeaderField,
+    field: &FieldRef<'_>,
     lines: &mut Vec<u8>,
     encoder_buf: &mut Vec<u8>,
 ) -> Result<(), EncoderError>
@@ -249,7 +249,7 @@ fn put_field(
 pub(crate) fn put_fields(
     table: &mut DynamicTable,
     section: &mut Section,
-    fields: &[HeaderField],
+    fields: &Fields<'_>,
     lines: &mut Vec<u8>,
     encoder_buf: &mut Vec<u8>,
 ) -> Result<(), EncoderError>
@@ -265,10 +265,11 @@ pub(crate) fn put_fields(
         IsCutOff s s fields.now table.new start encoder_buf.new.items) }
 {
     // (the label names the loop in its proof)
-    'fields: for field in fields {
+    'fields: for place in 0..fields.len() {
+        let field = fields.get(place);
         // (for the proof: name and value are bytes)
         field.are_bytes();
-        put_field(table, section, field, lines, encoder_buf)?;
+        put_field(table, section, &field, lines, encoder_buf)?;
     }
     Ok(())
 }

@@ -10,7 +10,7 @@ ghost use Rattle.h3_table.specs.Index.{IsIndexed};
 pub use crate::field_queue::Entry;
 use crate::field_queue::FieldQueue;
 use crate::index::{Index, older, slot_of_field, slot_of_name};
-use h3_field::{HeaderField, Part};
+use h3_field::{FieldRef, HeaderField, Part};
 use std::alloc::{AllocError, Global};
 use std::marker::Model;
 
@@ -23,7 +23,7 @@ pub const MOST_INSERTIONS: usize = 1 << 62;
 pub const MAX_CAPACITY: usize = (1 << 30) - 1;
 
 /// The size of a field in a table, stopping at the greatest number (RFC 9204, section 3.2.1).
-pub fn size_of(field: &HeaderField) -> usize
+pub fn size_of(field: &FieldRef<'_>) -> usize
     ensures { result ≡ min (2 ^ 64 - 1) (field_size field.now) }
 {
     field
@@ -42,7 +42,7 @@ pub enum Match {
 
 impl Match {
     /// The slot of a field in an index of such matches.
-    pub fn slot(self, field: &HeaderField) -> usize
+    pub fn slot(self, field: &FieldRef<'_>) -> usize
         ensures value { result ≡ slot_of self field.now }
         ensures below { result < 256 }
     {
@@ -175,7 +175,7 @@ impl Entries {
         &self,
         index: &Index,
         what: Match,
-        field: &HeaderField,
+        field: &FieldRef<'_>,
         above: usize,
         most: usize,
     ) -> Option<usize>
@@ -228,7 +228,7 @@ impl Entries {
     }
 
     /// How many entries are evicted once this field is inserted, unless that is above the most.
-    pub fn evicted_after(&self, field: &HeaderField, most: usize) -> Option<usize>
+    pub fn evicted_after(&self, field: &FieldRef<'_>, most: usize) -> Option<usize>
         requires fits { field_size field.now ≤ self.now.capacity }
         requires may { evicted self.now ≤ most }
         ensures some { IfSome result (λ n. (n ≡ evicted (with_entry self.now field.now)) × (n ≤ most)) }
@@ -262,7 +262,7 @@ impl Entries {
     }
 
     /// The same for a field that stays the caller's.
-    pub fn insert_copy(&mut self, field: &HeaderField) -> Result<(), AllocError>
+    pub fn insert_copy(&mut self, field: &FieldRef<'_>) -> Result<(), AllocError>
         requires few { self.old.inserted + 1 < 2 ^ 62 }
         requires fits { field_size field.now ≤ self.old.capacity }
         ensures ok { OnOk result (self.new ≡ with_entry self.old field.now) }

@@ -10,6 +10,7 @@ ghost use Rattle.h3_field.specs.declared.static_.Error.TheVariants.{Unknown};
 mod tables;
 
 use crate::field::HeaderField;
+use crate::fields::FieldRef;
 use crate::same::is_same;
 use crate::static_::tables::{FIELD_SLOTS, NAME_SLOTS, NAME_STARTS, NAMES, VALUE_STARTS, VALUES};
 use std::fmt;
@@ -161,6 +162,14 @@ impl StaticTable {
 
     /// The index of the entry with that name and value.
     pub fn find(field: &HeaderField) -> Option<usize>
+        ensures entry { result ≡ static_field field.now }
+        ensures below { IfSome result (λ index. index < 99) }
+    {
+        StaticTable::find_lent(&FieldRef::of(field))
+    }
+
+    /// The same for a field that lies elsewhere.
+    pub fn find_lent(field: &FieldRef<'_>) -> Option<usize>
         ensures entry { result ≡ static_field field.now }
         ensures below { IfSome result (λ index. index < 99) }
     {

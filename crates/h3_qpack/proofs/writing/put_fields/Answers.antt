@@ -10,7 +10,7 @@ returns-in_err-put_field-clause-err c =
 
 pub fields-preserved : goal.fields-preserved
 fields-preserved c =
-    in_more _ _ _ _ _ _ _ _ _ _ _ _ _ _ _ c.fields.invariant c.fields-test.true c.field-item.is c.are_bytes.ensures c.in_ok-put_field.ensures.over c.in_ok-put_field.ensures.grows c.in_ok-put_field.ensures.ok
+    in_more _ _ _ _ _ _ _ _ _ _ _ _ _ _ _ c.fields.invariant c.fields-test.true (lent_at _ _ _ c.get-field.ensures) c.are_bytes.ensures c.in_ok-put_field.ensures.over c.in_ok-put_field.ensures.grows c.in_ok-put_field.ensures.ok
 
 pub returns-clause-ok : goal.returns-clause-ok
 returns-clause-ok c =

@@ -1,6 +1,6 @@
 use Rattle.std.proofs.Common.{ap, not}
 use Rattle.h3_field.proofs.StaticEntries.{Sought, field_empty, field_free, field_other_name, field_other_value, field_here}
-use Rattle.h3_field.proofs.static_.StaticTable.find.Goals as goal
+use Rattle.h3_field.proofs.static_.StaticTable.find_lent.Goals as goal
 
 pub returns-then-is_empty-clause-entry : goal.returns-then-is_empty-clause-entry
 returns-then-is_empty-clause-entry c = field_empty c.args.field.now (rw c.name-name.ensures at c.if-is_empty.ensures)
