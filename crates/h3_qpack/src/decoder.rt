@@ -30,7 +30,7 @@ use h3_field::stream::{
     InsertWithoutNameRef, StreamCancel,
 };
 use h3_field::{Decoded, DecoderError, HeaderField, SliceCursor};
-use h3_table::entries::{Entries, MAX_CAPACITY, MOST_INSERTIONS, size_of};
+use h3_table::entries::{Entries, MAX_CAPACITY, MOST_INSERTIONS};
 use std::alloc::{AllocError, Global};
 use std::borrow::CowSlice;
 use std::marker::Model;
@@ -330,7 +330,7 @@ impl Decoder {
                 if self.entries.inserted() + 1 >= MOST_INSERTIONS {
                     return Err(DecoderError::DynamicTable(Error::MaxTableSizeReached));
                 }
-                if size_of(&field) > self.entries.capacity() {
+                if field.mem_size() > self.entries.capacity() {
                     return Err(DecoderError::DynamicTable(Error::MaxTableSizeReached));
                 }
                 if self.entries.insert(field).is_err() {

@@ -21,11 +21,11 @@ returns-then-inserted-ge-MOST_INSERTIONS c =
       refl,
     )
 
-pub returns-then-size_of-capacity : goal.returns-then-size_of-capacity
-returns-then-size_of-capacity c =
+pub returns-then-mem_size-capacity : goal.returns-then-size_of-capacity
+returns-then-mem_size-capacity c =
     let begins = rw (c.in-Ok-Some.field-0-is, c.new-ahead.ensures, c.chunk.ensures) at c.in-Ok-Some.ensures in (
       no_room_bad c.args.self.now c.args.buf.now _ c.in-Ok-Some.field begins
-          (too_large c.args.self.now.table c.in-Ok-Some.field c.size_of.result c.size_of.ensures (omega (arith, c.capacity.ensures.value, ap (λ r. r.table.capacity) c.self.view_is))),
+          (too_large c.args.self.now.table c.in-Ok-Some.field c.mem_size.result c.mem_size.ensures (omega (arith, c.capacity.ensures.value, ap (λ r. r.table.capacity) c.self.view_is))),
       refl,
       refl,
     )
