@@ -71,10 +71,7 @@ pub fn encode_stateless(block: &mut Vec<u8>, fields: &[HeaderField]) -> Result<u
 }
 
 /// The same for fields that lie in a list or in a block.
-pub fn encode_stateless_lent(
-    block: &mut Vec<u8>,
-    fields: &Fields<'_>,
-) -> Result<u64, EncoderError>
+pub fn encode_stateless_lent(block: &mut Vec<u8>, fields: &Fields<'_>) -> Result<u64, EncoderError>
     requires { section_size fields.now < 2 ^ 62 }
     ensures memory { IsOkUnless result OutOfMemory }
     ensures ok { OnOk result (block.new.items ≡ block.old.items ++ section_bytes fields.now) }
