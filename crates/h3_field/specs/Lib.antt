@@ -48,6 +48,7 @@ pub mod FieldForm
 pub mod FieldBlock
 pub mod FieldRow
 pub mod OntoAnswer
+pub mod OntoLaws
 pub mod FieldLaws
 pub mod ShorterLaws
 pub mod Room
