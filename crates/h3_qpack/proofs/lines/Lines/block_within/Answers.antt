@@ -19,13 +19,13 @@ returns-then-mem_size-max-clause-ok c =
     let seen = rw (c.new-ahead.ensures, c.chunk.ensures) at c.lines.invariant.0 in
     let put = c.in-Ok.ensures in
     let next = one_read _ _ _ c.lines.block put.field _ _ seen put.begins in
-    (record { front = c.lines.block ++ put.field ∷ []; rest = c.put_line.new.buf; read = next; large = rw (c.size_of_block.ensures, put.added) at c.if-mem_size-max.true }, c.lines.invariant.3)
+    (record { front = c.lines.block ++ put.field ∷ []; rest = c.put_line.new.buf; read = next; large = rw (c.size_of_block-mem_size.ensures, put.added) at c.if-mem_size-max.true }, c.lines.invariant.3)
 
 pub lines-preserved : goal.lines-preserved
 lines-preserved c =
     let put = c.in-Ok.ensures in (
       rw put.added (one_read _ _ _ c.lines.block put.field _ _ c.lines.invariant.0 put.begins),
-      c.size_of_block.ensures,
+      c.size_of_block-mem_size.ensures,
       c.if-mem_size-max.false,
       c.lines.invariant.3,
       λ asks. one_kept _ _ _ _ _ _ c.lines.invariant.4 put.begins,
