@@ -1,20 +1,23 @@
 //! The fields of a section's lines, in a block that is handed in: its memory serves again.
-ghost use Rattle.std.specs.Prelude.{◌≡◌, ◌≤◌, ◌<◌, [], ◌∷◌, ◌++◌, List, length, true, IfOk, IfErr, OnOk, Some, None, MatchOption};
+ghost use Rattle.std.specs.Prelude.{◌≡◌, ◌≤◌, ◌<◌, [], ◌∷◌, ◌++◌, List, length, true, false, Ok, IfOk, IfErr, OnOk, Some, None, MatchOption};
 ghost use Rattle.h3_field.specs.Field.{Field};
+ghost use Rattle.h3_field.specs.OntoAnswer.{AnswersField};
 ghost use Rattle.h3_field.specs.Shapes.{begins};
+ghost use Rattle.h3_field.specs.StringReading.{string};
 ghost use Rattle.h3_field.specs.declared.decoder_error.DecoderError.TheVariants.{OutOfMemory};
 ghost use Rattle.h3_qpack.specs.DecodedSection.{fields_in};
-ghost use Rattle.h3_qpack.specs.SectionAnswers.{LinesAskMemory, IsReasonFor, PutsLine};
+ghost use Rattle.h3_qpack.specs.SectionAnswers.{LinesAskMemory, IsReasonFor, HasPut, PutsLine};
 ghost use Rattle.h3_qpack.specs.Sizes.{IsBlockWithin, PassesLimit, told_size};
 
 use crate::lines::{Lines, post_base, relative};
 use crate::listing::SectionSummary;
 use crate::within::LargeSection;
 use h3_field::block::{
-    HeaderBlockField, Indexed, IndexedWithPostBase, LiteralWithNameRef, NameRef,
+    HeaderBlockField, Indexed, IndexedWithPostBase, LiteralWithNameRef, LiteralWithPostBaseNameRef,
+    NameRef,
 };
 use h3_field::static_::StaticTable;
-use h3_field::{DecoderError, FieldBlock, ShortString, SliceCursor};
+use h3_field::{DecoderError, FieldBlock, SliceCursor};
 
 /// A field section that was decoded into a block, under a limit on the sum of its fields' sizes.
 #[derive(Drop)]
@@ -42,6 +45,17 @@ fn put(block: &mut FieldBlock, name: &[u8], value: &[u8]) -> Result<(), DecoderE
     match block.push(name, value) {
         Ok(()) => Ok(()),
         Err(_) => Err(DecoderError::OutOfMemory),
+    }
+}
+
+/// Adds the field of a copied name and of the string at the front. False: nothing is added.
+fn has_put_value(block: &mut FieldBlock, name: &[u8], buf: &mut SliceCursor<'_>) -> bool
+    ensures yes { result ≡ true → AnswersField name.now (string 8 buf.old) buf.old buf.new block.old block.new (Ok tt) }
+    ensures no { result ≡ false → block.new ≡ block.old }
+{
+    match block.push_value_read(name, buf) {
+        Ok(()) => true,
+        Err(_) => false,
     }
 }
 
@@ -88,6 +102,43 @@ impl<'t> Lines<'t> {
         }
     }
 
+    /// Adds the field of a line with a literal value and the name of an entry, which is read straight onto the block. False: nothing
+    /// is added.
+    fn has_put_named(&self, buf: &mut SliceCursor<'_>, block: &mut FieldBlock) -> bool
+        requires some { 0 < length buf.old }
+        requires own { begins 64 127 buf.old ≡ true }
+        ensures yes { result ≡ true → HasPut self.now.table self.now.base buf.old buf.new block.old block.new }
+        ensures no { result ≡ false → block.new ≡ block.old }
+    {
+        match LiteralWithNameRef::decode_index(buf) {
+            Ok(NameRef::Static(index)) => match StaticTable::get_name(index) {
+                Ok(name) => has_put_value(block, name, buf),
+                Err(_) => false,
+            },
+            Ok(NameRef::Dynamic(index)) => match relative(self.entries(), self.base(), index) {
+                Ok(entry) => has_put_value(block, entry.name(), buf),
+                Err(_) => false,
+            },
+            Err(_) => false,
+        }
+    }
+
+    /// The same where the name is told by its distance from the base on.
+    fn has_put_post_base_named(&self, buf: &mut SliceCursor<'_>, block: &mut FieldBlock) -> bool
+        requires some { 0 < length buf.old }
+        requires own { begins 0 15 buf.old ≡ true }
+        ensures yes { result ≡ true → HasPut self.now.table self.now.base buf.old buf.new block.old block.new }
+        ensures no { result ≡ false → block.new ≡ block.old }
+    {
+        match LiteralWithPostBaseNameRef::decode_index(buf) {
+            Ok(index) => match post_base(self.entries(), self.base(), index) {
+                Ok(entry) => has_put_value(block, entry.name(), buf),
+                Err(_) => false,
+            },
+            Err(_) => false,
+        }
+    }
+
     /// Adds the field of a line with a literal value and the name of an entry.
     fn put_named(
         &self,
@@ -98,18 +149,30 @@ impl<'t> Lines<'t> {
         requires own { begins 64 127 buf.old ≡ true }
         ensures { PutsLine self.now.table self.now.base buf.old buf.new block.old block.new result }
     {
-        let mut value = ShortString::new();
-        match LiteralWithNameRef::decode_short(buf, &mut value) {
-            Some(NameRef::Static(index)) => match StaticTable::get_name(index) {
-                Ok(name) => put(block, name, value.as_slice()),
-                Err(e) => Err(DecoderError::InvalidStaticIndex(e)),
-            },
-            Some(NameRef::Dynamic(index)) => match relative(self.entries(), self.base(), index) {
-                Ok(entry) => put(block, entry.name(), value.as_slice()),
-                Err(e) => Err(e),
-            },
-            None => self.put_other(buf, block),
+        let mut ahead = SliceCursor::new(buf.chunk());
+        if self.has_put_named(&mut ahead, block) {
+            *buf = ahead;
+            return Ok(());
         }
+        self.put_other(buf, block)
+    }
+
+    /// The same where the name is told by its distance from the base on.
+    fn put_post_base_named(
+        &self,
+        buf: &mut SliceCursor<'_>,
+        block: &mut FieldBlock,
+    ) -> Result<(), DecoderError>
+        requires some { 0 < length buf.old }
+        requires own { begins 0 15 buf.old ≡ true }
+        ensures { PutsLine self.now.table self.now.base buf.old buf.new block.old block.new result }
+    {
+        let mut ahead = SliceCursor::new(buf.chunk());
+        if self.has_put_post_base_named(&mut ahead, block) {
+            *buf = ahead;
+            return Ok(());
+        }
+        self.put_other(buf, block)
     }
 
     /// Adds the field of the line at the front, whatever it is, by way of a field of its own.
@@ -141,6 +204,7 @@ impl<'t> Lines<'t> {
             HeaderBlockField::Indexed => self.put_indexed(buf, block),
             HeaderBlockField::LiteralWithNameRef => self.put_named(buf, block),
             HeaderBlockField::IndexedWithPostBase => self.put_post_base(buf, block),
+            HeaderBlockField::LiteralWithPostBaseNameRef => self.put_post_base_named(buf, block),
             _ => self.put_other(buf, block),
         }
     }
