@@ -1,23 +1,32 @@
 -- A line at the front of some bytes, and the field that it is of.
-use Rattle.std.proofs.Common.{◌≡◌, ℕ, ◌<◌, List, length, Option, Some, None, Ok, Err, sym, ap, ◌∙◌}
-use Rattle.std.specs.Prelude.{IfSome}
+use Rattle.std.proofs.Common.{◌≡◌, ℕ, ◌<◌, List, [], ◌∷◌, ◌++◌, length, Option, Some, None, Result, Ok, Err, inl, inr, sym, ap, ◌∙◌}
+use Rattle.std.specs.Prelude.{IfSome, OnOk, IfErr}
 use Rattle.h3_field.specs.Field.{Field}
 use Rattle.h3_field.specs.Reading.{Reading, Whole, Unfinished, Bad}
 use Rattle.h3_field.specs.Line.{FieldLine}
-use Rattle.h3_field.specs.LineReading.{LineForm, SaysLine, line}
-use Rattle.h3_field.specs.LineAnswer.{AnswersLine}
+use Rattle.h3_field.specs.LineReading.{LineForm, SaysLine, line, named}
+use Rattle.h3_field.specs.LineAnswer.{AnswersLine, short_named_line}
+use Rattle.h3_field.specs.IntegerReading.{integer}
+use Rattle.h3_field.specs.StringReading.{string}
+use Rattle.h3_field.specs.OntoAnswer.{AnswersField, AnswersIndex, name_ref_of}
+use Rattle.h3_field.specs.OntoLaws.{named_onto}
+use Rattle.h3_field.specs.ShorterLaws.{named_less}
+use Rattle.h3_field.specs.declared.block.literal.NameRef as name_ref
 use Rattle.h3_field.specs.ShapeAnswer.{Place, AtInteger, AtString, error_at}
 use Rattle.h3_field.specs.declared.prefix_int.Error as integer
 use Rattle.h3_field.specs.Errors.{decoder_parse}
 use Rattle.h3_field.specs.declared.prefix_int.Error.TheVariants.{Overflow, UnexpectedEnd}
-use Rattle.h3_field.specs.declared.prefix_string.Error as string
+use Rattle.h3_field.specs.declared.prefix_string.Error as string_error
 use Rattle.h3_field.specs.declared.parse_error.ParseError.{ParseError}
 use Rattle.h3_field.specs.declared.parse_error.ParseError.TheVariants.{Integer, String, InvalidPrefix, InvalidBase, OutOfMemory}
 use Rattle.h3_field.specs.SectionAnswer.{BeginsWithString}
 use Rattle.h3_field.specs.SectionLaws.{has_line, line_one, whole_same}
 use Rattle.h3_table.specs.TableState.{TableState}
 use Rattle.h3_qpack.specs.Meaning.{field_at}
-use Rattle.h3_qpack.specs.SectionAnswers.{BeginsWith, BeginsWithNone, IsReasonWith}
+use Rattle.h3_field.specs.declared.decoder_error.DecoderError.{DecoderError}
+use Rattle.h3_field.specs.declared.decoder_error.DecoderError.TheVariants as error
+use Rattle.h3_qpack.specs.ReasonLaws.{reason_with_map}
+use Rattle.h3_qpack.specs.SectionAnswers.{BeginsWith, BeginsWithNone, LinesAskMemory, IsReasonWith, HasPut, PutsLine}
 
 -- the field of a line that was read
 pub begins_with : {L : Type 0} (place : Place) (h : TableState) (base : ℕ) (line_of : L → FieldLine) (read : List ℕ → Reading LineForm) (old new : List ℕ) (l : L) (f : Field)
@@ -52,13 +61,13 @@ bad_at memory bad AtString Overflow h = h
 -- a line that was refused
 pub refused_line : {L : Type 0} (place : Place) (h : TableState) (base : ℕ) (line_of : L → FieldLine) (r : Reading LineForm) (old new : List ℕ) (e : ParseError) → line old ≡ r
     → AnswersLine line_of place r old new (Err e) → IsReasonWith (BeginsWithString old) (BeginsWithNone h base old) (λ count. ⊥) (decoder_parse e)
-refused_line place h base line_of (Whole form rest) old new (String string.TheVariants.HuffmanDecoding) is k = not_said h base old rest form is k.1
+refused_line place h base line_of (Whole form rest) old new (String string_error.TheVariants.HuffmanDecoding) is k = not_said h base old rest form is k.1
 refused_line place h base line_of (Whole form rest) old new OutOfMemory is k = (form, rest, is, k.0, k.1)
-refused_line place h base line_of (Whole form rest) old new (String string.TheVariants.OutOfMemory) is k = absurd k.1
-refused_line place h base line_of (Whole form rest) old new (String string.TheVariants.UnexpectedEnd) is k = absurd k.1
-refused_line place h base line_of (Whole form rest) old new (String (string.TheVariants.Integer e)) is k = absurd k.1
-refused_line place h base line_of (Whole form rest) old new (String string.TheVariants.HuffmanEncoding) is k = absurd k.1
-refused_line place h base line_of (Whole form rest) old new (String string.TheVariants.BufSize) is k = absurd k.1
+refused_line place h base line_of (Whole form rest) old new (String string_error.TheVariants.OutOfMemory) is k = absurd k.1
+refused_line place h base line_of (Whole form rest) old new (String string_error.TheVariants.UnexpectedEnd) is k = absurd k.1
+refused_line place h base line_of (Whole form rest) old new (String (string_error.TheVariants.Integer e)) is k = absurd k.1
+refused_line place h base line_of (Whole form rest) old new (String string_error.TheVariants.HuffmanEncoding) is k = absurd k.1
+refused_line place h base line_of (Whole form rest) old new (String string_error.TheVariants.BufSize) is k = absurd k.1
 refused_line place h base line_of (Whole form rest) old new (Integer e) is k = absurd k.1
 refused_line place h base line_of (Whole form rest) old new (InvalidPrefix first) is k = absurd k.1
 refused_line place h base line_of (Whole form rest) old new InvalidBase is k = absurd k.1
@@ -73,3 +82,25 @@ refused_line place h base line_of Bad old new e is k =
 pub made_of : (made named : Option Field) (f : Field) → named ≡ Some f → IfSome made (λ g. g ≡ f) → IfSome made (λ g. named ≡ Some g)
 made_of None named f e is = tt
 made_of (Some g) named f e is = e ∙ ap Some (sym is)
+
+-- a line of a field that was to be put
+pub puts : (h : TableState) (base : ℕ) (old new : List ℕ) (before after : List Field) (f : Field) (result : Result Unit DecoderError) → BeginsWith h base old f new
+    → OnOk result (after ≡ before ++ f ∷ []) → IfErr result (λ e. e ≡ error.OutOfMemory) → PutsLine h base old new before after result
+puts h base old new before after f (Ok u) begins added memory = record { field = f; begins = begins; added = added }
+puts h base old new before after f (Err e) begins added memory = rw memory (inr (f, new, begins))
+
+-- a line of which nothing is put
+pub puts_none : (h : TableState) (base : ℕ) (old : List ℕ) (e : DecoderError) → IsReasonWith (BeginsWithString old) (BeginsWithNone h base old) (λ count. ⊥) e → IsReasonWith (LinesAskMemory h base old) (BeginsWithNone h base old) (λ count. ⊥) e
+puts_none h base old e reason = reason_with_map _ _ _ _ e (λ string. inl string) (λ none. none) reason
+
+-- a line with the name of an entry, whose value was read onto a block behind the bytes of that name
+pub named_put : (h : TableState) (base : ℕ) (old mid new bytes : List ℕ) (before after : List Field) (name : name_ref.NameRef) → line old ≡ named old
+    → AnswersIndex name_ref_of (integer 4 old) old mid (Ok name) → AnswersField bytes (string 8 mid) mid new before after (Ok tt)
+    → ((value : List ℕ) → field_at h base (short_named_line value name) ≡ Some (record { name = bytes; value = value })) → HasPut h base old new before after
+named_put h base old mid new bytes before after name is index value names =
+    let told = named_onto old mid new bytes before after name index value in
+    record {
+      field = record { name = bytes; value = told.0 };
+      begins = begins_with AtInteger h base (short_named_line told.0) named old new name (record { name = bytes; value = told.0 }) named_less is told.1 (names told.0);
+      added = told.2;
+    }
