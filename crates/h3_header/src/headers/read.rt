@@ -51,11 +51,7 @@ fn read_scheme(alloc: Global, value: &[u8]) -> Result<Scheme, HeaderError>
     }
 }
 
-fn read_authority(
-    alloc: Global,
-    store: &mut Store,
-    value: &[u8],
-) -> Result<Authority, HeaderError>
+fn read_authority(alloc: Global, store: &mut Store, value: &[u8]) -> Result<Authority, HeaderError>
     ensures ok { IfOk result (λ m. IsAuthority value.now
         × (m ≡ value.now)) }
     ensures err { IfErr result (RefusesValue (IsAuthority value.now) ⊤) }
