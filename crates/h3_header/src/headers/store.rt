@@ -1,10 +1,10 @@
 //! Where the bytes of a list's fields are kept.
 ghost use Rattle.std.specs.Prelude.{◌≡◌, [], IfOk, IfErr};
-ghost use Rattle.h3_field.specs.FieldForm.{part_bytes};
 
 use super::error::HeaderError;
+use crate::grammar::byte_at;
 use bytes::{Bytes, BytesMut};
-use h3_field::{HeaderField, Part};
+use h3_field::Fields;
 use http_header::HeaderMap;
 use std::alloc::Global;
 
@@ -16,13 +16,9 @@ pub(crate) struct Store {
 }
 
 impl Store {
-    /// With room for what these fields own, where there is memory for it.
-    pub(crate) fn of(alloc: Global, fields: &[HeaderField]) -> Store {
-        let mut len: usize = 0;
-        for field in fields {
-            len = len.saturating_add(field.owned_len());
-        }
-        match BytesMut::with_capacity(alloc, len) {
+    /// With room for so many bytes, where there is memory for it.
+    fn with_room(alloc: Global, bytes: usize) -> Store {
+        match BytesMut::with_capacity(alloc, bytes) {
             Ok(room) => Store { room },
             Err(_) => Store {
                 room: BytesMut::new(alloc),
@@ -30,18 +26,8 @@ impl Store {
         }
     }
 
-    /// The bytes, shared: static ones as they stand, and a copy of others in the block.
-    pub(crate) fn keep(&mut self, part: &Part<'_>) -> Result<Bytes, HeaderError>
-        ensures ok { IfOk result (λ b. b ≡ part_bytes part.now) }
-        ensures err { IfErr result (λ e. e ≡ HeaderError.OutOfMemory) }
-    {
-        match part {
-            Part::Static(bytes) => Ok(Bytes::from_static(*bytes)),
-            Part::Lent(bytes) => self.add(*bytes),
-        }
-    }
-
-    fn add(&mut self, bytes: &[u8]) -> Result<Bytes, HeaderError>
+    /// A copy of the bytes in the block, shared.
+    pub(crate) fn keep(&mut self, bytes: &[u8]) -> Result<Bytes, HeaderError>
         ensures ok { IfOk result (λ b. b ≡ bytes.now) }
         ensures err { IfErr result (λ e. e ≡ HeaderError.OutOfMemory) }
     {
@@ -56,16 +42,27 @@ impl Store {
     }
 }
 
-/// An empty map, with room for the regular ones of these fields where there is memory for it.
-pub(crate) fn map_for(alloc: Global, fields: &[HeaderField]) -> HeaderMap
-    ensures { result ≡ [] }
+/// An empty map and a store, with room for these fields where there is memory for it.
+pub(crate) fn room_for(alloc: Global, fields: &Fields<'_>) -> (HeaderMap, Store)
+    ensures { result.0 ≡ [] }
 {
     let mut names: usize = 0;
-    for field in fields {
-        if field.name().first() != Some(&b':') {
+    let mut bytes: usize = 0;
+    for place in 0..fields.len() {
+        let field = fields.get(place);
+        bytes = bytes.saturating_add(field.value().len());
+        if byte_at(field.name(), 0) != b':' {
             names = names.saturating_add(1);
+            bytes = bytes.saturating_add(field.name().len());
         }
     }
+    (map_with_room(alloc, names), Store::with_room(alloc, bytes))
+}
+
+// An empty map, with room for so many names where there is memory for it.
+fn map_with_room(alloc: Global, names: usize) -> HeaderMap
+    ensures { result ≡ [] }
+{
     match HeaderMap::with_capacity(alloc, names) {
         Ok(map) => map,
         Err(_) => HeaderMap::new(alloc),
