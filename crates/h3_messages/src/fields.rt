@@ -2,8 +2,7 @@
 ghost use Rattle.std.specs.Prelude.{◌≡◌};
 ghost use Rattle.h3_messages.specs.Messages.{value_of};
 
-use crate::text::is_same;
-use h3_field::HeaderField;
+use h3_field::{HeaderField, is_same};
 
 /// The value of the first field with the name, or no bytes.
 #[tactic(auto, using(crate::proofs::Steps::value_of_rest))]

@@ -1,5 +1,5 @@
 //! What a name or a value says.
-ghost use Rattle.std.specs.Prelude.{◌≡◌, ◌-◌, ◌^◌, ◌||◌, ◌==◌, bytes_eq, length, min, nat_lt, slice_index, if◌then◌else◌, Some, None};
+ghost use Rattle.std.specs.Prelude.{◌≡◌, ◌-◌, ◌^◌, ◌||◌, ◌==◌, length, min, nat_lt, slice_index, if◌then◌else◌, Some, None};
 ghost use Rattle.std.specs.Char.{is_ascii_digit};
 ghost use Rattle.std.specs.List.{list_all, list_any};
 ghost use Rattle.h3_messages.specs.Messages.{is_word, is_space, is_length, number_of};
@@ -12,22 +12,6 @@ pub(crate) fn byte_at(text: &[u8], index: usize) -> u8
     ensures { result ≡ slice_index text.now index }
 {
     if index < text.len() { text[index] } else { 0 }
-}
-
-/// Whether the two texts are the same. It is for short ones: the kit's `==` on slices begins with what pays for long ones.
-#[inline(always)]
-pub(crate) fn is_same(text: &[u8], word: &[u8]) -> bool
-    ensures { result ≡ bytes_eq text.now word.now }
-{
-    if text.len() != word.len() {
-        return false;
-    }
-    'bytes: for index in 0..text.len() {
-        if text[index] != word[index] {
-            return false;
-        }
-    }
-    true
 }
 
 /// Whether the text has the byte.
