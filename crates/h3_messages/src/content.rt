@@ -3,8 +3,8 @@ ghost use Rattle.std.specs.Prelude.{◌≡◌, []};
 ghost use Rattle.h3_messages.specs.Content.{asked_by, asked_for, awaited, awaited_by, said, content_of_request, is_interim_status, is_without_content, content_of_status, content_expected, content_of_response, content_behind_status, content_behind_response, left_behind, is_exceeded, may_end, takes_trailer};
 
 use crate::fields::value_of;
-use crate::text::{byte_at, length_of};
-use h3_field::{HeaderField, is_same};
+use crate::text::{byte_at, is_same, length_of};
+use h3_field::HeaderField;
 
 /// How much content is left to come behind a head.
 #[derive(Clone, Copy, Debug, PartialEq, Eq)]

@@ -2,7 +2,8 @@
 ghost use Rattle.std.specs.Prelude.{◌≡◌};
 ghost use Rattle.h3_messages.specs.Messages.{value_of};
 
-use h3_field::{HeaderField, is_same};
+use crate::text::is_same;
+use h3_field::HeaderField;
 
 /// The value of the first field with the name, or no bytes.
 #[tactic(auto, using(crate::proofs::Steps::value_of_rest))]

@@ -5,8 +5,7 @@ ghost use Rattle.h3_messages.specs.Messages.{is_host, is_host_wrong, are_alike};
 
 use crate::known::Known;
 use crate::survey::Survey;
-use crate::text::{byte_at, has_byte};
-use h3_field::is_same;
+use crate::text::{byte_at, has_byte, is_same};
 use h3_header::grammar::is_authority;
 
 /// Whether the text has no userinfo, and a host that is not empty.

@@ -2,7 +2,7 @@
 ghost use Rattle.std.specs.Prelude.{◌≡◌, ◌≢◌, ◌<◌, bytes_eq, length, slice_index, if◌then◌else◌, Some, None};
 ghost use Rattle.h3_messages.specs.Known.{place, known_of};
 
-use h3_field::is_same;
+use crate::text::is_same;
 
 /// A field name that a rule speaks of.
 #[derive(Clone, Copy)]

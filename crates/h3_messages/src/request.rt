@@ -8,9 +8,9 @@ use crate::pseudo::{has_request_pseudo_only, repeats_pseudo};
 use crate::regular::{has_connection_field, is_length_wrong};
 use crate::seen::Seen;
 use crate::survey::Survey;
-use crate::text::{byte_at, has_byte, is_word};
+use crate::text::{byte_at, has_byte, is_same, is_word};
 use crate::violation::Violation;
-use h3_field::{Fields, HeaderField, is_same};
+use h3_field::{Fields, HeaderField};
 
 /// The first rule that the head of a request breaks, or none. The choice is whether its server announced extended CONNECT.
 pub fn request_violation(fields: &[HeaderField], extended_connect: bool) -> Option<Violation>

@@ -7,9 +7,9 @@ use crate::pseudo::{has_pseudo, has_response_pseudo_only};
 use crate::regular::{has_connection_field, is_length_wrong};
 use crate::seen::Seen;
 use crate::survey::Survey;
-use crate::text::{byte_at, says_more_than_none};
+use crate::text::{byte_at, is_same, says_more_than_none};
 use crate::violation::Violation;
-use h3_field::{Fields, HeaderField, is_same};
+use h3_field::{Fields, HeaderField};
 
 /// The first rule that the head of a response breaks, interim or final, or none.
 pub fn response_violation(fields: &[HeaderField]) -> Option<Violation>

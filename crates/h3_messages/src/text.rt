@@ -1,5 +1,5 @@
 //! What a name or a value says.
-ghost use Rattle.std.specs.Prelude.{◌≡◌, ◌-◌, ◌^◌, ◌||◌, ◌==◌, length, min, nat_lt, slice_index, if◌then◌else◌, Some, None};
+ghost use Rattle.std.specs.Prelude.{◌≡◌, ◌-◌, ◌^◌, ◌||◌, ◌==◌, bytes_eq, length, min, nat_lt, slice_index, if◌then◌else◌, Some, None};
 ghost use Rattle.std.specs.Char.{is_ascii_digit};
 ghost use Rattle.std.specs.List.{list_all, list_any};
 ghost use Rattle.h3_messages.specs.Messages.{is_word, is_space, is_length, number_of};
@@ -12,6 +12,15 @@ pub(crate) fn byte_at(text: &[u8], index: usize) -> u8
     ensures { result ≡ slice_index text.now index }
 {
     if index < text.len() { text[index] } else { 0 }
+}
+
+/// Whether the two texts are the same. Where their lengths tell, no call is made.
+#[tactic(auto, using(crate::proofs::Steps::other_lengths))]
+#[inline(always)]
+pub(crate) fn is_same(text: &[u8], word: &[u8]) -> bool
+    ensures { result ≡ bytes_eq text.now word.now }
+{
+    text.len() == word.len() && h3_field::is_same(text, word)
 }
 
 /// Whether the text has the byte.
