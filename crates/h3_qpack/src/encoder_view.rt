@@ -8,9 +8,9 @@ ghost use Rattle.h3_qpack.specs.EncoderView.{AnswersField, AnswersName, section_
 
 use crate::dynamic::DynamicTable;
 use crate::section::Section;
-use h3_field::{FieldRef, HeaderField};
 use h3_field::dynamic::Error;
 use h3_field::static_::StaticTable;
+use h3_field::{FieldRef, HeaderField};
 use h3_table::entries::Match;
 
 /// An entry that a line may name. Dynamic entries have the numbers of their insertions, from 1 (`absolute`), and an index
