@@ -1,5 +1,5 @@
 -- The head of a line, and the string behind it that is read onto a block, are the line.
-use Rattle.std.proofs.Common.{◌≡◌, ◌==◌, ℕ, ◌%◌, Bool, true, false, List, [], ◌∷◌, ◌++◌, if◌then◌else◌, Ok, Err, refl}
+use Rattle.std.proofs.Common.{◌≡◌, ◌==◌, ℕ, ◌%◌, Bool, true, false, List, [], ◌∷◌, ◌++◌, if◌then◌else◌, Ok, refl}
 use Rattle.h3_field.specs.Field.{Field}
 use Rattle.h3_field.specs.Reading.{Reading, Whole, Unfinished, Bad, then_read}
 use Rattle.h3_field.specs.IntegerReading.{integer}
