@@ -2,9 +2,8 @@
 use Rattle.std.proofs.Common.{◌≡◌, List, [], ◌∷◌, fold, refl, sym, subst, inl, inr}
 use Rattle.h3_field.specs.Field.{Field}
 use Rattle.h3_header.specs.Head.{Head}
-use Rattle.h3_header.specs.Reads.{RefusesName, Accepts, Refuses, AcceptsAll, RefusesOne, with_field}
+use Rattle.h3_header.specs.Reads.{Accepts, Refuses, AcceptsAll, RefusesOne, with_field}
 use Rattle.h3_header.specs.declared.headers.error.HeaderError.{HeaderError}
-use Rattle.h3_header.specs.declared.headers.error.HeaderError.TheVariants.{InvalidHeaderName, InvalidHeaderValue, InvalidRequest, MissingMethod, MissingStatus, MissingAuthority, ContradictedAuthority, TooManyFields, OutOfMemory}
 
 -- what the rest of a list, read into h, says of the whole list, read into start
 pub record Rest (start : Head) (all rest : List Field) (h : Head) : Type 0 where
@@ -36,15 +35,3 @@ Rest-next start all before rest f h h' step is new r = subst (Rest start all res
 
 pub Rest-refuses : (start : Head) (all before rest : List Field) (f : Field) (h : Head) (e : HeaderError) → before ≡ f ∷ rest → Refuses h f e → Rest start all before h → RefusesOne start all e
 Rest-refuses start all before rest f h e step why r = Rest-refused start all rest f h e why (subst (λ xs. Rest start all xs h) step r)
-
--- a name is refused where it is not valid
-pub refuses_name : (Valid : Type 0) (e : HeaderError) → ¬ Valid → RefusesName ⊥ e → RefusesName Valid e
-refuses_name Valid (InvalidHeaderName _) not r = not
-refuses_name Valid (InvalidHeaderValue _) not r = r
-refuses_name Valid InvalidRequest not r = r
-refuses_name Valid MissingMethod not r = r
-refuses_name Valid MissingStatus not r = r
-refuses_name Valid MissingAuthority not r = r
-refuses_name Valid ContradictedAuthority not r = r
-refuses_name Valid TooManyFields not r = r
-refuses_name Valid OutOfMemory not r = tt

@@ -25,6 +25,7 @@ pub enum FieldKind {
 
 impl FieldKind {
     /// The kind of the field with this name (RFC 9114, 4.3).
+    #[inline(always)]
     pub fn of(name: &[u8]) -> FieldKind
         ensures { result ≡ kind_of name.now }
     {

@@ -1,4 +1,4 @@
-use Rattle.std.proofs.Common.{◌≡◌, ◌∙◌, rules, arith, get_or, subst, sym, Some, None}
+use Rattle.std.proofs.Common.{◌≡◌, rules, arith, subst, sym, Some, None}
 use Rattle.std.proofs.lemmas.List.Elements.{All-more}
 use Rattle.std.proofs.lemmas.Option.{get_or_from_slice_get, slice_get_within}
 use Rattle.h3_header.specs.BadPart.{bad_part}
