@@ -128,6 +128,7 @@ impl<'a> Fields<'a> {
     }
 
     /// The field at a place, counted from 0.
+    #[inline(always)]
     pub fn get(&self, place: usize) -> FieldRef<'a>
         requires { place < length self.now }
         ensures { slice_get self.now place ≡ Some result }
@@ -140,6 +141,7 @@ impl<'a> Fields<'a> {
 }
 
 // The field at a place of a list.
+#[inline(always)]
 fn listed<'a>(fields: &'a [HeaderField], place: usize) -> FieldRef<'a>
     requires { place < length fields.now }
     ensures { slice_get fields.now place ≡ Some result }
@@ -149,6 +151,7 @@ fn listed<'a>(fields: &'a [HeaderField], place: usize) -> FieldRef<'a>
 }
 
 // The field at a place of a block.
+#[inline(always)]
 fn placed<'a>(places: &'a [FieldPlace], bytes: &'a [u8], place: usize) -> FieldRef<'a>
     requires block { IsBlock bytes.now places.now }
     requires place { place < length places.now }
