@@ -6,8 +6,6 @@ use Rattle.h3_qpack.specs.DecodedSection.{fields_in}
 use Rattle.h3_qpack.specs.declared.within.DecodedWithin.{DecodedWithin}
 use Rattle.h3_qpack.specs.declared.within.DecodedWithin.TheVariants.{Fields, TooLarge}
 use Rattle.h3_qpack.specs.declared.within.LargeSection.{LargeSection}
-use Rattle.h3_qpack.specs.declared.within.BlockWithin.{BlockWithin}
-use Rattle.h3_qpack.specs.declared.within.BlockWithin.TheVariants as block_within
 
 -- the sum of the fields' sizes, which stops at the greatest number of 64 bits
 abbrev pub told_size : List Field → ℕ
@@ -56,9 +54,3 @@ abbrev pub IsWithin : ℕ → List ℕ → Bool → List Field → DecodedWithin
 IsWithin max name dyn_ref fields (Fields d) =
     (told_size fields ≤ max) × (d.fields.items ≡ fields) × (d.dyn_ref ≡ dyn_ref) × (d.mem_size ≡ told_size fields)
 IsWithin max name dyn_ref fields (TooLarge l) = (max < told_size fields) × IsLarge name dyn_ref fields l
-
--- the same where the fields stand in a block
-abbrev pub IsBlockWithin : ℕ → List ℕ → Bool → List Field → BlockWithin → List Field → Type 0
-IsBlockWithin max name dyn_ref fields (block_within.Fields d) block =
-    (told_size fields ≤ max) × (block ≡ fields) × (d.dyn_ref ≡ dyn_ref) × (d.mem_size ≡ told_size fields)
-IsBlockWithin max name dyn_ref fields (block_within.TooLarge l) block = (max < told_size fields) × IsLarge name dyn_ref fields l

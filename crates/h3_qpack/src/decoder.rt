@@ -11,7 +11,7 @@ ghost use Rattle.h3_field.specs.Shapes.{begins};
 ghost use Rattle.h3_qpack.specs.DecoderState.{DecoderState, announcing, greatest_capacity};
 ghost use Rattle.h3_qpack.specs.Meaning.{HasPrefix, MeansFields};
 ghost use Rattle.h3_qpack.specs.DecodedSection.{decode_section, fields_in, with_fields, IsRefusalOf, Fields};
-ghost use Rattle.h3_qpack.specs.Sizes.{IsBlockWithin, IsWithin};
+ghost use Rattle.h3_qpack.specs.Sizes.{IsWithin};
 ghost use Rattle.h3_qpack.specs.SectionAnswers.{MayAskMemory, IsRefusal, IsReasonFor};
 ghost use Rattle.h3_qpack.specs.InstructionAnswers.{AnswersInsertionRead, AnswersOne};
 ghost use Rattle.h3_qpack.specs.Instructions.{HasRead, BeginsBad};
@@ -21,7 +21,7 @@ use crate::dynamic::DynamicTable;
 use crate::lines::{Lines, relative, relative_name_room};
 use crate::listing::SectionSummary;
 use crate::reserved::{INCREMENT_LEN, put_increment};
-use crate::within::{BlockWithin, DecodedWithin};
+use crate::within::DecodedWithin;
 use h3_field::block::HeaderPrefix;
 use h3_field::dynamic::Error;
 use h3_field::static_::StaticTable;
@@ -29,7 +29,7 @@ use h3_field::stream::{
     Duplicate, DynamicTableSizeUpdate, EncoderInstruction, HeaderAck, InsertWithNameRef,
     InsertWithoutNameRef, StreamCancel,
 };
-use h3_field::{Decoded, DecoderError, FieldBlock, HeaderField, SliceCursor};
+use h3_field::{Decoded, DecoderError, HeaderField, SliceCursor};
 use h3_table::entries::{Entries, MAX_CAPACITY, MOST_INSERTIONS, size_of};
 use std::alloc::{AllocError, Global};
 use std::borrow::CowSlice;
@@ -213,37 +213,6 @@ impl Decoder {
                 *buf = ahead;
                 Ok(decoded)
             }
-            Err(e) => Err(e),
-        }
-    }
-
-    /// The same with the fields in a block.
-    pub fn decode_block_within(
-        &self,
-        buf: &mut SliceCursor<'_>,
-        max: u64,
-        name: &[u8],
-        block: &mut FieldBlock,
-    ) -> Result<BlockWithin, DecoderError>
-        ensures ok { IfOk result (λ d. (fields : List Field) × (count : ℕ) × (decode_section self.now buf.old ≡ Fields fields count)
-            × IsBlockWithin max name.now (nat_lt 0 count) fields d block.new × (buf.new ≡ [])) }
-        ensures err { IfErr result (λ e. IsRefusalOf (decode_section self.now buf.old) e × (buf.new ≡ buf.old)) }
-        ensures memory { IfErr result (λ e. e ≡ OutOfMemory → MayAskMemory self.now buf.old) }
-    {
-        block.clear();
-        match self.decode_header_within(buf, max, name) {
-            Ok(DecodedWithin::Fields(decoded)) => {
-                for field in decoded.fields.as_slice() {
-                    if let Err(_) = block.push(field.name(), field.value()) {
-                        return Err(DecoderError::OutOfMemory);
-                    }
-                }
-                Ok(BlockWithin::Fields(SectionSummary {
-                    dyn_ref: decoded.dyn_ref,
-                    mem_size: decoded.mem_size,
-                }))
-            }
-            Ok(DecodedWithin::TooLarge(large)) => Ok(BlockWithin::TooLarge(large)),
             Err(e) => Err(e),
         }
     }

@@ -30,4 +30,4 @@ pub use h3_field::{
 pub use listing::SectionSummary;
 pub use session::{SessionAnswer, SessionEvent, run};
 pub use view::DynamicTableDecoder;
-pub use within::{BlockWithin, DecodedWithin, LargeSection};
+pub use within::{DecodedWithin, LargeSection};

@@ -7,7 +7,6 @@ ghost use Rattle.h3_qpack.specs.SectionAnswers.{LinesAskMemory, IsReasonFor};
 ghost use Rattle.h3_qpack.specs.Sizes.{IsWithin, IsTooLarge, counted, counted_on};
 
 use crate::lines::{LineField, Lines};
-use crate::listing::SectionSummary;
 use h3_field::{Decoded, DecoderError, SliceCursor};
 use std::alloc::{AllocError, Global};
 use std::marker::Model;
@@ -17,15 +16,6 @@ use std::marker::Model;
 pub enum DecodedWithin {
     /// The sum is at most the limit.
     Fields(Decoded),
-    /// The sum passes the limit.
-    TooLarge(LargeSection),
-}
-
-/// What is told of a decoded field section whose fields stand in a block.
-#[derive(Drop)]
-pub enum BlockWithin {
-    /// The sum is at most the limit.
-    Fields(SectionSummary),
     /// The sum passes the limit.
     TooLarge(LargeSection),
 }
