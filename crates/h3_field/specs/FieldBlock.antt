@@ -1,5 +1,5 @@
 -- Fields whose names and values lie in one row of bytes.
-use Rattle.std.specs.Prelude.{◌≡◌, ℕ, ◌×◌, ◌-◌, ◌≤◌, List, [], ◌∷◌, ◌++◌, map, take, drop, length}
+use Rattle.std.specs.Prelude.{◌≡◌, ℕ, ◌-◌, ◌≤◌, List, [], ◌∷◌, ◌++◌, map, take, drop, length}
 use Rattle.std.specs.List.{All}
 use Rattle.h3_field.specs.Field.{Field}
 use Rattle.h3_field.specs.declared.field_block.FieldPlace.{FieldPlace}

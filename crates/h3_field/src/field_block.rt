@@ -1,5 +1,5 @@
 //! Fields in one block of memory, which serves again: their names and values lie end to end.
-ghost use Rattle.std.specs.Prelude.{◌≡◌, ◌++◌, ◌+◌, ◌∷◌, [], length, OnOk, OnErr, IfOk};
+ghost use Rattle.std.specs.Prelude.{◌≡◌, ◌++◌, ◌+◌, ◌<◌, ◌∷◌, [], length, OnOk, OnErr, IfOk};
 
 use crate::field::HeaderField;
 use crate::fields::Fields;
@@ -82,20 +82,21 @@ impl FieldBlock {
         ensures err { OnErr result (self.new ≡ self.old) }
     {
         let start = self.bytes.len();
-        let (middle, end) = match put_two(&mut self.bytes, name, value) {
-            Ok(ends) => ends,
+        let place = match put_two(&mut self.bytes, name, value) {
+            Ok(place) => place,
             Err(e) => return Err(e),
         };
-        if let Err(_) = self.places.push(FieldPlace { start, middle, end }) {
+        if let Err(_) = self.places.push(place) {
             self.bytes.truncate(start);
             return Err(AllocError);
         }
         Ok(())
     }
 
-    /// The fields, each with bytes of its own.
+    /// The fields, each with bytes of its own. No fields take no memory.
     pub fn to_fields(&self, alloc: Global) -> Result<Vec<HeaderField>, AllocError>
-        ensures { IfOk result (λ fields. fields.items ≡ self.now) }
+        ensures ok { IfOk result (λ fields. fields.items ≡ self.now) }
+        ensures err { OnErr result (0 < length self.now) }
     {
         let fields = self.fields();
         let mut list = Vec::with_capacity(alloc, fields.len())?;
@@ -107,9 +108,12 @@ impl FieldBlock {
     }
 }
 
-// Appends both, and answers where each ends. A refusal appends nothing.
-fn put_two(bytes: &mut Vec<u8>, name: &[u8], value: &[u8]) -> Result<(usize, usize), AllocError>
-    ensures ok { IfOk result (λ ends. (bytes.new.items ≡ bytes.old.items ++ name.now ++ value.now) × (ends.0 ≡ length bytes.old.items + length name.now) × (ends.1 ≡ length bytes.new.items)) }
+/// Appends both, and answers where they lie. A refusal appends nothing.
+fn put_two(bytes: &mut Vec<u8>, name: &[u8], value: &[u8]) -> Result<FieldPlace, AllocError>
+    ensures ok { OnOk result (bytes.new.items ≡ bytes.old.items ++ name.now ++ value.now) }
+    ensures start { IfOk result (λ place. place.start ≡ length bytes.old.items) }
+    ensures middle { IfOk result (λ place. place.middle ≡ length bytes.old.items + length name.now) }
+    ensures end { IfOk result (λ place. place.end ≡ length bytes.old.items + length name.now + length value.now) }
     ensures err { OnErr result (bytes.new.items ≡ bytes.old.items) }
 {
     let start = bytes.len();
@@ -119,5 +123,6 @@ fn put_two(bytes: &mut Vec<u8>, name: &[u8], value: &[u8]) -> Result<(usize, usi
         bytes.truncate(start);
         return Err(e);
     }
-    Ok((middle, bytes.len()))
+    let end = bytes.len();
+    Ok(FieldPlace { start, middle, end })
 }
