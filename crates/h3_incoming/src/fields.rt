@@ -201,7 +201,7 @@ fn give_copies(
     ensures is { OnOk result (out.new ≡ answer.Item (listed_as kind fields.now)) }
     ensures err { OnErr result (0 < length fields.now) }
 {
-    match copies_of(alloc, fields) {
+    match fields.to_fields(alloc) {
         Ok(copies) => {
             let list = FieldList::of(copies, outline.status());
             put(out, FieldsPull::Item(listed(kind, list)));
@@ -209,17 +209,6 @@ fn give_copies(
         }
         Err(e) => Err(e),
     }
-}
-
-// Fields that lie in a block, each with bytes of its own. No fields take no memory.
-fn copies_of(alloc: Global, fields: &FieldBlock) -> Result<Vec<HeaderField>, AllocError>
-    ensures ok { IfOk result (λ copies. copies.items ≡ fields.now) }
-    ensures err { OnErr result (0 < length fields.now) }
-{
-    if fields.len() == 0 {
-        return Ok(Vec::new(alloc));
-    }
-    fields.to_fields(alloc)
 }
 
 fn listed(kind: MessageKind, fields: FieldList) -> FieldsItem

@@ -1,4 +1,4 @@
-use Rattle.std.proofs.Common.{◌≡◌, ap, sym, ◌∙◌}
+use Rattle.std.proofs.Common.{◌≡◌, ap, sym, ◌∙◌, arith, length}
 use Rattle.h3_header.specs.Reads.{head_of_fields}
 use Rattle.h3_connection.specs.declared.event.Pull.TheVariants as pull
 use Rattle.h3_incoming.specs.Answering.{item_of, kind_at, message_at}
@@ -29,3 +29,6 @@ returns-in-Ok-Head-clause-list c = on_ok c.give_copies.result _ _ c.give_copies.
 pub returns-in-Ok-Head-clause-good : goal.returns-in-Ok-Head-clause-good
 returns-in-Ok-Head-clause-good c =
     on_err c.give_copies.result _ (never_malformed c.args.fields.now c.in-Ok-Head.outline (rw (c.in-Ok-Head.field-0-is, c.fields.ensures) at c.in-Ok-Head.ensures.ok))
+
+pub returns-in-Err-clause-memory : goal.returns-in-Err-clause-memory
+returns-in-Err-clause-memory c = omega (arith, ap length c.fields.ensures, c.in-Err.ensures.err)
