@@ -6,7 +6,7 @@ use Rattle.std.specs.List.{All, slice_get}
 use Rattle.std.specs.Prelude.{Some}
 use Rattle.std.proofs.lemmas.Option.{slice_get_within, get_or_from_slice_get}
 use Rattle.h3_field.specs.Field.{Field}
-use Rattle.h3_field.specs.FieldBlock.{between, field_at, fields_at, end_to_end, LiesIn, IsBlock}
+use Rattle.h3_field.specs.FieldBlock.{between, field_at, fields_at, end_to_end, LiesIn, IsBlock, IsNext}
 use Rattle.h3_field.specs.declared.field_block.FieldPlace.{FieldPlace}
 
 between_kept : (start end : ℕ) (bytes more : List ℕ) → start ≤ end → end ≤ length bytes → between start end (bytes ++ more) ≡ between start end bytes
@@ -41,12 +41,6 @@ skipped (x ∷ xs) ys = skipped xs ys
 front : (xs ys : List ℕ) → take (length xs) (xs ++ ys) ≡ xs
 front [] ys = refl
 front (x ∷ xs) ys = ap (λ (l : List ℕ). x ∷ l) (front xs ys)
-
--- where the next field lies
-pub record IsNext (bytes name value : List ℕ) (p : FieldPlace) : Type 0 where
-  pub start : p.start ≡ length bytes
-  pub middle : p.middle ≡ length bytes + length name
-  pub end : p.end ≡ length bytes + length name + length value
 
 next_name : (bytes name value : List ℕ) (p : FieldPlace) → IsNext bytes name value p → between p.start p.middle (bytes ++ (name ++ value)) ≡ name
 next_name bytes name value p n =

@@ -15,3 +15,4 @@ pub mod Ends
 pub mod NoLines
 pub mod NoValues
 pub mod FieldBlocks
+pub mod Behind

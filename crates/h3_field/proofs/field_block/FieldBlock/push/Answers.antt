@@ -1,7 +1,7 @@
 use Rattle.std.proofs.Common.{◌≡◌, List, [], ◌∷◌, ◌++◌, ap, ◌∙◌, append_assoc}
 use Rattle.h3_field.specs.Field.{Field}
-use Rattle.h3_field.specs.FieldBlock.{fields_at}
-use Rattle.h3_field.proofs.FieldBlocks.{IsNext, block_next, fields_next}
+use Rattle.h3_field.specs.FieldBlock.{fields_at, IsNext}
+use Rattle.h3_field.proofs.FieldBlocks.{block_next, fields_next}
 use Rattle.h3_field.proofs.field_block.FieldBlock.push.Goals as goal
 
 next : (c : goal.In_default) → IsNext c.self.inside.bytes.items c.args.name.now c.args.value.now c.in-Ok.place
