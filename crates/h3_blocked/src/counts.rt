@@ -57,11 +57,15 @@ impl Blocked {
         ensures room { HasRoom self.old → HasRoom self.new }
         ensures sound { IsSound self.new }
     {
+        if count == self.passed {
+            return;
+        }
         self.above_passed = self.placed_above(count);
         self.passed = count;
     }
 
     /// Makes room for one count. Where there is room for one, it takes no memory.
+    #[inline(always)]
     pub fn make_room(&mut self) -> Result<(), AllocError>
         requires { IsSound self.old }
         ensures ok { OnOk result (HasRoom self.new) }
@@ -72,6 +76,19 @@ impl Blocked {
         if self.newest == 0 {
             return Ok(());
         }
+        self.place_newest()
+    }
+
+    // The same where there is none.
+    #[inline(never)]
+    fn place_newest(&mut self) -> Result<(), AllocError>
+        requires sound { IsSound self.old }
+        requires newest { 0 < self.old.newest }
+        ensures ok { OnOk result (HasRoom self.new) }
+        ensures err { OnErr result (0 < self.old.newest) }
+        ensures same { SameCounts self.old self.new }
+        ensures sound { IsSound self.new }
+    {
         if self.total >= MOST {
             return Err(AllocError);
         }
@@ -81,6 +98,7 @@ impl Blocked {
     }
 
     /// Takes the one count out and puts the other one in. A count of 0 stands for none. It takes no memory.
+    #[inline(always)]
     pub fn replace(&mut self, before: usize, after: usize)
         requires sound { IsSound self.old }
         requires among { HasCount self.old before }
@@ -91,6 +109,18 @@ impl Blocked {
         if before == after {
             return;
         }
+        self.replace_other(before, after);
+    }
+
+    // The same of another count.
+    #[inline(never)]
+    fn replace_other(&mut self, before: usize, after: usize)
+        requires sound { IsSound self.old }
+        requires among { HasCount self.old before }
+        requires room { 0 < after → HasRoom self.old }
+        ensures replaced { Replaces self.old self.new before after }
+        ensures sound { IsSound self.new }
+    {
         if before > 0 {
             self.take_out(before);
         }
@@ -141,6 +171,9 @@ impl Blocked {
         requires { IsSound self.now }
         ensures { result ≡ sum_above count (number_at self.now) }
     {
+        if count == self.passed {
+            return self.above_passed;
+        }
         if count < self.passed {
             return self.above_passed + self.between(count, self.passed);
         }
