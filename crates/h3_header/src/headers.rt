@@ -12,7 +12,7 @@ ghost use Rattle.h3_header.specs.ReadsBack.{ReadsBack, as_read};
 use crate::ext::Protocol;
 use authority::{authority_text, find_refusal, uri_of};
 pub use error::HeaderError;
-use h3_field::HeaderField;
+use h3_field::{Fields, HeaderField};
 use http::{Method, StatusCode};
 use http_header::HeaderMap;
 use http_uri::Uri;
@@ -280,12 +280,12 @@ impl Header {
         ensures ok { IfOk result (IsHeadOf fields.items) }
         ensures err { IfErr result (RefusesOne (trailer_head []) fields.items) }
     {
-        Header::of_fields(alloc, fields.as_slice())
+        Header::of_fields(alloc, &Fields::of(fields.as_slice()))
     }
 
     /// The same of fields that stay where they are: what is malformed of a list that was refused for want of memory can still be told
     /// (`first_bad_part`).
-    pub fn of_fields(alloc: Global, fields: &[HeaderField]) -> Result<Header, HeaderError>
+    pub fn of_fields(alloc: Global, fields: &Fields<'_>) -> Result<Header, HeaderError>
         ensures ok { IfOk result (IsHeadOf fields.now) }
         ensures err { IfErr result (RefusesOne (trailer_head []) fields.now) }
     {

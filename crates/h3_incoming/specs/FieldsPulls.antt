@@ -5,6 +5,8 @@ use Rattle.h3_header.specs.Reads.{head_of_fields}
 use Rattle.h3_connection.specs.declared.event.Item.TheVariants as item
 use Rattle.h3_connection.specs.declared.event.Pull.{Pull}
 use Rattle.h3_connection.specs.declared.event.Pull.TheVariants as pull
+use Rattle.h3_incoming.specs.declared.answer.Plain.{Plain}
+use Rattle.h3_incoming.specs.declared.answer.Plain.TheVariants as plain
 use Rattle.h3_incoming.specs.declared.answer.MessageKind.{MessageKind}
 use Rattle.h3_incoming.specs.declared.answer.MessageKind.TheVariants as kind
 use Rattle.h3_incoming.specs.declared.fields.FieldsItem.{FieldsItem}
@@ -39,3 +41,15 @@ abbrev pub listed_as : MessageKind → List Field → FieldsItem
 listed_as kind.Interim fields = listed.Interim fields
 listed_as kind.Head fields = listed.Head fields
 listed_as kind.Trailer fields = listed.Trailer fields
+
+-- one without a head or trailer
+abbrev pub plain_answer : Plain → FieldsPull
+plain_answer (plain.Body bytes) = answer.Item (listed.Body bytes)
+plain_answer (plain.Raw bytes) = answer.Item (listed.Raw bytes)
+plain_answer (plain.Session session) = answer.Item (listed.Session session)
+plain_answer (plain.TooLarge size) = answer.Item (listed.TooLarge size)
+plain_answer plain.End = answer.Item listed.End
+plain_answer plain.Pending = answer.Pending
+plain_answer (plain.Waiting count) = answer.Waiting count
+plain_answer (plain.Fault fault) = answer.Fault fault
+plain_answer plain.NoMessages = answer.NoMessages

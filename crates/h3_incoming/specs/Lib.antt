@@ -10,4 +10,5 @@ pub mod Beginning
 pub mod Outline
 pub mod Answering
 pub mod FieldsPulls
+pub mod BlockPulls
 pub mod Coming

@@ -1,5 +1,5 @@
-//! What a pull answers, written in one place: as a `Pull`, whose heads and trailers are headers, or as a `FieldsPull`, which has the lists of
-//! fields that came. An answer with a header is large: one that is returned is moved from call to call, and each call clears the room for it.
+//! What a pull answers, written in one place: as a `Pull`, whose heads and trailers are headers, as a `FieldsPull`, which has the lists of
+//! fields that came, or as a `BlockPull`, which has them in memory that serves again. An answer with a header is large: one that is returned is moved from call to call, and each call clears the room for it.
 ghost use Rattle.std.specs.Prelude.{◌≡◌, Option, None, List, IfOk, IfSome, OnOk, OnErr, false, []};
 ghost use Rattle.h3_field.specs.Field.{Field};
 ghost use Rattle.h3_header.specs.BadPart.{IsHeadUnlessMany};
@@ -16,7 +16,7 @@ use crate::outline::{ListRead, Outline, read_refused};
 use bytes::Bytes;
 use h3_connection::event::{Fault, Item, Pull};
 use h3_connection::place::Place;
-use h3_field::HeaderField;
+use h3_field::{FieldBlock, Fields};
 use h3_header::{Header, HeaderError};
 use h3_proto::stream::Side;
 use h3_proto::webtransport::SessionId;
@@ -64,26 +64,34 @@ pub trait Answer: Drop {
     // The list of a head or trailer that is kept as one.
     ghost listed: { Self → Option (List Field) };
 
+    // The lists for which such an answer asks for memory.
+    ghost asks: { List Field → Type 0 };
+
     /// An answer with no head or trailer takes the place of what was there.
     fn give(&mut self, answer: Plain)
         ensures is { told self.new ≡ plain_pull answer }
         ensures none { listed self.new ≡ None };
 
     /// Tells what a decoded list is, and puts the head or trailer that it is at this place there, for this side. What is malformed is told
-    /// alone. An `Err` tells that memory was refused: of a list of which a front is good and whose next field may ask for it; and of none
-    /// that is malformed, unless it has more fields than a map has names for.
+    /// alone. An `Err` tells that memory was refused: of a list for which such an answer asks for it; and of none that is malformed, unless
+    /// it has more fields than a map has names for.
     fn give_message(
         &mut self,
         alloc: Global,
         side: Side,
         place: Place,
-        fields: Vec<HeaderField>,
+        fields: FieldBlock,
     ) -> Result<ListRead, AllocError>
-        ensures read { IfOk result (λ r. r ≡ list_read (head_of fields.items)) }
-        ensures head { OnOk result ((h : Head) → head_of fields.items ≡ IsHead h → told self.new ≡ pull.Item (message_at side place h)) }
-        ensures list { OnOk result ((h : Head) → head_of fields.items ≡ IsHead h → IfSome (listed self.new) (λ l. l ≡ fields.items)) }
-        ensures memory { OnErr result (RefusesOne (trailer_head []) fields.items HeaderError.OutOfMemory) }
-        ensures good { OnErr result (IsHeadUnlessMany fields.items) };
+        ensures read { IfOk result (λ r. r ≡ list_read (head_of fields)) }
+        ensures head { OnOk result ((h : Head) → head_of fields ≡ IsHead h → told self.new ≡ pull.Item (message_at side place h)) }
+        ensures list { OnOk result ((h : Head) → head_of fields ≡ IsHead h → IfSome (listed self.new) (λ l. l ≡ fields)) }
+        ensures memory { OnErr result (asks fields) }
+        ensures good { OnErr result (IsHeadUnlessMany fields) };
+
+    /// An empty block for the fields of a section, with the memory of the last answer where that kept one. What is told then is not said:
+    /// the caller gives an answer behind.
+    fn room(&mut self, alloc: Global) -> FieldBlock
+        ensures { result ≡ [] };
 
     /// The fault that it tells.
     fn fault(&self) -> Option<Fault>
@@ -207,7 +215,7 @@ fn give_header(
     alloc: Global,
     side: Side,
     place: Place,
-    fields: &[HeaderField],
+    fields: &Fields<'_>,
 ) -> Result<ListRead, AllocError>
     ensures read { IfOk result (λ r. r ≡ list_read (head_of fields.now)) }
     ensures head { OnOk result ((h : Head) → head_of fields.now ≡ IsHead h → out.new ≡ pull.Item (message_at side place h)) }
@@ -231,6 +239,8 @@ impl Answer for Pull {
 
     ghost listed = { λ p. None };
 
+    ghost asks = { λ fields. RefusesOne (trailer_head []) fields HeaderError.OutOfMemory };
+
     fn give(&mut self, answer: Plain) {
         put(self, pull_of_plain(answer));
     }
@@ -240,9 +250,13 @@ impl Answer for Pull {
         alloc: Global,
         side: Side,
         place: Place,
-        fields: Vec<HeaderField>,
+        fields: FieldBlock,
     ) -> Result<ListRead, AllocError> {
-        give_header(self, alloc, side, place, fields.as_slice())
+        give_header(self, alloc, side, place, &fields.fields())
+    }
+
+    fn room(&mut self, alloc: Global) -> FieldBlock {
+        FieldBlock::new(alloc)
     }
 
     fn fault(&self) -> Option<Fault> {

@@ -1,13 +1,12 @@
 //! The answer of a pull whose heads and trailers are the lists of fields that came, with no header made of them.
-ghost use Rattle.std.specs.Prelude.{◌≡◌, [], IfOk, IfSome, OnOk, OnErr, None};
+ghost use Rattle.std.specs.Prelude.{◌≡◌, ◌<◌, length, IfOk, IfSome, OnOk, OnErr, None};
 ghost use Rattle.h3_header.specs.BadPart.{IsHeadUnlessMany};
-ghost use Rattle.h3_header.specs.Head.{Head, trailer_head};
+ghost use Rattle.h3_header.specs.Head.{Head};
 ghost use Rattle.h3_header.specs.HeadRead.{IsHead, head_of};
-ghost use Rattle.h3_header.specs.Reads.{RefusesOne, head_of_fields};
-ghost use Rattle.h3_header.specs.declared.headers.error.HeaderError.TheVariants as error;
+ghost use Rattle.h3_header.specs.Reads.{head_of_fields};
 ghost use Rattle.h3_connection.specs.declared.event.Pull.TheVariants as pull;
-ghost use Rattle.h3_incoming.specs.Answering.{message_at, plain_pull};
-ghost use Rattle.h3_incoming.specs.FieldsPulls.{list_of, listed_as, pull_of};
+ghost use Rattle.h3_incoming.specs.Answering.{message_at};
+ghost use Rattle.h3_incoming.specs.FieldsPulls.{list_of, listed_as, plain_answer, pull_of};
 ghost use Rattle.h3_incoming.specs.Outline.{list_read};
 
 use crate::answer::{Answer, MessageKind, Plain, kind_at, put};
@@ -15,7 +14,7 @@ use crate::outline::{ListRead, read_list};
 use bytes::Bytes;
 use h3_connection::event::Fault;
 use h3_connection::place::Place;
-use h3_field::HeaderField;
+use h3_field::{FieldBlock, HeaderField};
 use h3_proto::stream::Side;
 use h3_proto::webtransport::SessionId;
 use http::StatusCode;
@@ -114,6 +113,8 @@ impl Answer for FieldsPull {
 
     ghost listed = { list_of };
 
+    ghost asks = { λ fields. 0 < length fields };
+
     fn give(&mut self, answer: Plain) {
         put(self, of_plain(answer));
     }
@@ -123,9 +124,13 @@ impl Answer for FieldsPull {
         alloc: Global,
         side: Side,
         place: Place,
-        fields: Vec<HeaderField>,
+        fields: FieldBlock,
     ) -> Result<ListRead, AllocError> {
-        give_fields(self, alloc, side, place, fields)
+        give_fields(self, alloc, side, place, &fields)
+    }
+
+    fn room(&mut self, alloc: Global) -> FieldBlock {
+        FieldBlock::new(alloc)
     }
 
     fn fault(&self) -> Option<Fault> {
@@ -140,8 +145,7 @@ impl Answer for FieldsPull {
 }
 
 fn of_plain(answer: Plain) -> FieldsPull
-    ensures is { pull_of result ≡ plain_pull answer }
-    ensures none { list_of result ≡ None }
+    ensures { result ≡ plain_answer answer }
 {
     match answer {
         Plain::Body(bytes) => FieldsPull::Item(FieldsItem::Body(bytes)),
@@ -156,31 +160,45 @@ fn of_plain(answer: Plain) -> FieldsPull
     }
 }
 
-// The list is judged without a map, and kept as it is.
+// The list is judged without a map where it lies, and kept as a copy of its own.
 fn give_fields(
     out: &mut FieldsPull,
     alloc: Global,
     side: Side,
     place: Place,
-    fields: Vec<HeaderField>,
+    fields: &FieldBlock,
 ) -> Result<ListRead, AllocError>
-    ensures read { IfOk result (λ r. r ≡ list_read (head_of fields.items)) }
-    ensures head { OnOk result ((h : Head) → head_of fields.items ≡ IsHead h → pull_of out.new ≡ pull.Item (message_at side place h)) }
-    ensures list { OnOk result ((h : Head) → head_of fields.items ≡ IsHead h → IfSome (list_of out.new) (λ l. l ≡ fields.items)) }
-    ensures memory { OnErr result (RefusesOne (trailer_head []) fields.items error.OutOfMemory) }
-    ensures good { OnErr result (IsHeadUnlessMany fields.items) }
+    ensures read { IfOk result (λ r. r ≡ list_read (head_of fields.now)) }
+    ensures head { OnOk result ((h : Head) → head_of fields.now ≡ IsHead h → pull_of out.new ≡ pull.Item (message_at side place h)) }
+    ensures list { OnOk result ((h : Head) → head_of fields.now ≡ IsHead h → IfSome (list_of out.new) (λ l. l ≡ fields.now)) }
+    ensures memory { OnErr result (0 < length fields.now) }
+    ensures good { OnErr result (IsHeadUnlessMany fields.now) }
 {
     h3_header::laws::lists_are_their_value();
-    match read_list(alloc, fields.as_slice()) {
+    match read_list(alloc, &fields.fields()) {
         Ok(ListRead::Head(outline)) => {
+            let Ok(copies) = copies_of(alloc, fields) else {
+                return Err(AllocError);
+            };
             let kind = kind_at(side, place, &outline);
-            let list = FieldList::of(fields, outline.status());
+            let list = FieldList::of(copies, outline.status());
             put(out, FieldsPull::Item(listed(kind, list)));
             Ok(ListRead::Head(outline))
         }
         Ok(ListRead::Malformed(why)) => Ok(ListRead::Malformed(why)),
         Err(e) => Err(e),
     }
+}
+
+// Fields that lie in a block, each with bytes of its own. No fields take no memory.
+fn copies_of(alloc: Global, fields: &FieldBlock) -> Result<Vec<HeaderField>, AllocError>
+    ensures ok { IfOk result (λ copies. copies.items ≡ fields.now) }
+    ensures err { OnErr result (0 < length fields.now) }
+{
+    if fields.len() == 0 {
+        return Ok(Vec::new(alloc));
+    }
+    fields.to_fields(alloc)
 }
 
 fn listed(kind: MessageKind, fields: FieldList) -> FieldsItem

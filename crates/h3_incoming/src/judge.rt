@@ -1,16 +1,14 @@
 //! What a decoded field section is at its place of a message (RFC 9114, sections 4.1 to 4.3).
-ghost use Rattle.std.specs.Prelude.{◌≡◌, ◌<◌, ◌≤◌, ℕ, Bool, List, [], Some, None, IfOk, OnErr, option_map, codes};
+ghost use Rattle.std.specs.Prelude.{◌≡◌, ◌<◌, ◌≤◌, ℕ, Bool, List, Some, None, IfOk, OnErr, option_map, codes};
 ghost use Rattle.h3_field.specs.Field.{Field};
 ghost use Rattle.h3_field.specs.Instruction.{DecoderInstruction};
 ghost use Rattle.h3_qpack.specs.DecoderState.{DecoderState};
 ghost use Rattle.h3_header.specs.BadPart.{IsHeadUnlessMany};
-ghost use Rattle.h3_header.specs.Head.{Head, trailer_head};
-ghost use Rattle.h3_header.specs.Reads.{RefusesOne};
-ghost use Rattle.h3_header.specs.declared.headers.error.HeaderError.TheVariants as error;
+ghost use Rattle.h3_header.specs.Head.{Head};
 ghost use Rattle.h3_connection.specs.Incoming.{Incoming};
 ghost use Rattle.h3_connection.specs.declared.event.Item.TheVariants as item;
 ghost use Rattle.h3_connection.specs.declared.event.Pull.TheVariants as pull;
-ghost use Rattle.h3_qpack.specs.Sizes.{IsLarge, IsWithin, last_value, told_size};
+ghost use Rattle.h3_qpack.specs.Sizes.{IsLarge, IsBlockWithin, last_value, told_size};
 ghost use Rattle.h3_connection.specs.Announcing.{section_of};
 ghost use Rattle.h3_connection.specs.Pulling.{read_section, whole_head, whole_trailer, head_or_trailer, next_place, is_interim_text, is_client};
 ghost use Rattle.h3_incoming.specs.Answering.{message_at};
@@ -23,9 +21,10 @@ use crate::strict::{if_whole, large_content_at, read_strictly};
 use h3_connection::event::Malformation;
 use h3_connection::place::Place;
 use h3_connection::setup::Announced;
+use h3_field::FieldBlock;
 use h3_messages::{Content, is_interim_status};
 use h3_proto::stream::Side;
-use h3_qpack::{DecodedWithin, HeaderField, LargeSection};
+use h3_qpack::{BlockWithin, LargeSection};
 use std::alloc::{AllocError, Global};
 
 /// What a field section is at its place.
@@ -37,16 +36,16 @@ pub(crate) enum Judged {
 }
 
 /// Whether a section named an entry of the table: then it has to be acknowledged (RFC 9204, section 4.4.1).
-pub(crate) fn names_entries(decoded: &DecodedWithin) -> bool
-    ensures { (max : ℕ) (name : List ℕ) (dyn_ref : Bool) (fields : List Field) → IsWithin max name dyn_ref fields decoded.now → result ≡ dyn_ref }
+pub(crate) fn names_entries(decoded: &BlockWithin) -> bool
+    ensures { (max : ℕ) (name : List ℕ) (dyn_ref : Bool) (fields block : List Field) → IsBlockWithin max name dyn_ref fields decoded.now block → result ≡ dyn_ref }
 {
     match decoded {
-        DecodedWithin::Fields(decoded) => decoded.dyn_ref,
-        DecodedWithin::TooLarge(large) => large.dyn_ref,
+        BlockWithin::Fields(summary) => summary.dyn_ref,
+        BlockWithin::TooLarge(large) => large.dyn_ref,
     }
 }
 
-/// What a decoded field section is at a place: the item that is handed out of it is written. One whose fields sum to more than was announced is
+/// What a decoded field section is at a place, whose fields stand in this block: the item that is handed out of it is written. One whose fields sum to more than was announced is
 /// told by its size alone.
 pub(crate) fn judge<O: Answer>(
     alloc: Global,
@@ -55,28 +54,20 @@ pub(crate) fn judge<O: Answer>(
     place: Place,
     content: Content,
     known: Option<Content>,
-    decoded: DecodedWithin,
+    decoded: BlockWithin,
+    block: FieldBlock,
     out: &mut O,
 ) -> Result<Judged, AllocError>
     ensures judged { IfOk result (λ j. (id : ℕ) (r : DecoderState) (i : Incoming) (replies : List DecoderInstruction) (dyn_ref : Bool) (fields : List Field)
-        → IsWithin (section_of announced.now) (codes ":status") dyn_ref fields decoded → i.place ≡ place → i.content ≡ content → i.response ≡ known → read_section side announced.now id r i replies fields ≡ judged_as id i replies (O.told out.new) j) }
+        → IsBlockWithin (section_of announced.now) (codes ":status") dyn_ref fields decoded block → i.place ≡ place → i.content ≡ content → i.response ≡ known → read_section side announced.now id r i replies fields ≡ judged_as id i replies (O.told out.new) j) }
     ensures item { IfOk result (λ j. HasItem j (O.told out.new)) }
-    ensures list { IfOk result (λ j. (dyn_ref : Bool) (fields : List Field) → IsWithin (section_of announced.now) (codes ":status") dyn_ref fields decoded → HasList j (O.listed out.new) fields) }
+    ensures list { IfOk result (λ j. (dyn_ref : Bool) (fields : List Field) → IsBlockWithin (section_of announced.now) (codes ":status") dyn_ref fields decoded block → HasList j (O.listed out.new) fields) }
 {
     match decoded {
-        DecodedWithin::Fields(decoded) => {
-            judge_fields(
-                alloc,
-                side,
-                announced,
-                place,
-                content,
-                known,
-                decoded.fields,
-                out,
-            )
+        BlockWithin::Fields(_) => {
+            judge_fields(alloc, side, announced, place, content, known, block, out)
         }
-        DecodedWithin::TooLarge(large) => Ok(judge_large(
+        BlockWithin::TooLarge(large) => Ok(judge_large(
             side, announced, place, content, known, large, out,
         )),
     }
@@ -104,8 +95,8 @@ fn judge_large<O: Answer>(
     Judged::HandsOut(behind, expected, known)
 }
 
-// A section that is not. Want of memory is told only of a list of which a front is good, and whose next field may ask for memory; and of no
-// list that is malformed, unless it has more fields than a map has names for.
+// A section that is not. Want of memory is told only of a list for which such an answer asks for memory; and of no list that is malformed,
+// unless it has more fields than a map has names for.
 fn judge_fields<O: Answer>(
     alloc: Global,
     side: Side,
@@ -113,17 +104,17 @@ fn judge_fields<O: Answer>(
     place: Place,
     content: Content,
     known: Option<Content>,
-    fields: Vec<HeaderField>,
+    fields: FieldBlock,
     out: &mut O,
 ) -> Result<Judged, AllocError>
     ensures judged { IfOk result (λ j. (id : ℕ) (r : DecoderState) (i : Incoming) (replies : List DecoderInstruction)
-        → told_size fields.items ≤ section_of announced.now → i.place ≡ place → i.content ≡ content → i.response ≡ known → read_section side announced.now id r i replies fields.items ≡ judged_as id i replies (O.told out.new) j) }
+        → told_size fields ≤ section_of announced.now → i.place ≡ place → i.content ≡ content → i.response ≡ known → read_section side announced.now id r i replies fields ≡ judged_as id i replies (O.told out.new) j) }
     ensures item { IfOk result (λ j. HasItem j (O.told out.new)) }
-    ensures list { IfOk result (λ j. HasList j (O.listed out.new) fields.items) }
-    ensures memory { OnErr result (RefusesOne (trailer_head []) fields.items error.OutOfMemory) }
-    ensures good { OnErr result (IsHeadUnlessMany fields.items) }
+    ensures list { IfOk result (λ j. HasList j (O.listed out.new) fields) }
+    ensures memory { OnErr result (O.asks fields) }
+    ensures good { OnErr result (IsHeadUnlessMany fields) }
 {
-    let read = read_strictly(side, announced, place, content, known, fields.as_slice());
+    let read = read_strictly(side, announced, place, content, known, &fields.fields());
     let broken = if_whole(content, read.broken);
     match out.give_message(alloc, side, place, fields) {
         Ok(ListRead::Head(outline)) => Ok(judge_message(

@@ -3,6 +3,7 @@
 #![tactic(auto)]
 
 pub mod answer;
+pub mod block;
 pub mod fields;
 mod judge;
 pub mod outline;
@@ -12,5 +13,6 @@ pub mod stream;
 mod strict;
 
 pub use answer::Answer;
+pub use block::{BlockPull, Told};
 pub use fields::{FieldList, FieldsItem, FieldsPull};
 pub use stream::IncomingStream;

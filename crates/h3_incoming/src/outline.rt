@@ -13,7 +13,7 @@ ghost use Rattle.h3_incoming.specs.Outline.{outline_of, empty_outline, outlined,
 ghost use Rattle.h3_incoming.specs.declared.outline.ListRead.TheVariants as read;
 
 use h3_connection::event::Malformation;
-use h3_field::HeaderField;
+use h3_field::{FieldRef, Fields};
 use h3_header::{BadPart, FieldKind, Header, HeaderError, MOST_NAMES, field_kind, first_bad_part};
 use h3_proto::stream::Side;
 use http::StatusCode;
@@ -103,7 +103,7 @@ impl Outline {
     }
 
     // With one field more, of that kind, of which nothing is malformed.
-    fn with(self, kind: FieldKind, field: &HeaderField) -> Outline
+    fn with(self, kind: FieldKind, field: &FieldRef<'_>) -> Outline
         requires { is_value_at kind field.now.value ≡ true }
         ensures { result ≡ outlined_by kind self field.now }
     {
@@ -132,7 +132,7 @@ impl Outline {
 
 /// What a list of fields reads as, its header aside. It takes memory only for a list of more than 24,576 fields, whose names a map has to
 /// tell apart.
-pub fn read_list(alloc: Global, fields: &[HeaderField]) -> Result<ListRead, AllocError>
+pub fn read_list(alloc: Global, fields: &Fields<'_>) -> Result<ListRead, AllocError>
     ensures ok { IfOk result (λ read. read ≡ list_read (head_of fields.now)) }
     ensures err { OnErr result (24576 < length fields.now) }
     ensures memory { OnErr result (RefusesOne (trailer_head []) fields.now HeaderError.OutOfMemory) }
@@ -144,16 +144,17 @@ pub fn read_list(alloc: Global, fields: &[HeaderField]) -> Result<ListRead, Allo
 }
 
 // One of so few fields that a map has room for all their names.
-fn read_short(fields: &[HeaderField]) -> ListRead
+fn read_short(fields: &Fields<'_>) -> ListRead
     requires { length fields.now ≤ 24576 }
     ensures { result ≡ list_read (head_of fields.now) }
 {
     h3_header::laws::lists_are_their_value();
     h3_header::laws::fields_are_judged_alone();
     let mut outline = Outline::empty();
-    'fields: for field in fields {
-        match field_kind(field) {
-            Ok(kind) => outline = outline.with(kind, field),
+    'fields: for place in 0..fields.len() {
+        let field = fields.get(place);
+        match field_kind(&field) {
+            Ok(kind) => outline = outline.with(kind, &field),
             Err(part) => return ListRead::Malformed(malformation_by(part)),
         }
     }
@@ -161,7 +162,7 @@ fn read_short(fields: &[HeaderField]) -> ListRead
 }
 
 // Any list, by the header that is made of it.
-fn read_long(alloc: Global, fields: &[HeaderField]) -> Result<ListRead, AllocError>
+fn read_long(alloc: Global, fields: &Fields<'_>) -> Result<ListRead, AllocError>
     ensures ok { IfOk result (λ read. read ≡ list_read (head_of fields.now)) }
     ensures memory { OnErr result (RefusesOne (trailer_head []) fields.now HeaderError.OutOfMemory) }
 {
@@ -214,7 +215,7 @@ fn malformation_by(part: BadPart) -> Malformation
 /// What a list is of which no header was made. Want of memory is told where it was told, and of no list that is malformed, which is judged
 /// without memory, unless it has more fields than a map has names for.
 pub(crate) fn read_refused(
-    fields: &[HeaderField],
+    fields: &Fields<'_>,
     error: &HeaderError,
 ) -> Result<ListRead, AllocError>
     ensures ok { IfOk result (λ r. (why : HeadRefusal) × Tells fields.now error.now why × (r ≡ read.Malformed (malformation_of why))) }

@@ -1,31 +1,38 @@
 //! An encoded field section (RFC 9204, section 4.5), as a decoder reads it now.
 ghost use Rattle.std.specs.Prelude.{◌≡◌, ℕ, List};
+ghost use Rattle.h3_field.specs.Field.{Field};
 ghost use Rattle.h3_field.specs.declared.decoder_error.DecoderError.TheVariants.{OutOfMemory};
 ghost use Rattle.h3_qpack.specs.DecodedSection.{IsRefusalOf, decode_section};
 ghost use Rattle.h3_qpack.specs.DecoderState.{DecoderState};
 ghost use Rattle.h3_qpack.specs.SectionAnswers.{MayAskMemory};
 ghost use Rattle.h3_incoming.specs.Trying.{IsTry};
 
-use h3_qpack::{DecodedWithin, Decoder, DecoderError, SliceCursor};
+use h3_field::FieldBlock;
+use h3_qpack::{BlockWithin, Decoder, DecoderError, SliceCursor};
 
 /// What a decoder makes of a field section.
 #[derive(Drop)]
 pub(crate) enum Tried {
-    /// Its fields, or their sum and their last status where it passes the limit.
-    Decoded(DecodedWithin),
+    /// Its fields stand in the block, or their sum passes the limit: then this and their last status are told.
+    Decoded(BlockWithin),
     /// It needs so many insertions, and not all were read.
     Missing(usize),
     Bad,
     OutOfMemory,
 }
 
-/// Decodes a field section. Where its fields sum to more than the limit none is kept. Want of memory is told only of a section whose
+/// Decodes a field section into a block, of which what it held before is let go. Where its fields sum to more than the limit none is kept. Want of memory is told only of a section whose
 /// prefix is good, whose insertions were read, and whose first line has a string or is of a field.
-pub(crate) fn try_section(decoder: &Decoder, bytes: &[u8], limit: u64) -> Tried
-    ensures { IsTry (MayAskMemory decoder.now bytes.now) limit (decode_section decoder.now bytes.now) result }
+pub(crate) fn try_section(
+    decoder: &Decoder,
+    bytes: &[u8],
+    limit: u64,
+    block: &mut FieldBlock,
+) -> Tried
+    ensures { IsTry (MayAskMemory decoder.now bytes.now) limit (decode_section decoder.now bytes.now) result block.new }
 {
     let mut cursor = SliceCursor::new(bytes);
-    match decoder.decode_header_within(&mut cursor, limit, b":status".as_slice()) {
+    match decoder.decode_block_within(&mut cursor, limit, b":status".as_slice(), block) {
         Ok(decoded) => Tried::Decoded(decoded),
         Err(e) => refused(e),
     }
@@ -33,8 +40,8 @@ pub(crate) fn try_section(decoder: &Decoder, bytes: &[u8], limit: u64) -> Tried
 
 // What a refusal is.
 fn refused(error: DecoderError) -> Tried
-    ensures { (limit : ℕ) (r : DecoderState) (bytes : List ℕ) → IsRefusalOf (decode_section r bytes) error → (error ≡ OutOfMemory → MayAskMemory r bytes)
-        → IsTry (MayAskMemory r bytes) limit (decode_section r bytes) result }
+    ensures { (limit : ℕ) (r : DecoderState) (bytes : List ℕ) (block : List Field) → IsRefusalOf (decode_section r bytes) error → (error ≡ OutOfMemory → MayAskMemory r bytes)
+        → IsTry (MayAskMemory r bytes) limit (decode_section r bytes) result block }
 {
     match error {
         DecoderError::MissingRefs(count) => Tried::Missing(count),

@@ -6,9 +6,9 @@ ghost use Rattle.h3_connection.specs.StrictMessages.{broken_rule, malformation_b
 use h3_connection::event::Malformation;
 use h3_connection::place::Place;
 use h3_connection::setup::Announced;
-use h3_messages::{Content, Violation, read_request, read_response, trailer_violation};
+use h3_field::Fields;
+use h3_messages::{Content, Violation, read_request, read_response, trailer_violation_of};
 use h3_proto::stream::Side;
-use h3_qpack::HeaderField;
 
 /// What the rules of strict messages make of a field list at its place.
 #[derive(Clone, Copy)]
@@ -29,7 +29,7 @@ pub(crate) fn read_strictly(
     place: Place,
     content: Content,
     known: Option<Content>,
-    fields: &[HeaderField],
+    fields: &Fields<'_>,
 ) -> StrictRead
     ensures broken { result.broken ≡ broken_rule side announced.now place fields.now }
     ensures content { result.content ≡ content_at side announced.now place content fields.now }
@@ -45,7 +45,7 @@ pub(crate) fn read_strictly(
     match place {
         Place::BeforeHead => read_head(side, announced, content, known, fields),
         Place::InBody | Place::AfterTrailer | Place::InSession => StrictRead {
-            broken: told(trailer_violation(fields)),
+            broken: told(trailer_violation_of(fields)),
             content,
             response: known,
         },
@@ -58,7 +58,7 @@ fn read_head(
     announced: &Announced,
     awaited: Content,
     known: Option<Content>,
-    fields: &[HeaderField],
+    fields: &Fields<'_>,
 ) -> StrictRead
     ensures broken { result.broken ≡ option_map malformation_by (violation_of_head side announced.now fields.now) }
     ensures content { result.content ≡ content_of_head side awaited fields.now }

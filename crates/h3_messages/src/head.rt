@@ -10,7 +10,7 @@ use crate::response;
 use crate::seen::Seen;
 use crate::survey::Survey;
 use crate::violation::Violation;
-use h3_field::HeaderField;
+use h3_field::Fields;
 
 /// What the head of a request says.
 #[derive(Clone, Copy, Debug, PartialEq, Eq)]
@@ -33,7 +33,7 @@ pub struct ResponseRead {
 }
 
 /// What the head of a request says. The choice is whether its server announced extended CONNECT.
-pub fn read_request(fields: &[HeaderField], extended_connect: bool) -> RequestRead
+pub fn read_request(fields: &Fields<'_>, extended_connect: bool) -> RequestRead
     ensures violation { result.violation ≡ violation_of_request extended_connect fields.now }
     ensures content { result.content ≡ content_of_request fields.now }
     ensures awaited { result.awaited ≡ awaited_by fields.now }
@@ -49,7 +49,7 @@ pub fn read_request(fields: &[HeaderField], extended_connect: bool) -> RequestRe
 }
 
 /// What the head of a response says, in front of which this was awaited.
-pub fn read_response(awaited: Content, fields: &[HeaderField]) -> ResponseRead
+pub fn read_response(awaited: Content, fields: &Fields<'_>) -> ResponseRead
     ensures violation { result.violation ≡ violation_of_response fields.now }
     ensures content { result.content ≡ content_behind_response awaited fields.now }
 {

@@ -24,5 +24,5 @@ pub mod violation;
 pub use content::{Asked, Content, is_interim_status};
 pub use head::{RequestRead, ResponseRead, read_request, read_response};
 pub use request::request_violation;
-pub use response::{response_violation, trailer_violation};
+pub use response::{response_violation, trailer_violation, trailer_violation_of};
 pub use violation::Violation;

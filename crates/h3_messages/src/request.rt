@@ -10,15 +10,16 @@ use crate::seen::Seen;
 use crate::survey::Survey;
 use crate::text::{byte_at, has_byte, is_same, is_word};
 use crate::violation::Violation;
-use h3_field::HeaderField;
+use h3_field::{Fields, HeaderField};
 
 /// The first rule that the head of a request breaks, or none. The choice is whether its server announced extended CONNECT.
 pub fn request_violation(fields: &[HeaderField], extended_connect: bool) -> Option<Violation>
     ensures { result ≡ violation_of_request extended_connect fields.now }
 {
+    let fields = Fields::of(fields);
     let mut seen = Seen::new();
-    seen.take_all(fields);
-    violation_of(&Survey::of(fields, &seen), extended_connect)
+    seen.take_all(&fields);
+    violation_of(&Survey::of(&fields, &seen), extended_connect)
 }
 
 #[tactic(auto, unfolding(crate::specs::Messages::violation_of_request))]

@@ -9,15 +9,16 @@ use crate::seen::Seen;
 use crate::survey::Survey;
 use crate::text::{byte_at, is_same, says_more_than_none};
 use crate::violation::Violation;
-use h3_field::HeaderField;
+use h3_field::{Fields, HeaderField};
 
 /// The first rule that the head of a response breaks, interim or final, or none.
 pub fn response_violation(fields: &[HeaderField]) -> Option<Violation>
     ensures { result ≡ violation_of_response fields.now }
 {
+    let fields = Fields::of(fields);
     let mut seen = Seen::new();
-    seen.take_all(fields);
-    violation_of(&Survey::of(fields, &seen))
+    seen.take_all(&fields);
+    violation_of(&Survey::of(&fields, &seen))
 }
 
 #[tactic(auto, unfolding(crate::specs::Messages::violation_of_response))]
@@ -75,6 +76,13 @@ fn is_length_misplaced(survey: &Survey) -> bool
 
 /// The first rule that a trailer breaks, or none.
 pub fn trailer_violation(fields: &[HeaderField]) -> Option<Violation>
+    ensures { result ≡ violation_of_trailer fields.now }
+{
+    trailer_violation_of(&Fields::of(fields))
+}
+
+/// The first rule that a trailer breaks whose fields lie in a list or in a block, or none.
+pub fn trailer_violation_of(fields: &Fields<'_>) -> Option<Violation>
     ensures { result ≡ violation_of_trailer fields.now }
 {
     let mut seen = Seen::new();

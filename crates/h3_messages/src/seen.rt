@@ -7,7 +7,7 @@ use crate::known::Known;
 use crate::name_set::NameSet;
 use crate::slot::Slot;
 use crate::text::{byte_at, has_space_around, is_word};
-use h3_field::HeaderField;
+use h3_field::{FieldRef, Fields};
 
 /// What the fields that came so far hold.
 #[derive(Drop)]
@@ -46,18 +46,18 @@ impl<'a> Seen<'a> {
     }
 
     /// Each field of the list, behind none.
-    pub(crate) fn take_all(&mut self, fields: &'a [HeaderField])
+    pub(crate) fn take_all(&mut self, fields: &Fields<'a>)
         requires { IsSeen [] self.old }
         ensures { IsSeen fields.now self.new }
     {
-        'fields: for field in fields {
-            self.take_in(field);
+        'fields: for place in 0..fields.len() {
+            self.take_in(fields.get(place));
         }
     }
 
     // One field more. The colon is looked at before the name is told, which leaves few names to compare with.
-    fn take_in(&mut self, field: &'a HeaderField)
-        ensures { TakesField field.now self.old self.new }
+    fn take_in(&mut self, field: FieldRef<'a>)
+        ensures { TakesField field self.old self.new }
     {
         let name = field.name();
         let value = field.value();

@@ -7,19 +7,19 @@ ghost use Rattle.h3_messages.specs.Survey.{IsSeen, is_unknown_pseudo};
 
 use crate::known::Known;
 use crate::seen::Seen;
-use h3_field::HeaderField;
+use h3_field::Fields;
 
 /// A list, and what it holds. What it holds lies where it was found: it is some 350 bytes.
 #[derive(Clone, Copy)]
 pub(crate) struct Survey<'a> {
-    fields: &'a [HeaderField],
+    fields: &'a Fields<'a>,
     seen: &'a Seen<'a>,
     ghost surveyed: { IsSeen fields.now seen.now },
 }
 
 impl<'a> Survey<'a> {
     /// A list, all of whose fields were taken in.
-    pub(crate) fn of(fields: &'a [HeaderField], seen: &'a Seen<'a>) -> Survey<'a>
+    pub(crate) fn of(fields: &'a Fields<'a>, seen: &'a Seen<'a>) -> Survey<'a>
         requires { IsSeen fields.now seen.now }
         ensures { result.fields.now ≡ fields.now }
     {

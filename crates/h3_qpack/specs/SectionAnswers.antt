@@ -1,5 +1,5 @@
 -- What the readers of an encoded field section answer.
-use Rattle.std.specs.Prelude.{◌≡◌, ◌⊎◌, ◌<◌, ◌≤◌, ℕ, List, length, Some, Result, Ok, Err}
+use Rattle.std.specs.Prelude.{◌≡◌, ◌⊎◌, ◌<◌, ◌≤◌, ℕ, List, [], ◌∷◌, ◌++◌, length, Some, Result, Ok, Err}
 use Rattle.h3_field.specs.Field.{Field}
 use Rattle.h3_field.specs.Line.{FieldLine}
 use Rattle.h3_field.specs.Section.{HasLine}
@@ -57,6 +57,17 @@ IsReasonFor bad missing e = IsReasonWith (Unit {0}) bad missing e
 abbrev pub AnswersLineAt : TableState → ℕ → List ℕ → List ℕ → Result Field DecoderError → Type 0
 AnswersLineAt h base old new (Ok f) = BeginsWith h base old f new
 AnswersLineAt h base old new (Err e) = IsReasonWith (BeginsWithString old) (BeginsWithNone h base old) (λ count. ⊥) e
+
+-- The field of the line at the front is added to the fields before it, and the line is taken.
+pub record HasPut (h : TableState) (base : ℕ) (old new : List ℕ) (before after : List Field) : Type 0 where
+  pub field : Field
+  pub begins : BeginsWith h base old field new
+  pub added : after ≡ before ++ field ∷ []
+
+-- Memory is asked for by a line that has a string or is of a field.
+abbrev pub PutsLine : TableState → ℕ → List ℕ → List ℕ → List Field → List Field → Result Unit DecoderError → Type 0
+PutsLine h base old new before after (Ok u) = HasPut h base old new before after
+PutsLine h base old new before after (Err e) = IsReasonWith (LinesAskMemory h base old) (BeginsWithNone h base old) (λ count. ⊥) e
 
 -- why a section is refused
 abbrev pub IsRefusal : DecoderState → List ℕ → DecoderError → Type 0

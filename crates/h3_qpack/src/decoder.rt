@@ -11,12 +11,13 @@ ghost use Rattle.h3_field.specs.Shapes.{begins};
 ghost use Rattle.h3_qpack.specs.DecoderState.{DecoderState, announcing, greatest_capacity};
 ghost use Rattle.h3_qpack.specs.Meaning.{HasPrefix, MeansFields};
 ghost use Rattle.h3_qpack.specs.DecodedSection.{decode_section, fields_in, with_fields, IsRefusalOf, Fields};
-ghost use Rattle.h3_qpack.specs.Sizes.{IsWithin};
+ghost use Rattle.h3_qpack.specs.Sizes.{IsWithin, IsBlockWithin};
 ghost use Rattle.h3_qpack.specs.SectionAnswers.{MayAskMemory, IsRefusal, IsReasonFor};
 ghost use Rattle.h3_qpack.specs.InstructionAnswers.{AnswersInsertionRead, AnswersOne};
 ghost use Rattle.h3_qpack.specs.Instructions.{HasRead, BeginsBad};
 ghost use Rattle.h3_qpack.specs.Hearing.{heard, hear};
 
+use crate::block_within::BlockWithin;
 use crate::dynamic::DynamicTable;
 use crate::lines::{Lines, relative, relative_name_room};
 use crate::listing::SectionSummary;
@@ -29,7 +30,7 @@ use h3_field::stream::{
     Duplicate, DynamicTableSizeUpdate, EncoderInstruction, HeaderAck, InsertWithNameRef,
     InsertWithoutNameRef, StreamCancel,
 };
-use h3_field::{Decoded, DecoderError, HeaderField, SliceCursor};
+use h3_field::{Decoded, DecoderError, FieldBlock, HeaderField, SliceCursor};
 use h3_table::entries::{Entries, MAX_CAPACITY, MOST_INSERTIONS, size_of};
 use std::alloc::{AllocError, Global};
 use std::borrow::CowSlice;
@@ -212,6 +213,70 @@ impl Decoder {
             Ok(decoded) => {
                 *buf = ahead;
                 Ok(decoded)
+            }
+            Err(e) => Err(e),
+        }
+    }
+
+    /// Decodes an encoded field section, to the end of `buf`, as `decode_header_within`, into a block whose memory serves again: the
+    /// fields that it holds are let go first. Where the section's fields sum to more than `max` the block is left empty, and after a
+    /// refusal it holds anything.
+    pub fn decode_block_within(
+        &self,
+        buf: &mut SliceCursor<'_>,
+        max: u64,
+        name: &[u8],
+        block: &mut FieldBlock,
+    ) -> Result<BlockWithin, DecoderError>
+        ensures ok { IfOk result (λ d. (fields : List Field) × (count : ℕ) × (decode_section self.now buf.old ≡ Fields fields count)
+            × IsBlockWithin max name.now (nat_lt 0 count) fields d block.new × (buf.new ≡ [])) }
+        ensures err { IfErr result (λ e. IsRefusalOf (decode_section self.now buf.old) e × (buf.new ≡ buf.old)) }
+        ensures memory { IfErr result (λ e. e ≡ OutOfMemory → MayAskMemory self.now buf.old) }
+    {
+        block.clear();
+        let mut ahead = SliceCursor::new(buf.chunk());
+        let (count, base) = match self.take_prefix(&mut ahead) {
+            Ok(found) => found,
+            Err(e) => return Err(e),
+        };
+        let lines = Lines::new(self.alloc, &self.entries, base, max as usize);
+        match lines.take_block(&mut ahead, count > 0, max, name, block) {
+            Ok(decoded) => {
+                *buf = ahead;
+                Ok(decoded)
+            }
+            Err(e) => Err(e),
+        }
+    }
+
+    /// Decodes an encoded field section, to the end of `buf`, as `decode_header_into`, into a block whose memory serves again: the fields
+    /// that it holds are let go first. A refused read takes nothing, and leaves the block empty.
+    pub fn decode_block(
+        &self,
+        buf: &mut SliceCursor<'_>,
+        block: &mut FieldBlock,
+    ) -> Result<SectionSummary, DecoderError>
+        ensures ok { IfOk result (λ d. (count : ℕ) × MeansFields self.now buf.old count block.new × (d.dyn_ref ≡ nat_lt 0 count)
+            × (d.mem_size ≡ min (2 ^ 64 - 1) (section_size block.new)) × (buf.new ≡ [])) }
+        ensures value { IfOk result (λ d. (count : ℕ) × (decode_section self.now buf.old ≡ Fields block.new count) × (d.dyn_ref ≡ nat_lt 0 count)) }
+        ensures err { IfErr result (λ e. IsRefusal self.now buf.old e × (buf.new ≡ buf.old) × (block.new ≡ [])) }
+        ensures refusal { IfErr result (IsRefusalOf (decode_section self.now buf.old)) }
+        ensures memory { IfErr result (λ e. e ≡ OutOfMemory → MayAskMemory self.now buf.old) }
+    {
+        block.clear();
+        let mut ahead = SliceCursor::new(buf.chunk());
+        let (count, base) = match self.take_prefix(&mut ahead) {
+            Ok(found) => found,
+            Err(e) => return Err(e),
+        };
+        let lines = Lines::new(self.alloc, &self.entries, base, usize::MAX);
+        match lines.block(&mut ahead, block) {
+            Ok(mem_size) => {
+                *buf = ahead;
+                Ok(SectionSummary {
+                    dyn_ref: count > 0,
+                    mem_size,
+                })
             }
             Err(e) => Err(e),
         }

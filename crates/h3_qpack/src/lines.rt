@@ -70,7 +70,7 @@ impl<'t> LineField<'t> {
         }
     }
 
-    fn name(&self) -> &[u8]
+    pub(crate) fn name(&self) -> &[u8]
         ensures { result.now ≡ self.now.name }
     {
         match &self.source {
@@ -80,7 +80,7 @@ impl<'t> LineField<'t> {
         }
     }
 
-    fn value(&self) -> &[u8]
+    pub(crate) fn value(&self) -> &[u8]
         ensures { result.now ≡ self.now.value }
     {
         match &self.source {

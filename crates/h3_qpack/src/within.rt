@@ -4,7 +4,7 @@ ghost use Rattle.h3_field.specs.Field.{Field};
 ghost use Rattle.h3_field.specs.declared.decoder_error.DecoderError.TheVariants.{OutOfMemory};
 ghost use Rattle.h3_qpack.specs.DecodedSection.{fields_in};
 ghost use Rattle.h3_qpack.specs.SectionAnswers.{LinesAskMemory, IsReasonFor};
-ghost use Rattle.h3_qpack.specs.Sizes.{IsWithin, IsTooLarge, counted, counted_on};
+ghost use Rattle.h3_qpack.specs.Sizes.{IsWithin, IsLarge, counted, counted_on};
 
 use crate::lines::{LineField, Lines};
 use h3_field::{Decoded, DecoderError, SliceCursor};
@@ -84,23 +84,23 @@ impl<'t> Lines<'t> {
         Ok(count)
     }
 
-    /// The answer of lines whose fields sum to more than the limit.
-    fn take_large(
+    /// What is told of lines whose fields sum to more than the limit.
+    pub(crate) fn take_large(
         &self,
         buf: &mut SliceCursor<'_>,
         dyn_ref: bool,
         name: &[u8],
-    ) -> Result<DecodedWithin, DecoderError>
-        ensures ok { IfOk result (λ d. (fields : List Field) × (fields_in self.now.table self.now.base buf.old ≡ Some fields) × IsTooLarge name.now dyn_ref fields d × (buf.new ≡ [])) }
+    ) -> Result<LargeSection, DecoderError>
+        ensures ok { IfOk result (λ l. (fields : List Field) × (fields_in self.now.table self.now.base buf.old ≡ Some fields) × IsLarge name.now dyn_ref fields l × (buf.new ≡ [])) }
         ensures err { IfErr result (IsReasonFor (fields_in self.now.table self.now.base buf.old ≡ None) (λ count. ⊥)) }
         ensures memory { IfErr result (λ e. e ≡ OutOfMemory → LinesAskMemory self.now.table self.now.base buf.old) }
     {
         match self.count(buf, name) {
-            Ok(count) => Ok(DecodedWithin::TooLarge(LargeSection {
+            Ok(count) => Ok(LargeSection {
                 mem_size: count.sum,
                 dyn_ref,
                 last_value: count.last,
-            })),
+            }),
             Err(e) => Err(e),
         }
     }
@@ -128,7 +128,10 @@ impl<'t> Lines<'t> {
             })),
             Ok(None) => {
                 drop(fields);
-                self.take_large(buf, dyn_ref, name)
+                match self.take_large(buf, dyn_ref, name) {
+                    Ok(large) => Ok(DecodedWithin::TooLarge(large)),
+                    Err(e) => Err(e),
+                }
             }
             Err(e) => {
                 drop(fields);

@@ -1,5 +1,5 @@
 //! What is malformed of a field list, told without memory.
-ghost use Rattle.std.specs.Prelude.{◌≡◌, take, IfSome, IfNone, IfOk, IfErr};
+ghost use Rattle.std.specs.Prelude.{◌≡◌, IfSome, IfNone, IfOk, IfErr};
 ghost use Rattle.h3_header.specs.BadPart.{bad_part, refusal_of, AreGood, IsHeadUnlessMany};
 ghost use Rattle.h3_header.specs.HeadRead.{IsNone, head_of, is_name_at, is_value_at};
 ghost use Rattle.h3_header.specs.Reads.{kind_of};
@@ -10,7 +10,7 @@ use crate::ext::Protocol;
 use crate::grammar::{
     is_authority, is_field_value, is_header_name, is_path_input, is_scheme, is_token,
 };
-use h3_field::HeaderField;
+use h3_field::{FieldRef, Fields};
 use http::StatusCode;
 
 /// So many names a `HeaderMap` has room for: of a list of no more fields it is told without memory whether it is a header's.
@@ -28,32 +28,22 @@ pub enum BadPart {
 /// What is malformed of a list, by the first of its first 24,576 fields of which anything is: `Header::try_from` refuses the list for that,
 /// unless memory is refused first. It takes no memory, and makes no text. None: each of these fields is good by itself, and a list of no
 /// more fields is a header's.
-pub fn first_bad_part(fields: &[HeaderField]) -> Option<BadPart>
+pub fn first_bad_part(fields: &Fields<'_>) -> Option<BadPart>
     ensures some { IfSome result (λ part. head_of fields.now ≡ IsNone (refusal_of part)) }
     ensures none { IfNone result (AreGood fields.now) }
     ensures many { IfNone result (IsHeadUnlessMany fields.now) }
 {
-    let few = front(fields, MOST_NAMES);
-    'fields: for field in few {
-        if let Some(part) = bad_part(field) {
+    let few = fields.len().min(MOST_NAMES);
+    'fields: for place in 0..few {
+        if let Some(part) = bad_part(&fields.get(place)) {
             return Some(part);
         }
     }
     None
 }
 
-// The first fields, at most all.
-fn front(fields: &[HeaderField], count: usize) -> &[HeaderField]
-    ensures { result.now ≡ take count fields.now }
-{
-    if count < fields.len() {
-        return &fields[..count];
-    }
-    fields
-}
-
 // What is malformed of a field: its name, else its value.
-fn bad_part(field: &HeaderField) -> Option<BadPart>
+fn bad_part(field: &FieldRef<'_>) -> Option<BadPart>
     ensures { result ≡ bad_part field.now }
 {
     match field_kind(field) {
@@ -65,7 +55,7 @@ fn bad_part(field: &HeaderField) -> Option<BadPart>
 /// The kind of a field of which nothing is malformed by itself, or else what is: its name, else its value (RFC 9114, 4.2 and 4.3). Who walks
 /// over a list asks so for both at once. It takes no memory.
 #[inline(always)]
-pub fn field_kind(field: &HeaderField) -> Result<FieldKind, BadPart>
+pub fn field_kind(field: &FieldRef<'_>) -> Result<FieldKind, BadPart>
     ensures ok { IfOk result (λ kind. (kind ≡ kind_of field.now.name) × (bad_part field.now ≡ None)) }
     ensures err { IfErr result (λ part. bad_part field.now ≡ Some part) }
 {

@@ -6,7 +6,6 @@ ghost use Rattle.http_header.specs.FieldValue.{plain_value, IsFieldValue};
 ghost use Rattle.http_header.specs.HeaderMap.{append, RefusesAppend};
 ghost use Rattle.http.specs.StatusCode.{IsCodeText};
 ghost use Rattle.http_uri.specs.Grammar.{IsScheme, IsAuthority, IsPathInput, without_fragment};
-ghost use Rattle.h3_field.specs.FieldForm.{part_bytes};
 ghost use Rattle.h3_header.specs.ProtocolText.{IsProtocolText};
 ghost use Rattle.h3_header.specs.declared.headers.kind.FieldKind.TheVariants as field;
 ghost use Rattle.h3_header.specs.Reads.{IsShortMethod, IsValueAt, status_number, RefusesName, RefusesValue, RefusesRegular, RefusesPseudo, Accepts, Refuses, AcceptsAll, RefusesOne, with_field, with_pseudo};
@@ -19,7 +18,7 @@ use super::path::RequestPath;
 use super::pseudo::Pseudo;
 use super::store::Store;
 use crate::ext::Protocol;
-use h3_field::{HeaderField, Part};
+use h3_field::{FieldRef, Fields};
 use http::method::MethodError;
 use http::{Method, StatusCode};
 use http_header::{HeaderMap, HeaderMapError, HeaderName, HeaderNameError, HeaderValue};
@@ -54,29 +53,29 @@ fn read_scheme(alloc: Global, value: &[u8]) -> Result<Scheme, HeaderError>
 fn read_authority(
     alloc: Global,
     store: &mut Store,
-    value: &Part<'_>,
+    value: &[u8],
 ) -> Result<Authority, HeaderError>
-    ensures ok { IfOk result (λ m. IsAuthority (part_bytes value.now)
-        × (m ≡ part_bytes value.now)) }
-    ensures err { IfErr result (RefusesValue (IsAuthority (part_bytes value.now)) ⊤) }
+    ensures ok { IfOk result (λ m. IsAuthority value.now
+        × (m ≡ value.now)) }
+    ensures err { IfErr result (RefusesValue (IsAuthority value.now) ⊤) }
 {
     match Authority::from_shared(store.keep(value)?) {
         Ok(authority) => Ok(authority),
-        Err(_) => Err(HeaderError::invalid_value(alloc, b":authority", value.bytes())),
+        Err(_) => Err(HeaderError::invalid_value(alloc, b":authority", value)),
     }
 }
 
-fn read_path(alloc: Global, store: &mut Store, value: &Part<'_>) -> Result<RequestPath, HeaderError>
-    ensures ok { IfOk result (λ m. IsPathInput (part_bytes value.now)
-        × (m ≡ without_fragment (part_bytes value.now))) }
-    ensures err { IfErr result (RefusesValue (IsPathInput (part_bytes value.now)) ⊤) }
+fn read_path(alloc: Global, store: &mut Store, value: &[u8]) -> Result<RequestPath, HeaderError>
+    ensures ok { IfOk result (λ m. IsPathInput value.now
+        × (m ≡ without_fragment value.now)) }
+    ensures err { IfErr result (RefusesValue (IsPathInput value.now) ⊤) }
 {
-    if value.bytes() == b"/".as_slice() {
+    if value == b"/".as_slice() {
         return Ok(RequestPath::of_text(root()));
     }
     match PathAndQuery::from_shared(store.keep(value)?) {
         Ok(path) => Ok(RequestPath::of_text(path)),
-        Err(_) => Err(HeaderError::invalid_value(alloc, b":path", value.bytes())),
+        Err(_) => Err(HeaderError::invalid_value(alloc, b":path", value)),
     }
 }
 
@@ -101,26 +100,26 @@ fn read_protocol(alloc: Global, value: &[u8]) -> Result<Protocol, HeaderError>
 }
 
 /// A header name, which is in lower case. A standard one takes no memory.
-fn read_name(alloc: Global, store: &mut Store, name: &Part<'_>) -> Result<HeaderName, HeaderError>
-    ensures ok { IfOk result (λ n. IsHeaderName (part_bytes name.now)
-        × (n ≡ part_bytes name.now)) }
-    ensures err { IfErr result (RefusesName (IsHeaderName (part_bytes name.now))) }
+fn read_name(alloc: Global, store: &mut Store, name: &[u8]) -> Result<HeaderName, HeaderError>
+    ensures ok { IfOk result (λ n. IsHeaderName name.now
+        × (n ≡ name.now)) }
+    ensures err { IfErr result (RefusesName (IsHeaderName name.now)) }
 {
-    if let Some(standard) = HeaderName::standard(name.bytes()) {
-        if standard.as_bytes() == name.bytes() {
+    if let Some(standard) = HeaderName::standard(name) {
+        if standard.as_bytes() == name {
             return Ok(standard);
         }
-        return Err(HeaderError::invalid_name(alloc, name.bytes()));
+        return Err(HeaderError::invalid_name(alloc, name));
     }
     match HeaderName::from_shared(alloc, store.keep(name)?) {
         Ok(made) => {
             // `from_shared` takes letters of any case, and makes them lower case.
-            if made.as_bytes() == name.bytes() {
+            if made.as_bytes() == name {
                 return Ok(made);
             }
-            Err(HeaderError::invalid_name(alloc, name.bytes()))
+            Err(HeaderError::invalid_name(alloc, name))
         }
-        Err(HeaderNameError::Invalid) => { Err(HeaderError::invalid_name(alloc, name.bytes())) }
+        Err(HeaderNameError::Invalid) => { Err(HeaderError::invalid_name(alloc, name)) }
         Err(HeaderNameError::OutOfMemory) => Err(HeaderError::OutOfMemory),
     }
 }
@@ -129,15 +128,15 @@ fn read_value(
     alloc: Global,
     store: &mut Store,
     name: &HeaderName,
-    value: &Part<'_>,
+    value: &[u8],
 ) -> Result<HeaderValue, HeaderError>
-    ensures ok { IfOk result (λ v. IsFieldValue (part_bytes value.now)
-        × (v ≡ plain_value (part_bytes value.now))) }
-    ensures err { IfErr result (RefusesValue (IsFieldValue (part_bytes value.now)) ⊤) }
+    ensures ok { IfOk result (λ v. IsFieldValue value.now
+        × (v ≡ plain_value value.now)) }
+    ensures err { IfErr result (RefusesValue (IsFieldValue value.now) ⊤) }
 {
     match HeaderValue::from_shared(store.keep(value)?) {
         Ok(value) => Ok(value),
-        Err(_) => Err(HeaderError::invalid_value(alloc, name.as_bytes(), value.bytes())),
+        Err(_) => Err(HeaderError::invalid_value(alloc, name.as_bytes(), value)),
     }
 }
 
@@ -146,16 +145,16 @@ fn append_field(
     alloc: Global,
     map: &mut HeaderMap,
     store: &mut Store,
-    name: &Part<'_>,
-    value: &Part<'_>,
+    name: &[u8],
+    value: &[u8],
 ) -> Result<(), HeaderError>
-    ensures ok { OnOk result (IsHeaderName (part_bytes name.now)
-        × IsFieldValue (part_bytes value.now)
-        × ¬ (RefusesAppend map.old (part_bytes name.now))
-        × (map.new ≡ append map.old (part_bytes name.now)
-        (plain_value (part_bytes value.now)))) }
-    ensures err { IfErr result (RefusesRegular map.old (part_bytes name.now)
-        (part_bytes value.now)) }
+    ensures ok { OnOk result (IsHeaderName name.now
+        × IsFieldValue value.now
+        × ¬ (RefusesAppend map.old name.now)
+        × (map.new ≡ append map.old name.now
+        (plain_value value.now))) }
+    ensures err { IfErr result (RefusesRegular map.old name.now
+        value.now) }
     ensures kept { OnErr result (map.new ≡ map.old) }
 {
     let name = read_name(alloc, store, name)?;
@@ -172,15 +171,15 @@ pub(crate) fn read_fields(
     alloc: Global,
     pseudo: &mut Pseudo,
     map: &mut HeaderMap,
-    fields: &[HeaderField],
+    fields: &Fields<'_>,
 ) -> Result<(), HeaderError>
     ensures ok { OnOk result (AcceptsAll (head_of_parts pseudo.old map.old) fields.now
         × (head_of_parts pseudo.new map.new ≡ fold with_field (head_of_parts pseudo.old map.old) fields.now)) }
     ensures err { IfErr result (RefusesOne (head_of_parts pseudo.old map.old) fields.now) }
 {
     let mut store = Store::of(alloc, fields);
-    'fields: for field in fields {
-        read_field(alloc, pseudo, map, &mut store, field)?;
+    'fields: for place in 0..fields.len() {
+        read_field(alloc, pseudo, map, &mut store, &fields.get(place))?;
     }
     Ok(())
 }
@@ -191,17 +190,16 @@ fn read_field(
     pseudo: &mut Pseudo,
     map: &mut HeaderMap,
     store: &mut Store,
-    field: &HeaderField,
+    field: &FieldRef<'_>,
 ) -> Result<(), HeaderError>
     ensures ok { OnOk result (Accepts (head_of_parts pseudo.old map.old) field.now
         × (head_of_parts pseudo.new map.new ≡ with_field (head_of_parts pseudo.old map.old) field.now)) }
     ensures err { IfErr result (Refuses (head_of_parts pseudo.old map.old) field.now) }
 {
     let kind = FieldKind::of(field.name());
-    let value = field.value_part();
     match kind {
-        FieldKind::Regular => append_field(alloc, map, store, &field.name_part(), &value),
-        _ => read_pseudo(alloc, pseudo, store, kind, &value),
+        FieldKind::Regular => append_field(alloc, map, store, field.name(), field.value()),
+        _ => read_pseudo(alloc, pseudo, store, kind, field.value()),
     }
 }
 
@@ -211,21 +209,20 @@ fn read_pseudo(
     pseudo: &mut Pseudo,
     store: &mut Store,
     kind: FieldKind,
-    value: &Part<'_>,
+    value: &[u8],
 ) -> Result<(), HeaderError>
     requires { kind ≡ field.Regular → ⊥ }
-    ensures ok { OnOk result (IsValueAt kind (part_bytes value.now)
-        × (pseudo.new ≡ with_pseudo kind pseudo.old (part_bytes value.now))) }
-    ensures err { IfErr result (RefusesPseudo kind (part_bytes value.now)) }
+    ensures ok { OnOk result (IsValueAt kind value.now
+        × (pseudo.new ≡ with_pseudo kind pseudo.old value.now)) }
+    ensures err { IfErr result (RefusesPseudo kind value.now) }
 {
-    let text = value.bytes();
     match kind {
-        FieldKind::Method => put(&mut pseudo.method, read_method(alloc, text)),
-        FieldKind::Scheme => put(&mut pseudo.scheme, read_scheme(alloc, text)),
+        FieldKind::Method => put(&mut pseudo.method, read_method(alloc, value)),
+        FieldKind::Scheme => put(&mut pseudo.scheme, read_scheme(alloc, value)),
         FieldKind::Authority => put(&mut pseudo.authority, read_authority(alloc, store, value)),
         FieldKind::Path => put(&mut pseudo.path, read_path(alloc, store, value)),
-        FieldKind::Status => put(&mut pseudo.status, read_status(alloc, text)),
-        FieldKind::Protocol => put(&mut pseudo.protocol, read_protocol(alloc, text)),
+        FieldKind::Status => put(&mut pseudo.status, read_status(alloc, value)),
+        FieldKind::Protocol => put(&mut pseudo.protocol, read_protocol(alloc, value)),
         FieldKind::Regular => unreachable!(),
     }
 }

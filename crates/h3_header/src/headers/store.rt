@@ -1,10 +1,9 @@
 //! Where the bytes of a list's fields are kept.
 ghost use Rattle.std.specs.Prelude.{◌≡◌, [], IfOk, IfErr};
-ghost use Rattle.h3_field.specs.FieldForm.{part_bytes};
 
 use super::error::HeaderError;
 use bytes::{Bytes, BytesMut};
-use h3_field::{HeaderField, Part};
+use h3_field::Fields;
 use http_header::HeaderMap;
 use std::alloc::Global;
 
@@ -16,11 +15,12 @@ pub(crate) struct Store {
 }
 
 impl Store {
-    /// With room for what these fields own, where there is memory for it.
-    pub(crate) fn of(alloc: Global, fields: &[HeaderField]) -> Store {
+    /// With room for what these fields hold, where there is memory for it.
+    pub(crate) fn of(alloc: Global, fields: &Fields<'_>) -> Store {
         let mut len: usize = 0;
-        for field in fields {
-            len = len.saturating_add(field.owned_len());
+        for place in 0..fields.len() {
+            let field = fields.get(place);
+            len = len.saturating_add(field.name().len()).saturating_add(field.value().len());
         }
         match BytesMut::with_capacity(alloc, len) {
             Ok(room) => Store { room },
@@ -30,18 +30,8 @@ impl Store {
         }
     }
 
-    /// The bytes, shared: static ones as they stand, and a copy of others in the block.
-    pub(crate) fn keep(&mut self, part: &Part<'_>) -> Result<Bytes, HeaderError>
-        ensures ok { IfOk result (λ b. b ≡ part_bytes part.now) }
-        ensures err { IfErr result (λ e. e ≡ HeaderError.OutOfMemory) }
-    {
-        match part {
-            Part::Static(bytes) => Ok(Bytes::from_static(*bytes)),
-            Part::Lent(bytes) => self.add(*bytes),
-        }
-    }
-
-    fn add(&mut self, bytes: &[u8]) -> Result<Bytes, HeaderError>
+    /// A copy of the bytes in the block, shared.
+    pub(crate) fn keep(&mut self, bytes: &[u8]) -> Result<Bytes, HeaderError>
         ensures ok { IfOk result (λ b. b ≡ bytes.now) }
         ensures err { IfErr result (λ e. e ≡ HeaderError.OutOfMemory) }
     {
@@ -57,12 +47,12 @@ impl Store {
 }
 
 /// An empty map, with room for the regular ones of these fields where there is memory for it.
-pub(crate) fn map_for(alloc: Global, fields: &[HeaderField]) -> HeaderMap
+pub(crate) fn map_for(alloc: Global, fields: &Fields<'_>) -> HeaderMap
     ensures { result ≡ [] }
 {
     let mut names: usize = 0;
-    for field in fields {
-        if field.name().first() != Some(&b':') {
+    for place in 0..fields.len() {
+        if fields.get(place).name().first() != Some(&b':') {
             names = names.saturating_add(1);
         }
     }

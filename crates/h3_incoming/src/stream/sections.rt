@@ -3,7 +3,7 @@ ghost use Rattle.std.specs.Prelude.{◌≡◌, ℕ, Bool, List, [], true, false,
 ghost use Rattle.h3_field.specs.Field.{Field};
 ghost use Rattle.h3_qpack.specs.DecoderState.{DecoderState};
 ghost use Rattle.h3_qpack.specs.DecodedSection.{Missing};
-ghost use Rattle.h3_qpack.specs.Sizes.{IsWithin};
+ghost use Rattle.h3_qpack.specs.Sizes.{IsBlockWithin};
 ghost use Rattle.h3_connection.specs.Announcing.{section_of};
 ghost use Rattle.h3_connection.specs.declared.event.Fault.TheVariants.{Stream, Connection};
 ghost use Rattle.h3_connection.specs.Codes.{decompression_failed};
@@ -26,7 +26,8 @@ use h3_connection::place::Place;
 use h3_connection::setup::Announced;
 use h3_proto::error::Code;
 use h3_proto::stream::{Side, StreamId};
-use h3_qpack::{DecodedWithin, Decoder};
+use h3_field::FieldBlock;
+use h3_qpack::{BlockWithin, Decoder};
 use std::alloc::Global;
 
 impl IncomingStream {
@@ -52,13 +53,19 @@ impl IncomingStream {
             wait(out, self.waits_for);
             return;
         }
+        let mut block = out.room(alloc);
         let tried = match &self.section {
-            Some(section) => try_section(decoder, section.as_slice(), announced.section()),
+            Some(section) => try_section(
+                decoder,
+                section.as_slice(),
+                announced.section(),
+                &mut block,
+            ),
             None => unreachable!(),
         };
         match tried {
             Tried::Decoded(decoded) => {
-                self.finish_section(alloc, side, announced, id, decoded, replies, out)
+                self.finish_section(alloc, side, announced, id, decoded, block, replies, out)
             }
             Tried::Missing(count) => self.miss_entries(count, out),
             Tried::Bad => self.fail_section(out),
@@ -73,16 +80,17 @@ impl IncomingStream {
         side: Side,
         announced: &Announced,
         id: StreamId,
-        decoded: DecodedWithin,
+        decoded: BlockWithin,
+        block: FieldBlock,
         replies: &mut Vec<u8>,
         out: &mut O,
     )
         requires { is_some self.old.section ≡ true }
-        ensures answer { (r : DecoderState) (count : ℕ) (fields : List Field) → IsWithin (section_of announced.now) (codes ":status") (nat_lt 0 count) fields decoded
+        ensures answer { (r : DecoderState) (count : ℕ) (fields : List Field) → IsBlockWithin (section_of announced.now) (codes ":status") (nat_lt 0 count) fields decoded block
             → is_memory (O.told out.new) ≡ false
             → Gives (read_section side announced.now id r (past_section self.old) (acknowledgment id count) fields) (O.told out.new) self.new replies.old.items replies.new.items }
         ensures memory { is_memory (O.told out.new) ≡ true → (self.new ≡ self.old) × (replies.new.items ≡ replies.old.items) }
-        ensures list { (dyn_ref : Bool) (fields : List Field) → IsWithin (section_of announced.now) (codes ":status") dyn_ref fields decoded → IfSome (O.listed out.new) (λ l. l ≡ fields) }
+        ensures list { (dyn_ref : Bool) (fields : List Field) → IsBlockWithin (section_of announced.now) (codes ":status") dyn_ref fields decoded block → IfSome (O.listed out.new) (λ l. l ≡ fields) }
     {
         let acknowledges = names_entries(&decoded);
         match judge(
@@ -93,6 +101,7 @@ impl IncomingStream {
             self.content,
             self.response,
             decoded,
+            block,
             out,
         ) {
             Err(_) => fail(out, Fault::Memory),

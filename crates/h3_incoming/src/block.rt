@@ -1,0 +1,150 @@
+//! The answer of a pull whose heads and trailers are the lists of fields that came, in a block of memory that serves again.
+ghost use Rattle.std.specs.Prelude.{◌≡◌, ◌<◌, length, IfSome};
+ghost use Rattle.h3_incoming.specs.BlockPulls.{fields_kept, status_kept, told_with, HasStatus};
+ghost use Rattle.h3_incoming.specs.FieldsPulls.{list_of, pull_of};
+ghost use Rattle.h3_incoming.specs.declared.fields.FieldsPull.TheVariants as answer;
+
+use crate::answer::{Answer, MessageKind, Plain, kind_at};
+use crate::outline::{ListRead, read_list};
+use h3_connection::event::Fault;
+use h3_connection::place::Place;
+use h3_field::{FieldBlock, Fields};
+use h3_proto::stream::Side;
+use http::StatusCode;
+use std::alloc::{AllocError, Global};
+use std::marker::Model;
+use std::mem;
+
+/// What is told beside the fields of a head or trailer.
+#[derive(Drop)]
+pub enum Told {
+    /// The fields are those of a head or trailer, and this is the status of a response's head.
+    Message(MessageKind, Option<StatusCode>),
+    /// There is none.
+    Plain(Plain),
+}
+
+/// An answer as `FieldsPull` has it, whose fields lie in a block: the next head or trailer is written where the last one was, and takes
+/// memory only where it is longer. A contract sees the `FieldsPull` that it stands for.
+#[derive(Drop)]
+pub struct BlockPull {
+    told: Told,
+    block: FieldBlock,
+}
+
+impl Model for BlockPull {
+    ghost use Rattle.h3_incoming.specs.BlockPulls.{told_with, HasStatus};
+    ghost use Rattle.h3_incoming.specs.declared.fields.FieldsPull.{FieldsPull};
+
+    ghost Value = { FieldsPull };
+
+    ghost view = { λ p. told_with p.told p.block };
+
+    ghost invariant = { λ p. HasStatus p.told p.block };
+}
+
+impl BlockPull {
+    /// That the next item isn't there yet. It takes no memory.
+    pub fn new(alloc: Global) -> BlockPull
+        ensures { result ≡ answer.Pending }
+    {
+        BlockPull {
+            told: Told::Plain(Plain::Pending),
+            block: FieldBlock::new(alloc),
+        }
+    }
+
+    /// What is told, the fields aside.
+    pub fn told(&self) -> &Told
+        ensures is { self.now ≡ told_with result.now (fields_kept self.now) }
+        ensures status { HasStatus result.now (fields_kept self.now) }
+    {
+        &self.told
+    }
+
+    /// The block with the fields of a head or trailer. Behind another answer it holds anything.
+    pub fn block(&self) -> &FieldBlock
+        ensures { IfSome (list_of self.now) (λ fields. result.now ≡ fields) }
+    {
+        &self.block
+    }
+
+    /// The fields of a head or trailer, as they came and in the order in which they came; none of another answer.
+    pub fn fields(&self) -> Fields<'_>
+        ensures { result ≡ fields_kept self.now }
+    {
+        match &self.told {
+            Told::Message(_, _) => self.block.fields(),
+            Told::Plain(_) => Fields::of(&[]),
+        }
+    }
+
+    /// The status of a response's head, as its header has it. It takes no look at the fields.
+    pub fn status(&self) -> Option<StatusCode>
+        ensures { result ≡ status_kept self.now }
+    {
+        match &self.told {
+            Told::Message(_, status) => *status,
+            Told::Plain(_) => None,
+        }
+    }
+
+    // Nothing is told, and the memory of these fields is kept.
+    fn keep(&mut self, block: FieldBlock)
+        ensures { self.new ≡ answer.Pending }
+    {
+        self.told = Told::Plain(Plain::Pending);
+        self.block = block;
+    }
+}
+
+impl Answer for BlockPull {
+    ghost told = { pull_of };
+
+    ghost listed = { list_of };
+
+    ghost asks = { λ fields. 24576 < length fields };
+
+    fn give(&mut self, answer: Plain) {
+        self.told = Told::Plain(answer);
+    }
+
+    fn give_message(
+        &mut self,
+        alloc: Global,
+        side: Side,
+        place: Place,
+        fields: FieldBlock,
+    ) -> Result<ListRead, AllocError> {
+        h3_header::laws::lists_are_their_value();
+        match read_list(alloc, &fields.fields()) {
+            Ok(ListRead::Head(outline)) => {
+                self.told = Told::Message(kind_at(side, place, &outline), outline.status());
+                self.block = fields;
+                Ok(ListRead::Head(outline))
+            }
+            Ok(ListRead::Malformed(why)) => {
+                self.keep(fields);
+                Ok(ListRead::Malformed(why))
+            }
+            Err(e) => {
+                self.keep(fields);
+                Err(e)
+            }
+        }
+    }
+
+    fn room(&mut self, alloc: Global) -> FieldBlock {
+        self.told = Told::Plain(Plain::Pending);
+        let mut block = mem::replace(&mut self.block, FieldBlock::new(alloc));
+        block.clear();
+        block
+    }
+
+    fn fault(&self) -> Option<Fault> {
+        match &self.told {
+            Told::Plain(Plain::Fault(fault)) => Some(*fault),
+            Told::Plain(_) | Told::Message(_, _) => None,
+        }
+    }
+}
