@@ -94,18 +94,38 @@ impl WaitingStreams {
         self.add_places(word_of(number), bit_of(number))
     }
 
-    // Places are added to a word.
+    // Places are added to a word. (One that stands in the row is looked up once.)
     fn add_places(&mut self, number: u64, bits: u64) -> Result<(), AllocError>
         ensures ok { OnOk result (IsOneWord number (bit_or (places_at self.old number) bits) (places_at self.old) (places_at self.new)) }
         ensures err { OnErr result (HaveSameWords (places_at self.old) (places_at self.new)) }
         ensures waiting { HaveSameWords (waiting_at self.old) (waiting_at self.new) }
     {
-        let word = self.words.get(number);
-        self.words.put(
+        let Some(word) = self.words.near(number) else {
+            return self.add_far_places(number, bits);
+        };
+        self.words.set_near(
             number,
             Word {
                 places: word.places | bits,
                 waiting: word.waiting,
+            },
+        );
+        Ok(())
+    }
+
+    // The same wherever the word stands, and where it is not there.
+    #[inline(never)]
+    fn add_far_places(&mut self, number: u64, bits: u64) -> Result<(), AllocError>
+        ensures ok { OnOk result (IsOneWord number (bit_or (places_at self.old number) bits) (places_at self.old) (places_at self.new)) }
+        ensures err { OnErr result (HaveSameWords (places_at self.old) (places_at self.new)) }
+        ensures waiting { HaveSameWords (waiting_at self.old) (waiting_at self.new) }
+    {
+        let there = self.words.get(number);
+        self.words.put(
+            number,
+            Word {
+                places: there.places | bits,
+                waiting: there.waiting,
             },
         )
     }
@@ -126,12 +146,32 @@ impl WaitingStreams {
         ensures waiting { IsOneWord number (bit_or (waiting_at self.old number) bits) (waiting_at self.old) (waiting_at self.new) }
         ensures places { HaveSameWords (places_at self.old) (places_at self.new) }
     {
-        let word = self.words.get(number);
-        self.words.set(
+        let Some(word) = self.words.near(number) else {
+            self.add_far_waiting(number, bits);
+            return;
+        };
+        self.words.set_near(
             number,
             Word {
                 places: word.places,
                 waiting: word.waiting | bits,
+            },
+        );
+    }
+
+    // The same wherever the word stands.
+    #[inline(never)]
+    fn add_far_waiting(&mut self, number: u64, bits: u64)
+        requires { places_at self.old number ≢ 0 }
+        ensures waiting { IsOneWord number (bit_or (waiting_at self.old number) bits) (waiting_at self.old) (waiting_at self.new) }
+        ensures places { HaveSameWords (places_at self.old) (places_at self.new) }
+    {
+        let there = self.words.get(number);
+        self.words.set(
+            number,
+            Word {
+                places: there.places,
+                waiting: there.waiting | bits,
             },
         );
     }
@@ -153,15 +193,34 @@ impl WaitingStreams {
         ensures waiting { IsOneWord number (bit_and (waiting_at self.old number) (bit_not w64 bits)) (waiting_at self.old) (waiting_at self.new) }
         ensures places { IsOneWord number (bit_and (places_at self.old number) (bit_not w64 bits)) (places_at self.old) (places_at self.new) }
     {
-        let word = self.words.get(number);
-        if word.is_empty() {
+        let Some(word) = self.words.near(number) else {
+            self.take_far_bits(number, bits);
+            return;
+        };
+        self.words.set_near(
+            number,
+            Word {
+                places: word.places & !bits,
+                waiting: word.waiting & !bits,
+            },
+        );
+    }
+
+    // The same wherever the word stands, and where it is not there.
+    #[inline(never)]
+    fn take_far_bits(&mut self, number: u64, bits: u64)
+        ensures waiting { IsOneWord number (bit_and (waiting_at self.old number) (bit_not w64 bits)) (waiting_at self.old) (waiting_at self.new) }
+        ensures places { IsOneWord number (bit_and (places_at self.old number) (bit_not w64 bits)) (places_at self.old) (places_at self.new) }
+    {
+        let there = self.words.get(number);
+        if there.is_empty() {
             return;
         }
         self.words.set(
             number,
             Word {
-                places: word.places & !bits,
-                waiting: word.waiting & !bits,
+                places: there.places & !bits,
+                waiting: there.waiting & !bits,
             },
         );
     }
@@ -203,15 +262,34 @@ impl WaitingStreams {
         ensures waiting { HaveSameWords (waiting_at self.old) (waiting_at self.new) }
         ensures places { IsOneWord number (bit_and (places_at self.old number) (bit_not w64 bits)) (places_at self.old) (places_at self.new) }
     {
-        let word = self.words.get(number);
-        if word.is_empty() {
+        let Some(word) = self.words.near(number) else {
+            self.take_far_places(number, bits);
+            return;
+        };
+        self.words.set_near(
+            number,
+            Word {
+                places: word.places & !bits,
+                waiting: word.waiting,
+            },
+        );
+    }
+
+    // The same wherever the word stands, and where it is not there.
+    #[inline(never)]
+    fn take_far_places(&mut self, number: u64, bits: u64)
+        ensures waiting { HaveSameWords (waiting_at self.old) (waiting_at self.new) }
+        ensures places { IsOneWord number (bit_and (places_at self.old number) (bit_not w64 bits)) (places_at self.old) (places_at self.new) }
+    {
+        let there = self.words.get(number);
+        if there.is_empty() {
             return;
         }
         self.words.set(
             number,
             Word {
-                places: word.places & !bits,
-                waiting: word.waiting,
+                places: there.places & !bits,
+                waiting: there.waiting,
             },
         );
     }

@@ -4,8 +4,8 @@
 //!
 //! - An endpoint is made for a `Side`, by a `Config` and the `Limits` of its decoder, unless a `NewError` refuses them.
 //! - Messages are a `Header`, `Bytes` and perhaps a `Header` again; a stream is named by a `StreamId`.
-//! - A `Pull` is an `Item`, a pause or a `Fault`, and a `FieldsPull` the same with lists of fields in the place of headers. A call that is
-//!   refused answers a `Refusal`, a delivery a `DeliverError`.
+//! - A `Pull` is an `Item`, a pause or a `Fault`, and a `FieldsPull` the same with lists of fields in the place of headers. A `BlockPull`
+//!   has these in a block of memory that serves again. A call that is refused answers a `Refusal`, a delivery a `DeliverError`.
 //! - `run::run` drives two endpoints, made by a `Setup`, over a list of `Event`s, and gives an `Answer` for each: what a client and a server
 //!   may count on with each other is its contract.
 //! - `laws` says what the calls come to over whole lists of calls: streams are isolated, cuts don't count, work is bounded.
@@ -24,9 +24,10 @@ pub use h3_connection::event::{
     DeliverError, Fault, Item, Malformation, PeerLimits, Pull, Refusal, StreamFault, TableSizes,
 };
 pub use h3_connection::setup::{Announced, Limits, NewError};
-pub use h3_field::HeaderField;
+pub use h3_field::{FieldBlock, FieldRef, Fields, HeaderField};
 pub use h3_header::{Header, HeaderError, Protocol};
-pub use h3_incoming::{FieldList, FieldsItem, FieldsPull};
+pub use h3_incoming::answer::{MessageKind, Plain};
+pub use h3_incoming::{BlockPull, FieldList, FieldsItem, FieldsPull, Told};
 pub use h3_proto::config::{Choices, Config};
 pub use h3_proto::error::Code;
 pub use h3_proto::frame::{SettingId, Settings, SettingsError};

@@ -1,5 +1,5 @@
 //! Words of streams by their numbers: one in its place of a row, and in a map those whose place another has.
-ghost use Rattle.std.specs.Prelude.{◌≡◌, ◌≢◌, ℕ, false, None, unwrap_or, IsSome, OnErr, OnOk};
+ghost use Rattle.std.specs.Prelude.{◌≡◌, ◌≢◌, ℕ, false, None, unwrap_or, IfSome, IsSome, OnErr, OnOk};
 ghost use Rattle.h3_requests.specs.FirstWord.{IsFirstWord};
 ghost use Rattle.h3_requests.specs.Words.{far_at, far_waiting, is_empty, near_at, no_bits, word_at, HaveSameBits, IsOneSet};
 
@@ -47,6 +47,24 @@ impl Words {
             Some(word) => word,
             None => get_far(&self.far, number),
         }
+    }
+
+    /// The word of a number, where it stands in the row. It is found with no search.
+    #[inline(always)]
+    pub(crate) fn near(&self, number: u64) -> Option<Word>
+        ensures place { result ≡ near_at self.now.near number }
+        ensures word { IfSome result (λ w. w ≡ word_at self.now number) }
+    {
+        self.near.get(number)
+    }
+
+    /// Changes a word that stands in the row. It takes no memory.
+    #[inline(always)]
+    pub(crate) fn set_near(&mut self, number: u64, word: Word)
+        requires { IsSome (near_at self.old.near number) }
+        ensures { IsOneSet number word (word_at self.old) (word_at self.new) }
+    {
+        self.near.set(number, word);
     }
 
     /// Puts a word there. An `Err` changes nothing: memory was refused.

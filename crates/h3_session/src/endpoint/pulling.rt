@@ -24,7 +24,7 @@ use super::Endpoint;
 use h3_connection::event::{Fault, Pull, Refusal};
 use h3_connection::setup::Announced;
 use h3_incoming::answer::{fail, give_made, no_messages};
-use h3_incoming::{Answer, FieldsPull};
+use h3_incoming::{Answer, BlockPull, FieldsPull};
 use h3_proto::error::Code;
 use h3_proto::stream::{Side, StreamId};
 use h3_requests::RequestStreams;
@@ -138,7 +138,16 @@ impl Endpoint {
         self.pull_into(id, out);
     }
 
-    // The same of an answer of either kind.
+    /// The same, with the fields of a head or trailer in a block of memory that serves again: `out` keeps the memory of its last answer for
+    /// the next one, and a head or trailer takes memory only where it is longer.
+    pub fn pull_block(&mut self, id: StreamId, out: &mut BlockPull)
+        ensures pulls { PullsNext self.old self.new id (pull_of out.new) }
+        ensures list { ListsNext self.old id (list_of out.new) }
+    {
+        self.pull_into(id, out);
+    }
+
+    // The same of an answer of any kind.
     #[tactic(auto, using(crate::proofs::PullingKept::pull_closed, crate::proofs::PullingKept::pull_alone, crate::proofs::PullingKept::pull_settled, crate::proofs::PullingKept::pull_behind, crate::proofs::PullingKept::pull_faulty, crate::proofs::PullingKept::pull_lacked, crate::proofs::Listing::lists_no_next, crate::proofs::Listing::lists_settled))]
     fn pull_into<O: Answer>(&mut self, id: StreamId, out: &mut O)
         ensures pulls { PullsNext self.old self.new id (O.told out.new) }
