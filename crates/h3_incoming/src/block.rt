@@ -10,6 +10,7 @@ use h3_connection::event::Fault;
 use h3_connection::place::Place;
 use h3_field::{FieldBlock, Fields};
 use h3_proto::stream::Side;
+use h3_wire::buf::own;
 use http::StatusCode;
 use std::alloc::{AllocError, Global};
 use std::marker::Model;
@@ -86,6 +87,18 @@ impl BlockPull {
         match &self.told {
             Told::Message(_, status) => *status,
             Told::Plain(_) => None,
+        }
+    }
+
+    /// Puts a copy in a block of its own in the place of the bytes of a body or session that have none. Nothing else changes, also at an
+    /// `Err`: memory was refused.
+    pub fn own(&mut self, alloc: Global) -> Result<(), AllocError>
+        ensures { self.new ≡ self.old }
+    {
+        match &mut self.told {
+            Told::Plain(Plain::Body(bytes)) => own(bytes, alloc),
+            Told::Plain(Plain::Raw(bytes)) => own(bytes, alloc),
+            _ => Ok(()),
         }
     }
 
