@@ -14,3 +14,5 @@ pub mod WaitsOn
 pub mod Ends
 pub mod NoLines
 pub mod NoValues
+pub mod FieldBlocks
+pub mod Behind

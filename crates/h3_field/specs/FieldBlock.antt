@@ -1,5 +1,5 @@
 -- Fields whose names and values lie in one row of bytes.
-use Rattle.std.specs.Prelude.{◌≡◌, ℕ, ◌×◌, ◌-◌, ◌≤◌, List, [], ◌∷◌, ◌++◌, map, take, drop, length}
+use Rattle.std.specs.Prelude.{◌≡◌, ℕ, ◌+◌, ◌-◌, ◌≤◌, List, [], ◌∷◌, ◌++◌, map, take, drop, length}
 use Rattle.std.specs.List.{All}
 use Rattle.h3_field.specs.Field.{Field}
 use Rattle.h3_field.specs.declared.field_block.FieldPlace.{FieldPlace}
@@ -27,3 +27,9 @@ LiesIn count p = (p.start ≤ p.middle) × (p.middle ≤ p.end) × (p.end ≤ co
 pub record IsBlock (bytes : List ℕ) (places : List FieldPlace) : Type 0 where
   pub within : All (LiesIn (length bytes)) places
   pub whole : end_to_end (fields_at bytes places) ≡ bytes
+
+-- where the next field lies: behind the bytes
+pub record IsNext (bytes name value : List ℕ) (p : FieldPlace) : Type 0 where
+  pub start : p.start ≡ length bytes
+  pub middle : p.middle ≡ length bytes + length name
+  pub end : p.end ≡ length bytes + length name + length value

@@ -47,6 +47,8 @@ pub mod IntegerWritingLaws
 pub mod FieldForm
 pub mod FieldBlock
 pub mod FieldRow
+pub mod OntoAnswer
+pub mod OntoLaws
 pub mod FieldLaws
 pub mod ShorterLaws
 pub mod Room

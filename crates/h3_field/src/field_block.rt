@@ -1,8 +1,13 @@
 //! Fields in one block of memory, which serves again: their names and values lie end to end.
-ghost use Rattle.std.specs.Prelude.{◌≡◌, ◌++◌, ◌+◌, ◌∷◌, [], length, OnOk, OnErr, IfOk};
+ghost use Rattle.std.specs.Prelude.{◌≡◌, ◌++◌, ◌+◌, ◌<◌, ◌∷◌, [], length, OnOk, OnErr, IfOk};
+ghost use Rattle.h3_field.specs.Ends.{IsEndOf};
+ghost use Rattle.h3_field.specs.OntoAnswer.{AnswersField, PushesField, PutsField, IsRefusedString};
+ghost use Rattle.h3_field.specs.StringReading.{string};
 
+use crate::cursor::SliceCursor;
 use crate::field::HeaderField;
 use crate::fields::Fields;
+use crate::prefix_string::{self, Payload, take_payload};
 use std::alloc::{AllocError, Global};
 use std::marker::Model;
 
@@ -82,20 +87,61 @@ impl FieldBlock {
         ensures err { OnErr result (self.new ≡ self.old) }
     {
         let start = self.bytes.len();
-        let (middle, end) = match put_two(&mut self.bytes, name, value) {
-            Ok(ends) => ends,
+        let place = match put_two(&mut self.bytes, name, value) {
+            Ok(place) => place,
             Err(e) => return Err(e),
         };
-        if let Err(_) = self.places.push(FieldPlace { start, middle, end }) {
+        if let Err(_) = self.places.push(place) {
             self.bytes.truncate(start);
             return Err(AllocError);
         }
         Ok(())
     }
 
-    /// The fields, each with bytes of its own.
+    /// Takes a string from the front, and adds the field of a copied name and of the string, which takes no memory of its own. A refused
+    /// read takes nothing, and adds nothing.
+    pub fn push_value_read(
+        &mut self,
+        name: &[u8],
+        buf: &mut SliceCursor<'_>,
+    ) -> Result<(), prefix_string::Error>
+        ensures answer { AnswersField name.now (string 8 buf.old) buf.old buf.new self.old self.new result }
+        ensures rest { IsEndOf buf.old buf.new }
+    {
+        let mut ahead = SliceCursor::new(buf.chunk());
+        let payload = match take_payload(8, &mut ahead) {
+            Ok((_, payload)) => payload,
+            Err(e) => return Err(prefix_string::Error::from(e)),
+        };
+        match self.push_payload(name, &payload) {
+            Ok(()) => {
+                *buf = ahead;
+                Ok(())
+            }
+            Err(e) => Err(e),
+        }
+    }
+
+    // Adds the field of a copied name and of the string of a payload. A refusal adds nothing.
+    fn push_payload(&mut self, name: &[u8], value: &Payload<'_>) -> Result<(), prefix_string::Error>
+        ensures { PushesField name.now value.now self.old self.new result }
+    {
+        let start = self.bytes.len();
+        let place = match put_payload(&mut self.bytes, name, value) {
+            Ok(place) => place,
+            Err(e) => return Err(e),
+        };
+        if let Err(_) = self.places.push(place) {
+            self.bytes.truncate(start);
+            return Err(prefix_string::Error::OutOfMemory);
+        }
+        Ok(())
+    }
+
+    /// The fields, each with bytes of its own. No fields take no memory.
     pub fn to_fields(&self, alloc: Global) -> Result<Vec<HeaderField>, AllocError>
-        ensures { IfOk result (λ fields. fields.items ≡ self.now) }
+        ensures ok { IfOk result (λ fields. fields.items ≡ self.now) }
+        ensures err { OnErr result (0 < length self.now) }
     {
         let fields = self.fields();
         let mut list = Vec::with_capacity(alloc, fields.len())?;
@@ -107,9 +153,12 @@ impl FieldBlock {
     }
 }
 
-// Appends both, and answers where each ends. A refusal appends nothing.
-fn put_two(bytes: &mut Vec<u8>, name: &[u8], value: &[u8]) -> Result<(usize, usize), AllocError>
-    ensures ok { IfOk result (λ ends. (bytes.new.items ≡ bytes.old.items ++ name.now ++ value.now) × (ends.0 ≡ length bytes.old.items + length name.now) × (ends.1 ≡ length bytes.new.items)) }
+/// Appends both, and answers where they lie. A refusal appends nothing.
+fn put_two(bytes: &mut Vec<u8>, name: &[u8], value: &[u8]) -> Result<FieldPlace, AllocError>
+    ensures ok { OnOk result (bytes.new.items ≡ bytes.old.items ++ name.now ++ value.now) }
+    ensures start { IfOk result (λ place. place.start ≡ length bytes.old.items) }
+    ensures middle { IfOk result (λ place. place.middle ≡ length bytes.old.items + length name.now) }
+    ensures end { IfOk result (λ place. place.end ≡ length bytes.old.items + length name.now + length value.now) }
     ensures err { OnErr result (bytes.new.items ≡ bytes.old.items) }
 {
     let start = bytes.len();
@@ -119,5 +168,37 @@ fn put_two(bytes: &mut Vec<u8>, name: &[u8], value: &[u8]) -> Result<(usize, usi
         bytes.truncate(start);
         return Err(e);
     }
-    Ok((middle, bytes.len()))
+    let end = bytes.len();
+    Ok(FieldPlace { start, middle, end })
+}
+
+/// Why the string of a payload is refused, where there is no memory for what stands before it.
+fn refusal_of(value: &Payload<'_>) -> prefix_string::Error
+    ensures { IsRefusedString value.now result }
+{
+    if value.is_string() {
+        return prefix_string::Error::OutOfMemory;
+    }
+    prefix_string::Error::HuffmanDecoding
+}
+
+/// Appends a name and the string of a payload, and answers where they lie. A refusal appends nothing.
+fn put_payload(
+    bytes: &mut Vec<u8>,
+    name: &[u8],
+    value: &Payload<'_>,
+) -> Result<FieldPlace, prefix_string::Error>
+    ensures { PutsField name.now value.now bytes.old.items bytes.new.items result }
+{
+    let start = bytes.len();
+    if bytes.extend_from_slice(name).is_err() {
+        return Err(refusal_of(value));
+    }
+    let middle = bytes.len();
+    if let Err(e) = value.append_to(bytes) {
+        bytes.truncate(start);
+        return Err(e);
+    }
+    let end = bytes.len();
+    Ok(FieldPlace { start, middle, end })
 }

@@ -105,14 +105,27 @@ impl<'a> Fields<'a> {
         ensures { slice_get self.now place ≡ Some result }
     {
         match self.row {
-            Row::List(fields) => {
-                let field = &fields[place];
-                FieldRef::new(field.name(), field.value())
-            }
-            Row::Block(places, bytes) => {
-                let at = places[place];
-                FieldRef::new(&bytes[at.start..at.middle], &bytes[at.middle..at.end])
-            }
+            Row::List(fields) => listed(fields, place),
+            Row::Block(places, bytes) => placed(places, bytes, place),
         }
     }
+}
+
+// The field at a place of a list.
+fn listed<'a>(fields: &'a [HeaderField], place: usize) -> FieldRef<'a>
+    requires { place < length fields.now }
+    ensures { slice_get fields.now place ≡ Some result }
+{
+    let field = &fields[place];
+    FieldRef::new(field.name(), field.value())
+}
+
+// The field at a place of a block.
+fn placed<'a>(places: &'a [FieldPlace], bytes: &'a [u8], place: usize) -> FieldRef<'a>
+    requires block { IsBlock bytes.now places.now }
+    requires place { place < length places.now }
+    ensures { slice_get (fields_at bytes.now places.now) place ≡ Some result }
+{
+    let at = places[place];
+    FieldRef::new(&bytes[at.start..at.middle], &bytes[at.middle..at.end])
 }

@@ -156,6 +156,7 @@ pub fn put(size: u8, flags: u8, value: u64, buf: &mut Vec<u8>)
 
 /// Appends the shortest encoding of `value` in the low `size` bits of a byte below `flags`. A refusal
 /// appends nothing.
+#[inline(always)]
 pub fn encode(size: u8, flags: u8, value: u64, buf: &mut Vec<u8>) -> Result<(), AllocError>
     requires least { 1 ≤ size }
     requires most { size ≤ 8 }

@@ -11,6 +11,7 @@ ghost use Rattle.h3_field.specs.Field.{Field};
 ghost use Rattle.h3_field.specs.ShapeAnswer.{AtInteger, AtString, behind};
 ghost use Rattle.h3_field.specs.IntegerReading.{integer};
 ghost use Rattle.h3_field.specs.Shapes.{begins};
+ghost use Rattle.h3_field.specs.OntoAnswer.{AnswersIndex, name_ref_of};
 ghost use Rattle.h3_field.specs.LineReading.{named, post_base_named, literal};
 ghost use Rattle.h3_field.specs.LineAnswer.{AnswersLine, IsWritable, named_line, short_named_line, post_base_named_line, literal_line};
 ghost use Rattle.h3_field.specs.declared.parse_error.ParseError.TheVariants.{InvalidPrefix};
@@ -20,6 +21,7 @@ ghost use Rattle.h3_field.specs.declared.block.literal.LiteralWithNameRef.TheVar
 use crate::cursor::SliceCursor;
 use crate::field::HeaderField;
 use crate::parse_error::ParseError;
+use crate::prefix_int;
 use crate::prefix_string::{self, ShortString};
 use crate::shapes::{
     other_first, put_index_and_string, put_two_strings, take_index_and_short,
@@ -99,6 +101,22 @@ impl LiteralWithNameRef {
             }
             Err(e) => Err(e),
         }
+    }
+
+    /// Takes the head of the line from the front: the name that it refers to. The string of its value is left, for
+    /// `FieldBlock::push_value_read`. A refused read takes nothing.
+    pub fn decode_index(buf: &mut SliceCursor<'_>) -> Result<NameRef, ParseError>
+        ensures answer { AnswersIndex name_ref_of (integer 4 buf.old) buf.old buf.new result }
+        ensures rest { IsEndOf buf.old buf.new }
+    {
+        let (flags, index) = match prefix_int::decode(4, buf) {
+            Ok(found) => found,
+            Err(e) => return Err(ParseError::Integer(e)),
+        };
+        if flags % 2 == 1 {
+            return Ok(NameRef::Static(index as usize));
+        }
+        Ok(NameRef::Dynamic(index as usize))
     }
 
     /// Takes the line from the front, and reads its value into `value`, with no memory. None: the value may be long, or the read is
@@ -216,6 +234,18 @@ impl LiteralWithPostBaseNameRef {
                 value: parts.value,
             }),
             Err(e) => Err(e),
+        }
+    }
+
+    /// Takes the head of the line from the front: the post-base index of its name. The string of its value is left, for
+    /// `FieldBlock::push_value_read`. A refused read takes nothing.
+    pub fn decode_index(buf: &mut SliceCursor<'_>) -> Result<usize, ParseError>
+        ensures answer { AnswersIndex (λ head. head.1) (integer 3 buf.old) buf.old buf.new result }
+        ensures rest { IsEndOf buf.old buf.new }
+    {
+        match prefix_int::decode(3, buf) {
+            Ok((_, index)) => Ok(index as usize),
+            Err(e) => Err(ParseError::Integer(e)),
         }
     }
 

@@ -1,6 +1,6 @@
 //! String literals (RFC 9204, section 4.1.2; RFC 7541, section 5.2): as they stand or Huffman coded, behind
 //! their length.
-ghost use Rattle.std.specs.Prelude.{◌≡◌, ◌+◌, ◌*◌, ◌-◌, ◌^◌, ◌<◌, ◌≤◌, ◌++◌, OnOk, OnErr, Result, length, take, Some};
+ghost use Rattle.std.specs.Prelude.{◌≡◌, ◌+◌, ◌*◌, ◌-◌, ◌^◌, ◌<◌, ◌≤◌, ◌++◌, OnOk, OnErr, IfSome, Result, length, take, Some};
 ghost use Rattle.h3_field.specs.Ends.{IsEndOf};
 ghost use Rattle.h3_field.specs.ErrorTexts.{string_text};
 ghost use Rattle.std.specs.Result.{IsOkUnless};
@@ -164,6 +164,39 @@ fn put_empty(size: u8, flags: u8, value: &[u8], buf: &mut Vec<u8>) -> Result<(),
     prefix_int::encode(size - 1, 2 * flags + 1, value.len() as u64, buf)
 }
 
+/// Writes the length and the Huffman encoding of a short string to the front of `out`, and answers how many bytes they are. None: the
+/// length takes more than one byte.
+#[inline(always)]
+fn write_value(value: &[u8], out: &mut [u8]) -> Option<usize>
+    requires short { length value.now ≤ 63 }
+    requires room { 4 * length value.now + 5 ≤ length out.old }
+    ensures { IfSome result (λ count. (count ≤ length out.new) × (take count out.new ≡ string_literal 8 0 value.now)) }
+{
+    let len = h3_huffman::encode::encode_front(value, &mut out[1..]);
+    if len >= 127 {
+        return None;
+    }
+    out[0] = 128 + len as u8;
+    Some(len + 1)
+}
+
+/// Appends a short string with no flags. It is encoded where it stays. A refusal may leave a part of it.
+fn put_value(value: &[u8], buf: &mut Vec<u8>) -> Result<(), AllocError>
+    requires short { length value.now ≤ 63 }
+    ensures ok { OnOk result (buf.new.items ≡ buf.old.items ++ string_literal 8 0 value.now) }
+    ensures err { OnErr result (take (length buf.old.items) buf.new.items ≡ buf.old.items) }
+{
+    let start = buf.len();
+    // the length, at most four bytes of code for each, and what the encoder writes behind its last bits
+    buf.resize(start.saturating_add(4 * value.len() + 5), 0)?;
+    let Some(count) = write_value(value, &mut buf[start..]) else {
+        buf.truncate(start);
+        return put_long(8, 0, value, buf);
+    };
+    buf.truncate(start + count);
+    Ok(())
+}
+
 /// Appends the length and the Huffman encoding of a short string. A refusal may leave a part of them.
 fn put_short(size: u8, flags: u8, value: &[u8], buf: &mut Vec<u8>) -> Result<(), AllocError>
     requires least { 2 ≤ size }
@@ -173,6 +206,9 @@ fn put_short(size: u8, flags: u8, value: &[u8], buf: &mut Vec<u8>) -> Result<(),
     ensures ok { OnOk result (buf.new.items ≡ buf.old.items ++ string_literal size flags value.now) }
     ensures err { OnErr result (take (length buf.old.items) buf.new.items ≡ buf.old.items) }
 {
+    if size == 8 {
+        return put_value(value, buf);
+    }
     if value.len() <= VERY_SHORT {
         let mut room = [0u8; 4 * VERY_SHORT + 4];
         return put_by_way_of(&mut room, size, flags, value, buf);

@@ -5,6 +5,7 @@ ghost use Rattle.h3_field.specs.Room.{HasRoom};
 ghost use Rattle.h3_field.specs.StringReading.{string};
 ghost use Rattle.h3_field.specs.Values.{string_of};
 ghost use Rattle.h3_field.specs.StringAnswer.{AnswersPayload, AnswersBytes};
+ghost use Rattle.h3_field.specs.OntoAnswer.{AppendsString, IsRefusedString};
 
 use crate::cursor::SliceCursor;
 use crate::octets::are_bytes;
@@ -112,6 +113,21 @@ impl<'a> Payload<'a> {
         decode_payload(alloc, encoded, spare)
     }
 
+    /// Appends the string that it stands for. A refusal appends nothing.
+    pub(crate) fn append_to(&self, bytes: &mut Vec<u8>) -> Result<(), Error>
+        ensures { AppendsString self.now bytes.old.items bytes.new.items result }
+    {
+        let encoded = self.bytes;
+        are_bytes(encoded);
+        if self.is_huffman {
+            return append_decoded(encoded, bytes);
+        }
+        if bytes.extend_from_slice(encoded).is_err() {
+            return Err(Error::OutOfMemory);
+        }
+        Ok(())
+    }
+
     /// Whether it stands for a string. It asks for no memory.
     pub(crate) fn is_string(&self) -> bool
         ensures { result ≡ is_some (string_of self.now) }
@@ -144,4 +160,32 @@ pub(crate) fn decode_payload(alloc: Global, encoded: &[u8], spare: usize) -> Res
     };
     bytes.truncate(len);
     Ok(bytes)
+}
+
+/// Why the string of a Huffman encoding is refused for which there is no memory.
+fn refusal_of_encoded(encoded: &[u8]) -> Error
+    ensures { IsRefusedString (record { is_huffman = true; bytes = encoded.now }) result }
+{
+    if h3_huffman::decode::is_encoding(encoded) {
+        return Error::OutOfMemory;
+    }
+    Error::HuffmanDecoding
+}
+
+/// Appends the string of a Huffman encoding. A refusal appends nothing.
+fn append_decoded(encoded: &[u8], bytes: &mut Vec<u8>) -> Result<(), Error>
+    ensures { AppendsString (record { is_huffman = true; bytes = encoded.now }) bytes.old.items bytes.new.items result }
+{
+    let start = bytes.len();
+    // a code word has at least five bits, and the decoder writes two symbols at a time
+    let room = encoded.len() / 5 * 8 + 12;
+    if bytes.resize(start.saturating_add(room), 0).is_err() {
+        return Err(refusal_of_encoded(encoded));
+    }
+    let Some(len) = h3_huffman::decode::decode_into(encoded, &mut bytes[start..]) else {
+        bytes.truncate(start);
+        return Err(Error::HuffmanDecoding);
+    };
+    bytes.truncate(start + len);
+    Ok(())
 }
