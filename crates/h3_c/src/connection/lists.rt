@@ -24,6 +24,7 @@ impl Connection {
             return ARGUMENT;
         };
         if let Last::Listed(answer) = &mut self.last {
+            let_large_go(alloc, answer);
             self.endpoint.pull_block(id, answer);
             show_listed(answer, item);
             empty(&mut self.fields);
@@ -66,5 +67,12 @@ impl Connection {
         let told = fields_at_once(&fields, sizes, bytes);
         self.fields = Some(fields);
         told
+    }
+}
+
+// Memory that a large head took is given back before the next pull: a peer could make a handle keep it for good.
+fn let_large_go(alloc: Global, answer: &mut BlockPull) {
+    if answer.block().is_large() {
+        put(answer, BlockPull::new(alloc));
     }
 }

@@ -6,4 +6,4 @@ pub returns-then-not-is_short : goal.returns-then-not-is_short
 returns-then-not-is_short c = short_fails c.args.fields.now c.loop-place.place c.get.result _ (search rules) c.get.ensures (search rules) c.loop-place.invariant.same
 
 pub loop-place-preserved : goal.loop-place-preserved
-loop-place-preserved c = record { same = short_next c.args.fields.now c.loop-place.place c.get.result _ (search rules) c.get.ensures (search rules) c.loop-place.invariant.same; }
+loop-place-preserved c = record { same = short_next c.args.fields.now c.loop-place.place c.get.result _ (search rules) c.get.ensures (search rules) c.loop-place.invariant.same }
