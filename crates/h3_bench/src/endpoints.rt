@@ -8,7 +8,8 @@ use h3_coding::varint::VarInt;
 use h3_connection::event::DeliverError;
 use h3_connection::setup::Limits;
 use h3_field::HeaderField;
-use h3_incoming::{FieldsItem, FieldsPull};
+use h3_incoming::answer::{MessageKind, Plain};
+use h3_incoming::{BlockPull, Told};
 use h3_proto::config::Config;
 use h3_proto::stream::{Side, StreamId};
 use h3_session::endpoint::Endpoint;
@@ -93,22 +94,22 @@ fn done(is_done: bool) -> Result<(), Failure> {
 #[derive(Drop)]
 struct CameOut {
     report: Report,
-    answer: FieldsPull,
+    answer: BlockPull,
 }
 
 impl CameOut {
     /// Nothing came.
-    fn new() -> CameOut {
+    fn new(alloc: Global) -> CameOut {
         CameOut {
             report: Report::new(),
-            answer: FieldsPull::Pending,
+            answer: BlockPull::new(alloc),
         }
     }
 
     /// Reads what came on a stream, until a pause or its end.
     fn pull_all(&mut self, to: &mut Endpoint, id: StreamId) {
         for _ in 0..u32::MAX {
-            to.pull_fields_into(id, &mut self.answer);
+            to.pull_block(id, &mut self.answer);
             if !count(&self.answer, &mut self.report) {
                 return;
             }
@@ -117,17 +118,17 @@ impl CameOut {
 }
 
 /// Counts what came out, and says whether to pull again at once. A fault comes out as counts that are too small.
-fn count(answer: &FieldsPull, report: &mut Report) -> bool {
-    match answer {
-        FieldsPull::Item(FieldsItem::Head(head)) => {
-            report.add(head.fields().len(), 0);
+fn count(answer: &BlockPull, report: &mut Report) -> bool {
+    match answer.told() {
+        Told::Message(MessageKind::Head, _) => {
+            report.add(answer.block().len(), 0);
             true
         }
-        FieldsPull::Item(FieldsItem::Body(piece)) => {
+        Told::Plain(Plain::Body(piece)) => {
             report.add(0, piece.len());
             true
         }
-        FieldsPull::Item(FieldsItem::End) => {
+        Told::Plain(Plain::End) => {
             report.checksum = report.checksum.wrapping_add(1);
             false
         }
@@ -294,7 +295,7 @@ fn delivered(tried: Result<(), DeliverError>) -> Result<(), Failure> {
 fn connections(rounds: u64, exchanges: &Exchanges<'_>) -> Result<Report, Failure> {
     let mut report = Report::new();
     for _ in 0..rounds {
-        let mut came = CameOut::new();
+        let mut came = CameOut::new(exchanges.alloc);
         exchanges.connect(&mut came)?;
         report = came.report;
     }

@@ -5,3 +5,4 @@ pub mod Making
 pub mod NextIds
 pub mod Values
 pub mod RowLaws
+pub mod Listed
