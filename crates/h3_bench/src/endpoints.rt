@@ -1,12 +1,15 @@
 //! Connections of two endpoints, with no C between: requests are sent some at a time, carried piece by piece, read and answered.
 
-use crate::header::headers;
+use crate::header::fields_of;
+use crate::input;
 use crate::report::{Failure, Report, answer};
 use bytes::Bytes;
 use h3_coding::varint::VarInt;
-use h3_connection::event::{DeliverError, Item, Pull};
+use h3_connection::event::DeliverError;
 use h3_connection::setup::Limits;
-use h3_header::Header;
+use h3_field::HeaderField;
+use h3_incoming::answer::{MessageKind, Plain};
+use h3_incoming::{BlockPull, Told};
 use h3_proto::config::Config;
 use h3_proto::stream::{Side, StreamId};
 use h3_session::endpoint::Endpoint;
@@ -20,10 +23,29 @@ struct Shape {
     under_way: usize,
 }
 
-/// What an end sends on each stream: one of its headers, in turn, and the body.
+/// The fields of a head.
+#[derive(Drop)]
+struct Head {
+    fields: Vec<HeaderField>,
+}
+
+/// The heads of sections.
+fn heads(alloc: Global, bytes: &[u8]) -> Result<Vec<Head>, Failure> {
+    let sections = input::strings(alloc, bytes)?;
+    let mut heads = Vec::new(alloc);
+    for section in &sections {
+        let fields = fields_of(alloc, *section)?;
+        if heads.push(Head { fields }).is_err() {
+            return Err(Failure::Memory);
+        }
+    }
+    Ok(heads)
+}
+
+/// What an end sends on each stream: one of its heads, in turn, and the body.
 #[derive(Drop)]
 struct Messages {
-    headers: Vec<Header>,
+    heads: Vec<Head>,
     body: Bytes,
 }
 
@@ -33,18 +55,19 @@ impl Messages {
         let Ok(body) = Bytes::copy_from_slice(alloc, body) else {
             return Err(Failure::Memory);
         };
-        let headers = headers(alloc, sections)?;
-        Ok(Messages { headers, body })
+        let heads = heads(alloc, sections)?;
+        Ok(Messages { heads, body })
     }
 
     /// Sends a whole message. Its body is the same bytes each time.
     fn send(&self, from: &mut Endpoint, id: StreamId) -> Result<(), Failure> {
         let number = (id.into_inner() / 4) as usize;
-        let count = self.headers.len();
+        let count = self.heads.len();
         if count == 0 {
             return Err(Failure::Input);
         }
-        done(from.send_head(id, &self.headers[number % count]).is_ok())?;
+        let head = &self.heads[number % count];
+        done(from.send_fields(id, head.fields.as_slice()).is_ok())?;
         if !self.body.is_empty() {
             self.send_body(from, id)?;
         }
@@ -67,6 +90,52 @@ fn done(is_done: bool) -> Result<(), Failure> {
     }
 }
 
+/// What came out at both ends of a connection, counted, and the answer of the last pull, in whose place the next one is written.
+#[derive(Drop)]
+struct CameOut {
+    report: Report,
+    answer: BlockPull,
+}
+
+impl CameOut {
+    /// Nothing came.
+    fn new(alloc: Global) -> CameOut {
+        CameOut {
+            report: Report::new(),
+            answer: BlockPull::new(alloc),
+        }
+    }
+
+    /// Reads what came on a stream, until a pause or its end.
+    fn pull_all(&mut self, to: &mut Endpoint, id: StreamId) {
+        for _ in 0..u32::MAX {
+            to.pull_block(id, &mut self.answer);
+            if !count(&self.answer, &mut self.report) {
+                return;
+            }
+        }
+    }
+}
+
+/// Counts what came out, and says whether to pull again at once. A fault comes out as counts that are too small.
+fn count(answer: &BlockPull, report: &mut Report) -> bool {
+    match answer.told() {
+        Told::Message(MessageKind::Head, _) => {
+            report.add(answer.block().len(), 0);
+            true
+        }
+        Told::Plain(Plain::Body(piece)) => {
+            report.add(0, piece.len());
+            true
+        }
+        Told::Plain(Plain::End) => {
+            report.checksum = report.checksum.wrapping_add(1);
+            false
+        }
+        _ => false,
+    }
+}
+
 /// What goes on between both ends.
 #[derive(Copy, Clone)]
 struct Exchanges<'a> {
@@ -78,10 +147,10 @@ struct Exchanges<'a> {
 
 impl Exchanges<'_> {
     /// A connection, from its making to its end.
-    fn connect(&self, report: &mut Report) -> Result<(), Failure> {
+    fn connect(&self, came: &mut CameOut) -> Result<(), Failure> {
         match endpoint(self.alloc, Side::Client, self.shape.limits) {
             Ok(mut client) => {
-                let done = self.with_server(&mut client, report);
+                let done = self.with_server(&mut client, came);
                 client.free();
                 done
             }
@@ -89,10 +158,10 @@ impl Exchanges<'_> {
         }
     }
 
-    fn with_server(&self, client: &mut Endpoint, report: &mut Report) -> Result<(), Failure> {
+    fn with_server(&self, client: &mut Endpoint, came: &mut CameOut) -> Result<(), Failure> {
         match endpoint(self.alloc, Side::Server, self.shape.limits) {
             Ok(mut server) => {
-                let done = self.talk(client, &mut server, report);
+                let done = self.talk(client, &mut server, came);
                 server.free();
                 done
             }
@@ -104,13 +173,13 @@ impl Exchanges<'_> {
         &self,
         client: &mut Endpoint,
         server: &mut Endpoint,
-        report: &mut Report,
+        came: &mut CameOut,
     ) -> Result<(), Failure> {
         self.carry_own(client, server)?;
         let mut streams = Vec::new(self.alloc);
         for _ in 0..self.shape.batches {
             self.request(client, &mut streams)?;
-            self.exchange(client, server, &streams, report)?;
+            self.exchange(client, server, &streams, came)?;
             streams.clear();
         }
         Ok(())
@@ -136,15 +205,15 @@ impl Exchanges<'_> {
         client: &mut Endpoint,
         server: &mut Endpoint,
         streams: &[StreamId],
-        report: &mut Report,
+        came: &mut CameOut,
     ) -> Result<(), Failure> {
         self.carry_own(client, server)?;
-        self.carry_all(client, server, streams, report)?;
+        self.carry_all(client, server, streams, came)?;
         for id in streams {
             self.responses.send(server, *id)?;
         }
         self.carry_own(client, server)?;
-        self.carry_all(server, client, streams, report)?;
+        self.carry_all(server, client, streams, came)?;
         self.carry_own(client, server)
     }
 
@@ -165,11 +234,11 @@ impl Exchanges<'_> {
         from: &mut Endpoint,
         to: &mut Endpoint,
         streams: &[StreamId],
-        report: &mut Report,
+        came: &mut CameOut,
     ) -> Result<(), Failure> {
         for id in streams {
             self.carry(from, to, *id)?;
-            pull_all(to, *id, report);
+            came.pull_all(to, *id);
         }
         Ok(())
     }
@@ -223,42 +292,12 @@ fn delivered(tried: Result<(), DeliverError>) -> Result<(), Failure> {
     done(is_done)
 }
 
-/// Reads what came on a stream, until a pause or its end.
-fn pull_all(to: &mut Endpoint, id: StreamId, report: &mut Report) {
-    for _ in 0..u32::MAX {
-        let pull = to.pull(id);
-        let goes_on = read(&pull, report);
-        drop(pull);
-        if !goes_on {
-            return;
-        }
-    }
-}
-
-/// Counts what came out, and says whether to pull again at once. A fault comes out as counts that are too small.
-fn read(pull: &Pull, report: &mut Report) -> bool {
-    match pull {
-        Pull::Item(Item::Head(head)) => {
-            report.add(head.len(), 0);
-            true
-        }
-        Pull::Item(Item::Body(piece)) => {
-            report.add(0, piece.len());
-            true
-        }
-        Pull::Item(Item::End) => {
-            report.checksum = report.checksum.wrapping_add(1);
-            false
-        }
-        _ => false,
-    }
-}
-
 fn connections(rounds: u64, exchanges: &Exchanges<'_>) -> Result<Report, Failure> {
     let mut report = Report::new();
     for _ in 0..rounds {
-        report = Report::new();
-        exchanges.connect(&mut report)?;
+        let mut came = CameOut::new(exchanges.alloc);
+        exchanges.connect(&mut came)?;
+        report = came.report;
     }
     Ok(report)
 }

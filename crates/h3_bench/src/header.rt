@@ -94,7 +94,7 @@ fn add_header(alloc: Global, section: &[u8], headers: &mut Vec<Header>) -> Resul
 }
 
 /// The headers of sections.
-pub(crate) fn headers(alloc: Global, bytes: &[u8]) -> Result<Vec<Header>, Failure> {
+fn headers(alloc: Global, bytes: &[u8]) -> Result<Vec<Header>, Failure> {
     let sections = input::strings(alloc, bytes)?;
     let mut headers = Vec::new(alloc);
     for section in &sections {

@@ -5,4 +5,4 @@ pub mod Making
 pub mod NextIds
 pub mod Values
 pub mod RowLaws
-pub mod ListLens
+pub mod Listed

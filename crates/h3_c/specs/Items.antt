@@ -1,5 +1,5 @@
 -- What C gets of the item that was pulled last.
-use Rattle.std.specs.Prelude.{◌≡◌, ℕ, ◌-◌, ◌^◌, Bool, true, false, List, [], length, min, unwrap_or, is_some, Option, Some, None}
+use Rattle.std.specs.Prelude.{◌≡◌, ℕ, ◌-◌, ◌^◌, List, [], length, min, unwrap_or, Option, Some, None}
 use Rattle.h3_field.specs.Field.{Field}
 use Rattle.h3_header.specs.Head.{Head, head_fields}
 use Rattle.h3_connection.specs.declared.event.Fault.TheVariants as fault
@@ -110,16 +110,7 @@ abbrev pub last_bytes : Last → List ℕ
 last_bytes (last.Pulled p) = bytes_of p
 last_bytes (last.Listed p) = bytes_of (pull_of p)
 
--- whether it keeps a list
-abbrev pub has_list : Last → Bool
-has_list (last.Pulled p) = false
-has_list (last.Listed p) = is_some (list_of p)
-
 -- what is kept for later is these fields
 abbrev pub AreFields : Option (List Field) → Last → Type 0
 AreFields None last = Unit {0}
 AreFields (Some fields) last = fields ≡ last_fields last
-
--- so many bytes the names and values of the list have that it keeps
-abbrev pub IsListLen : ℕ → Last → Type 0
-IsListLen len last = has_list last ≡ true → len ≡ row_len (last_fields last)

@@ -9,7 +9,7 @@ use crate::last::Last;
 use crate::numbers::{ARGUMENT, MEMORY, Told, unmade};
 use crate::owned::boxed;
 use h3_connection::event::Pull;
-use h3_field::HeaderField;
+use h3_field::{FieldBlock, HeaderField};
 use h3_proto::frame::RESERVED_NUMBERS;
 use h3_session::endpoint::Endpoint;
 use std::alloc::Global;
@@ -30,24 +30,22 @@ mod showing;
 pub struct Connection {
     endpoint: Endpoint,
     last: Last,
-    // the fields of the head or trailer that was pulled, once they were asked for
-    fields: Option<Vec<HeaderField>>,
-    // how many bytes the names and values of the list have that was pulled
-    list_len: usize,
+    // the fields of the header that was pulled, once they were asked for
+    fields: Option<FieldBlock>,
     // memory for the list that is sent: no field is in it between two calls
     spare: Vec<HeaderField>,
 }
 
 impl Model for Connection {
     ghost use Rattle.h3_c.specs.Seen.{Seen};
-    ghost use Rattle.h3_c.specs.Items.{AreFields, IsListLen};
-    ghost use Rattle.std.specs.Prelude.{◌≡◌, [], option_map};
+    ghost use Rattle.h3_c.specs.Items.{AreFields};
+    ghost use Rattle.std.specs.Prelude.{◌≡◌, []};
 
     ghost Value = { Seen };
 
     ghost view = { λ c. record { endpoint = c.endpoint; last = c.last } };
 
-    ghost invariant = { λ c. AreFields (option_map (λ f. f.items) c.fields) c.last × IsListLen c.list_len c.last × (c.spare.items ≡ []) };
+    ghost invariant = { λ c. AreFields c.fields c.last × (c.spare.items ≡ []) };
 }
 
 impl Connection {
@@ -59,7 +57,6 @@ impl Connection {
             endpoint,
             last: Last::Pulled(Pull::Pending),
             fields: None,
-            list_len: 0,
             spare: Vec::new(alloc),
         }
     }

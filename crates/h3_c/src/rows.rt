@@ -1,52 +1,46 @@
 //! All fields of a head or trailer, as C gets them at once: their sizes, and their names and values one behind another.
-ghost use Rattle.std.specs.Prelude.{◌≡◌, ◌+◌, ◌<◌, ◌≤◌, ◌^◌, ◌++◌, true, length, take, drop};
+ghost use Rattle.std.specs.Prelude.{◌≡◌, ◌≤◌, ◌++◌, true, length, drop, IfOk};
 ghost use Rattle.std.specs.List.{list_all};
 ghost use Rattle.h3_c.specs.Exported.{GivesFields};
-ghost use Rattle.h3_c.specs.Rows.{is_short, row_len, row_of, size_of, sizes_of};
+ghost use Rattle.h3_c.specs.Rows.{is_short, row_len, size_of, sizes_of};
 
 use crate::fields::FieldSize;
 use crate::numbers::{OK, ROOM, Told};
-use h3_field::HeaderField;
+use h3_field::{FieldBlock, FieldRef, Fields, HeaderField};
+use std::alloc::{AllocError, Global};
 
-/// Hands out all fields, whose names and values have `len` bytes, if there is room for all of them.
-pub(crate) fn fields_at_once(
-    fields: &[HeaderField],
-    len: usize,
-    sizes: &mut [FieldSize],
-    bytes: &mut [u8],
-) -> Told
-    requires { len ≡ row_len fields.now }
-    ensures { GivesFields fields.now result sizes.old sizes.new bytes.old bytes.new }
+/// Hands out all fields, if there is room for all of them.
+#[tactic(auto, using(crate::proofs::RowLaws::row_is_end_to_end))]
+pub(crate) fn fields_at_once(block: &FieldBlock, sizes: &mut [FieldSize], bytes: &mut [u8]) -> Told
+    ensures { GivesFields block.now result sizes.old sizes.new bytes.old bytes.new }
 {
+    let fields = block.fields();
+    let len = bytes_in(block);
     if fields.len() > sizes.len() {
         return ROOM;
     }
     if len > bytes.len() {
         return ROOM;
     }
-    if !are_short_within(fields, bytes.len()) {
+    if !are_short_within(&fields, len) {
         return ROOM;
     }
-    put_fields(fields, sizes, bytes);
+    put_sizes(&fields, sizes);
+    put_row(block.bytes(), bytes);
     OK
 }
 
-/// How many bytes all names and values have, at most the greatest `usize`.
-pub(crate) fn bytes_in(fields: &[HeaderField]) -> usize
-    ensures { result ≡ row_len fields.now }
+/// How many bytes all names and values have.
+#[tactic(auto, using(crate::proofs::RowLaws::row_len_is))]
+pub(crate) fn bytes_in(block: &FieldBlock) -> usize
+    ensures { result ≡ row_len block.now }
 {
-    let mut len = 0usize;
-    'fields: for field in fields {
-        len = len
-            .saturating_add(field.name().len())
-            .saturating_add(field.value().len());
-    }
-    len
+    block.bytes().len()
 }
 
-// The same, where all names and values have so many bytes at most: no field is looked at where these are a number of 32 bits.
+// Whether each size is a number of 32 bits, where all names and values have so many bytes: no field is looked at where these are one.
 #[tactic(auto, using(crate::proofs::RowLaws::short_within))]
-fn are_short_within(fields: &[HeaderField], len: usize) -> bool
+fn are_short_within(fields: &Fields<'_>, len: usize) -> bool
     requires { row_len fields.now ≤ len }
     ensures { result ≡ list_all is_short fields.now }
 {
@@ -54,64 +48,61 @@ fn are_short_within(fields: &[HeaderField], len: usize) -> bool
 }
 
 // Whether each size is a number of 32 bits.
-fn are_short(fields: &[HeaderField]) -> bool
+fn are_short(fields: &Fields<'_>) -> bool
     ensures { result ≡ list_all is_short fields.now }
 {
-    fields.iter().all(|field| is_short(field))
+    for place in 0..fields.len() {
+        if !is_short(&fields.get(place)) {
+            return false;
+        }
+    }
+    true
 }
 
-fn is_short(field: &HeaderField) -> bool
+fn is_short(field: &FieldRef<'_>) -> bool
     ensures { result ≡ is_short field.now }
 {
     field.name().len() < 1 << 32 && field.value().len() < 1 << 32
 }
 
-// Writes all fields.
-fn put_fields(fields: &[HeaderField], sizes: &mut [FieldSize], bytes: &mut [u8])
+// Writes the sizes of all fields.
+fn put_sizes(fields: &Fields<'_>, sizes: &mut [FieldSize])
     requires count { length fields.now ≤ length sizes.old }
-    requires room { length (row_of fields.now) ≤ length bytes.old }
     requires short { list_all is_short fields.now ≡ true }
-    ensures sizes { sizes.new ≡ sizes_of fields.now ++ drop (length fields.now) sizes.old }
-    ensures bytes { bytes.new ≡ row_of fields.now ++ drop (length (row_of fields.now)) bytes.old }
+    ensures { sizes.new ≡ sizes_of fields.now ++ drop (length fields.now) sizes.old }
 {
-    let mut at = 0usize;
-    for index in 0..fields.len() {
-        let field = &fields[index];
-        let name = field.name();
-        let value = field.value();
-        sizes[index] = size_of(name, value);
-        at = put_field(name, value, at, bytes);
+    for place in 0..fields.len() {
+        sizes[place] = size_of(&fields.get(place));
     }
 }
 
 // The size of a field, whose numbers have 32 bits.
-fn size_of(name: &[u8], value: &[u8]) -> FieldSize
-    requires { is_short (record { name = name.now; value = value.now }) ≡ true }
-    ensures { result ≡ size_of (record { name = name.now; value = value.now }) }
+fn size_of(field: &FieldRef<'_>) -> FieldSize
+    requires { is_short field.now ≡ true }
+    ensures { result ≡ size_of field.now }
 {
     FieldSize {
-        name: name.len() as u32,
-        value: value.len() as u32,
+        name: field.name().len() as u32,
+        value: field.value().len() as u32,
     }
 }
 
-// Writes a name and its value from a place on, and answers the place behind them.
-fn put_field(name: &[u8], value: &[u8], at: usize, bytes: &mut [u8]) -> usize
-    requires { at + (length name.now + length value.now) ≤ length bytes.old }
-    ensures place { result ≡ at + (length name.now + length value.now) }
-    ensures front { bytes.new ≡ take at bytes.old ++ (name.now ++ (value.now ++ drop (at + (length name.now + length value.now)) bytes.old)) }
+// Copies all names and values to the front of a buffer.
+fn put_row(row: &[u8], bytes: &mut [u8])
+    requires { length row.now ≤ length bytes.old }
+    ensures { bytes.new ≡ row.now ++ drop (length row.now) bytes.old }
 {
-    let behind_name = put_at(name, at, bytes);
-    put_at(value, behind_name, bytes)
+    bytes[..row.len()].copy_from_slice(row);
 }
 
-// Copies bytes into a buffer from a place on, and answers the place behind them.
-fn put_at(bytes: &[u8], at: usize, out: &mut [u8]) -> usize
-    requires { at + length bytes.now ≤ length out.old }
-    ensures place { result ≡ at + length bytes.now }
-    ensures front { out.new ≡ take at out.old ++ (bytes.now ++ drop (at + length bytes.now) out.old) }
+/// A block with copies of fields.
+pub(crate) fn block_of(alloc: Global, list: &[HeaderField]) -> Result<FieldBlock, AllocError>
+    ensures { IfOk result (λ block. block ≡ list.now) }
 {
-    let behind = at + bytes.len();
-    out[at..behind].copy_from_slice(bytes);
-    behind
+    let mut block = FieldBlock::new(alloc);
+    for at in 0..list.len() {
+        let field = &list[at];
+        block.push(field.name(), field.value())?;
+    }
+    Ok(block)
 }

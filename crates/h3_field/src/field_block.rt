@@ -11,6 +11,12 @@ use crate::prefix_string::{self, Payload, take_payload};
 use std::alloc::{AllocError, Global};
 use std::marker::Model;
 
+/// So many bytes of names and values are no large block.
+const MOST_BYTES: usize = 65536;
+
+/// Nor are so many fields, with three numbers for each.
+const MOST_PLACES: usize = 2730;
+
 /// Where the bytes of a field lie in its block: the name from `start` to `middle`, and the value from there to `end`.
 #[derive(Copy, Clone)]
 pub(crate) struct FieldPlace {
@@ -57,6 +63,11 @@ impl FieldBlock {
         ensures { result ≡ length self.now }
     {
         self.places.len()
+    }
+
+    /// Whether its memory is more than the usual section takes: above 64 KiB for either block.
+    pub fn is_large(&self) -> bool {
+        self.bytes.capacity() > MOST_BYTES || self.places.capacity() > MOST_PLACES
     }
 
     /// The fields.

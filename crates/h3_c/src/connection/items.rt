@@ -1,6 +1,6 @@
 //! What is pulled.
-ghost use Rattle.std.specs.Prelude.{◌≡◌, ◌≤◌, ◌^◌, false, IfOk, slice_get};
-ghost use Rattle.h3_c.specs.Items.{has_list, last_fields};
+ghost use Rattle.std.specs.Prelude.{◌≡◌, ◌≤◌, ◌^◌, IfOk, slice_get};
+ghost use Rattle.h3_c.specs.Items.{last_fields};
 ghost use Rattle.h3_c.specs.Exported.{GivesField, OnStream, Pulls, ReadsBytes, ReadsField, places};
 
 use super::Connection;
@@ -8,7 +8,7 @@ use crate::items::{PulledItem, shown};
 use crate::last::Last;
 use crate::numbers::{ARGUMENT, MEMORY, NONE, OK, ROOM, Told};
 use crate::owned::put;
-use h3_field::HeaderField;
+use h3_field::{FieldBlock, Fields};
 use h3_outgoing::outgoing::put_front;
 use h3_proto::stream::StreamId;
 use std::alloc::{AllocError, Global};
@@ -42,22 +42,21 @@ impl Connection {
         ensures same { self.new ≡ self.old }
         ensures field { ReadsField self.old index result (places name.old name_len.old value.old value_len.old) (places name.new name_len.new value.new value_len.new) }
     {
-        if let Some(list) = self.last.list() {
-            return field_at(list, index, name, name_len, value, value_len);
+        if let Last::Listed(answer) = &self.last {
+            return field_at(&answer.fields(), index, name, name_len, value, value_len);
         }
         let Ok(fields) = self.take_fields(alloc) else {
             return MEMORY;
         };
-        let told = field_at(fields.as_slice(), index, name, name_len, value, value_len);
+        let told = field_at(&fields.fields(), index, name, name_len, value, value_len);
         self.fields = Some(fields);
         told
     }
 
-    // The fields of what was pulled last, where it keeps no list: they are made once.
-    pub(super) fn take_fields(&mut self, alloc: Global) -> Result<Vec<HeaderField>, AllocError>
-        requires { has_list self.old.last ≡ false }
+    // The fields of a header that was pulled last: they are made once.
+    pub(super) fn take_fields(&mut self, alloc: Global) -> Result<FieldBlock, AllocError>
         ensures same { self.new ≡ self.old }
-        ensures fields { IfOk result (λ v. v.items ≡ last_fields self.old.last) }
+        ensures fields { IfOk result (λ fields. fields ≡ last_fields self.old.last) }
     {
         match self.fields.take() {
             Some(fields) => Ok(fields),
@@ -80,7 +79,7 @@ impl Connection {
 
 // Hands out a field: as much of its name and value as fits, and how long both are.
 fn field_at(
-    fields: &[HeaderField],
+    fields: &Fields<'_>,
     index: usize,
     name: &mut [u8],
     name_len: &mut usize,
@@ -89,9 +88,10 @@ fn field_at(
 ) -> Told
     ensures { GivesField (slice_get fields.now index) result (places name.old name_len.old value.old value_len.old) (places name.new name_len.new value.new value_len.new) }
 {
-    let Some(field) = fields.get(index) else {
+    if index >= fields.len() {
         return NONE;
-    };
+    }
+    let field = fields.get(index);
     let fits = field.name().len() <= name.len() && field.value().len() <= value.len();
     *name_len = field.name().len();
     *value_len = field.value().len();

@@ -10,7 +10,6 @@ use crate::last::Last;
 use crate::numbers::{ARGUMENT, MEMORY, OK, Told, delivered};
 use bytes::Bytes;
 use h3_connection::event::{Item, Pull};
-use h3_incoming::{FieldsItem, FieldsPull};
 use h3_proto::stream::StreamId;
 use h3_wire::buf::own;
 use std::alloc::{AllocError, Global};
@@ -53,8 +52,7 @@ fn own_item(alloc: Global, last: &mut Last) -> Result<(), AllocError>
     match last {
         Last::Pulled(Pull::Item(Item::Body(bytes))) => own(bytes, alloc),
         Last::Pulled(Pull::Item(Item::Raw(bytes))) => own(bytes, alloc),
-        Last::Listed(FieldsPull::Item(FieldsItem::Body(bytes))) => own(bytes, alloc),
-        Last::Listed(FieldsPull::Item(FieldsItem::Raw(bytes))) => own(bytes, alloc),
+        Last::Listed(answer) => answer.own(alloc),
         _ => Ok(()),
     }
 }

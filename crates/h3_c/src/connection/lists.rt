@@ -6,17 +6,17 @@ ghost use Rattle.h3_c.specs.Numbers.{ok};
 use super::Connection;
 use crate::fields::FieldSize;
 use crate::items::PulledItem;
-use crate::last::{Last, show_listed};
+use crate::last::{Last, block_told, show_listed};
 use crate::numbers::{ARGUMENT, MEMORY, OK, Told};
 use crate::owned::{empty, put};
-use crate::rows::{bytes_in, fields_at_once};
+use crate::rows::fields_at_once;
+use h3_incoming::BlockPull;
 use h3_proto::stream::StreamId;
 use std::alloc::Global;
 
 impl Connection {
     /// What comes next on a stream, its heads and trailers as lists: it takes the place of what was pulled before.
-    #[tactic(auto, using(crate::proofs::ListLens::shown_len))]
-    pub(crate) fn pull_fields(&mut self, id: u64, item: &mut PulledItem) -> Told
+    pub(crate) fn pull_fields(&mut self, alloc: Global, id: u64, item: &mut PulledItem) -> Told
         ensures pulls { OnStream id result self.old self.new (PullsFields id result self.old self.new item.new) }
         ensures unwritten { 2 ^ 62 ≤ id → item.new ≡ item.old }
     {
@@ -24,24 +24,23 @@ impl Connection {
             return ARGUMENT;
         };
         if let Last::Listed(answer) = &mut self.last {
-            self.endpoint.pull_fields_into(id, answer);
+            let_large_go(alloc, answer);
+            self.endpoint.pull_block(id, answer);
             show_listed(answer, item);
-            self.list_len = item.len;
             empty(&mut self.fields);
             return OK;
         }
-        self.pull_first_list(id, item);
+        self.pull_first_list(alloc, id, item);
         OK
     }
 
     // The same behind a pull of the other kind, whose answer is let go.
-    #[tactic(auto, using(crate::proofs::ListLens::shown_len))]
-    fn pull_first_list(&mut self, id: StreamId, item: &mut PulledItem)
+    fn pull_first_list(&mut self, alloc: Global, id: StreamId, item: &mut PulledItem)
         ensures { PullsFields id ok self.old self.new item.new }
     {
-        let answer = self.endpoint.pull_fields(id);
+        let mut answer = BlockPull::new(alloc);
+        self.endpoint.pull_block(id, &mut answer);
         show_listed(&answer, item);
-        self.list_len = item.len;
         put(&mut self.fields, None);
         put(&mut self.last, Last::Listed(answer));
     }
@@ -56,15 +55,24 @@ impl Connection {
         ensures same { self.new ≡ self.old }
         ensures fields { ReadsFields self.old result sizes.old sizes.new bytes.old bytes.new }
     {
-        if let Some(list) = self.last.list() {
-            return fields_at_once(list, self.list_len, sizes, bytes);
+        if let Last::Listed(answer) = &self.last {
+            return match block_told(answer) {
+                Some(fields) => fields_at_once(fields, sizes, bytes),
+                None => OK,
+            };
         }
         let Ok(fields) = self.take_fields(alloc) else {
             return MEMORY;
         };
-        let len = bytes_in(fields.as_slice());
-        let told = fields_at_once(fields.as_slice(), len, sizes, bytes);
+        let told = fields_at_once(&fields, sizes, bytes);
         self.fields = Some(fields);
         told
+    }
+}
+
+// Memory that a large head took is given back before the next pull: a peer could make a handle keep it for good.
+fn let_large_go(alloc: Global, answer: &mut BlockPull) {
+    if answer.block().is_large() {
+        put(answer, BlockPull::new(alloc));
     }
 }

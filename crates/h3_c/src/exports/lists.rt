@@ -23,7 +23,7 @@ pub extern "C" fn h3_raw_pull_fields(
     ensures unwritten { 2 ^ 62 ≤ id → item.new ≡ item.old }
 {
     let mut connection = opened(alloc, handle);
-    let told = connection.pull_fields(id, item);
+    let told = connection.pull_fields(alloc, id, item);
     *out = kept(connection);
     told.number
 }

@@ -17,7 +17,7 @@ use super::Endpoint;
 use super::heads::place_of;
 use h3_connection::event::{Malformation, Refusal};
 use h3_connection::place::SendPlace;
-use h3_field::HeaderField;
+use h3_field::{Fields, HeaderField};
 use h3_incoming::outline::{ListRead, Outline, read_list};
 use h3_proto::stream::{Side, StreamId};
 use std::alloc::Global;
@@ -134,7 +134,7 @@ fn judge_head(alloc: Global, side: Side, fields: &[HeaderField]) -> Result<SendP
     ensures err { IfErr result (λ e. e ≢ no_memory → head_list_error side (head_of fields.now) ≡ Some e) }
     ensures memory { IfErr result (λ e. e ≡ no_memory → 24576 < length fields.now) }
 {
-    let Ok(read) = read_list(alloc, fields) else {
+    let Ok(read) = read_list(alloc, &Fields::of(fields)) else {
         return Err(FieldsError::Refused(Refusal::OutOfMemory));
     };
     match read {
@@ -160,7 +160,7 @@ fn judge_trailer(alloc: Global, fields: &[HeaderField]) -> Result<(), FieldsErro
     ensures err { IfErr result (λ e. e ≢ no_memory → trailer_list_error (head_of fields.now) ≡ Some e) }
     ensures memory { IfErr result (λ e. e ≡ no_memory → 24576 < length fields.now) }
 {
-    let Ok(read) = read_list(alloc, fields) else {
+    let Ok(read) = read_list(alloc, &Fields::of(fields)) else {
         return Err(FieldsError::Refused(Refusal::OutOfMemory));
     };
     match read {
