@@ -19,11 +19,14 @@ pub(crate) struct Frame {
 /// Where the bytes of a frame lie.
 #[derive(Drop)]
 pub(crate) enum Form {
-    /// A HEADERS frame, in one block.
+    /// A HEADERS frame, in one piece.
     Headers(HeadersFrame),
     /// A DATA frame, whose payload is the body that was handed over.
     Data(MessageBuf<Bytes>),
 }
+
+// A short section takes no more room than a body does.
+const _: () = prove!(size_of::<Frame>() == 80);
 
 impl Model for Frame {
     ghost use Rattle.h3_wire.specs.Outgoing.{Outgoing};
@@ -80,6 +83,7 @@ impl Frame {
     }
 
     /// Copies what is left into a buffer from a place on, as much as fits, and answers the place behind it.
+    #[inline]
     pub(crate) fn put(&self, at: usize, out: &mut [u8]) -> usize
         requires { at ≤ length out.old }
         ensures { Puts (all_of self.now) at out.old result out.new }

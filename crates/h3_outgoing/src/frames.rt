@@ -70,6 +70,7 @@ impl WaitingFrames {
     }
 
     /// Makes room for one more frame, which `push` then takes. An `Err` comes only where there was none. No frame changes.
+    #[inline(always)]
     pub(crate) fn reserve(&mut self) -> Result<(), AllocError>
         ensures same { self.new.frames ≡ self.old.frames }
         ensures room { OnOk result (0 < self.new.room) }
@@ -82,6 +83,7 @@ impl WaitingFrames {
     }
 
     /// One frame more, behind the others. It takes no memory.
+    #[inline(always)]
     pub(crate) fn push(&mut self, frame: Frame)
         requires room { 0 < self.old.room }
         requires some { 0 < length (all_of frame) }
@@ -184,6 +186,8 @@ fn has_own_place(second: &Option<Frame>, later: &VecDeque<Frame>) -> bool
 
 /// Takes memory for one more frame in a queue, where it has none: for as many more as there are, or for four. A place that is taken stays
 /// until a frame is put in, so that this needs no memory then.
+#[cold]
+#[inline(never)]
 fn take_place(later: &mut VecDeque<Frame>) -> Result<(), AllocError>
     ensures same { later.new.items ≡ later.old.items }
     ensures len { deque_len later.new ≡ deque_len later.old }
@@ -210,6 +214,7 @@ fn put_one(frame: &Option<Frame>, at: usize, out: &mut [u8]) -> usize
 }
 
 /// The same of frames one behind the other.
+#[inline(never)]
 fn put_later(frames: &VecDeque<Frame>, at: usize, out: &mut [u8]) -> usize
     requires { at ≤ length out.old }
     ensures { Puts (bytes_of frames.now.items) at out.old result out.new }
@@ -250,6 +255,7 @@ fn take_of(place: &mut Option<Frame>, count: usize) -> usize
 }
 
 /// Takes the first bytes of a queue, over frames too.
+#[inline(never)]
 fn take_later(later: &mut VecDeque<Frame>, count: usize)
     requires some { All (λ f. 0 < length (all_of f)) later.old.items }
     requires within { count ≤ length (bytes_of later.old.items) }

@@ -1,10 +1,11 @@
-//! An encoded field section and its HEADERS frame, in one block.
-ghost use Rattle.std.specs.Prelude.{◌≡◌, ◌-◌, ◌<◌, ◌≤◌, ◌^◌, length, take, drop, IfNone, IfOk, IfSome};
+//! An encoded field section and its HEADERS frame, in one piece.
+ghost use Rattle.std.specs.Prelude.{◌≡◌, ◌-◌, ◌<◌, ◌≤◌, ◌^◌, length, take, drop, IfNone, IfOk, IfSome, OnOk};
 ghost use Rattle.std.specs.Int.{w64, to_be_bytes};
 ghost use Rattle.h3_coding.specs.Encodings.{encoding};
 ghost use Rattle.h3_connection.specs.WaitingPieces.{frame_piece, without_first};
 ghost use Rattle.h3_wire.specs.Outgoing.{all_of, first_part};
 
+use crate::block::FrameBytes;
 use std::alloc::{AllocError, Global};
 use std::marker::Model;
 
@@ -14,11 +15,11 @@ const HEAD_ROOM: usize = 9;
 /// The type of a HEADERS frame (RFC 9114, section 7.2.2).
 const HEADERS: u8 = 1;
 
-/// An encoded field section, in a block with room in front of it for the type and length of its frame. So the frame goes out from the block
-/// in which its section was written. A contract sees the section.
+/// An encoded field section, with room in front of it for the type and length of its frame. So the frame goes out from where its section
+/// lies: from the block in which it was written, or a short one from the frame itself. A contract sees the section.
 #[derive(Drop)]
 pub struct EncodedSection {
-    block: Vec<u8>,
+    block: FrameBytes,
 }
 
 impl Model for EncodedSection {
@@ -26,9 +27,9 @@ impl Model for EncodedSection {
 
     ghost Value = { List ℕ };
 
-    ghost view = { λ s. drop 9 s.block.items };
+    ghost view = { λ s. drop 9 s.block };
 
-    ghost invariant = { λ s. 9 ≤ length s.block.items };
+    ghost invariant = { λ s. 9 ≤ length s.block };
 }
 
 impl EncodedSection {
@@ -49,6 +50,30 @@ impl EncodedSection {
         if block.len() < HEAD_ROOM {
             return None;
         }
+        let block = FrameBytes::of(block);
+        Some(EncodedSection { block })
+    }
+
+    /// Empties a block but for 9 bytes, behind which a section is to be written, with room for so many bytes of it. It takes memory where the
+    /// block has too little.
+    pub fn begin(block: &mut Vec<u8>, size: usize) -> Result<(), AllocError>
+        ensures { OnOk result (length block.new.items ≡ 9) }
+    {
+        block.clear();
+        block.reserve_exact(HEAD_ROOM.saturating_add(size))?;
+        block.extend_from_slice(&[0; HEAD_ROOM])
+    }
+
+    /// The section that was written behind the first 9 bytes of a block; none where it has fewer. A short one is copied, so that the block
+    /// serves again, and a longer one takes the block with it. It takes no memory.
+    pub fn taken_from(block: &mut Vec<u8>) -> Option<EncodedSection>
+        ensures some { IfSome result (λ section. section ≡ drop 9 block.old.items) }
+        ensures none { IfNone result (length block.old.items < 9) }
+    {
+        if block.len() < HEAD_ROOM {
+            return None;
+        }
+        let block = FrameBytes::taken_from(block);
         Some(EncodedSection { block })
     }
 
@@ -61,11 +86,11 @@ impl EncodedSection {
     }
 }
 
-/// A HEADERS frame that waits, in one block. A contract sees what is left of its type and length, and of its payload.
+/// A HEADERS frame that waits, in one piece. A contract sees what is left of its type and length, and of its payload.
 #[derive(Drop)]
 pub(crate) struct HeadersFrame {
     // the bytes up to the place `HEAD_ROOM` end with the type and the length, and the others are the section
-    block: Vec<u8>,
+    block: FrameBytes,
     start: usize,
 }
 
@@ -76,11 +101,11 @@ impl Model for HeadersFrame {
     ghost Value = { Outgoing };
 
     ghost view = { λ f. record {
-      head = drop f.start (take 9 f.block.items);
-      payload = drop (max f.start 9) f.block.items;
+      head = drop f.start (take 9 f.block);
+      payload = drop (max f.start 9) f.block;
     } };
 
-    ghost invariant = { λ f. (9 ≤ length f.block.items) × (f.start ≤ length f.block.items) };
+    ghost invariant = { λ f. (9 ≤ length f.block) × (f.start ≤ length f.block) };
 }
 
 impl HeadersFrame {
@@ -90,7 +115,7 @@ impl HeadersFrame {
         ensures { result ≡ frame_piece 1 section }
     {
         let EncodedSection { mut block } = section;
-        let start = write_head(block.as_mut_slice());
+        let start = block.write_head();
         HeadersFrame { block, start }
     }
 
@@ -126,12 +151,15 @@ impl HeadersFrame {
         requires { count ≤ length (all_of self.old) }
         ensures { self.new ≡ without_first count self.old }
     {
+        // (for the proof: what lies in memory is counted by a usize)
+        let bytes = self.block.as_slice();
+        let _len = bytes.len();
         self.start += count;
     }
 }
 
-// Writes the type and the length of the HEADERS frame of a section right in front of it, and answers where they begin.
-fn write_head(block: &mut [u8]) -> usize
+/// Writes the type and the length of the HEADERS frame of a section right in front of it, and answers where they begin.
+pub(crate) fn write_head(block: &mut [u8]) -> usize
     requires room { 9 ≤ length block.old }
     requires size { length (drop 9 block.old) < 2 ^ 62 }
     ensures head { drop result (take 9 block.new) ≡ (frame_piece 1 (drop 9 block.old)).head }
