@@ -6,7 +6,7 @@ use Rattle.std.proofs.lemmas.Bool.{lt-leb}
 use Rattle.std.proofs.lemmas.List.Elements.{All-cons}
 use Rattle.std.proofs.lemmas.List.Folds.{concat-append}
 use Rattle.std.proofs.lemmas.List.{drop-append-le, drop_at}
-use Rattle.h3_wire.specs.PieceLaws.{without-none, without-past, without-within}
+use Rattle.h3_wire.specs.PieceLaws.{without-past, without-within}
 use Rattle.h3_wire.specs.declared.buf.element.Element.{Element}
 use Rattle.h3_wire.specs.declared.buf.element.Element.TheVariants as element
 use Rattle.h3_wire.specs.Elements.{all_cuts, all_elements, all_of, front_room, held}

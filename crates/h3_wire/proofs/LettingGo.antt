@@ -1,19 +1,13 @@
 -- What the head of an unknown frame says of the frame, also while that is under way.
-use Rattle.std.proofs.Common.{◌≡◌, ℕ, zero, suc, ◌+◌, ◌-◌, ◌<◌, ◌≤◌, ◌==◌, Bool, true, false, ◌||◌, List, [], ◌∷◌, ◌++◌, length, take, drop, nat_lt, arith, refl, sym, subst, ◌∙◌, ap, inl, inr, length-append, append_assoc, if◌then◌else◌, Option, Some, None}
-use Rattle.std.specs.List.{concat}
+use Rattle.std.proofs.Common.{◌≡◌, ℕ, ◌+◌, ◌-◌, ◌<◌, ◌≤◌, ◌==◌, Bool, true, false, List, ◌∷◌, ◌++◌, length, take, drop, arith, refl, sym, ◌∙◌, ap, inl, inr, length-append, if◌then◌else◌, Option, Some, None}
 use Rattle.std.proofs.lemmas.Bool.{or_parts, lt-ltb, le-ltb}
-use Rattle.std.proofs.lemmas.List.Folds.{concat-append}
 use Rattle.std.proofs.Math.Seq.{drop-append-add}
 use Rattle.h3_coding.specs.Varint.{varint_at}
 use Rattle.h3_coding.specs.VarintLaws.{cases_number, reads_more, shorter, begins, used}
 use Rattle.h3_wire.specs.FrameLaws.{at_head}
 use Rattle.h3_wire.specs.Frames.{Unknown, Unfinished, frame_at, frame_of, has_head, is_http2}
-use Rattle.h3_wire.specs.Known.{known}
-use Rattle.h3_wire.specs.KnownLaws.{known-unknown}
-use Rattle.h3_wire.specs.PieceLaws.{without-none}
-use Rattle.h3_wire.specs.Pieces.{without, with_piece, IsRest}
 use Rattle.h3_wire.proofs.Tries.{head_is_whole}
-use Rattle.h3_wire.specs.UnknownSize.{is_known_type, size_by, size_with, unknown_size, AreLetGo}
+use Rattle.h3_wire.specs.UnknownSize.{is_known_type, size_by, size_with, unknown_size}
 
 -- The head of an unknown frame, which has so many bytes.
 pub record IsUnknownHead (bytes : List ℕ) (size : ℕ) : Type 0 where

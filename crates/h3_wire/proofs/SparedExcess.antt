@@ -8,7 +8,7 @@ use Rattle.h3_wire.specs.ExcessiveLaws.{none_left, unknown_says}
 use Rattle.h3_wire.specs.Known.{known}
 use Rattle.h3_wire.specs.KnownLaws.{known-unknown}
 use Rattle.h3_wire.specs.UnknownSize.{is_known_type, unknown_size}
-use Rattle.h3_wire.proofs.LettingGo.{IsUnknownHead, AreNone, inside, tests, unknown_head, unknown_whole}
+use Rattle.h3_wire.proofs.LettingGo.{inside, tests, unknown_head, unknown_whole}
 
 none_kept : (kind : ℕ) → is_known_type kind ≡ false → is_kept_whole kind ≡ false
 none_kept kind unknown = by_test (is_kept_whole kind) refl

@@ -1,5 +1,5 @@
 -- Pieces in front of a buffer that were let go.
-use Rattle.std.proofs.Common.{◌≡◌, ℕ, zero, suc, ◌+◌, ◌-◌, ◌<◌, ◌≤◌, false, true, List, [], ◌∷◌, ◌++◌, length, drop, arith, refl, sym, subst, ◌∙◌, ap, length-append, append_assoc, append-nil, if◌then◌else◌, OnOk, OnErr, Option, Some, None, Result, Ok, Err}
+use Rattle.std.proofs.Common.{◌≡◌, ℕ, zero, suc, ◌+◌, ◌-◌, ◌<◌, ◌≤◌, List, [], ◌∷◌, ◌++◌, length, drop, arith, refl, sym, subst, ◌∙◌, ap, length-append, append_assoc, append-nil, if◌then◌else◌, OnOk, OnErr, Option, Some, None, Result, Ok, Err}
 use Rattle.std.specs.List.{concat}
 use Rattle.std.proofs.lemmas.Bool.{le-ltb}
 use Rattle.std.proofs.lemmas.List.Folds.{concat-append}
@@ -8,14 +8,14 @@ use Rattle.h3_wire.specs.declared.proto.frame.Frame.{Frame}
 use Rattle.h3_wire.specs.declared.frame.errors.FrameStreamError.{FrameStreamError}
 use Rattle.h3_wire.specs.declared.frame.errors.FrameStreamError.TheVariants as stream
 use Rattle.h3_wire.proofs.FrameRows.{truth_apart}
-use Rattle.h3_wire.specs.Frames.{Unknown, Unfinished, frame_at, has_head}
+use Rattle.h3_wire.specs.Frames.{Unknown, frame_at}
 use Rattle.h3_wire.specs.Known.{known, Gives, IsWaiting}
 use Rattle.h3_wire.proofs.Gives.{gives_fewer}
 use Rattle.h3_wire.specs.KnownLaws.{known-other, known-unknown}
 use Rattle.h3_wire.specs.Fronts.{IsKnown}
 use Rattle.h3_wire.specs.PieceLaws.{concat-without, rest_is, rest_same, rest_then, ending_rest}
 use Rattle.h3_wire.specs.Pieces.{without, with_piece, first_of, IsRest, ending}
-use Rattle.h3_wire.specs.Tries.{Decoding, Counts, Expects, no_try, finds_less, passes, needed, counted, one_more}
+use Rattle.h3_wire.specs.Tries.{Decoding, Counts, Expects, no_try, finds_less, passes, needed, counted}
 use Rattle.h3_wire.proofs.Tries.{too_few, expects_next}
 use Rattle.h3_wire.specs.UnknownSize.{unknown_size, Sparing, AreLetGo, is_longer, is_under_way}
 use Rattle.h3_wire.specs.UnreadFrames.{UnreadFrames, IsStillUnderWay, IsPassed}

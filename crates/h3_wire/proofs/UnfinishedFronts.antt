@@ -1,5 +1,5 @@
 -- Less than a frame that was written is the unfinished front of a frame.
-use Rattle.std.proofs.Common.{◌≡◌, ℕ, ◌+◌, ◌-◌, ◌<◌, ◌^◌, ◌==◌, false, List, length, take, codes, arith, lit<, sym, subst, refl}
+use Rattle.std.proofs.Common.{◌≡◌, ℕ, ◌+◌, ◌<◌, ◌^◌, ◌==◌, false, List, length, take, codes, arith, lit<, sym, subst, refl}
 use Rattle.std.proofs.lemmas.Bool.{ne_eqb}
 use Rattle.h3_coding.specs.Encodings.{encoding}
 use Rattle.h3_proto.specs.Ids.{reserved}

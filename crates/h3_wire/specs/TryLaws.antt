@@ -1,5 +1,5 @@
 -- What holds of the tries of a decoder.
-use Rattle.std.proofs.Common.{ℕ, ◌+◌, List, ◌++◌, ◌∙◌, ap, append_assoc, Option, Some, None}
+use Rattle.std.proofs.Common.{ℕ, List, ◌++◌, ◌∙◌, ap, append_assoc, Option, Some, None}
 use Rattle.h3_wire.specs.Tries.{Awaits}
 
 -- more bytes at the end keep what a decoder expects

@@ -3,7 +3,7 @@ ghost use Rattle.std.specs.Prelude.{◌≡◌, ◌+◌, ◌^◌, ◌<◌, ◌≤
 ghost use Rattle.std.specs.List.{concat};
 ghost use Rattle.h3_wire.specs.declared.proto.frame.Frame.TheVariants as frame;
 ghost use Rattle.h3_wire.specs.Frames.{Whole, frame_at, has_head, IsHeadersFrame};
-ghost use Rattle.h3_wire.specs.Known.{Gives, Tries};
+ghost use Rattle.h3_wire.specs.Known.{Gives, Tries, first_frame};
 ghost use Rattle.h3_wire.specs.Pieces.{IsRest, ending, first_size};
 ghost use Rattle.h3_wire.specs.Tries.{Counts, Expects, counted, needed, one_more};
 
@@ -55,6 +55,26 @@ pub(crate) enum Tried {
     OutOfMemory,
 }
 
+// A frame that was taken from the first piece: no `Frame`, which has room for the largest.
+#[derive(Drop)]
+pub(crate) enum First {
+    // DATA, whose payload has so many bytes.
+    Data(usize),
+    // A field section.
+    Headers(Bytes),
+}
+
+impl First {
+    fn into_frame(self) -> Frame<PayloadLen>
+        ensures { result ≡ first_frame self }
+    {
+        match self {
+            First::Data(len) => Frame::Data(PayloadLen(len)),
+            First::Headers(section) => Frame::Headers(section),
+        }
+    }
+}
+
 impl FrameDecoder {
     /// How often the frame under way was tried, or else the last one that was taken, an unknown one
     /// too: at most 17 times, and 0 before the first. A try does not count that ends for want of
@@ -102,32 +122,19 @@ impl FrameDecoder {
         ensures counts { Counts self.old (concat src.old.pieces) result self.new }
         ensures pieces { src.new.pieces ≡ ending (length (concat src.new.pieces)) src.old.pieces }
     {
-        if let Some(len) = self.decode_data(src) {
-            return Ok(Some(Frame::Data(PayloadLen(len))));
+        if src.remaining() < self.needed() {
+            return Ok(None);
+        }
+        if let Some(first) = take_first(src) {
+            self.count(None);
+            return Ok(Some(first.into_frame()));
         }
         self.decode_front(alloc, src)
     }
 
-    // Takes the head of a DATA frame that lies in the first piece, counts the try, and answers how
-    // many bytes the payload has. `None` changes nothing. The answer is a number and no frame, so
-    // that the frame that comes most is read without making room for the largest.
-    #[tactic(auto, using(crate::specs::PieceLaws::rest_same))]
-    fn decode_data(&mut self, src: &mut BufList<Bytes>) -> Option<usize>
-        requires tries { one_more self.old.expected self.old.tries ≤ 17 }
-        ensures enough { IfSome result (λ _. needed self.old ≤ length (concat src.old.pieces)) }
-        ensures some { IfSome result (λ len. frame_at (concat src.old.pieces) ≡ Whole (frame.Data (record { 0 = len })) (concat src.new.pieces)) }
-        ensures counts { IfSome result (λ _. self.new ≡ counted self.old None) }
-        ensures none { IsNone result → (self.new ≡ self.old) × (src.new.pieces ≡ src.old.pieces) }
-        ensures rest { IsRest src.old.pieces src.new.pieces }
-    {
-        if src.remaining() < self.needed() {
-            return None;
-        }
-        let len = take_data_head(src)?;
-        self.count(None);
-        Some(len)
-    }
-
+    // The same wherever the frame lies, and behind unknown ones. It stays apart, so that a frame in the first piece is read without making
+    // room for the largest.
+    #[inline(never)]
     fn decode_front(
         &mut self,
         alloc: Global,
@@ -168,45 +175,33 @@ fn try_frame(alloc: Global, src: &mut BufList<Bytes>) -> Tried
     ensures few { has_head (concat src.old.pieces) ≡ false → length (concat src.old.pieces) < 16 }
     ensures rest { IsRest src.old.pieces src.new.pieces }
 {
-    if let Some(section) = take_headers(src) {
-        return Tried::Frame(Frame::Headers(section));
+    if let Some(first) = take_first(src) {
+        return Tried::Frame(first.into_frame());
     }
     decode_frame(alloc, src)
 }
 
-// Takes the head of a DATA frame that lies in the first piece, and answers how many bytes the
-// payload has. `None` takes nothing.
-fn take_data_head(src: &mut BufList<Bytes>) -> Option<usize>
-    ensures some { IfSome result (λ len. frame_at (concat src.old.pieces) ≡ Whole (frame.Data (record { 0 = len })) (concat src.new.pieces)) }
+// Takes the head of a DATA frame that lies in the first piece, or a HEADERS frame that does, whose field section is cut from the piece.
+// `None` takes nothing.
+fn take_first(src: &mut BufList<Bytes>) -> Option<First>
+    ensures some { IfSome result (λ f. frame_at (concat src.old.pieces) ≡ Whole (first_frame f) (concat src.new.pieces)) }
+    ensures whole { IfSome result (λ f. has_head (concat src.old.pieces) ≡ true) }
     ensures none { IsNone result → src.new.pieces ≡ src.old.pieces }
     ensures rest { IsRest src.old.pieces src.new.pieces }
 {
     let bytes = src.first_bytes();
     let head = FrameHead::at_front(bytes)?;
+    let len = head.number as usize;
     // the type of DATA
     if head.kind == 0 {
         src.advance_first(head.size);
-        return Some(head.number as usize);
+        return Some(First::Data(len));
     }
-    None
-}
-
-// Takes a HEADERS frame that lies in the first piece, and cuts its field section from the piece.
-// `None` takes nothing.
-fn take_headers(src: &mut BufList<Bytes>) -> Option<Bytes>
-    ensures some { IfSome result (λ s. frame_at (concat src.old.pieces) ≡ Whole (frame.Headers s) (concat src.new.pieces)) }
-    ensures whole { IfSome result (λ s. has_head (concat src.old.pieces) ≡ true) }
-    ensures none { IsNone result → src.new.pieces ≡ src.old.pieces }
-    ensures rest { IsRest src.old.pieces src.new.pieces }
-{
-    let bytes = src.first_bytes();
-    let head = FrameHead::at_front(bytes)?;
     let behind = bytes.len() - head.size;
-    let len = head.number as usize;
     // the type of HEADERS
     if head.kind == 1 && len <= behind {
         let section = cut_section(src, head.size, len)?;
-        return Some(section);
+        return Some(First::Headers(section));
     }
     None
 }

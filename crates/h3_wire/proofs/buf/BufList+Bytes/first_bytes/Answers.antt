@@ -1,6 +1,4 @@
-use Rattle.std.proofs.Common.{◌≡◌, ℕ, ◌+◌, ◌-◌, ◌<◌, ◌≤◌, ◌++◌, [], ◌∷◌, List, length, drop, nat_le, arith, refl, ap, sym, subst, ◌∙◌, None, Some}
-use Rattle.std.specs.List.{concat}
-use Rattle.h3_wire.specs.Elements.{front_room, held}
+use Rattle.std.proofs.Common.{ap, sym, ◌∙◌}
 use Rattle.h3_wire.specs.Pieces.{Listed, first_bytes}
 use Rattle.h3_wire.proofs.FrontLemmas.{held_none, held_some}
 use Rattle.h3_wire.proofs.buf.BufList+Bytes.first_bytes.Goals as goal

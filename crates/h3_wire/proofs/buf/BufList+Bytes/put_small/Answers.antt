@@ -1,6 +1,6 @@
-use Rattle.std.proofs.Common.{◌≡◌, ◌+◌, ◌<◌, ◌≤◌, ◌++◌, [], ◌∷◌, length, arith, ap, sym, ◌∙◌}
+use Rattle.std.proofs.Common.{◌<◌, ◌++◌, [], ◌∷◌, length, arith, ap, sym, ◌∙◌}
 use Rattle.std.specs.List.{concat}
-use Rattle.h3_wire.specs.Elements.{front_room, held}
+use Rattle.h3_wire.specs.Elements.{held}
 use Rattle.h3_wire.specs.Pieces.{Listed}
 use Rattle.h3_wire.proofs.FrontLemmas.{front_room-none, put_behind, put_size, size_behind}
 use Rattle.h3_wire.proofs.buf.BufList+Bytes.put_small.Goals as goal

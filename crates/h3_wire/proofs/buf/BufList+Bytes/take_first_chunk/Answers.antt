@@ -1,4 +1,4 @@
-use Rattle.std.proofs.Common.{◌++◌, ap, sym, ◌∙◌, None, Some}
+use Rattle.std.proofs.Common.{◌++◌, ap, sym, ◌∙◌, Some}
 use Rattle.h3_wire.specs.Elements.{held}
 use Rattle.h3_wire.specs.Pieces.{Listed, first_of}
 use Rattle.h3_wire.proofs.FrontLemmas.{held_none, held_some}

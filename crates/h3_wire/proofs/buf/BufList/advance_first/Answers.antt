@@ -1,8 +1,7 @@
-use Rattle.std.proofs.Common.{◌≡◌, ℕ, ◌+◌, ◌-◌, ◌<◌, ◌≤◌, ◌++◌, [], ◌∷◌, List, length, drop, arith, refl, ap, sym, subst, ◌∙◌, None, Some}
+use Rattle.std.proofs.Common.{◌<◌, ◌≤◌, length, drop, arith, ap, sym, ◌∙◌}
 use Rattle.std.specs.List.{concat}
-use Rattle.h3_wire.specs.Elements.{held}
 use Rattle.h3_wire.specs.Pieces.{Listed, first_size, without}
-use Rattle.h3_wire.proofs.FrontLemmas.{held_none, held_some, pass_behind, pass_first, pass_pieces, pass_some}
+use Rattle.h3_wire.proofs.FrontLemmas.{held_some, pass_behind, pass_first, pass_pieces, pass_some}
 use Rattle.h3_wire.proofs.buf.BufList.advance_first.Goals as goal
 
 pub returns-then-cnt-there-clause-rest : goal.returns-then-cnt-there-clause-rest

@@ -1,4 +1,4 @@
-use Rattle.std.proofs.Common.{◌≡◌, ◌+◌, length, length-append, arith, ap, sym, ◌∙◌}
+use Rattle.std.proofs.Common.{length, length-append, arith, ap, ◌∙◌}
 use Rattle.std.specs.List.{concat}
 use Rattle.h3_wire.specs.Pieces.{Listed}
 use Rattle.h3_wire.proofs.FrontLemmas.{held_none, held_some}

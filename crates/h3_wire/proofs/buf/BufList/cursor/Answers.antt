@@ -1,4 +1,4 @@
-use Rattle.std.proofs.Common.{◌≡◌, ◌++◌, length, ap, sym, ◌∙◌}
+use Rattle.std.proofs.Common.{◌++◌, length, ap, sym, ◌∙◌}
 use Rattle.std.specs.List.{concat}
 use Rattle.h3_wire.specs.Elements.{held}
 use Rattle.h3_wire.specs.Pieces.{Listed}

@@ -1,7 +1,5 @@
-use Rattle.std.proofs.Common.{◌≡◌, ℕ, ◌+◌, ◌-◌, ◌<◌, ◌≤◌, ◌++◌, [], ◌∷◌, List, length, drop, nat_le, arith, refl, ap, sym, subst, ◌∙◌, None, Some}
-use Rattle.std.specs.List.{concat}
-use Rattle.h3_wire.specs.Elements.{front_room, held}
-use Rattle.h3_wire.specs.Pieces.{Listed, first_bytes}
+use Rattle.std.proofs.Common.{length, nat_le, ap, sym, ◌∙◌}
+use Rattle.h3_wire.specs.Pieces.{Listed}
 use Rattle.h3_wire.proofs.FrontLemmas.{held_none, held_some, none_size, one_more}
 use Rattle.h3_wire.proofs.buf.BufList.is_one_piece.Goals as goal
 

@@ -1,4 +1,4 @@
-use Rattle.std.proofs.Common.{◌≡◌, ◌+◌, ◌<◌, length, arith, refl, ap, sym, ◌∙◌, [], get_or}
+use Rattle.std.proofs.Common.{◌+◌, ◌<◌, length, arith, refl, ap, [], get_or}
 use Rattle.std.proofs.lemmas.List.{length-drop, get_or_default}
 use Rattle.h3_wire.specs.declared.buf.element.Element.TheVariants as element
 use Rattle.h3_wire.specs.Elements.{all_elements, all_of}

@@ -1,11 +1,11 @@
-use Rattle.std.proofs.Common.{◌≡◌, ◌+◌, ◌<◌, ◌≤◌, [], ◌++◌, length, drop, get_or, arith, refl, ap, sym, subst, inl, inr, ◌∙◌}
+use Rattle.std.proofs.Common.{◌+◌, [], ◌++◌, length, drop, arith, ap, sym, subst, inl, inr, ◌∙◌}
 use Rattle.std.proofs.lemmas.Bool.{cases_lt}
 use Rattle.std.proofs.lemmas.List.{drop_all, drop_more}
 use Rattle.bytes.specs.Unread.{IsChunkOf}
 use Rattle.h3_wire.specs.declared.buf.element.Element.TheVariants as element
 use Rattle.h3_wire.specs.Elements.{all_elements, all_of}
 use Rattle.h3_wire.specs.Pieces.{joined}
-use Rattle.h3_wire.specs.Place.{Place, left_at}
+use Rattle.h3_wire.specs.Place.{left_at}
 use Rattle.h3_wire.proofs.PieceLemmas.{chunk_here, chunk_past}
 use Rattle.h3_wire.proofs.buf.pieces.CursorBuf.chunk.Goals as goal
 

@@ -1,4 +1,4 @@
-use Rattle.std.proofs.Common.{◌+◌, ◌-◌, ◌<◌, ◌++◌, [], ◌∷◌, length, arith, refl, ap, ◌∙◌}
+use Rattle.std.proofs.Common.{◌<◌, ◌++◌, [], ◌∷◌, length, arith, refl, ap, ◌∙◌}
 use Rattle.std.specs.List.{concat}
 use Rattle.h3_wire.specs.Pieces.{Listed}
 use Rattle.h3_wire.proofs.ElementLemmas.{byte_behind, byte_filled, byte_more, concat-all_cuts}

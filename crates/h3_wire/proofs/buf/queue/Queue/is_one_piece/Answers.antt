@@ -1,4 +1,4 @@
-use Rattle.std.proofs.Common.{◌≡◌, ◌<◌, false, nat_le, length, arith, refl, ap, sym, ◌∙◌}
+use Rattle.std.proofs.Common.{◌≡◌, ◌<◌, nat_le, length, arith, refl, ap, sym, ◌∙◌}
 use Rattle.std.proofs.lemmas.Bool.{ne_eqb}
 use Rattle.h3_wire.specs.Pieces.{Listed}
 use Rattle.h3_wire.proofs.ElementLemmas.{none_is_one, one_is, several}

@@ -1,5 +1,5 @@
 use mathlib.Core.Path.{refl}
-use Rattle.std.proofs.Common.{[], ◌∷◌, ◌++◌}
+use Rattle.std.proofs.Common.{[], ◌∷◌}
 use seplogic.Ra.Ura.{Ura}
 use mir.Val.{vstruct, vnil}
 use base.Logic.{SProp, ent, emp, via, fst∗}

@@ -1,4 +1,4 @@
-use Rattle.std.proofs.Common.{◌≡◌, ◌++◌, ◌+◌, ◌<◌, ◌^◌, length, length-append, arith, ap}
+use Rattle.std.proofs.Common.{◌≡◌, ◌++◌, length, length-append, arith, ap}
 use Rattle.std.specs.List.{concat}
 use Rattle.h3_wire.specs.UnknownSize.{Sparing}
 use Rattle.h3_wire.proofs.SparedPieces.{size_of_both}

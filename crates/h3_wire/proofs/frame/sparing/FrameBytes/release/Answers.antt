@@ -1,4 +1,4 @@
-use Rattle.std.proofs.Common.{◌≡◌, ℕ, ◌++◌, ◌+◌, ◌<◌, ◌^◌, List, length, arith, ap, sym, subst}
+use Rattle.std.proofs.Common.{ℕ, ◌++◌, ◌+◌, ◌<◌, ◌^◌, List, length, arith, sym, subst}
 use Rattle.std.specs.List.{concat}
 use Rattle.h3_wire.specs.UnknownSize.{AreLetGo}
 use Rattle.h3_wire.proofs.SparedPieces.{gone_and_kept, more_let_go, all_let_go}
