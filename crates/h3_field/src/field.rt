@@ -60,6 +60,14 @@ impl Model for HeaderField {
     ghost invariant = { λ f. IsForm f.form };
 }
 
+/// Puts bytes in place of as many at the front.
+fn set_front(room: &mut [u8], bytes: &[u8])
+    requires { length bytes.now ≤ length room.old }
+    ensures { room.new ≡ bytes.now ++ drop (length bytes.now) room.old }
+{
+    room[..bytes.len()].copy_from_slice(bytes);
+}
+
 impl HeaderField {
     /// The field with that name and value, as bytes. Static ones are not copied. It does not ask whether HTTP allows them.
     pub fn new(name: CowSlice<'static, u8>, value: CowSlice<'static, u8>) -> HeaderField
@@ -102,8 +110,10 @@ impl HeaderField {
         ensures err { OnErr result (vec_capacity value < vec_len value + length name.now) }
     {
         let mut block = value;
+        let len = block.len();
         block.extend_from_slice(name)?;
-        block.as_mut_slice().rotate_right(name.len());
+        block.copy_within(..len, name.len());
+        set_front(block.as_mut_slice(), name);
         Ok(HeaderField::from_block(block, name.len()))
     }
 
