@@ -2,7 +2,7 @@
 use Rattle.std.proofs.Common.{◌≡◌, ℕ, ◌+◌, ◌-◌, ◌^◌, ◌<◌, ◌≤◌, min, List, [], ◌∷◌, ◌++◌, length, take, drop, get_or, refl, ap, sym, ◌∙◌, arith, append_assoc, append-nil}
 use Rattle.std.proofs.Common.{Some}
 use Rattle.std.specs.List.{slice_get}
-use Rattle.std.proofs.lemmas.Grind.{common_steps, gets}
+use Rattle.std.proofs.lemmas.Option.{get_or_from_slice_get, slice_get_within}
 use Rattle.std.proofs.lemmas.List.{take_more, take_all, take_at, take-append-drop}
 use Rattle.std.proofs.lemmas.List.Concat.{flat_map-append}
 use Rattle.std.proofs.lemmas.List.Sums.{sum_by-append, sum_by-cons}
@@ -65,6 +65,10 @@ put_all start items fields index size p all =
 pub put_refused : (start items new : List ℕ) (fields : List Field) (index size : ℕ) → Put start items fields index size → new ≡ items → take (length start) new ≡ start
 put_refused start items new fields index size p e = rw (e, p.items_are) (take_at start (section_bytes (take index fields)) (length start) refl)
 
--- a field that was looked up by its place, as the other lemmas have it
-pub lent_at : (fields : List Field) (i : ℕ) (f : Field) → slice_get fields i ≡ Some f → f ≡ get_or fields i f
-lent_at fields i f e = grind (arith, common_steps, gets)
+-- the same of a field that was looked up by its place
+pub lent_within : (fields : List Field) (i : ℕ) (f : Field) (most : ℕ) → slice_get fields i ≡ Some f → section_size fields < most → section_size (take i fields) + field_size f < most
+lent_within fields i f most at below = field_within fields i f most (slice_get_within fields i f at) (sym (get_or_from_slice_get fields i f f at)) below
+
+pub lent_more : (start items new : List ℕ) (fields : List Field) (i size own next : ℕ) (f : Field) → Put start items fields i size → slice_get fields i ≡ Some f → section_size fields < 2 ^ 62 → new ≡ items ++ line_bytes (static_line f) → own ≡ min (2 ^ 64 - 1) (field_size f) → next ≡ size + own → IsFieldOfBytes f → Put start new fields (i + 1) next
+lent_more start items new fields i size own next f p at below e own_is next_is each =
+    put_more start items new fields i size own next f p (slice_get_within fields i f at) (sym (get_or_from_slice_get fields i f f at)) below e own_is next_is each

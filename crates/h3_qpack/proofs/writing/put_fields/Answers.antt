@@ -1,4 +1,5 @@
-use Rattle.std.proofs.Common.{arith}
+use Rattle.std.proofs.Common.{sym, arith}
+use Rattle.std.proofs.lemmas.Option.{get_or_from_slice_get, slice_get_within}
 use Rattle.std.proofs.lemmas.Result.{err_from_is_err_and}
 use Rattle.h3_qpack.proofs.Fieldwise.{in_more, in_all, all_bytes, in_refused}
 use Rattle.h3_qpack.proofs.writing.put_fields.Goals as goal
@@ -10,7 +11,7 @@ returns-in_err-put_field-clause-err c =
 
 pub fields-preserved : goal.fields-preserved
 fields-preserved c =
-    in_more _ _ _ _ _ _ _ _ _ _ _ _ _ _ _ c.fields.invariant c.fields-test.true (lent_at _ _ _ c.get-field.ensures) c.are_bytes.ensures c.in_ok-put_field.ensures.over c.in_ok-put_field.ensures.grows c.in_ok-put_field.ensures.ok
+    in_more _ _ _ _ _ _ _ _ _ _ _ _ _ _ _ c.fields.invariant (slice_get_within _ _ _ c.get-field.ensures) (sym (get_or_from_slice_get _ _ _ c.get-field.result c.get-field.ensures)) c.are_bytes.ensures c.in_ok-put_field.ensures.over c.in_ok-put_field.ensures.grows c.in_ok-put_field.ensures.ok
 
 pub returns-clause-ok : goal.returns-clause-ok
 returns-clause-ok c =
