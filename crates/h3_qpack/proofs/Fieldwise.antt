@@ -1,6 +1,8 @@
 -- A field section field by field: what stays as it is written, and what a loop over its fields keeps.
 use Rattle.std.proofs.Common.{◌≡◌, ℕ, ◌+◌, ◌<◌, ◌≤◌, List, [], ◌∷◌, ◌++◌, length, take, drop, get_or, sym, ◌∙◌, ap, subst, arith, length-append, Result, Ok, Err}
-use Rattle.std.specs.List.{AllByRecursion}
+use Rattle.std.proofs.Common.{Some}
+use Rattle.std.specs.List.{AllByRecursion, slice_get}
+use Rattle.std.proofs.lemmas.Option.{get_or_from_slice_get, slice_get_within}
 use Rattle.std.specs.Result.{OnOk, OnErr}
 use Rattle.std.proofs.lemmas.List.{take_more, take_all, take-append-drop}
 use Rattle.std.proofs.lemmas.List.Sums.{fold_push, sum_by-append, sum_by-cons}
@@ -77,6 +79,24 @@ in_more t section lines instruction_bytes mid between m l new next more later fi
       are_bytes = subst (AllByRecursion IsFieldOfBytes) (sym (take_more fields index f lt ∙ ap (λ x. take index fields ++ x ∷ []) (sym is))) (All-join IsFieldOfBytes (take index fields) (f ∷ []) i.are_bytes (each, tt));
       drafted = λ s start h. subst (λ d. IsDrafted s d new next more start later) (sym (draft_more s fields index f lt is)) (step s (draft_of s (take index fields)) start (i.drafted s start h));
     }
+
+-- the same of a field that was looked up by its place
+pub lent_more : (t : EncoderState) (section : Section) (lines instruction_bytes : List ℕ) (mid : EncoderState) (between : Section) (m l : List ℕ) (new : EncoderState) (next : Section) (more later : List ℕ) (fields : List Field) (index : ℕ) (f : Field)
+    → InFields t section lines instruction_bytes mid between m l fields index → slice_get fields index ≡ Some f → IsFieldOfBytes f → IsOver new.table next → length l ≤ length later
+    → ((s : EncoderHistory) (d : Draft) (start : List ℕ) → IsDrafted s d mid between m start l → IsDrafted s (add_field s d f) new next more start later)
+    → InFields t section lines instruction_bytes new next more later fields (index + 1)
+lent_more t section lines instruction_bytes mid between m l new next more later fields index f i at each over longer step =
+    in_more t section lines instruction_bytes mid between m l new next more later fields index f i (slice_get_within fields index f at) (sym (get_or_from_slice_get fields index f f at)) each over longer step
+
+-- a field is within the sum
+pub lent_within : (fields : List Field) (i : ℕ) (f : Field) (most : ℕ) → slice_get fields i ≡ Some f → section_size fields < most → field_size f < most
+lent_within fields i f most at below =
+    let whole = sum_by-append field_size (take i fields) (drop i fields) in
+    let parts : section_size fields ≡ section_size (take i fields) + section_size (drop i fields) = sym (ap (λ x. section_size x) (take-append-drop i fields)) ∙ whole in
+    let more : take (i + 1) fields ≡ take i fields ++ f ∷ [] = take_more fields i f (slice_get_within fields i f at) ∙ ap (λ x. take i fields ++ x ∷ []) (get_or_from_slice_get fields i f f at) in
+    let sum = ap (λ x. section_size x) more ∙ sum_by-append field_size (take i fields) (f ∷ []) in
+    let rest : section_size fields ≡ section_size (take (i + 1) fields) + section_size (drop (i + 1) fields) = sym (ap (λ x. section_size x) (take-append-drop (i + 1) fields)) ∙ sum_by-append field_size (take (i + 1) fields) (drop (i + 1) fields) in
+    omega (arith, sum, rest, sum_by-cons field_size f [], below)
 
 pub in_all : (t : EncoderState) (section : Section) (lines instruction_bytes : List ℕ) (new : EncoderState) (next : Section) (more later : List ℕ) (fields : List Field) (index : ℕ)
     → InFields t section lines instruction_bytes new next more later fields index → length fields ≤ index

@@ -1,7 +1,6 @@
-use Rattle.std.proofs.Common.{sym, arith}
-use Rattle.std.proofs.lemmas.Option.{get_or_from_slice_get, slice_get_within}
+use Rattle.std.proofs.Common.{◌^◌, arith}
 use Rattle.std.proofs.lemmas.Result.{err_from_is_err_and}
-use Rattle.h3_qpack.proofs.Fieldwise.{in_more, in_all, all_bytes, in_refused}
+use Rattle.h3_qpack.proofs.Fieldwise.{lent_more, lent_within, in_all, all_bytes, in_refused}
 use Rattle.h3_qpack.proofs.writing.put_fields.Goals as goal
 
 pub returns-in_err-put_field-clause-err : goal.returns-in_err-put_field-clause-err
@@ -9,9 +8,12 @@ returns-in_err-put_field-clause-err c =
     let p = err_from_is_err_and c.from_residual.result c.from_residual.ensures.1 in
     rw p.1 (λ s start h. in_refused _ _ _ _ _ _ _ _ _ _ _ _ c.fields.invariant (omega arith) c.in_err-put_field.ensures.err.0 c.in_err-put_field.ensures.err.1 s start h)
 
+pub put_field-requires-clause-size : goal.put_field-requires-clause-size
+put_field-requires-clause-size c = lent_within c.args.fields.now c.fields.place c.get-field.result (2 ^ 62) c.get-field.ensures c.requires.size
+
 pub fields-preserved : goal.fields-preserved
 fields-preserved c =
-    in_more _ _ _ _ _ _ _ _ _ _ _ _ _ _ _ c.fields.invariant (slice_get_within _ _ _ c.get-field.ensures) (sym (get_or_from_slice_get _ _ _ c.get-field.result c.get-field.ensures)) c.are_bytes.ensures c.in_ok-put_field.ensures.over c.in_ok-put_field.ensures.grows c.in_ok-put_field.ensures.ok
+    lent_more _ _ _ _ _ _ _ _ _ _ _ _ c.args.fields.now c.fields.place c.get-field.result c.fields.invariant c.get-field.ensures c.are_bytes.ensures c.in_ok-put_field.ensures.over c.in_ok-put_field.ensures.grows c.in_ok-put_field.ensures.ok
 
 pub returns-clause-ok : goal.returns-clause-ok
 returns-clause-ok c =
