@@ -8,7 +8,7 @@ use h3_field::waiting::{
     Wait, decoder_wait, decoder_wait_behind, encoder_wait, encoder_wait_behind,
 };
 use h3_qpack::{
-    DecodedWithin, Decoder, DecoderError, DynamicTable, Encoder, HeaderField, SliceCursor,
+    DecodedWithin, Decoder, DecoderError, DynamicTable, Encoder, FieldBlock, SliceCursor,
     ack_header, set_dynamic_table_size,
 };
 use std::alloc::Global;
@@ -107,17 +107,17 @@ impl Sender {
     }
 }
 
-/// Decodes a section in place of the fields that the list holds, and answers whether it has to be acknowledged. None: it waits
+/// Decodes a section in place of the fields that the block holds, and answers whether it has to be acknowledged. None: it waits
 /// for insertions.
 fn decode_into(
     decoder: &Decoder,
     section: &[u8],
-    fields: &mut Vec<HeaderField>,
+    block: &mut FieldBlock,
 ) -> Result<Option<bool>, Failure>
-    ensures decoded { IfOk result (λ told. IfSome told (λ dyn_ref. (count : ℕ) × (decode_section decoder.now section.now ≡ Fields fields.new.items count) × (dyn_ref ≡ nat_lt 0 count))) }
+    ensures decoded { IfOk result (λ told. IfSome told (λ dyn_ref. (count : ℕ) × (decode_section decoder.now section.now ≡ Fields block.new count) × (dyn_ref ≡ nat_lt 0 count))) }
     ensures waits { IfOk result (λ told. IfNone told ((count : ℕ) × (decode_section decoder.now section.now ≡ Missing count))) }
 {
-    match decoder.decode_header_into(&mut SliceCursor::new(section), fields) {
+    match decoder.decode_block(&mut SliceCursor::new(section), block) {
         Ok(told) => Ok(Some(told.dyn_ref)),
         Err(DecoderError::MissingRefs(_)) => Ok(None),
         Err(_) => Err(Failure::Refused),
@@ -130,8 +130,8 @@ pub(crate) struct Receiver {
     decoder: Decoder,
     unread: Vec<u8>,
     wait: Wait,
-    // one list for all sections, whose memory serves again
-    fields: Vec<HeaderField>,
+    // one block for all sections, whose memory serves again
+    block: FieldBlock,
 }
 
 impl Receiver {
@@ -144,7 +144,7 @@ impl Receiver {
             decoder: Decoder::announced(alloc, capacity),
             unread: Vec::new(alloc),
             wait: Wait::Bytes(1),
-            fields: Vec::new(alloc),
+            block: FieldBlock::new(alloc),
         })
     }
 
@@ -175,13 +175,13 @@ impl Receiver {
         stream: u64,
         section: &[u8],
         replies: &mut Vec<u8>,
-    ) -> Result<Option<&[HeaderField]>, Failure> {
-        match decode_into(&self.decoder, section, &mut self.fields) {
+    ) -> Result<Option<&FieldBlock>, Failure> {
+        match decode_into(&self.decoder, section, &mut self.block) {
             Ok(Some(dyn_ref)) => {
                 if dyn_ref {
                     acknowledge(stream, replies)?;
                 }
-                Ok(Some(self.fields.as_slice()))
+                Ok(Some(&self.block))
             }
             Ok(None) => Ok(None),
             Err(e) => Err(e),
@@ -205,7 +205,7 @@ impl Receiver {
         replies: &mut Vec<u8>,
     ) -> Result<usize, Failure> {
         match self.decode(stream, section, replies) {
-            Ok(Some(fields)) => Ok(fields.len()),
+            Ok(Some(block)) => Ok(block.len()),
             Ok(None) => Err(Failure::Refused),
             Err(e) => Err(e),
         }

@@ -1,7 +1,7 @@
 //! How strings and lists are handed out: as they are handed in.
 
 use crate::report::Failure;
-use h3_field::HeaderField;
+use h3_field::Fields;
 
 fn put_bytes(packed: &mut Vec<u8>, bytes: &[u8]) -> Result<(), Failure> {
     if packed.extend_from_slice(bytes).is_err() {
@@ -23,9 +23,10 @@ pub(crate) fn put_string(packed: &mut Vec<u8>, string: &[u8]) -> Result<(), Fail
 }
 
 /// A list: the count of its fields, and the name and the value of each.
-pub(crate) fn put_fields(packed: &mut Vec<u8>, fields: &[HeaderField]) -> Result<(), Failure> {
+pub(crate) fn put_fields(packed: &mut Vec<u8>, fields: &Fields<'_>) -> Result<(), Failure> {
     put_number(packed, fields.len())?;
-    for field in fields {
+    for place in 0..fields.len() {
+        let field = fields.get(place);
         put_string(packed, field.name())?;
         put_string(packed, field.value())?;
     }

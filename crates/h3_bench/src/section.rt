@@ -5,7 +5,7 @@ ghost use Rattle.h3_field.specs.Section.{AnswersSection, Fields};
 use crate::input::{self, FieldList};
 use crate::output;
 use crate::report::{Failure, Report, answer};
-use h3_field::{HeaderField, SliceCursor, decode_stateless_into, encode_stateless};
+use h3_field::{Fields, HeaderField, SliceCursor, decode_stateless_into, encode_stateless};
 use std::alloc::Global;
 
 /// Encodes a list in place of what stands in `section`.
@@ -38,7 +38,7 @@ fn decode_into(alloc: Global, section: &[u8], fields: &mut Vec<HeaderField>) -> 
 }
 
 /// Adds the fields that a section gave.
-pub(crate) fn count_fields(fields: &[HeaderField], report: &mut Report) {
+fn count_fields(fields: &[HeaderField], report: &mut Report) {
     for field in fields {
         report.add(1, field.name().len());
         report.add(0, field.value().len());
@@ -106,7 +106,7 @@ fn put_lists(
     output::put_number(packed, sections.len())?;
     for section in sections {
         decode_into(alloc, *section, fields)?;
-        output::put_fields(packed, fields.as_slice())?;
+        output::put_fields(packed, &Fields::of(fields.as_slice()))?;
     }
     Ok(())
 }

@@ -8,8 +8,7 @@ use crate::ends::{Receiver, Sender};
 use crate::input::{FieldList, take_lists, take_number, take_string};
 use crate::output;
 use crate::report::{Failure, Report, answer};
-use crate::section::count_fields;
-use h3_field::{HeaderField, SliceCursor};
+use h3_field::{FieldBlock, Fields, SliceCursor};
 use std::alloc::Global;
 
 /// What an end does: something of a stream, or it reads what the other wrote.
@@ -164,13 +163,22 @@ fn receive<'r>(
     receiver: &'r mut Receiver,
     step: &Step<'_, &[u8]>,
     replies: &mut Vec<u8>,
-) -> Result<Option<&'r [HeaderField]>, Failure> {
+) -> Result<Option<&'r FieldBlock>, Failure> {
     match step {
         Step::Stream(stream, section) => receiver.decode(*stream, *section, replies),
         Step::Hear(bytes) => {
             receiver.hear(*bytes, replies)?;
             Ok(None)
         }
+    }
+}
+
+/// Adds the fields that a section gave.
+fn count_block(fields: &Fields<'_>, report: &mut Report) {
+    for place in 0..fields.len() {
+        let field = fields.get(place);
+        report.add(1, field.name().len());
+        report.add(0, field.value().len());
     }
 }
 
@@ -181,8 +189,8 @@ fn receive_one(
     replies: &mut Vec<u8>,
     report: &mut Report,
 ) -> Result<(), Failure> {
-    if let Some(fields) = receive(receiver, step, replies)? {
-        count_fields(fields, report);
+    if let Some(block) = receive(receiver, step, replies)? {
+        count_block(&block.fields(), report);
     }
     replies.clear();
     Ok(())
@@ -218,11 +226,11 @@ fn receive_all(
 }
 
 /// Packs 1 and a list where a section was decoded, else 0.
-fn put_decoded(packed: &mut Vec<u8>, decoded: Option<&[HeaderField]>) -> Result<(), Failure> {
+fn put_decoded(packed: &mut Vec<u8>, decoded: Option<&FieldBlock>) -> Result<(), Failure> {
     match decoded {
-        Some(fields) => {
+        Some(block) => {
             output::put_number(packed, 1)?;
-            output::put_fields(packed, fields)
+            output::put_fields(packed, &block.fields())
         }
         None => output::put_number(packed, 0),
     }

@@ -39,3 +39,4 @@ pub use field_block::FieldBlock;
 pub use fields::{FieldRef, Fields};
 pub use part::Part;
 pub use prefix_string::ShortString;
+pub use same::is_same;

@@ -165,6 +165,23 @@ pub fn encode(size: u8, flags: u8, value: u64, buf: &mut Vec<u8>) -> Result<(), 
     ensures ok { OnOk result (buf.new.items ≡ buf.old.items ++ prefixed size flags value) }
     ensures err { OnErr result (buf.new.items ≡ buf.old.items) }
 {
+    if value < greatest(size) && buf.len() < buf.capacity() {
+        buf.push_reserved(first_byte(size, flags, value));
+        return Ok(());
+    }
+    encode_any(size, flags, value, buf)
+}
+
+/// The same where more than one byte is written, or where there may be no room for it.
+#[inline(never)]
+fn encode_any(size: u8, flags: u8, value: u64, buf: &mut Vec<u8>) -> Result<(), AllocError>
+    requires least { 1 ≤ size }
+    requires most { size ≤ 8 }
+    requires flags { flags < 2 ^ (8 - size) }
+    requires value { value < integer_limit size }
+    ensures ok { OnOk result (buf.new.items ≡ buf.old.items ++ prefixed size flags value) }
+    ensures err { OnErr result (buf.new.items ≡ buf.old.items) }
+{
     let ones = greatest(size);
     if value < ones {
         buf.push(first_byte(size, flags, value))?;

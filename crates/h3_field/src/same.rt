@@ -4,7 +4,7 @@ ghost use Rattle.std.specs.Prelude.{◌≡◌, ◌≤◌, ◌+◌, bytes_eq, len
 /// Whether the two texts are the same. It is for short ones: the kit's `==` on slices begins with what pays for long ones.
 #[tactic(auto, using(crate::proofs::Runs::other_lengths))]
 #[inline(always)]
-pub(crate) fn is_same(text: &[u8], other: &[u8]) -> bool
+pub fn is_same(text: &[u8], other: &[u8]) -> bool
     ensures { result ≡ bytes_eq text.now other.now }
 {
     text.len() == other.len() && is_same_in_words(text, other)

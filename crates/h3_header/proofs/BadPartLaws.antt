@@ -1,8 +1,10 @@
 -- The first field of which anything is malformed by itself refuses its list.
-use Rattle.std.proofs.Common.{◌≡◌, ℕ, zero, suc, ◌+◌, ◌<◌, ◌≤◌, ◌^◌, nat_le, nat_lt, Bool, true, false, not, ◌&&◌, ◌||◌, bytes_eq, List, [], ◌∷◌, ◌++◌, length, take, get_or, Some, None, refl, ap, sym, subst, ◌∙◌, arith, if◌then◌else◌, length-append, take_all}
-use Rattle.std.specs.Prelude.{All}
+use Rattle.std.proofs.Common.{◌≡◌, ℕ, zero, suc, ◌+◌, ◌<◌, ◌≤◌, ◌^◌, nat_le, nat_lt, Bool, true, false, not, ◌&&◌, ◌||◌, bytes_eq, List, [], ◌∷◌, ◌++◌, length, take, get_or, Some, None, refl, ap, sym, subst, ◌∙◌, arith, if◌then◌else◌, length-append, length-take, get_or-take, take_all}
+use Rattle.std.specs.Prelude.{All, slice_get}
 use Rattle.std.proofs.lemmas.Bool.{lt-leb, ltb-true, ltb-false}
+use Rattle.std.proofs.lemmas.List.{take-take}
 use Rattle.std.proofs.lemmas.List.Sums.{sum_by-cons}
+use Rattle.std.proofs.lemmas.Option.{get_or_from_slice_get, slice_get_within}
 use Rattle.http_header.specs.FieldValue.{FieldValue, plain_value}
 use Rattle.http_header.specs.HeaderMap.{Entry, Entries, append, value_count}
 use Rattle.h3_field.specs.Field.{Field}
@@ -115,8 +117,20 @@ pub few_refused : (fields : List Field) (i : ℕ) (f : Field) (p : BadPart) → 
     → bad_part (get_or fields i f) ≡ Some p → head_of fields ≡ IsNone (refusal_of p)
 few_refused fields i f p few lt good bad = bad_found fields fields i f p (sym (take_all 24576 fields few)) lt good bad
 
-pub none_found : (fields few : List Field) (i : ℕ) → few ≡ take 24576 fields → length few ≤ i → All (λ f. bad_part f ≡ None) (take i few) → AreGood fields
-none_found fields few i is end good = subst (λ l. All (λ f. bad_part f ≡ None) l) (take_all i few end ∙ is) good
+pub bad_at : (fields : List Field) (i : ℕ) (f : Field) (p : BadPart) → i < 24576 → All (λ f. bad_part f ≡ None) (take i fields) → slice_get fields i ≡ Some f
+    → bad_part f ≡ Some p → head_of fields ≡ IsNone (refusal_of p)
+bad_at fields i f p low good at bad =
+    first_bad fields i f p (omega (arith, length-take 24576 fields, slice_get_within fields i f at, low))
+    (subst (λ l. All (λ f. bad_part f ≡ None) l) (sym (take-take i 24576 fields (omega (arith, low)))) good)
+    (subst (λ f. bad_part f ≡ Some p) (sym (get_or-take 24576 fields i f low ∙ get_or_from_slice_get fields i f f at)) bad)
+
+-- where the fields that were seen are all, or are so many
+pub none_found : (fields : List Field) (i : ℕ) → ((k : ℕ) → k < 24576 → k < length fields → k < i) → All (λ f. bad_part f ≡ None) (take i fields) → AreGood fields
+none_found fields i all good = λ k d less.
+    let low : k < 24576 = omega (arith, length-take 24576 fields, less) in
+    let inside : k < length fields = omega (arith, length-take 24576 fields, less) in
+    let before : k < i = all k low inside in
+    subst (λ f. bad_part f ≡ None) (get_or-take i fields k d before ∙ sym (get_or-take 24576 fields k d low)) (good k d (omega (arith, length-take i fields, before, inside)))
 
 -- with room for all of them, fields that are good make a head
 good_from : (h : Head) (fields : List Field) (n : ℕ) → HasPlaces h n → length fields ≤ n → All (λ f. bad_part f ≡ None) fields → (k : Head) × (read_from h fields ≡ IsHead k)

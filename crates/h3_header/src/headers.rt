@@ -290,8 +290,8 @@ impl Header {
         ensures err { IfErr result (RefusesOne (trailer_head []) fields.now) }
     {
         let mut pseudo = Pseudo::none();
-        let mut map = store::map_for(alloc, fields);
-        match read::read_fields(alloc, &mut pseudo, &mut map, fields) {
+        let (mut map, mut store) = store::room_for(alloc, fields);
+        match read::read_fields(alloc, &mut pseudo, &mut map, &mut store, fields) {
             Ok(()) => Ok(Header {
                 pseudo,
                 fields: map,

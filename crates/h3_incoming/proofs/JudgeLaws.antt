@@ -24,10 +24,10 @@ use Rattle.h3_connection.specs.StrictMessages.{broken_rule, if_whole, large_cont
 use Rattle.h3_qpack.specs.DecodedSection.{DecodedSection, decode_section}
 use Rattle.h3_connection.specs.Incoming.{Incoming}
 use Rattle.h3_incoming.specs.Gives.{Gives}
-use Rattle.h3_qpack.specs.Sizes.{last_value, told_size, IsWithin}
-use Rattle.h3_qpack.specs.declared.within.DecodedWithin.{DecodedWithin}
-use Rattle.h3_qpack.specs.declared.within.DecodedWithin.TheVariants as within
-use Rattle.h3_field.specs.declared.decoder.Decoded.{Decoded}
+use Rattle.h3_qpack.specs.Sizes.{last_value, told_size, IsBlockWithin}
+use Rattle.h3_qpack.specs.declared.block_within.BlockWithin.{BlockWithin}
+use Rattle.h3_qpack.specs.declared.block_within.BlockWithin.TheVariants as within
+use Rattle.h3_qpack.specs.declared.listing.SectionSummary.{SectionSummary}
 use Rattle.h3_incoming.specs.declared.judge.Judged.{Judged}
 use Rattle.h3_incoming.specs.declared.judge.Judged.TheVariants as judge
 use Rattle.h3_proto.specs.declared.stream.Side.TheVariants.{Client, Server}
@@ -74,21 +74,21 @@ pub one_head : (r : HeadRead) (header h : Head) → r ≡ IsHead header → r �
 one_head r header h is other = cc
 
 -- what is said of the fields that are kept is said of the section
-pub judged_within : {E : Type 0} (result : Result Judged E) (side : Side) (own : Announced) (place : Place) (content : Content) (known : Option Content) (answer : Pull) (d : Decoded) (w : DecodedWithin) → w ≡ within.Fields d
-    → IfOk result (λ j. (id : ℕ) (r : DecoderState) (i : Incoming) (replies : List DecoderInstruction) → told_size d.fields.items ≤ section_of own → i.place ≡ place → i.content ≡ content → i.response ≡ known
-    → read_section side own id r i replies d.fields.items ≡ judged_as id i replies answer j)
+pub judged_within : {E : Type 0} (result : Result Judged E) (side : Side) (own : Announced) (place : Place) (content : Content) (known : Option Content) (answer : Pull) (block : List Field) (d : SectionSummary) (w : BlockWithin) → w ≡ within.Fields d
+    → IfOk result (λ j. (id : ℕ) (r : DecoderState) (i : Incoming) (replies : List DecoderInstruction) → told_size block ≤ section_of own → i.place ≡ place → i.content ≡ content → i.response ≡ known
+    → read_section side own id r i replies block ≡ judged_as id i replies answer j)
     → IfOk result (λ j. (id : ℕ) (r : DecoderState) (i : Incoming) (replies : List DecoderInstruction) (dyn_ref : Bool) (fields : List Field)
-    → IsWithin (section_of own) (codes ":status") dyn_ref fields w → i.place ≡ place → i.content ≡ content → i.response ≡ known → read_section side own id r i replies fields ≡ judged_as id i replies answer j)
-judged_within (Err e) side own place left known answer d w is h = h
-judged_within (Ok j) side own place before known answer d w is h = λ id r i replies dyn_ref fields k at left told.
-    let size = subst (λ x. IsWithin (section_of own) (codes ":status") dyn_ref fields x) is k in
+    → IsBlockWithin (section_of own) (codes ":status") dyn_ref fields w block → i.place ≡ place → i.content ≡ content → i.response ≡ known → read_section side own id r i replies fields ≡ judged_as id i replies answer j)
+judged_within (Err e) side own place left known answer block d w is h = h
+judged_within (Ok j) side own place before known answer block d w is h = λ id r i replies dyn_ref fields k at left told.
+    let size = subst (λ x. IsBlockWithin (section_of own) (codes ":status") dyn_ref fields x block) is k in
     subst (λ fs. read_section side own id r i replies fs ≡ judged_as id i replies answer j) size.1 (h id r i replies (subst (λ fs. told_size fs ≤ section_of own) (sym size.1) size.0) at left told)
 
-pub listed_within : {E : Type 0} (result : Result Judged E) (limit : ℕ) (listed : Option (List Field)) (d : Decoded) (w : DecodedWithin) → w ≡ within.Fields d
-    → IfOk result (λ j. HasList j listed d.fields.items) → IfOk result (λ j. (dyn_ref : Bool) (fields : List Field) → IsWithin limit (codes ":status") dyn_ref fields w → HasList j listed fields)
-listed_within (Err e) limit listed d w is h = h
-listed_within (Ok j) limit listed d w is h = λ dyn_ref fields k.
-    let size = subst (λ x. IsWithin limit (codes ":status") dyn_ref fields x) is k in
+pub listed_within : {E : Type 0} (result : Result Judged E) (limit : ℕ) (listed : Option (List Field)) (block : List Field) (d : SectionSummary) (w : BlockWithin) → w ≡ within.Fields d
+    → IfOk result (λ j. HasList j listed block) → IfOk result (λ j. (dyn_ref : Bool) (fields : List Field) → IsBlockWithin limit (codes ":status") dyn_ref fields w block → HasList j listed fields)
+listed_within (Err e) limit listed block d w is h = h
+listed_within (Ok j) limit listed block d w is h = λ dyn_ref fields k.
+    let size = subst (λ x. IsBlockWithin limit (codes ":status") dyn_ref fields x block) is k in
     subst (HasList j listed) size.1 h
 
 -- what is made of it overwrites the content

@@ -7,3 +7,4 @@ pub mod Outlines
 pub mod ListLaws
 pub mod NextFrame
 pub mod FieldsPullLaws
+pub mod BlockPullLaws

@@ -1,7 +1,10 @@
 //! The answer of a pull whose heads and trailers are the lists of fields that came, in a block of memory that serves again.
-ghost use Rattle.std.specs.Prelude.{◌≡◌, ◌<◌, length, IfSome};
+ghost use Rattle.std.specs.Prelude.{◌≡◌, ◌<◌, ℕ, List, Option, length, IfSome};
+ghost use Rattle.h3_field.specs.Field.{Field};
+ghost use Rattle.h3_header.specs.Reads.{head_of_fields};
+ghost use Rattle.h3_incoming.specs.Answering.{fault_told, plain_pull};
 ghost use Rattle.h3_incoming.specs.BlockPulls.{fields_kept, status_kept, told_with, HasStatus};
-ghost use Rattle.h3_incoming.specs.FieldsPulls.{list_of, pull_of};
+ghost use Rattle.h3_incoming.specs.FieldsPulls.{list_of, listed_as, pull_of};
 ghost use Rattle.h3_incoming.specs.declared.fields.FieldsPull.TheVariants as answer;
 
 use crate::answer::{Answer, MessageKind, Plain, kind_at};
@@ -70,24 +73,27 @@ impl BlockPull {
         &self.block
     }
 
-    /// The fields of a head or trailer, as they came and in the order in which they came; none of another answer.
+    /// The fields of a head or trailer, as they came and in the order in which they came. Behind another answer they are any.
     pub fn fields(&self) -> Fields<'_>
-        ensures { result ≡ fields_kept self.now }
+        ensures { IfSome (list_of self.now) (λ fields. result ≡ fields) }
     {
-        match &self.told {
-            Told::Message(_, _) => self.block.fields(),
-            Told::Plain(_) => Fields::of(&[]),
-        }
+        self.block.fields()
     }
 
     /// The status of a response's head, as its header has it. It takes no look at the fields.
     pub fn status(&self) -> Option<StatusCode>
         ensures { result ≡ status_kept self.now }
     {
-        match &self.told {
-            Told::Message(_, status) => *status,
-            Told::Plain(_) => None,
-        }
+        status_of(&self.told)
+    }
+
+    // The fields of a head or trailer with this status, or none.
+    fn hold(&mut self, kind: MessageKind, status: Option<StatusCode>, block: FieldBlock)
+        requires { status ≡ (head_of_fields block).status }
+        ensures { self.new ≡ answer.Item (listed_as kind block) }
+    {
+        self.told = Told::Message(kind, status);
+        self.block = block;
     }
 
     /// Puts a copy in a block of its own in the place of the bytes of a body or session that have none. Nothing else changes, also at an
@@ -132,8 +138,8 @@ impl Answer for BlockPull {
         h3_header::laws::lists_are_their_value();
         match read_list(alloc, &fields.fields()) {
             Ok(ListRead::Head(outline)) => {
-                self.told = Told::Message(kind_at(side, place, &outline), outline.status());
-                self.block = fields;
+                let kind = kind_at(side, place, &outline);
+                self.hold(kind, outline.status(), fields);
                 Ok(ListRead::Head(outline))
             }
             Ok(ListRead::Malformed(why)) => {
@@ -155,9 +161,42 @@ impl Answer for BlockPull {
     }
 
     fn fault(&self) -> Option<Fault> {
-        match &self.told {
-            Told::Plain(Plain::Fault(fault)) => Some(*fault),
-            Told::Plain(_) | Told::Message(_, _) => None,
-        }
+        fault_of(&self.told)
+    }
+}
+
+// The status of what is told.
+fn status_of(told: &Told) -> Option<StatusCode>
+    ensures { (fields : List Field) → HasStatus told.now fields → result ≡ status_kept (told_with told.now fields) }
+{
+    match told {
+        Told::Message(_, status) => *status,
+        Told::Plain(_) => None,
+    }
+}
+
+// The fault that is told.
+fn fault_of(told: &Told) -> Option<Fault>
+    ensures { (fields : List Field) → result ≡ fault_told (pull_of (told_with told.now fields)) }
+{
+    match told {
+        Told::Message(_, _) => None,
+        Told::Plain(plain) => fault_in(plain),
+    }
+}
+
+fn fault_in(plain: &Plain) -> Option<Fault>
+    ensures { result ≡ fault_told (plain_pull plain.now) }
+{
+    match plain {
+        Plain::Fault(fault) => Some(*fault),
+        Plain::Body(_)
+        | Plain::Raw(_)
+        | Plain::Session(_)
+        | Plain::TooLarge(_)
+        | Plain::End
+        | Plain::Pending
+        | Plain::Waiting(_)
+        | Plain::NoMessages => None,
     }
 }

@@ -5,12 +5,14 @@ ghost use Rattle.h3_header.specs.Head.{Head};
 ghost use Rattle.h3_header.specs.HeadRead.{IsHead, head_of};
 ghost use Rattle.h3_header.specs.Reads.{head_of_fields};
 ghost use Rattle.h3_connection.specs.declared.event.Pull.TheVariants as pull;
-ghost use Rattle.h3_incoming.specs.Answering.{message_at};
-ghost use Rattle.h3_incoming.specs.FieldsPulls.{list_of, listed_as, plain_answer, pull_of};
+ghost use Rattle.h3_incoming.specs.Answering.{message_at, plain_pull};
+ghost use Rattle.h3_incoming.specs.FieldsPulls.{list_of, listed_as, pull_of};
 ghost use Rattle.h3_incoming.specs.Outline.{list_read};
+ghost use Rattle.h3_incoming.specs.declared.fields.FieldsPull.TheVariants as answer;
+ghost use Rattle.h3_incoming.specs.declared.outline.ListRead.TheVariants as read;
 
 use crate::answer::{Answer, MessageKind, Plain, kind_at, put};
-use crate::outline::{ListRead, read_list};
+use crate::outline::{ListRead, Outline, read_list};
 use bytes::Bytes;
 use h3_connection::event::Fault;
 use h3_connection::place::Place;
@@ -145,7 +147,8 @@ impl Answer for FieldsPull {
 }
 
 fn of_plain(answer: Plain) -> FieldsPull
-    ensures { result ≡ plain_answer answer }
+    ensures is { pull_of result ≡ plain_pull answer }
+    ensures none { list_of result ≡ None }
 {
     match answer {
         Plain::Body(bytes) => FieldsPull::Item(FieldsItem::Body(bytes)),
@@ -177,28 +180,35 @@ fn give_fields(
     h3_header::laws::lists_are_their_value();
     match read_list(alloc, &fields.fields()) {
         Ok(ListRead::Head(outline)) => {
-            let Ok(copies) = copies_of(alloc, fields) else {
-                return Err(AllocError);
-            };
             let kind = kind_at(side, place, &outline);
-            let list = FieldList::of(copies, outline.status());
-            put(out, FieldsPull::Item(listed(kind, list)));
-            Ok(ListRead::Head(outline))
+            give_copies(out, alloc, kind, outline, fields)
         }
         Ok(ListRead::Malformed(why)) => Ok(ListRead::Malformed(why)),
         Err(e) => Err(e),
     }
 }
 
-// Fields that lie in a block, each with bytes of its own. No fields take no memory.
-fn copies_of(alloc: Global, fields: &FieldBlock) -> Result<Vec<HeaderField>, AllocError>
-    ensures ok { IfOk result (λ copies. copies.items ≡ fields.now) }
+// A head or trailer of this outline, whose fields are copied.
+fn give_copies(
+    out: &mut FieldsPull,
+    alloc: Global,
+    kind: MessageKind,
+    outline: Outline,
+    fields: &FieldBlock,
+) -> Result<ListRead, AllocError>
+    requires { outline.status ≡ (head_of_fields fields.now).status }
+    ensures read { IfOk result (λ r. r ≡ read.Head outline) }
+    ensures is { OnOk result (out.new ≡ answer.Item (listed_as kind fields.now)) }
     ensures err { OnErr result (0 < length fields.now) }
 {
-    if fields.len() == 0 {
-        return Ok(Vec::new(alloc));
+    match fields.to_fields(alloc) {
+        Ok(copies) => {
+            let list = FieldList::of(copies, outline.status());
+            put(out, FieldsPull::Item(listed(kind, list)));
+            Ok(ListRead::Head(outline))
+        }
+        Err(e) => Err(e),
     }
-    fields.to_fields(alloc)
 }
 
 fn listed(kind: MessageKind, fields: FieldList) -> FieldsItem

@@ -214,10 +214,7 @@ fn malformation_by(part: BadPart) -> Malformation
 
 /// What a list is of which no header was made. Want of memory is told where it was told, and of no list that is malformed, which is judged
 /// without memory, unless it has more fields than a map has names for.
-pub(crate) fn read_refused(
-    fields: &Fields<'_>,
-    error: &HeaderError,
-) -> Result<ListRead, AllocError>
+pub(crate) fn read_refused(fields: &Fields<'_>, error: &HeaderError) -> Result<ListRead, AllocError>
     ensures ok { IfOk result (λ r. (why : HeadRefusal) × Tells fields.now error.now why × (r ≡ read.Malformed (malformation_of why))) }
     ensures memory { OnErr result (told error.now ≡ None) }
     ensures good { OnErr result (IsHeadUnlessMany fields.now) }

@@ -1,11 +1,12 @@
 -- What a survey says behind one field more.
 use Rattle.std.proofs.Common.{◌≡◌, ◌≢◌, ℕ, ◌+◌, ◌*◌, ◌%◌, ◌^◌, ◌<◌, Bool, true, false, not, ◌&&◌, ◌||◌, cond, eqb, List, [], ◌∷◌, ◌++◌, take, length, get_or, bit_or, codes, is_some, Some, None, ap, sym, refl, ◌∙◌, subst, arith}
-use Rattle.std.specs.List.{list_any, list_all}
+use Rattle.std.specs.List.{list_any, list_all, slice_get}
 use Rattle.std.proofs.lemmas.Bool.{eqb-true, false≢true}
 use Rattle.std.proofs.lemmas.Bool.Decides.{nat_tests}
 use Rattle.std.proofs.lemmas.Nat.Bits.{bit_at_set_same, bit_at_set_other}
 use Rattle.std.specs.Int.{bit_at, w32}
 use Rattle.std.proofs.lemmas.List.{take_more}
+use Rattle.std.proofs.lemmas.Option.{get_or_from_slice_get, slice_get_within}
 use Rattle.h3_field.specs.Field.{Field}
 use Rattle.h3_messages.proofs.Names.{is_at, is_named, none_named}
 use Rattle.h3_messages.proofs.Pushes.{value_push, value_none, any_push, all_push, repeats_push, order_push}
@@ -70,9 +71,13 @@ seen_step fields f a b is takes = record {
 }
 
 -- the same in a loop
-pub seen_more : (fields : List Field) (i : ℕ) (f : Field) (a b : Seen) → i < length fields → f ≡ get_or fields i f → IsSeen (take i fields) a → TakesField f a b → IsSeen (take (i + 1) fields) b
+seen_more : (fields : List Field) (i : ℕ) (f : Field) (a b : Seen) → i < length fields → f ≡ get_or fields i f → IsSeen (take i fields) a → TakesField f a b → IsSeen (take (i + 1) fields) b
 seen_more fields i f a b within is before takes =
     subst (λ l. IsSeen l b) (ap (λ x. take i fields ++ x ∷ []) is ∙ sym (take_more fields i f within)) (seen_step (take i fields) f a b before takes)
+
+-- where the field is that of a place
+pub seen_at : (fields : List Field) (i : ℕ) (f : Field) (a b : Seen) → slice_get fields i ≡ Some f → IsSeen (take i fields) a → TakesField f a b → IsSeen (take (i + 1) fields) b
+seen_at fields i f a b at before takes = seen_more fields i f a b (slice_get_within fields i f at) (sym (get_or_from_slice_get fields i f f at)) before takes
 
 same_value : (there : Bool) (v : List ℕ) → v ≡ cond there v v
 same_value true v = refl

@@ -51,13 +51,13 @@ impl<'a> Seen<'a> {
         ensures { IsSeen fields.now self.new }
     {
         'fields: for place in 0..fields.len() {
-            self.take_in(fields.get(place));
+            self.take_in(&fields.get(place));
         }
     }
 
     // One field more. The colon is looked at before the name is told, which leaves few names to compare with.
-    fn take_in(&mut self, field: FieldRef<'a>)
-        ensures { TakesField field self.old self.new }
+    fn take_in(&mut self, field: &FieldRef<'a>)
+        ensures { TakesField field.now self.old self.new }
     {
         let name = field.name();
         let value = field.value();

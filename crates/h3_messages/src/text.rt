@@ -14,20 +14,13 @@ pub(crate) fn byte_at(text: &[u8], index: usize) -> u8
     if index < text.len() { text[index] } else { 0 }
 }
 
-/// Whether the two texts are the same. It is for short ones: the kit's `==` on slices begins with what pays for long ones.
+/// Whether the two texts are the same. Where their lengths tell, no call is made.
+#[tactic(auto, using(crate::proofs::Steps::other_lengths))]
 #[inline(always)]
 pub(crate) fn is_same(text: &[u8], word: &[u8]) -> bool
     ensures { result ≡ bytes_eq text.now word.now }
 {
-    if text.len() != word.len() {
-        return false;
-    }
-    'bytes: for index in 0..text.len() {
-        if text[index] != word[index] {
-            return false;
-        }
-    }
-    true
+    text.len() == word.len() && h3_field::is_same(text, word)
 }
 
 /// Whether the text has the byte.

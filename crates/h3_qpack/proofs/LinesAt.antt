@@ -1,6 +1,6 @@
 -- A line at the front of some bytes, and the field that it is of.
-use Rattle.std.proofs.Common.{◌≡◌, ℕ, ◌<◌, List, length, Option, Some, None, Ok, Err, sym, ap, ◌∙◌}
-use Rattle.std.specs.Prelude.{IfSome}
+use Rattle.std.proofs.Common.{◌≡◌, ℕ, ◌<◌, List, [], ◌∷◌, ◌++◌, length, Option, Some, None, Result, Ok, Err, inl, inr, sym, ap, ◌∙◌}
+use Rattle.std.specs.Prelude.{IfSome, OnOk, IfErr}
 use Rattle.h3_field.specs.Field.{Field}
 use Rattle.h3_field.specs.Reading.{Reading, Whole, Unfinished, Bad}
 use Rattle.h3_field.specs.Line.{FieldLine}
@@ -17,7 +17,10 @@ use Rattle.h3_field.specs.SectionAnswer.{BeginsWithString}
 use Rattle.h3_field.specs.SectionLaws.{has_line, line_one, whole_same}
 use Rattle.h3_table.specs.TableState.{TableState}
 use Rattle.h3_qpack.specs.Meaning.{field_at}
-use Rattle.h3_qpack.specs.SectionAnswers.{BeginsWith, BeginsWithNone, IsReasonWith}
+use Rattle.h3_field.specs.declared.decoder_error.DecoderError.{DecoderError}
+use Rattle.h3_field.specs.declared.decoder_error.DecoderError.TheVariants as error
+use Rattle.h3_qpack.specs.ReasonLaws.{reason_with_map}
+use Rattle.h3_qpack.specs.SectionAnswers.{BeginsWith, BeginsWithNone, LinesAskMemory, IsReasonWith, PutsLine}
 
 -- the field of a line that was read
 pub begins_with : {L : Type 0} (place : Place) (h : TableState) (base : ℕ) (line_of : L → FieldLine) (read : List ℕ → Reading LineForm) (old new : List ℕ) (l : L) (f : Field)
@@ -73,3 +76,13 @@ refused_line place h base line_of Bad old new e is k =
 pub made_of : (made named : Option Field) (f : Field) → named ≡ Some f → IfSome made (λ g. g ≡ f) → IfSome made (λ g. named ≡ Some g)
 made_of None named f e is = tt
 made_of (Some g) named f e is = e ∙ ap Some (sym is)
+
+-- a line of a field that was to be put
+pub puts : (h : TableState) (base : ℕ) (old new : List ℕ) (before after : List Field) (f : Field) (result : Result Unit DecoderError) → BeginsWith h base old f new
+    → OnOk result (after ≡ before ++ f ∷ []) → IfErr result (λ e. e ≡ error.OutOfMemory) → PutsLine h base old new before after result
+puts h base old new before after f (Ok u) begins added memory = record { field = f; begins = begins; added = added }
+puts h base old new before after f (Err e) begins added memory = rw memory (inr (f, new, begins))
+
+-- a line of which nothing is put
+pub puts_none : (h : TableState) (base : ℕ) (old : List ℕ) (e : DecoderError) → IsReasonWith (BeginsWithString old) (BeginsWithNone h base old) (λ count. ⊥) e → IsReasonWith (LinesAskMemory h base old) (BeginsWithNone h base old) (λ count. ⊥) e
+puts_none h base old e reason = reason_with_map _ _ _ _ e (λ string. inl string) (λ none. none) reason

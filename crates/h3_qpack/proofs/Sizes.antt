@@ -1,6 +1,6 @@
 -- Fields that are counted one by one.
 use Rattle.std.proofs.Common.{◌≡◌, ℕ, ◌+◌, ◌*◌, ◌-◌, ◌^◌, ◌<◌, min, List, [], ◌∷◌, ◌++◌, length, length-append, Option, Some, None, option_map, refl, sym, ◌∙◌, ap, arith}
-use Rattle.std.proofs.lemmas.List.Sums.{sum_by-append, fold-append}
+use Rattle.std.proofs.lemmas.List.Sums.{sum_by-append, sum_by-cons, fold-append}
 use Rattle.h3_field.specs.Field.{Field, field_size, section_size}
 use Rattle.h3_field.specs.FieldBlock.{end_to_end}
 use Rattle.h3_table.specs.TableState.{TableState}
@@ -38,4 +38,5 @@ size_next fields f sum own next s o n = omega (arith, s, o, n, sum_by-append fie
 pub size_end_to_end : (fields : List Field) → length (end_to_end fields) + 32 * length fields ≡ section_size fields
 unfolding end_to_end
 size_end_to_end [] = refl
-size_end_to_end (f ∷ fields) = omega (arith, length-append f.name (f.value ++ end_to_end fields), length-append f.value (end_to_end fields), size_end_to_end fields)
+size_end_to_end (f ∷ fields) =
+    omega (arith, length-append (f.name ++ f.value) (end_to_end fields), length-append f.name f.value, size_end_to_end fields, sum_by-cons field_size f fields)

@@ -1,15 +1,20 @@
 //! The fields of a section's lines, in a block that is handed in: its memory serves again.
-ghost use Rattle.std.specs.Prelude.{◌≡◌, ◌≤◌, ◌<◌, [], ◌∷◌, ◌++◌, List, length, IfOk, IfErr, OnOk, Some, None, MatchOption};
+ghost use Rattle.std.specs.Prelude.{◌≡◌, ◌≤◌, ◌<◌, [], ◌∷◌, ◌++◌, List, length, true, IfOk, IfErr, OnOk, Some, None, MatchOption};
 ghost use Rattle.h3_field.specs.Field.{Field};
+ghost use Rattle.h3_field.specs.Shapes.{begins};
 ghost use Rattle.h3_field.specs.declared.decoder_error.DecoderError.TheVariants.{OutOfMemory};
 ghost use Rattle.h3_qpack.specs.DecodedSection.{fields_in};
 ghost use Rattle.h3_qpack.specs.SectionAnswers.{LinesAskMemory, IsReasonFor, PutsLine};
 ghost use Rattle.h3_qpack.specs.Sizes.{IsBlockWithin, PassesLimit, told_size};
 
-use crate::lines::Lines;
+use crate::lines::{Lines, post_base, relative};
 use crate::listing::SectionSummary;
 use crate::within::LargeSection;
-use h3_field::{DecoderError, FieldBlock, SliceCursor};
+use h3_field::block::{
+    HeaderBlockField, Indexed, IndexedWithPostBase, LiteralWithNameRef, NameRef,
+};
+use h3_field::static_::StaticTable;
+use h3_field::{DecoderError, FieldBlock, ShortString, SliceCursor};
 
 /// A field section that was decoded into a block, under a limit on the sum of its fields' sizes.
 #[derive(Drop)]
@@ -24,13 +29,105 @@ pub enum BlockWithin {
 fn size_of_block(block: &FieldBlock) -> u64
     ensures { result ≡ told_size block.now }
 {
-    block
-        .len()
-        .saturating_mul(32)
-        .saturating_add(block.bytes().len()) as u64
+    let count = block.len();
+    let bytes = block.bytes();
+    count.saturating_mul(32).saturating_add(bytes.len()) as u64
+}
+
+/// Adds copies of a name and a value.
+fn put(block: &mut FieldBlock, name: &[u8], value: &[u8]) -> Result<(), DecoderError>
+    ensures ok { OnOk result (block.new ≡ block.old ++ (record { name = name.now; value = value.now }) ∷ []) }
+    ensures err { IfErr result (λ e. e ≡ OutOfMemory) }
+{
+    match block.push(name, value) {
+        Ok(()) => Ok(()),
+        Err(_) => Err(DecoderError::OutOfMemory),
+    }
 }
 
 impl<'t> Lines<'t> {
+    /// Adds the field of an indexed line.
+    fn put_indexed(
+        &self,
+        buf: &mut SliceCursor<'_>,
+        block: &mut FieldBlock,
+    ) -> Result<(), DecoderError>
+        requires some { 0 < length buf.old }
+        requires own { begins 128 255 buf.old ≡ true }
+        ensures { PutsLine self.now.table self.now.base buf.old buf.new block.old block.new result }
+    {
+        match Indexed::decode(buf) {
+            Ok(Indexed::Static(index)) => match StaticTable::get(index) {
+                Ok(field) => put(block, field.name(), field.value()),
+                Err(e) => Err(DecoderError::InvalidStaticIndex(e)),
+            },
+            Ok(Indexed::Dynamic(index)) => match relative(self.entries(), self.base(), index) {
+                Ok(entry) => put(block, entry.name(), entry.value()),
+                Err(e) => Err(e),
+            },
+            Err(e) => Err(DecoderError::from(e)),
+        }
+    }
+
+    /// Adds the field of a line that is an entry, by its distance from the base on.
+    fn put_post_base(
+        &self,
+        buf: &mut SliceCursor<'_>,
+        block: &mut FieldBlock,
+    ) -> Result<(), DecoderError>
+        requires some { 0 < length buf.old }
+        requires own { begins 16 31 buf.old ≡ true }
+        ensures { PutsLine self.now.table self.now.base buf.old buf.new block.old block.new result }
+    {
+        match IndexedWithPostBase::decode(buf) {
+            Ok(IndexedWithPostBase(index)) => match post_base(self.entries(), self.base(), index) {
+                Ok(entry) => put(block, entry.name(), entry.value()),
+                Err(e) => Err(e),
+            },
+            Err(e) => Err(DecoderError::from(e)),
+        }
+    }
+
+    /// Adds the field of a line with a literal value and the name of an entry.
+    fn put_named(
+        &self,
+        buf: &mut SliceCursor<'_>,
+        block: &mut FieldBlock,
+    ) -> Result<(), DecoderError>
+        requires some { 0 < length buf.old }
+        requires own { begins 64 127 buf.old ≡ true }
+        ensures { PutsLine self.now.table self.now.base buf.old buf.new block.old block.new result }
+    {
+        let mut value = ShortString::new();
+        match LiteralWithNameRef::decode_short(buf, &mut value) {
+            Some(NameRef::Static(index)) => match StaticTable::get_name(index) {
+                Ok(name) => put(block, name, value.as_slice()),
+                Err(e) => Err(DecoderError::InvalidStaticIndex(e)),
+            },
+            Some(NameRef::Dynamic(index)) => match relative(self.entries(), self.base(), index) {
+                Ok(entry) => put(block, entry.name(), value.as_slice()),
+                Err(e) => Err(e),
+            },
+            None => self.put_other(buf, block),
+        }
+    }
+
+    /// Adds the field of the line at the front, whatever it is, by way of a field of its own.
+    #[inline(never)]
+    fn put_other(
+        &self,
+        buf: &mut SliceCursor<'_>,
+        block: &mut FieldBlock,
+    ) -> Result<(), DecoderError>
+        requires { 0 < length buf.old }
+        ensures { PutsLine self.now.table self.now.base buf.old buf.new block.old block.new result }
+    {
+        match self.take(buf) {
+            Ok(line) => put(block, line.name(), line.value()),
+            Err(e) => Err(e),
+        }
+    }
+
     /// Adds the field of the line at the front to the block.
     fn put_line(
         &self,
@@ -40,13 +137,11 @@ impl<'t> Lines<'t> {
         requires { 0 < length buf.old }
         ensures { PutsLine self.now.table self.now.base buf.old buf.new block.old block.new result }
     {
-        let line = match self.take(buf) {
-            Ok(line) => line,
-            Err(e) => return Err(e),
-        };
-        match block.push(line.name(), line.value()) {
-            Ok(()) => Ok(()),
-            Err(_) => Err(DecoderError::OutOfMemory),
+        match HeaderBlockField::decode(buf.chunk()[0]) {
+            HeaderBlockField::Indexed => self.put_indexed(buf, block),
+            HeaderBlockField::LiteralWithNameRef => self.put_named(buf, block),
+            HeaderBlockField::IndexedWithPostBase => self.put_post_base(buf, block),
+            _ => self.put_other(buf, block),
         }
     }
 

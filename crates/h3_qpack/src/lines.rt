@@ -140,7 +140,11 @@ pub(crate) fn relative(
 }
 
 /// The entry at a distance from the base on.
-fn post_base(entries: &Entries, base: usize, index: usize) -> Result<Entry<'_>, DecoderError>
+pub(crate) fn post_base(
+    entries: &Entries,
+    base: usize,
+    index: usize,
+) -> Result<Entry<'_>, DecoderError>
     ensures { MatchResult result (λ f. entry_at entries.now (base + index + 1) ≡ Some f) (λ e. (entry_at entries.now (base + index + 1) ≡ None) × (e ≡ InvalidIndex (PostbaseIndex index))) }
 {
     // beyond all numbers of entries, where the sum might not fit
@@ -242,6 +246,18 @@ impl<'t> Lines<'t> {
 
     pub(crate) fn alloc(&self) -> Global {
         self.alloc
+    }
+
+    pub(crate) fn entries(&self) -> &'t Entries
+        ensures { result.now ≡ self.now.table }
+    {
+        self.entries
+    }
+
+    pub(crate) fn base(&self) -> usize
+        ensures { result ≡ self.now.base }
+    {
+        self.base
     }
 
     /// The field of an indexed line.

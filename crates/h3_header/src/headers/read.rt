@@ -1,5 +1,5 @@
 //! The parts of a header, read from the bytes of a field's name and value.
-ghost use Rattle.std.specs.Prelude.{◌≡◌, ⊤, IfOk, OnOk, IfErr, OnErr, MatchResult, Ok, Err, Some, fold};
+ghost use Rattle.std.specs.Prelude.{◌≡◌, ⊤, IfOk, OnOk, IfErr, OnErr, MatchBool, MatchResult, Ok, Err, Some, fold};
 ghost use Rattle.http_header.specs.Token.{IsToken};
 ghost use Rattle.http_header.specs.FieldName.{IsHeaderName};
 ghost use Rattle.http_header.specs.FieldValue.{plain_value, IsFieldValue};
@@ -18,10 +18,11 @@ use super::path::RequestPath;
 use super::pseudo::Pseudo;
 use super::store::Store;
 use crate::ext::Protocol;
+use crate::grammar::{is_field_value, is_header_name};
 use h3_field::{FieldRef, Fields};
 use http::method::MethodError;
 use http::{Method, StatusCode};
-use http_header::{HeaderMap, HeaderMapError, HeaderName, HeaderNameError, HeaderValue};
+use http_header::{HeaderMap, HeaderMapError, HeaderName, HeaderValue};
 use http_uri::{Authority, PathAndQuery, Scheme, UriError};
 use std::alloc::Global;
 
@@ -50,11 +51,7 @@ fn read_scheme(alloc: Global, value: &[u8]) -> Result<Scheme, HeaderError>
     }
 }
 
-fn read_authority(
-    alloc: Global,
-    store: &mut Store,
-    value: &[u8],
-) -> Result<Authority, HeaderError>
+fn read_authority(alloc: Global, store: &mut Store, value: &[u8]) -> Result<Authority, HeaderError>
     ensures ok { IfOk result (λ m. IsAuthority value.now
         × (m ≡ value.now)) }
     ensures err { IfErr result (RefusesValue (IsAuthority value.now) ⊤) }
@@ -105,23 +102,32 @@ fn read_name(alloc: Global, store: &mut Store, name: &[u8]) -> Result<HeaderName
         × (n ≡ name.now)) }
     ensures err { IfErr result (RefusesName (IsHeaderName name.now)) }
 {
-    if let Some(standard) = HeaderName::standard(name) {
-        if standard.as_bytes() == name {
-            return Ok(standard);
-        }
+    // `standard` and `from_shared` take letters of any case, and make them lower case.
+    if !is_name(name) {
         return Err(HeaderError::invalid_name(alloc, name));
     }
-    match HeaderName::from_shared(alloc, store.keep(name)?) {
-        Ok(made) => {
-            // `from_shared` takes letters of any case, and makes them lower case.
-            if made.as_bytes() == name {
-                return Ok(made);
-            }
-            Err(HeaderError::invalid_name(alloc, name))
-        }
-        Err(HeaderNameError::Invalid) => { Err(HeaderError::invalid_name(alloc, name)) }
-        Err(HeaderNameError::OutOfMemory) => Err(HeaderError::OutOfMemory),
+    if let Some(standard) = HeaderName::standard(name) {
+        return Ok(standard);
     }
+    match HeaderName::from_shared(alloc, store.keep(name)?) {
+        Ok(made) => Ok(made),
+        // (`Invalid` is not reached: the name is one)
+        Err(_) => Err(HeaderError::OutOfMemory),
+    }
+}
+
+// Whether a name is one of a field, in lower case.
+fn is_name(text: &[u8]) -> bool
+    ensures { MatchBool result (IsHeaderName text.now) (¬ (IsHeaderName text.now)) }
+{
+    is_header_name(text)
+}
+
+// Whether a value is one of a field.
+fn is_value(text: &[u8]) -> bool
+    ensures { MatchBool result (IsFieldValue text.now) (¬ (IsFieldValue text.now)) }
+{
+    is_field_value(text)
 }
 
 fn read_value(
@@ -134,10 +140,10 @@ fn read_value(
         × (v ≡ plain_value value.now)) }
     ensures err { IfErr result (RefusesValue (IsFieldValue value.now) ⊤) }
 {
-    match HeaderValue::from_shared(store.keep(value)?) {
-        Ok(value) => Ok(value),
-        Err(_) => Err(HeaderError::invalid_value(alloc, name.as_bytes(), value)),
+    if !is_value(value) {
+        return Err(HeaderError::invalid_value(alloc, name.as_bytes(), value));
     }
+    Ok(HeaderValue::from_known_valid(store.keep(value)?))
 }
 
 /// Appends a regular field to the map.
@@ -166,20 +172,20 @@ fn append_field(
     }
 }
 
-/// Reads the fields in order into the parts of a header, up to the first one that is refused.
+/// Reads the fields in order into the parts of a header, up to the first one that is refused. Their bytes go to the store.
 pub(crate) fn read_fields(
     alloc: Global,
     pseudo: &mut Pseudo,
     map: &mut HeaderMap,
+    store: &mut Store,
     fields: &Fields<'_>,
 ) -> Result<(), HeaderError>
     ensures ok { OnOk result (AcceptsAll (head_of_parts pseudo.old map.old) fields.now
         × (head_of_parts pseudo.new map.new ≡ fold with_field (head_of_parts pseudo.old map.old) fields.now)) }
     ensures err { IfErr result (RefusesOne (head_of_parts pseudo.old map.old) fields.now) }
 {
-    let mut store = Store::of(alloc, fields);
     'fields: for place in 0..fields.len() {
-        read_field(alloc, pseudo, map, &mut store, &fields.get(place))?;
+        read_field(alloc, pseudo, map, store, &fields.get(place))?;
     }
     Ok(())
 }

@@ -2,6 +2,7 @@
 ghost use Rattle.std.specs.Prelude.{◌≡◌, [], IfOk, IfErr};
 
 use super::error::HeaderError;
+use crate::grammar::byte_at;
 use bytes::{Bytes, BytesMut};
 use h3_field::Fields;
 use http_header::HeaderMap;
@@ -15,14 +16,9 @@ pub(crate) struct Store {
 }
 
 impl Store {
-    /// With room for what these fields hold, where there is memory for it.
-    pub(crate) fn of(alloc: Global, fields: &Fields<'_>) -> Store {
-        let mut len: usize = 0;
-        for place in 0..fields.len() {
-            let field = fields.get(place);
-            len = len.saturating_add(field.name().len()).saturating_add(field.value().len());
-        }
-        match BytesMut::with_capacity(alloc, len) {
+    /// With room for so many bytes, where there is memory for it.
+    fn with_room(alloc: Global, bytes: usize) -> Store {
+        match BytesMut::with_capacity(alloc, bytes) {
             Ok(room) => Store { room },
             Err(_) => Store {
                 room: BytesMut::new(alloc),
@@ -46,16 +42,27 @@ impl Store {
     }
 }
 
-/// An empty map, with room for the regular ones of these fields where there is memory for it.
-pub(crate) fn map_for(alloc: Global, fields: &Fields<'_>) -> HeaderMap
-    ensures { result ≡ [] }
+/// An empty map and a store, with room for these fields where there is memory for it.
+pub(crate) fn room_for(alloc: Global, fields: &Fields<'_>) -> (HeaderMap, Store)
+    ensures { result.0 ≡ [] }
 {
     let mut names: usize = 0;
+    let mut bytes: usize = 0;
     for place in 0..fields.len() {
-        if fields.get(place).name().first() != Some(&b':') {
+        let field = fields.get(place);
+        bytes = bytes.saturating_add(field.value().len());
+        if byte_at(field.name(), 0) != b':' {
             names = names.saturating_add(1);
+            bytes = bytes.saturating_add(field.name().len());
         }
     }
+    (map_with_room(alloc, names), Store::with_room(alloc, bytes))
+}
+
+// An empty map, with room for so many names where there is memory for it.
+fn map_with_room(alloc: Global, names: usize) -> HeaderMap
+    ensures { result ≡ [] }
+{
     match HeaderMap::with_capacity(alloc, names) {
         Ok(map) => map,
         Err(_) => HeaderMap::new(alloc),

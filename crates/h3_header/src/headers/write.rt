@@ -6,30 +6,10 @@ ghost use Rattle.h3_header.specs.Head.{optional_field, regular_fields};
 ghost use Rattle.h3_header.specs.ReadsBack.{IsValidMap};
 
 use h3_field::HeaderField;
-use h3_field::static_::StaticTable;
 use http_header::HeaderMap;
 use std::alloc::{AllocError, Global};
 
-/// The static copy of a value that is common in pseudo-header fields, if there is one.
-fn static_value(value: &str) -> Option<&'static str>
-    ensures { IfSome result (λ s. s.now ≡ value.now) }
-{
-    match value {
-        "GET" => Some("GET"),
-        "POST" => Some("POST"),
-        "HEAD" => Some("HEAD"),
-        "PUT" => Some("PUT"),
-        "DELETE" => Some("DELETE"),
-        "OPTIONS" => Some("OPTIONS"),
-        "CONNECT" => Some("CONNECT"),
-        "https" => Some("https"),
-        "http" => Some("http"),
-        "/" => Some("/"),
-        _ => None,
-    }
-}
-
-/// A pseudo-header field. Its name is not copied, nor is a common value.
+/// A pseudo-header field. Its name is not copied, and a value of at most 36 bytes takes no memory.
 pub(crate) fn pseudo_field(
     alloc: Global,
     name: &'static [u8],
@@ -37,11 +17,7 @@ pub(crate) fn pseudo_field(
 ) -> Result<HeaderField, AllocError>
     ensures { IfOk result (λ f. f ≡ record { name = name.now; value = value.now }) }
 {
-    if let Some(value) = static_value(value) {
-        return Ok(static_field(name, value));
-    }
-    let value = Vec::from_slice(alloc, value.as_bytes())?;
-    Ok(HeaderField::with_static_name(name, value))
+    HeaderField::with_copied_value(alloc, name, value.as_bytes())
 }
 
 /// A pseudo-header field of static parts.
@@ -51,18 +27,7 @@ pub(crate) fn static_field(name: &'static [u8], value: &'static str) -> HeaderFi
     HeaderField::from_static(name, value.as_bytes())
 }
 
-/// The static copy of a name that the static table has (RFC 9204, appendix A).
-fn static_name(name: &[u8]) -> Option<&'static [u8]>
-    ensures { IfSome result (λ s. s.now ≡ name.now) }
-{
-    let index = StaticTable::find_name(name)?;
-    match StaticTable::get_name(index) {
-        Ok(name) => Some(name),
-        Err(_) => None,
-    }
-}
-
-/// A regular field, with one allocation. A name of the static table is not copied.
+/// A regular field, of copies: a short one takes no memory, and any other one block.
 pub(crate) fn regular_field(
     alloc: Global,
     name: &[u8],
@@ -70,10 +35,6 @@ pub(crate) fn regular_field(
 ) -> Result<HeaderField, AllocError>
     ensures { IfOk result (λ f. f ≡ record { name = name.now; value = value.now }) }
 {
-    if let Some(name) = static_name(name) {
-        let value = Vec::from_slice(alloc, value)?;
-        return Ok(HeaderField::with_static_name(name, value));
-    }
     HeaderField::copied(alloc, name, value)
 }
 

@@ -24,9 +24,9 @@ use crate::section::{Tried, try_section};
 use h3_connection::event::{Fault, Malformation, StreamFault};
 use h3_connection::place::Place;
 use h3_connection::setup::Announced;
+use h3_field::FieldBlock;
 use h3_proto::error::Code;
 use h3_proto::stream::{Side, StreamId};
-use h3_field::FieldBlock;
 use h3_qpack::{BlockWithin, Decoder};
 use std::alloc::Global;
 

@@ -1,25 +1,34 @@
-use Rattle.std.proofs.Common.{◌≡◌, ap, sym, ◌∙◌}
+use Rattle.std.proofs.Common.{◌≡◌, ap, sym, ◌∙◌, arith, length}
 use Rattle.h3_header.specs.Reads.{head_of_fields}
 use Rattle.h3_connection.specs.declared.event.Pull.TheVariants as pull
 use Rattle.h3_incoming.specs.Answering.{item_of, kind_at, message_at}
-use Rattle.h3_incoming.specs.FieldsPulls.{list_of, listed_as, pull_of}
-use Rattle.h3_incoming.specs.declared.fields.FieldsPull.TheVariants as answer
-use Rattle.h3_incoming.proofs.FieldsPullLaws.{is_this, listed_of, status_is, told_of}
+use Rattle.h3_incoming.specs.FieldsPulls.{list_of, pull_of}
+use Rattle.h3_incoming.proofs.FieldsPullLaws.{is_this, listed_of, never_malformed, ok_as, on_err, on_ok, status_is, told_of}
 use Rattle.h3_incoming.proofs.fields.give_fields.Goals as goal
 
-pub of-list-requires : goal.of-list-requires
-of-list-requires c = c.status.ensures ∙ status_is c.args.fields.items c.in-Ok-Head.outline c.lists_are_their_value.ensures.is_head (rw (c.in-Ok-Head.field-0-is, c.as_slice.ensures.value) at c.in-Ok-Head.ensures.ok)
+pub give_copies-requires : goal.give_copies-requires
+give_copies-requires c = status_is c.args.fields.now c.in-Ok-Head.outline c.lists_are_their_value.ensures.is_head (rw (c.in-Ok-Head.field-0-is, c.fields.ensures) at c.in-Ok-Head.ensures.ok)
+
+pub returns-in-Ok-Head-clause-read : goal.returns-in-Ok-Head-clause-read
+returns-in-Ok-Head-clause-read c = ok_as c.give_copies.result _ _ c.give_copies.ensures.read (rw (c.in-Ok-Head.field-0-is, c.fields.ensures) at c.in-Ok-Head.ensures.ok)
 
 pub returns-in-Ok-Head-clause-head : goal.returns-in-Ok-Head-clause-head
-returns-in-Ok-Head-clause-head c = λ h is.
-    let fields = c.args.fields.items in
+returns-in-Ok-Head-clause-head c = on_ok c.give_copies.result _ _ c.give_copies.ensures.is (λ given h is.
+    let fields = c.args.fields.now in
     let same : head_of_fields fields ≡ h = sym (c.lists_are_their_value.ensures.is_head fields h is).1 in
-    let status : c.in-Ok-Head.outline.status ≡ (head_of_fields fields).status = status_is fields c.in-Ok-Head.outline c.lists_are_their_value.ensures.is_head (rw (c.in-Ok-Head.field-0-is, c.as_slice.ensures.value) at c.in-Ok-Head.ensures.ok) in
-    ap pull_of (c.put.ensures ∙ ap answer.Item (c.listed.ensures ∙ ap (listed_as c.kind_at-kind.result) c.of-list.ensures)) ∙ told_of c.kind_at-kind.result fields
+    let status : c.in-Ok-Head.outline.status ≡ (head_of_fields fields).status = status_is fields c.in-Ok-Head.outline c.lists_are_their_value.ensures.is_head (rw (c.in-Ok-Head.field-0-is, c.fields.ensures) at c.in-Ok-Head.ensures.ok) in
+    ap pull_of given ∙ told_of c.kind_at-kind.result fields
     ∙ ap (λ k. pull.Item (item_of k (head_of_fields fields))) (c.kind_at-kind.ensures ∙ ap (kind_at c.args.side c.args.place) status)
-    ∙ ap (λ q. pull.Item (message_at c.args.side c.args.place q)) same
+    ∙ ap (λ q. pull.Item (message_at c.args.side c.args.place q)) same)
 
 pub returns-in-Ok-Head-clause-list : goal.returns-in-Ok-Head-clause-list
-returns-in-Ok-Head-clause-list c = λ h is.
-    let fields = c.args.fields.items in
-    is_this (list_of c.put.new.place) fields (ap list_of (c.put.ensures ∙ ap answer.Item (c.listed.ensures ∙ ap (listed_as c.kind_at-kind.result) c.of-list.ensures)) ∙ listed_of c.kind_at-kind.result fields)
+returns-in-Ok-Head-clause-list c = on_ok c.give_copies.result _ _ c.give_copies.ensures.is (λ given h is.
+    let fields = c.args.fields.now in
+    is_this (list_of c.give_copies.new.out) fields (ap list_of given ∙ listed_of c.kind_at-kind.result fields))
+
+pub returns-in-Ok-Head-clause-good : goal.returns-in-Ok-Head-clause-good
+returns-in-Ok-Head-clause-good c =
+    on_err c.give_copies.result _ (never_malformed c.args.fields.now c.in-Ok-Head.outline (rw (c.in-Ok-Head.field-0-is, c.fields.ensures) at c.in-Ok-Head.ensures.ok))
+
+pub returns-in-Err-clause-memory : goal.returns-in-Err-clause-memory
+returns-in-Err-clause-memory c = omega (arith, ap length c.fields.ensures, c.in-Err.ensures.err)

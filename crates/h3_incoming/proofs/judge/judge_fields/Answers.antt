@@ -13,8 +13,8 @@ returns-in-Ok-Head-clause-judged g c = λ id r i replies few at left told.
     let own = c.args.announced.now in
     let side = c.args.side in
     let place = c.args.place in
-    let fields = c.args.fields.items in
-    let list = c.as_slice.ensures.value in
+    let fields = c.args.fields in
+    let list = c.fields.ensures in
     let rule : if_whole i.content (broken_rule side own place fields) ≡ c.if_whole-broken.result =
     ap (λ l. if_whole l (broken_rule side own place fields)) left ∙ ap (λ l. if_whole c.args.content (broken_rule side own place l)) (sym list)
     ∙ ap (if_whole c.args.content) (sym c.read_strictly-read.ensures.broken) ∙ sym c.if_whole-broken.ensures in
@@ -31,10 +31,10 @@ returns-in-Ok-Head-clause-judged g c = λ id r i replies few at left told.
 
 pub returns-in-Ok-Head-clause-item : goal.returns-in-Ok-Head-clause-item
 returns-in-Ok-Head-clause-item g c =
-    reads_head (head_of c.args.fields.items) c.in-Ok-Head.outline (rw c.in-Ok-Head.field-0-is at c.in-Ok-Head.ensures.read) _ (λ h head is.
+    reads_head (head_of c.args.fields) c.in-Ok-Head.outline (rw c.in-Ok-Head.field-0-is at c.in-Ok-Head.ensures.read) _ (λ h head is.
     has_item c.judge_message.result _ (message_at c.args.side c.args.place h) (c.in-Ok-Head.ensures.head h head))
 
 pub returns-in-Ok-Head-clause-list : goal.returns-in-Ok-Head-clause-list
 returns-in-Ok-Head-clause-list g c =
-    reads_head (head_of c.args.fields.items) c.in-Ok-Head.outline (rw c.in-Ok-Head.field-0-is at c.in-Ok-Head.ensures.read) _ (λ h head is.
-    has_list c.judge_message.result _ c.args.fields.items (c.in-Ok-Head.ensures.list h head))
+    reads_head (head_of c.args.fields) c.in-Ok-Head.outline (rw c.in-Ok-Head.field-0-is at c.in-Ok-Head.ensures.read) _ (λ h head is.
+    has_list c.judge_message.result _ c.args.fields (c.in-Ok-Head.ensures.list h head))

@@ -1,5 +1,6 @@
-use Rattle.std.proofs.Common.{◌≡◌, ◌+◌, None, Some, rules, get_or, ap, sym, ◌∙◌, drop, fold, arith}
+use Rattle.std.proofs.Common.{◌≡◌, ◌+◌, None, Some, rules, get_or, ap, sym, subst, ◌∙◌, drop, fold, arith}
 use Rattle.std.proofs.lemmas.List.Elements.{All-more}
+use Rattle.std.proofs.lemmas.Option.{get_or_from_slice_get, slice_get_within}
 use Rattle.h3_header.specs.BadPart.{bad_part}
 use Rattle.h3_incoming.specs.Outline.{empty_outline, outlined, list_read}
 use Rattle.h3_incoming.specs.declared.outline.ListRead.TheVariants as read
@@ -9,29 +10,31 @@ use Rattle.h3_incoming.proofs.outline.read_short.Goals as goal
 pub returns-in-Err : goal.returns-in-Err
 returns-in-Err c =
     let fields = c.args.fields.now in
-    let i = c.fields.field-index in
-    let field = c.field-item.result in
-    let found : bad_part (get_or fields i field) ≡ Some c.in-Err.part = search rules in
-    let refused = c.fields_are_judged_alone.ensures.refused fields i field c.in-Err.part c.requires c.fields-test.true c.fields.invariant.0 found in
+    let i = c.fields.place in
+    let field = c.get-field.result in
+    let found : bad_part field ≡ Some c.in-Err.part = search rules in
+    let here = subst (λ f. bad_part f ≡ Some c.in-Err.part) (sym (get_or_from_slice_get fields i field field c.get-field.ensures)) found in
+    let refused = c.fields_are_judged_alone.ensures.refused fields i field c.in-Err.part c.requires (slice_get_within fields i field c.get-field.ensures) c.fields.invariant.0 here in
     ap read.Malformed c.malformation_by.ensures ∙ sym (ap list_read refused)
 
 pub fields-preserved : goal.fields-preserved
 fields-preserved c =
     let fields = c.args.fields.now in
-    let i = c.fields.field-index in
-    let field = c.field-item.result in
-    let same : get_or fields i field ≡ field = search rules in
-    let good : bad_part (get_or fields i field) ≡ None = search rules in
+    let i = c.fields.place in
+    let field = c.get-field.result in
+    let same = get_or_from_slice_get fields i field field c.get-field.ensures in
+    let inside = slice_get_within fields i field c.get-field.ensures in
+    let good : bad_part field ≡ None = search rules in
     let one : c.with-outline.result ≡ outlined c.fields.outline field = search rules in (
-      All-more (λ f. bad_part f ≡ None) fields i field c.fields-test.true c.fields.invariant.0 good,
+      All-more (λ f. bad_part f ≡ None) fields i field inside c.fields.invariant.0 (subst (λ f. bad_part f ≡ None) (sym same) good),
       ap (λ o. fold outlined o (drop (i + 1) fields)) one
-          ∙ next_outline fields i field c.fields.outline (fold outlined empty_outline fields) c.fields-test.true same c.fields.invariant.1,
+          ∙ next_outline fields i field c.fields.outline (fold outlined empty_outline fields) inside same c.fields.invariant.1,
     )
 
 pub returns : goal.returns
 returns c =
     let fields = c.args.fields.now in
-    let i = c.fields.field-index in
+    let i = c.fields.place in
     let good = all_good fields i (omega arith) c.requires c.fields.invariant.0 in
     ap read.Head (last_outline fields i c.fields.outline (fold outlined empty_outline fields) (omega arith) c.fields.invariant.1)
     ∙ short_head fields c.lists_are_their_value.ensures.is_head c.requires (c.fields_are_judged_alone.ensures.head fields good)

@@ -5,4 +5,4 @@ use Rattle.h3_incoming.proofs.outline.read_short.Given as goal
 
 abbrev pub invariant-fields : goal.invariant-fields
 invariant-fields l =
-    All (λ f. bad_part f ≡ None) (take l.field-index l.fields) × (fold outlined l.outline (drop l.field-index l.fields) ≡ fold outlined empty_outline l.fields)
+    All (λ f. bad_part f ≡ None) (take l.place l.fields) × (fold outlined l.outline (drop l.place l.fields) ≡ fold outlined empty_outline l.fields)

@@ -7,4 +7,4 @@ returns-in-Ok c =
     rw (sym c.new-cursor.ensures) (h.0, h.1, h.2, rw c.as_slice.ensures at h.3)
 
 pub returns-in-Err : goal.returns-in-Err
-returns-in-Err c = rw (sym c.new-cursor.ensures) (c.refused.ensures _ _ _ c.in-Err.ensures.err.0 c.in-Err.ensures.memory)
+returns-in-Err c = rw (sym c.new-cursor.ensures) (c.refused.ensures _ _ _ _ c.in-Err.ensures.err.0 c.in-Err.ensures.memory)
