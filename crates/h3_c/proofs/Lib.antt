@@ -5,4 +5,3 @@ pub mod Making
 pub mod NextIds
 pub mod Values
 pub mod RowLaws
-pub mod Listed

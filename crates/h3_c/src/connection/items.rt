@@ -5,7 +5,7 @@ ghost use Rattle.h3_c.specs.Exported.{GivesField, OnStream, Pulls, ReadsBytes, R
 
 use super::Connection;
 use crate::items::{PulledItem, shown};
-use crate::last::Last;
+use crate::last::{Last, block_told};
 use crate::numbers::{ARGUMENT, MEMORY, NONE, OK, ROOM, Told};
 use crate::owned::put;
 use h3_field::{FieldBlock, Fields};
@@ -43,7 +43,10 @@ impl Connection {
         ensures field { ReadsField self.old index result (places name.old name_len.old value.old value_len.old) (places name.new name_len.new value.new value_len.new) }
     {
         if let Last::Listed(answer) = &self.last {
-            return field_at(&answer.fields(), index, name, name_len, value, value_len);
+            return match block_told(answer) {
+                Some(fields) => field_at(&fields.fields(), index, name, name_len, value, value_len),
+                None => NONE,
+            };
         }
         let Ok(fields) = self.take_fields(alloc) else {
             return MEMORY;
