@@ -2,7 +2,9 @@
 use Rattle.std.specs.Prelude.{◌≡◌, ◌==◌, ◌%◌, ℕ, true, is_some, if◌then◌else◌, List, [], ◌∷◌, ◌++◌, Result, Ok, Err}
 use Rattle.h3_field.specs.Field.{Field}
 use Rattle.h3_field.specs.FieldBlock.{IsNext}
-use Rattle.h3_field.specs.Reading.{Reading, Whole, Unfinished, Bad}
+use Rattle.h3_field.specs.Reading.{Reading, Whole, Unfinished, Bad, then_read}
+use Rattle.h3_field.specs.Shapes.{IndexAndString}
+use Rattle.h3_field.specs.LineReading.{LineForm, Named, PostBaseNamed}
 use Rattle.h3_field.specs.StringReading.{Payload, StandsFor, StandsForNone}
 use Rattle.h3_field.specs.Values.{string_of}
 use Rattle.h3_field.specs.declared.field_block.FieldPlace.{FieldPlace}
@@ -54,3 +56,15 @@ AnswersIndex index_of Bad old new result = (result ≡ Err (parse.Integer intege
 -- the name that the head of a line refers to
 abbrev pub name_ref_of : ℕ × ℕ → name_ref.NameRef
 name_ref_of head = if head.0 % 2 == 1 then name_ref.TheVariants.Static head.1 else name_ref.TheVariants.Dynamic head.1
+
+-- an index with the flags above it, and the string behind it
+abbrev pub parts_of : ℕ × ℕ → Reading (ℕ × Payload) → Reading IndexAndString
+parts_of head r = then_read r (λ value after. Whole (record { flags = head.0; index = head.1; value = value.1 }) after)
+
+-- a line with the name of an entry, by those
+abbrev pub named_of : Reading IndexAndString → Reading LineForm
+named_of r = then_read r (λ parts rest. Whole (Named (parts.flags % 2 == 1) parts.index parts.value) rest)
+
+-- the same by its distance from the base on
+abbrev pub post_base_of : Reading IndexAndString → Reading LineForm
+post_base_of r = then_read r (λ parts rest. Whole (PostBaseNamed parts.index parts.value) rest)

@@ -9,17 +9,8 @@ use Rattle.h3_field.specs.Line.FieldLine.{PostBaseName}
 use Rattle.h3_field.specs.LineReading.{LineForm, Named, PostBaseNamed, SaysLine, named, post_base_named}
 use Rattle.h3_field.specs.LineAnswer.{AnswersLine, short_named_line}
 use Rattle.h3_field.specs.ShapeAnswer.{AtInteger}
-use Rattle.h3_field.specs.OntoAnswer.{AnswersField, AnswersIndex, name_ref_of}
+use Rattle.h3_field.specs.OntoAnswer.{AnswersField, AnswersIndex, name_ref_of, parts_of, named_of, post_base_of}
 use Rattle.h3_field.specs.declared.block.literal.NameRef as name_ref
-
-abbrev parts_of : ℕ × ℕ → Reading (ℕ × Payload) → Reading IndexAndString
-parts_of head r = then_read r (λ value after. Whole (record { flags = head.0; index = head.1; value = value.1 }) after)
-
-abbrev named_of : Reading IndexAndString → Reading LineForm
-named_of r = then_read r (λ parts rest. Whole (Named (parts.flags % 2 == 1) parts.index parts.value) rest)
-
-abbrev post_base_of : Reading IndexAndString → Reading LineForm
-post_base_of r = then_read r (λ parts rest. Whole (PostBaseNamed parts.index parts.value) rest)
 
 says_named : (is_static : Bool) (index : ℕ) (p : Payload) (value : List ℕ) → StandsFor p value
     → SaysLine (Named is_static index p) (short_named_line value (if is_static then name_ref.TheVariants.Static index else name_ref.TheVariants.Dynamic index))
