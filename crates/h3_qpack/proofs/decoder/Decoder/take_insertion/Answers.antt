@@ -21,7 +21,7 @@ returns-then-inserted-ge-MOST_INSERTIONS c =
       refl,
     )
 
-pub returns-then-mem_size-capacity : goal.returns-then-size_of-capacity
+pub returns-then-mem_size-capacity : goal.returns-then-mem_size-capacity
 returns-then-mem_size-capacity c =
     let begins = rw (c.in-Ok-Some.field-0-is, c.new-ahead.ensures, c.chunk.ensures) at c.in-Ok-Some.ensures in (
       no_room_bad c.args.self.now c.args.buf.now _ c.in-Ok-Some.field begins
