@@ -1,11 +1,13 @@
 //! What a pull answers, written in one place: as a `Pull`, whose heads and trailers are headers, as a `FieldsPull`, which has the lists of
-//! fields that came, or as a `BlockPull`, which has them in memory that serves again. An answer with a header is large: one that is returned is moved from call to call, and each call clears the room for it.
+//! fields that came, or as a `BlockPull`, which has them in memory that serves again. An answer with a header is large: one that is returned
+//! is moved from call to call, and each call clears the room for it.
 ghost use Rattle.std.specs.Prelude.{◌≡◌, Option, None, List, IfOk, IfSome, OnOk, OnErr, false, []};
 ghost use Rattle.h3_field.specs.Field.{Field};
 ghost use Rattle.h3_header.specs.BadPart.{IsHeadUnlessMany};
 ghost use Rattle.h3_header.specs.Head.{Head, trailer_head};
 ghost use Rattle.h3_header.specs.HeadRead.{IsHead, head_of};
 ghost use Rattle.h3_header.specs.Reads.{RefusesOne};
+ghost use Rattle.h3_header.specs.declared.headers.error.HeaderError.TheVariants as error;
 ghost use Rattle.h3_connection.specs.declared.event.Item.TheVariants as item;
 ghost use Rattle.h3_connection.specs.declared.event.Pull.{Pull};
 ghost use Rattle.h3_connection.specs.declared.event.Pull.TheVariants as pull;
@@ -239,7 +241,7 @@ impl Answer for Pull {
 
     ghost listed = { λ p. None };
 
-    ghost asks = { λ fields. RefusesOne (trailer_head []) fields HeaderError.OutOfMemory };
+    ghost asks = { λ fields. RefusesOne (trailer_head []) fields error.OutOfMemory };
 
     fn give(&mut self, answer: Plain) {
         put(self, pull_of_plain(answer));
