@@ -5,7 +5,7 @@ ghost use Rattle.h3_field.specs.Section.{AnswersSection, Fields};
 use crate::input::{self, FieldList};
 use crate::output;
 use crate::report::{Failure, Report, answer};
-use h3_field::{Fields, HeaderField, SliceCursor, decode_stateless_into, encode_stateless};
+use h3_field::{HeaderField, SliceCursor, decode_stateless_into, encode_stateless};
 use std::alloc::Global;
 
 /// Encodes a list in place of what stands in `section`.
@@ -106,7 +106,7 @@ fn put_lists(
     output::put_number(packed, sections.len())?;
     for section in sections {
         decode_into(alloc, *section, fields)?;
-        output::put_fields(packed, &Fields::of(fields.as_slice()))?;
+        output::put_fields(packed, &h3_field::Fields::of(fields.as_slice()))?;
     }
     Ok(())
 }
