@@ -1,5 +1,5 @@
 //! What an economical encoder keeps of the values that it wrote as literals.
-ghost use Rattle.std.specs.Prelude.{◌≡◌, ◌<◌, ◌+◌, ℕ, List};
+ghost use Rattle.std.specs.Prelude.{◌≡◌, ◌<◌, ◌+◌, ◌*◌, ◌%◌, ◌^◌, ℕ, List, fold};
 ghost use Rattle.h3_qpack.specs.Marks.{value_mark, no_marks, with_mark, is_marked};
 
 use std::marker::Model;
@@ -10,18 +10,35 @@ const MARKS: usize = 32;
 /// How many bytes at the end of a value its mark goes by.
 const MARKED_BYTES: usize = 16;
 
-/// The mark of a value: of its length and its last bytes, so that a long value costs no more.
+/// The mark of a value: of its length and its last bytes, so that a long value costs no more. Four bytes are taken at a time: one of them waits for the
+/// others then in an addition alone.
 fn value_mark(value: &[u8]) -> u32
     ensures { result ≡ value_mark value.now }
 {
     let len = value.len();
-    let last = &value[len.saturating_sub(MARKED_BYTES)..];
+    let mut rest = &value[len.saturating_sub(MARKED_BYTES)..];
     let mut mark = (len as u64) % 4294967296;
     // (the label names the loop in its proof)
-    'bytes: for byte in last {
+    'fours: while let Some((four, behind)) = rest.split_first_chunk::<4>() {
+        mark = behind_four(mark, four);
+        rest = behind;
+    }
+    // (the label names the loop in its proof)
+    'bytes: for byte in rest {
         mark = (31 * mark + *byte as u64) % 4294967296;
     }
     mark as u32
+}
+
+/// A mark behind four bytes more.
+fn behind_four(mark: u64, four: &[u8; 4]) -> u64
+    requires { mark < 2 ^ 32 }
+    ensures mark { result ≡ fold (λ mark byte. (31 * mark + byte) % 2 ^ 32) mark four.now }
+    ensures below { result < 2 ^ 32 }
+{
+    let first = 31 * u64::from(four[0]) + u64::from(four[1]);
+    let second = 31 * u64::from(four[2]) + u64::from(four[3]);
+    (923521 * mark + 961 * first + second) % 4294967296
 }
 
 /// The marks of the last values, each in front of the next older one, and the last in front of the first. A contract sees them as a list of 32
