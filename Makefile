@@ -6,7 +6,7 @@ LIB ?= build/c
 EXCHANGES ?= 1000000
 PREFIX ?= /usr/local
 
-.PHONY: help run draw build lib lib-unproved install examples test test-c refused bench bench-build bench-page bench-exchange bench-long interop upstream-root load need-rt
+.PHONY: help run draw build lib lib-unproved install examples test test-c refused bench bench-build bench-page bench-exchange bench-instructions bench-long interop upstream-root load need-rt
 
 help: ## list the commands
 	@grep -hE '^[a-z-]+:.*## ' $(MAKEFILE_LIST) | sed -E 's/^([a-z-]+):.*## /make \1: /'
@@ -60,6 +60,9 @@ bench-page: ## measure what make bench-build left, and write the tables of bench
 
 bench-exchange: need-rt ## of these the rows of whole exchanges alone, over the library for C
 	@bash scripts/bench/bench.sh exchange
+
+bench-instructions: ## print how many instructions an exchange takes, ours and nghttp3's (valgrind), over the folder that `make lib` leaves, or LIB=build/c-unproved
+	@LIB="$(LIB)" bash scripts/bench/instructions.sh
 
 bench-long: ## print what a connection that lives long costs, EXCHANGES=1000000 on it, over the folder that `make lib` leaves, or LIB=build/c-unproved
 	@bash scripts/dev/need.sh library "$(LIB)"

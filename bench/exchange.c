@@ -3,6 +3,7 @@
 #include "measure.h"
 #include <stdio.h>
 #include <stdlib.h>
+#include <string.h>
 
 /* The least ratios to nghttp3's speed that are wanted. */
 static const double REAL_TARGET = 1.4, IN_PIECES_TARGET = 1.3, SMALL_GET_TARGET = 1.3, SMALL_POST_TARGET = 1.2, LARGE_TARGET = 1.0;
@@ -36,21 +37,6 @@ static void growth_row(exchange_kind few, exchange_kind many) {
              seconds_each(peer_exchanges, &many) / seconds_each(peer_exchanges, &few));
 }
 
-static void small_rows(exchange_kind get) {
-  rows("500 exchanges, 0/0", "500 exchanges, 4096/100", "small GET", get, SMALL_GET_TARGET);
-  exchange_kind many = get;
-  many.exchanges = 20000;
-  rows("20,000 exchanges, 0/0", "20,000 exchanges, 4096/100", "small GET", many, SMALL_GET_TARGET);
-  growth_row(get, many);
-  exchange_kind post = get;
-  post.request_body = post.response_body = 7000;
-  rows("500 exchanges, 0/0", "500 exchanges, 4096/100", "small POST", post, SMALL_POST_TARGET);
-  exchange_kind large = get;
-  large.request_body = large.response_body = LONGEST_BODY;
-  large.under_way = 10;
-  row("500 exchanges, 0/0", "64 KiB POST", large, LARGE_TARGET);
-}
-
 static double held_after(void (*work)(void *, uint64_t), exchange_kind kind, size_t exchanges) {
   kind.exchanges = exchanges;
   contender c = {work, &kind};
@@ -72,29 +58,90 @@ static void memory_rows(exchange_kind kind) {
   figure_row(&idle, held[OURS], held[PEER]);
 }
 
-int main(int argc, char **argv) {
-  const char *dir = argc > 1 ? argv[1] : "data";
-  if (argc > 2) measure_seconds = atof(argv[2]);
-  if (argc > 3) measure_only = argv[3];
-  for (size_t i = 0; i < sizeof exchange_body; i++) exchange_body[i] = (uint8_t)('a' + i % 26);
+/* The lists of all rows. */
+typedef struct {
+  field_lists posts, answers, pages, gets, oks, one_authority;
+} list_sets;
+
+static list_sets load_sets(const char *dir) {
+  static nghttp3_nv get[] = {FIELD(":method", "GET"), FIELD(":scheme", "https"), FIELD(":authority", "www.example.com"), FIELD(":path", "/sample/path")};
+  static nghttp3_nv ok[] = {FIELD(":status", "200"), FIELD("content-type", "text/plain")};
+  static field_list small_get = {get, 4}, small_ok = {ok, 2};
   field_lists requests = load_lists(dir, "requests"), responses = load_lists(dir, "responses");
-  field_lists posts = with_value(&requests, "real POST", ":method", "POST"), answers = with_value(&responses, "real POST", ":status", "200"),
-              pages = with_value(&requests, "real GET", ":method", "GET");
-  nghttp3_nv get[] = {FIELD(":method", "GET"), FIELD(":scheme", "https"), FIELD(":authority", "www.example.com"), FIELD(":path", "/sample/path")};
-  nghttp3_nv ok[] = {FIELD(":status", "200"), FIELD("content-type", "text/plain")};
-  field_list small_get = {get, 4}, small_ok = {ok, 2};
-  field_lists gets = {.name = "small GET", .lists = &small_get, .count = 1}, oks = {.name = "small GET", .lists = &small_ok, .count = 1};
-  print_head();
-  exchange_kind real = {&posts, &answers, 7000, 7000, 500, 100, MOST_CARRIED, 0, 0};
+  list_sets sets = {.posts = with_value(&requests, "real POST", ":method", "POST"),
+                    .answers = with_value(&responses, "real POST", ":status", "200"),
+                    .pages = with_value(&requests, "real GET", ":method", "GET"),
+                    .gets = {.name = "small GET", .lists = &small_get, .count = 1},
+                    .oks = {.name = "small GET", .lists = &small_ok, .count = 1}};
+  sets.one_authority = with_value(&sets.pages, "one authority", ":authority", "localhost:7020");
+  return sets;
+}
+
+static exchange_kind real_post(const list_sets *sets) { return (exchange_kind){&sets->posts, &sets->answers, 7000, 7000, 500, 100, MOST_CARRIED, 0, 0}; }
+
+static exchange_kind small_get(const list_sets *sets) { return (exchange_kind){&sets->gets, &sets->oks, 0, 100, 500, 100, MOST_CARRIED, 0, 0}; }
+
+static exchange_kind small_post(const list_sets *sets) {
+  exchange_kind post = small_get(sets);
+  post.request_body = post.response_body = 7000;
+  return post;
+}
+
+static exchange_kind large_post(const list_sets *sets) {
+  exchange_kind large = small_get(sets);
+  large.request_body = large.response_body = LONGEST_BODY;
+  large.under_way = 10;
+  return large;
+}
+
+static void small_rows(const list_sets *sets) {
+  const exchange_kind get = small_get(sets);
+  rows("500 exchanges, 0/0", "500 exchanges, 4096/100", "small GET", get, SMALL_GET_TARGET);
+  exchange_kind many = get;
+  many.exchanges = 20000;
+  rows("20,000 exchanges, 0/0", "20,000 exchanges, 4096/100", "small GET", many, SMALL_GET_TARGET);
+  growth_row(get, many);
+  rows("500 exchanges, 0/0", "500 exchanges, 4096/100", "small POST", small_post(sets), SMALL_POST_TARGET);
+  row("500 exchanges, 0/0", "64 KiB POST", large_post(sets), LARGE_TARGET);
+}
+
+/* So many exchanges on one connection, timed by nobody, for a program that counts instructions: scripts/bench/instructions.sh. */
+static int run_once(const list_sets *sets, const char *kind_name, size_t exchanges, const char *who) {
+  const struct {
+    const char *name;
+    exchange_kind kind;
+  } kinds[] = {{"small GET", small_get(sets)}, {"small POST", small_post(sets)}, {"real POST", real_post(sets)}, {"64 KiB POST", large_post(sets)}};
+  for (size_t k = 0; k < sizeof kinds / sizeof *kinds; k++) {
+    if (strcmp(kinds[k].name, kind_name) != 0) continue;
+    exchange_kind kind = kinds[k].kind;
+    kind.exchanges = exchanges;
+    (strcmp(who, "ours") == 0 ? our_exchanges : peer_exchanges)(&kind, 1);
+    return 0;
+  }
+  fprintf(stderr, "exchange DATA once KIND EXCHANGES ours|nghttp3\n");
+  return 2;
+}
+
+static void all_rows(const list_sets *sets) {
+  exchange_kind real = real_post(sets);
   rows("500 exchanges, 0/0", "500 exchanges, 4096/100", "real POST", real, REAL_TARGET);
   real.piece = 1200;
   rows("in pieces of 1,200, 0/0", "in pieces of 1,200, 4096/100", "real POST", real, IN_PIECES_TARGET);
-  row("20,000 exchanges, 0/0", "real GET", (exchange_kind){&pages, &answers, 0, 100, 20000, 100, MOST_CARRIED, 0, 0}, REAL_TARGET);
-  exchange_kind small = {&gets, &oks, 0, 100, 500, 100, MOST_CARRIED, 0, 0};
-  small_rows(small);
-  memory_rows(small);
-  field_lists one_authority = with_value(&pages, "one authority", ":authority", "localhost:7020");
-  heads_rows(&one_authority, &answers);
+  row("20,000 exchanges, 0/0", "real GET", (exchange_kind){&sets->pages, &sets->answers, 0, 100, 20000, 100, MOST_CARRIED, 0, 0}, REAL_TARGET);
+  small_rows(sets);
+  memory_rows(small_get(sets));
+  heads_rows(&sets->one_authority, &sets->answers);
+}
+
+int main(int argc, char **argv) {
+  const char *dir = argc > 1 ? argv[1] : "data";
+  for (size_t i = 0; i < sizeof exchange_body; i++) exchange_body[i] = (uint8_t)('a' + i % 26);
+  const list_sets sets = load_sets(dir);
+  if (argc == 6 && strcmp(argv[2], "once") == 0) return run_once(&sets, argv[3], strtoul(argv[4], NULL, 10), argv[5]);
+  if (argc > 2) measure_seconds = atof(argv[2]);
+  if (argc > 3) measure_only = argv[3];
+  print_head();
+  all_rows(&sets);
   printf("\n%d rows below their target\n", rows_below());
   return rows_below() > 0;
 }

@@ -2,7 +2,7 @@
 # packages.sh SET..: are the Debian packages there that a command wants? Names all that are missing at once, with the line that installs them.
 # The sets: c (what `make test-c` is built with), peer (what bench/ is built with), examples-c, examples-go and examples-rust (what the programs of
 # examples/ are), examples (all of these), interop (what `make interop` runs them against), firefox (what it runs where that is there), load (`make load`),
-# upstream (`make upstream-root`).
+# upstream (`make upstream-root`), count (`make bench-instructions`).
 set -uo pipefail
 
 missing=()
@@ -19,6 +19,9 @@ for set in ${sets// examples / examples-c examples-go examples-rust }; do
         need "lib$name-dev" "/usr/include/$name/$name.h"
         need "lib$name-dev" "$(gcc -print-file-name="lib$name.a" 2>/dev/null)"
       done
+      ;;
+    count)
+      need valgrind valgrind
       ;;
     c)
       need gcc "${CC:-cc}"
