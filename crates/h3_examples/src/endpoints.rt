@@ -1,5 +1,6 @@
 //! A connection (RFC 9114): a client and a server over `Endpoint`. In place of QUIC, what waits on a stream of one end is delivered
 //! to the other.
+use crate::lists;
 use crate::log::words;
 use h3_session::endpoint::Endpoint;
 use h3_session::{
@@ -13,7 +14,7 @@ use std::str::FromStr;
 
 /// Why the example ends early. (A caller would keep which refusal it was.)
 #[derive(Clone, Copy)]
-enum Stop {
+pub(crate) enum Stop {
     Memory,
     Refused,
 }
@@ -30,7 +31,7 @@ impl From<Refusal> for Stop {
     }
 }
 
-/// A request with a body and its response, a request that is malformed, and a server that goes away.
+/// A request with a body and its response, an exchange by lists of fields, a request that is malformed, and a server that goes away.
 pub fn client_and_server(alloc: Global, text: &mut String) -> Result<(), AllocError> {
     words(text, "# a client and a server")?;
     match with_client(alloc, text) {
@@ -98,6 +99,7 @@ fn talk(
     carry_own(alloc, client, server)?;
     carry(alloc, server, client, id)?;
     pull_all(alloc, text, "client", client, id)?;
+    lists::exchange(alloc, text, client, server)?;
     reset_malformed(alloc, text, client, server)?;
     go_away(alloc, text, client, server)
 }
@@ -182,14 +184,14 @@ fn reset_malformed(
     pull_all(alloc, text, "client", client, id)
 }
 
-/// The server takes no request from stream 8 on, and a client that was told opens none.
+/// The server takes no request from stream 12 on, and a client that was told opens none.
 fn go_away(
     alloc: Global,
     text: &mut String,
     client: &mut Endpoint,
     server: &mut Endpoint,
 ) -> Result<(), Stop> {
-    server.goaway(VarInt::from_u32(8))?;
+    server.goaway(VarInt::from_u32(12))?;
     carry_own(alloc, client, server)?;
     let opened = client.open_request();
     let line = format!(in alloc; "client opens a request: {opened:?}")?;
@@ -197,7 +199,11 @@ fn go_away(
 }
 
 /// Carries what waits on the own streams of both: control, encoder and decoder stream, which QUIC opened before any other.
-fn carry_own(alloc: Global, client: &mut Endpoint, server: &mut Endpoint) -> Result<(), Stop> {
+pub(crate) fn carry_own(
+    alloc: Global,
+    client: &mut Endpoint,
+    server: &mut Endpoint,
+) -> Result<(), Stop> {
     carry_on(alloc, client, server, 2)?;
     carry_on(alloc, client, server, 6)?;
     carry_on(alloc, client, server, 10)?;
@@ -217,7 +223,12 @@ fn carry_on(
 }
 
 /// Carries what waits on a stream, and the end of one that is finished.
-fn carry(alloc: Global, from: &mut Endpoint, to: &mut Endpoint, id: StreamId) -> Result<(), Stop> {
+pub(crate) fn carry(
+    alloc: Global,
+    from: &mut Endpoint,
+    to: &mut Endpoint,
+    id: StreamId,
+) -> Result<(), Stop> {
     // a piece has a byte at least
     for _ in 0..from.waiting(id) {
         carry_piece(alloc, from, to, id)?;

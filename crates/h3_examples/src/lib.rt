@@ -3,6 +3,7 @@
 
 mod endpoints;
 mod frames;
+mod lists;
 mod log;
 mod reading;
 mod refusals;

@@ -27,11 +27,16 @@ pub fn bytes(alloc: Global, text: &mut String, what: &str, bytes: &[u8]) -> Resu
 
 /// A line a field.
 pub fn fields(text: &mut String, fields: &[HeaderField]) -> Result<(), AllocError> {
-    for field in fields {
-        text.push_str("  ")?;
-        text.push_str(str::from_utf8(field.name()).unwrap_or("?"))?;
-        text.push_str(" = ")?;
-        words(text, str::from_utf8(field.value()).unwrap_or("?"))?;
+    for it in fields {
+        field(text, it.name(), it.value())?;
     }
     Ok(())
+}
+
+/// A line of a field.
+pub fn field(text: &mut String, name: &[u8], value: &[u8]) -> Result<(), AllocError> {
+    text.push_str("  ")?;
+    text.push_str(str::from_utf8(name).unwrap_or("?"))?;
+    text.push_str(" = ")?;
+    words(text, str::from_utf8(value).unwrap_or("?"))
 }
