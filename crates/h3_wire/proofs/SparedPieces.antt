@@ -2,6 +2,7 @@
 use Rattle.std.proofs.Common.{◌≡◌, ℕ, zero, suc, ◌+◌, ◌-◌, ◌<◌, ◌≤◌, List, [], ◌∷◌, ◌++◌, length, drop, arith, refl, sym, subst, ◌∙◌, ap, length-append, append_assoc, append-nil, if◌then◌else◌, OnOk, OnErr, Option, Some, None, Result, Ok, Err}
 use Rattle.std.specs.List.{concat}
 use Rattle.std.proofs.lemmas.Bool.{le-ltb}
+use Rattle.std.proofs.lemmas.List.{length-drop}
 use Rattle.std.proofs.lemmas.List.Folds.{concat-append}
 use Rattle.h3_wire.specs.declared.proto.frame.PayloadLen.{PayloadLen}
 use Rattle.h3_wire.specs.declared.proto.frame.Frame.{Frame}
@@ -156,6 +157,12 @@ none_first rest (p ∷ pieces) e = let wrong : None ≡ Some p = ap first_in e i
 -- what is decoded makes the bytes fewer
 pub decoded_fits : (r : Result (Option (Frame PayloadLen)) FrameStreamError) (front old new : List (List ℕ)) (most : ℕ) → Gives r (concat old) (concat new) → length (concat (front ++ old)) < most → length (concat (front ++ new)) < most
 decoded_fits r front old new most g fits = omega (arith, gives_fewer r (concat old) (concat new) g, size_of_both front old, size_of_both front new, fits)
+
+-- and so does any rest of them
+pub rest_fits : (front old new : List (List ℕ)) (most : ℕ) → IsRest old new → length (concat (front ++ old)) < most → length (concat (front ++ new)) < most
+rest_fits front old new most r fits =
+    let fewer : length (concat new) ≡ length (concat old) - r.0 = ap length (ap concat r.2 ∙ concat-without r.0 old) ∙ length-drop r.0 (concat old) in
+    omega (arith, fewer, size_of_both front old, size_of_both front new, fits)
 
 -- with nothing in front all is kept
 pub none_in_front : (passing gone : ℕ) (front pieces : List (List ℕ)) → AreLetGo passing gone front → passing ≡ 0 → concat pieces ≡ concat (front ++ pieces)

@@ -55,6 +55,10 @@ abbrev pub first_frame : First → Frame PayloadLen
 first_frame (first.Data size) = frame.Data (record { 0 = size })
 first_frame (first.Headers section) = frame.Headers section
 
+abbrev pub framed : Option First → Option (Frame PayloadLen)
+framed None = None
+framed (Some f) = Some (first_frame f)
+
 -- a try takes the frame at the front, an unknown one too, and else nothing
 abbrev pub Tries : Tried → Front → List ℕ → List ℕ → Type 0
 Tries (tried.Frame f) front old new = front ≡ Whole f new

@@ -1,9 +1,9 @@
 //! Reading the frames of a buffer, one after another.
-ghost use Rattle.std.specs.Prelude.{◌≡◌, ◌+◌, ◌^◌, ◌<◌, ◌≤◌, None, false, true, length, IfOk, IfSome, IsNone};
+ghost use Rattle.std.specs.Prelude.{◌≡◌, ◌+◌, ◌^◌, ◌<◌, ◌≤◌, None, Ok, false, true, length, IfOk, IfSome, IsNone};
 ghost use Rattle.std.specs.List.{concat};
 ghost use Rattle.h3_wire.specs.declared.proto.frame.Frame.TheVariants as frame;
 ghost use Rattle.h3_wire.specs.Frames.{Whole, frame_at, has_head, IsHeadersFrame};
-ghost use Rattle.h3_wire.specs.Known.{Gives, Tries, first_frame};
+ghost use Rattle.h3_wire.specs.Known.{Gives, Tries, first_frame, framed};
 ghost use Rattle.h3_wire.specs.Pieces.{IsRest, ending, first_size};
 ghost use Rattle.h3_wire.specs.Tries.{Counts, Expects, counted, needed, one_more};
 
@@ -55,12 +55,12 @@ pub(crate) enum Tried {
     OutOfMemory,
 }
 
-// A frame that was taken from the first piece: no `Frame`, which has room for the largest.
+/// A frame that was taken from the first piece: no `Frame`, which has room for the largest.
 #[derive(Drop)]
-pub(crate) enum First {
-    // DATA, whose payload has so many bytes.
+pub enum First {
+    /// The head of a DATA frame, whose payload has so many bytes.
     Data(usize),
-    // A field section.
+    /// The field section of a HEADERS frame.
     Headers(Bytes),
 }
 
@@ -122,14 +122,31 @@ impl FrameDecoder {
         ensures counts { Counts self.old (concat src.old.pieces) result self.new }
         ensures pieces { src.new.pieces ≡ ending (length (concat src.new.pieces)) src.old.pieces }
     {
+        match self.decode_first(src) {
+            Some(Some(first)) => Ok(Some(first.into_frame())),
+            Some(None) => Ok(None),
+            None => self.decode_front(alloc, src),
+        }
+    }
+
+    // The same, where it takes a frame from the first piece, or fewer bytes are there than the next try needs. Otherwise `None`, which changes
+    // nothing.
+    #[inline(always)]
+    pub(super) fn decode_first(&mut self, src: &mut BufList<Bytes>) -> Option<Option<First>>
+        requires expects { Expects self.old (concat src.old.pieces) }
+        ensures gives { IfSome result (λ o. Gives (Ok (framed o)) (concat src.old.pieces) (concat src.new.pieces)) }
+        ensures expects { Expects self.new (concat src.new.pieces) }
+        ensures fresh { IfSome result (λ o. IfSome o (λ f. self.new.expected ≡ None)) }
+        ensures counts { IfSome result (λ o. Counts self.old (concat src.old.pieces) (Ok (framed o)) self.new) }
+        ensures none { IsNone result → (self.new ≡ self.old) × (src.new.pieces ≡ src.old.pieces) }
+        ensures rest { IsRest src.old.pieces src.new.pieces }
+    {
         if src.remaining() < self.needed() {
-            return Ok(None);
+            return Some(None);
         }
-        if let Some(first) = take_first(src) {
-            self.count(None);
-            return Ok(Some(first.into_frame()));
-        }
-        self.decode_front(alloc, src)
+        let first = take_first(src)?;
+        self.count(None);
+        Some(Some(first))
     }
 
     // The same wherever the frame lies, and behind unknown ones. It stays apart, so that a frame in the first piece is read without making

@@ -1,0 +1,8 @@
+use Rattle.std.proofs.Common.{◌^◌}
+use Rattle.h3_wire.proofs.SparedPieces.{rest_fits}
+use Rattle.h3_wire.proofs.frame.sparing.FrameBytes.decode_first.Goals as goal
+
+pub invariant_of-self : goal.invariant_of-self
+invariant_of-self c =
+    let i = c.self.inside in
+    (c.self.invariant.0, rest_fits i.let_go.pieces i.kept.pieces c.decode_first.new.src.pieces (2 ^ 64) c.decode_first.ensures.rest c.self.invariant.1)
