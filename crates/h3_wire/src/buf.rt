@@ -173,6 +173,13 @@ impl<T: Buf> BufList<T> {
         }
     }
 
+    // Whether there are no pieces, and no memory for any.
+    pub(crate) fn is_bare(&self) -> bool
+        ensures { result ≡ true → self.now.pieces ≡ [] }
+    {
+        self.front.is_none() && self.behind.is_bare()
+    }
+
     // Whether there is at most one piece.
     pub(crate) fn is_one_piece(&self) -> bool
         ensures { result ≡ nat_le (length self.now.pieces) 1 }

@@ -89,7 +89,9 @@ impl IncomingStream {
         ensures answer { O.told out.new ≡ pull.Item End }
         ensures none { O.listed out.new ≡ None }
     {
-        drop(mem::replace(&mut self.unread, FrameBuffer::new(alloc)));
+        if !self.unread.is_bare() {
+            drop(mem::replace(&mut self.unread, FrameBuffer::new(alloc)));
+        }
         self.is_over = true;
         end(out);
     }

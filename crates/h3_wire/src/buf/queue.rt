@@ -94,6 +94,13 @@ impl<T: Buf> Queue<T> {
         self.len == 0
     }
 
+    /// Whether there are none, and no memory for any.
+    pub(super) fn is_bare(&self) -> bool
+        ensures { result ≡ true → self.now.pieces ≡ [] }
+    {
+        self.bufs.capacity() == 0 && self.is_empty()
+    }
+
     /// A front of the bytes.
     pub(super) fn chunk(&self) -> &[u8]
         ensures { IsChunkOf result.now (concat self.now.pieces) }

@@ -1,5 +1,5 @@
 //! The bytes of a stream of frames that came and were not read.
-ghost use Rattle.std.specs.Prelude.{◌≡◌, ◌+◌, ◌^◌, ◌<◌, ◌≤◌, ◌++◌, None, Ok, false, true, length, IfOk, IfErr, IfSome, IsNone, OnOk, OnErr};
+ghost use Rattle.std.specs.Prelude.{◌≡◌, ◌+◌, ◌^◌, ◌<◌, ◌≤◌, ◌++◌, [], None, Ok, false, true, length, IfOk, IfErr, IfSome, IsNone, OnOk, OnErr};
 ghost use Rattle.std.specs.List.{concat};
 ghost use Rattle.h3_wire.specs.ExcessiveFrames.{is_excessive};
 ghost use Rattle.h3_wire.specs.Known.{Gives, framed, known};
@@ -189,6 +189,13 @@ impl FrameBuffer {
         ensures { self.new ≡ self.old }
     {
         self.unread.own(alloc)
+    }
+
+    /// Whether no byte is unread, and there is no memory for any: then there is nothing to let go of.
+    pub fn is_bare(&self) -> bool
+        ensures { result ≡ true → self.now.pieces ≡ [] }
+    {
+        self.unread.is_bare()
     }
 
     /// How many bytes were not read.

@@ -189,6 +189,13 @@ impl FrameBytes {
         self.gone + self.kept.remaining()
     }
 
+    /// Whether no byte is unread, and there is no memory for any.
+    pub(super) fn is_bare(&self) -> bool
+        ensures { result ≡ true → self.now.pieces ≡ [] }
+    {
+        self.passing == 0 && self.kept.is_bare()
+    }
+
     /// Whether the first frame that is no whole unknown one says a length above this limit, and is one whose payload is kept until it is
     /// whole. Nothing is taken.
     pub(super) fn is_excessive(&self, most: u64) -> bool
