@@ -69,10 +69,10 @@ unfolding bits
 begin plain out h = record { parts = refl; within = omega arith; room = h; bytes = tt }
 
 -- one word more
-pub add_word : (plain out : List ℕ) (index acc count written word : ℕ) → Written plain out index acc count written → count < 32 → index < length plain → length (code_word (get_or plain index 0)) ≤ 30 →
+pub add_word : (plain out : List ℕ) (index acc count written word : ℕ) → Written plain out index acc count written → count + length (code_word (get_or plain index 0)) ≤ 64 → index < length plain →
     bits (length (code_word (get_or plain index 0))) word ≡ code_word (get_or plain index 0) → word < 2 ^ length (code_word (get_or plain index 0)) →
     Written plain out (index + 1) (bit_or (acc * 2 ^ length (code_word (get_or plain index 0)) % 2 ^ 64) word) (count + length (code_word (get_or plain index 0))) written
-add_word plain out index acc count written word w few there most is below =
+add_word plain out index acc count written word w fits there is below =
     let byte = get_or plain index 0 in
     let len = length (code_word byte) in
     let more : bits (count + len) (bit_or (acc * 2 ^ len % 2 ^ 64) word) ≡ bits count acc ++ code_word byte = bits-shift_in count len acc word below (omega arith) ∙ ap (λ x. bits count acc ++ x) is in
@@ -83,11 +83,17 @@ add_word plain out index acc count written word w few there most is below =
       bytes = w.bytes;
     }
 
-pub add_byte : (plain out : List ℕ) (index acc count written word len : ℕ) → Written plain out index acc count written → count < 32 → index < length plain → len ≡ length (code_word (get_or plain index 0)) → len ≤ 30 →
+pub add_byte : (plain out : List ℕ) (index acc count written word len : ℕ) → Written plain out index acc count written → count + len ≤ 64 → index < length plain → len ≡ length (code_word (get_or plain index 0)) →
     bits (length (code_word (get_or plain index 0))) word ≡ code_word (get_or plain index 0) → word < 2 ^ length (code_word (get_or plain index 0)) →
     Written plain out (index + 1) (bit_or (acc * 2 ^ len % 2 ^ 64) word) (count + len) written
-add_byte plain out index acc count written word len w few there is most spelled below =
-    rw is (add_word plain out index acc count written word w few there (rw is at most) spelled below)
+add_byte plain out index acc count written word len w fits there is spelled below =
+    rw is (add_word plain out index acc count written word w (rw is at fits) there spelled below)
+
+-- the word of the byte at `index`, which is the one before `next`
+pub add_at : (plain out : List ℕ) (index next acc count written word len : ℕ) → next ≡ index + 1 → Written plain out index acc count written → count + len ≤ 64 → index < length plain → len ≡ length (code_word (get_or plain index 0)) →
+    bits (length (code_word (get_or plain index 0))) word ≡ code_word (get_or plain index 0) → word < 2 ^ length (code_word (get_or plain index 0)) →
+    Written plain out next (bit_or (acc * 2 ^ len % 2 ^ 64) word) (count + len) written
+add_at plain out index next acc count written word len e w fits there is spelled below = rw e (add_byte plain out index acc count written word len w fits there is spelled below)
 
 -- some bytes more
 pub move_out : (plain out new bytes : List ℕ) (index acc count left written place : ℕ) → Written plain out index acc count written → take place new ≡ take written out ++ bytes → bits count acc ≡ flat_map (bits 8) bytes ++ bits left acc → place ≤ length new → length new ≡ length out → AllByRecursion IsByte bytes →

@@ -1,5 +1,5 @@
 //! Reads Huffman payloads.
-ghost use Rattle.std.specs.Prelude.{◌≡◌, ◌↔◌, IsTrue, ◌+◌, ◌-◌, ◌*◌, ◌/◌, ◌%◌, ◌^◌, ◌<◌, ◌≤◌, ◌++◌, length, take, drop, replicate, flat_map, is_some, MatchOption};
+ghost use Rattle.std.specs.Prelude.{◌≡◌, ◌↔◌, IsTrue, ◌+◌, ◌-◌, ◌*◌, ◌%◌, ◌^◌, ◌<◌, ◌≤◌, ◌++◌, length, take, drop, replicate, flat_map, is_some, MatchOption};
 ghost use Rattle.std.specs.List.{AllByRecursion};
 ghost use Rattle.h3_huffman.specs.Huffman.{huffman, bits, code_word};
 ghost use Rattle.h3_huffman.specs.Payload.{IsByte, IsNoPayload};
@@ -19,6 +19,8 @@ struct Word {
 }
 
 /// The word at the front of a window of thirty bits that begin with ten ones.
+#[cold]
+#[inline(never)]
 fn long_word(window: u32) -> Word
     requires high { 0x3ff00000 ≤ window }
     requires low { window < 2 ^ 30 }
@@ -67,8 +69,9 @@ fn put_symbols(out: &mut [u8], place: usize, entry: u32) -> usize
     ensures place { result ≡ place + entry_count entry }
     ensures symbols { take result out.new ≡ take place out.old ++ entry_symbols entry }
 {
-    out[place] = (entry % 256) as u8;
-    out[place + 1] = (entry / 256 % 256) as u8;
+    // (both at once, whether there is a second one or not)
+    let symbols = (entry % 65536) as u16;
+    out[place..place + 2].copy_from_slice(&symbols.to_le_bytes());
     place + (entry >> 24) as usize
 }
 

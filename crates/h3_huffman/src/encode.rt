@@ -1,5 +1,5 @@
 //! Writes Huffman payloads.
-ghost use Rattle.std.specs.Prelude.{◌≡◌, ◌+◌, ◌*◌, ◌^◌, ◌<◌, ◌≤◌, ◌++◌, take, length, flat_map};
+ghost use Rattle.std.specs.Prelude.{◌≡◌, ℕ, List, ◌+◌, ◌*◌, ◌^◌, ◌<◌, ◌≤◌, ◌++◌, IfSome, take, length, flat_map};
 ghost use Rattle.std.specs.Int.{w32, to_be_bytes};
 ghost use Rattle.h3_huffman.specs.Huffman.{huffman, bits, code_word};
 ghost use Rattle.h3_huffman.specs.Writing.{Written};
@@ -79,6 +79,39 @@ struct Pending {
     written: usize,
 }
 
+/// The low `count` bits of `acc`, which are not yet written.
+#[derive(Copy, Clone)]
+struct Ahead {
+    acc: u64,
+    count: u64,
+}
+
+/// Adds the words of four bytes. None: with them the bits are more than 63.
+#[inline(always)]
+fn add_four(plain: &[u8], place: usize, acc: u64, count: u64) -> Option<Ahead>
+    requires there { place + 4 ≤ length plain.now }
+    requires few { count < 32 }
+    ensures standing { IfSome result (λ ahead. (out : List ℕ) (written : ℕ) → Written plain.now out place acc count written → Written plain.now out (place + 4) ahead.acc ahead.count written) }
+    ensures fits { IfSome result (λ ahead. ahead.count < 64) }
+{
+    let first_length = word_len(plain[place]);
+    let second_length = word_len(plain[place + 1]);
+    let third_length = word_len(plain[place + 2]);
+    let fourth_length = word_len(plain[place + 3]);
+    let all = count + first_length + second_length + third_length + fourth_length;
+    if all >= 64 {
+        return None;
+    }
+    let first = acc << first_length | word_of(plain[place]);
+    let second = first << second_length | word_of(plain[place + 1]);
+    let third = second << third_length | word_of(plain[place + 2]);
+    let fourth = third << fourth_length | word_of(plain[place + 3]);
+    Some(Ahead {
+        acc: fourth,
+        count: all,
+    })
+}
+
 /// Writes the words of a string, save for the last bits of fewer than four bytes.
 #[inline(always)]
 fn put_words(plain: &[u8], out: &mut [u8]) -> Pending
@@ -90,10 +123,26 @@ fn put_words(plain: &[u8], out: &mut [u8]) -> Pending
     let mut acc: u64 = 0;
     let mut count: u64 = 0;
     let mut written: usize = 0;
-    for byte in plain {
-        let length = word_len(*byte);
-        acc = acc << length | word_of(*byte);
+    let mut place: usize = 0;
+    // (the labels name the loops in their proofs)
+    'fours: while plain.len() - place >= 4 {
+        let Some(ahead) = add_four(plain, place, acc, count) else {
+            break;
+        };
+        acc = ahead.acc;
+        count = ahead.count;
+        place += 4;
+        if count >= 32 {
+            count -= 32;
+            put_word(out, written, ((acc >> count) % (1 << 32)) as u32);
+            written += 4;
+        }
+    }
+    'ones: while place < plain.len() {
+        let length = word_len(plain[place]);
+        acc = acc << length | word_of(plain[place]);
         count += length;
+        place += 1;
         if count >= 32 {
             count -= 32;
             put_word(out, written, ((acc >> count) % (1 << 32)) as u32);
