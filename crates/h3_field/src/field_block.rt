@@ -102,7 +102,7 @@ impl FieldBlock {
             Ok(place) => place,
             Err(e) => return Err(e),
         };
-        if let Err(_) = self.places.push(place) {
+        if let Err(_) = put_place(&mut self.places, place) {
             self.bytes.truncate(start);
             return Err(AllocError);
         }
@@ -142,7 +142,7 @@ impl FieldBlock {
             Ok(place) => place,
             Err(e) => return Err(e),
         };
-        if let Err(_) = self.places.push(place) {
+        if let Err(_) = put_place(&mut self.places, place) {
             self.bytes.truncate(start);
             return Err(prefix_string::Error::OutOfMemory);
         }
@@ -162,6 +162,22 @@ impl FieldBlock {
         }
         Ok(list)
     }
+}
+
+/// The places of so many fields are asked for at once.
+const SOME_PLACES: usize = 16;
+
+/// Appends a place. A refusal appends nothing.
+#[inline(always)]
+fn put_place(places: &mut Vec<FieldPlace>, place: FieldPlace) -> Result<(), AllocError>
+    ensures ok { OnOk result (places.new.items ≡ places.old.items ++ place ∷ []) }
+    ensures err { OnErr result (places.new.items ≡ places.old.items) }
+{
+    if places.len() == places.capacity() {
+        places.reserve(SOME_PLACES)?;
+    }
+    places.push_reserved(place);
+    Ok(())
 }
 
 /// Appends both, and answers where they lie. A refusal appends nothing.

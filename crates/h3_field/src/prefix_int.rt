@@ -1,5 +1,5 @@
 //! Prefixed integers (RFC 9204, section 4.1.1; RFC 7541, section 5.1).
-ghost use Rattle.std.specs.Prelude.{◌≡◌, ◌+◌, ◌-◌, ◌^◌, ◌<◌, ◌≤◌, ◌++◌, OnOk, OnErr, IfOk, Result, length, MatchOption, ◌*◌, ◌∷◌, Some, vec_len, vec_capacity};
+ghost use Rattle.std.specs.Prelude.{◌≡◌, ◌+◌, ◌-◌, ◌^◌, ◌<◌, ◌≤◌, ◌++◌, [], IfSome, OnOk, OnErr, IfOk, Result, length, MatchOption, ◌*◌, ◌∷◌, Some, vec_len, vec_capacity};
 ghost use Rattle.h3_field.specs.Ends.{IsEndOf};
 ghost use Rattle.h3_field.specs.ErrorTexts.{integer_text};
 ghost use Rattle.h3_field.specs.Integer.{prefixed, ones, groups};
@@ -117,6 +117,21 @@ fn first_byte(size: u8, flags: u8, low: u64) -> u8
 {
     let top = u64::from(flags) << size;
     (top + low) as u8
+}
+
+/// The encoding of `value` in the low `size` bits of a byte below `flags`, and in the next byte. None: it has not two bytes.
+#[inline(always)]
+pub(crate) fn two_bytes(size: u8, flags: u8, value: u64) -> Option<(u8, u8)>
+    requires least { 1 ≤ size }
+    requires most { size ≤ 8 }
+    requires flags { flags < 2 ^ (8 - size) }
+    ensures { IfSome result (λ both. both.0 ∷ both.1 ∷ [] ≡ prefixed size flags value) }
+{
+    let ones = greatest(size);
+    if value < ones || value - ones >= 128 {
+        return None;
+    }
+    Some((first_byte(size, flags, ones), (value - ones) as u8))
 }
 
 /// The most bytes that an integer takes.

@@ -123,11 +123,11 @@ pub fn decode(alloc: Global, size: u8, buf: &mut SliceCursor<'_>) -> Result<Vec<
     }
 }
 
-/// The longest string that is encoded in one pass, into an array of its own.
+/// The longest string that is encoded in one pass.
 const SHORT: usize = 63;
 
-/// The longest string for which a small array serves, of which fewer bytes have to be cleared first.
-const VERY_SHORT: usize = 15;
+/// The longest string that is encoded into an array of its own: its length most often takes one byte, whatever `size` is.
+const VERY_SHORT: usize = 8;
 
 /// Writes the Huffman encoding of a string to the front of `room`, and appends its length and what was written. A
 /// refusal may leave a part of them.
@@ -197,6 +197,47 @@ fn put_value(value: &[u8], buf: &mut Vec<u8>) -> Result<(), AllocError>
     Ok(())
 }
 
+/// Writes the length, which takes two bytes, and the Huffman encoding of a short string to the front of `out`, and answers how many bytes
+/// they are. None: the length takes one byte, or more than two.
+#[inline(always)]
+fn write_name(size: u8, flags: u8, value: &[u8], out: &mut [u8]) -> Option<usize>
+    requires least { 2 ≤ size }
+    requires most { size ≤ 8 }
+    requires flags { flags < 2 ^ (8 - size) }
+    requires short { length value.now ≤ 63 }
+    requires room { 4 * length value.now + 6 ≤ length out.old }
+    ensures within { IfSome result (λ count. count ≤ length out.new) }
+    ensures literal { IfSome result (λ count. take count out.new ≡ string_literal size flags value.now) }
+{
+    let len = h3_huffman::encode::encode_front(value, &mut out[2..]);
+    let Some((first, second)) = prefix_int::two_bytes(size - 1, 2 * flags + 1, len as u64) else {
+        return None;
+    };
+    out[0] = first;
+    out[1] = second;
+    Some(len + 2)
+}
+
+/// Appends a short string, of which the length most often takes two bytes. It is encoded where it stays. A refusal may leave a part of it.
+fn put_name(size: u8, flags: u8, value: &[u8], buf: &mut Vec<u8>) -> Result<(), AllocError>
+    requires least { 2 ≤ size }
+    requires most { size ≤ 8 }
+    requires flags { flags < 2 ^ (8 - size) }
+    requires short { length value.now ≤ 63 }
+    ensures ok { OnOk result (buf.new.items ≡ buf.old.items ++ string_literal size flags value.now) }
+    ensures err { OnErr result (take (length buf.old.items) buf.new.items ≡ buf.old.items) }
+{
+    let start = buf.len();
+    // the length, at most four bytes of code for each, and what the encoder writes behind its last bits
+    buf.resize(start.saturating_add(4 * value.len() + 6), 0)?;
+    let Some(count) = write_name(size, flags, value, &mut buf[start..]) else {
+        buf.truncate(start);
+        return put_long(size, flags, value, buf);
+    };
+    buf.truncate(start + count);
+    Ok(())
+}
+
 /// Appends the length and the Huffman encoding of a short string. A refusal may leave a part of them.
 fn put_short(size: u8, flags: u8, value: &[u8], buf: &mut Vec<u8>) -> Result<(), AllocError>
     requires least { 2 ≤ size }
@@ -213,8 +254,7 @@ fn put_short(size: u8, flags: u8, value: &[u8], buf: &mut Vec<u8>) -> Result<(),
         let mut room = [0u8; 4 * VERY_SHORT + 4];
         return put_by_way_of(&mut room, size, flags, value, buf);
     }
-    let mut room = [0u8; 4 * SHORT + 4];
-    put_by_way_of(&mut room, size, flags, value, buf)
+    put_name(size, flags, value, buf)
 }
 
 /// Appends the length and the Huffman encoding of a string. A refusal may leave a part of them.

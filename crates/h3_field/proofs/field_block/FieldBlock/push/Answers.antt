@@ -12,10 +12,10 @@ bytes c = c.in-Ok.ensures.ok ∙ append_assoc c.self.inside.bytes.items c.args.n
 
 pub invariant_of-self-in_default : goal.invariant_of-self-in_default
 invariant_of-self-in_default c =
-    rw (bytes c, c.in_default.ensures.items) (block_next _ _ _ _ _ c.self.invariant (next c))
+    rw (bytes c, c.in_default.ensures.ok) (block_next _ _ _ _ _ c.self.invariant (next c))
 
 pub returns-clause-ok : goal.returns-clause-ok
 returns-clause-ok c =
-    (λ i. fields_at (bytes c i) (c.in_default.ensures.items i))
+    (λ i. fields_at (bytes c i) (c.in_default.ensures.ok i))
     ∙ fields_next c.self.inside.bytes.items c.args.name.now c.args.value.now c.self.inside.places.items c.in-Ok.place c.self.invariant (next c)
     ∙ ap (λ (l : List Field). l ++ (record { name = c.args.name.now; value = c.args.value.now }) ∷ []) c.self.view_is
