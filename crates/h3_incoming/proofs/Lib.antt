@@ -8,3 +8,4 @@ pub mod ListLaws
 pub mod NextFrame
 pub mod FieldsPullLaws
 pub mod BlockPullLaws
+pub mod SurveyLaws

@@ -1,11 +1,12 @@
 -- What tells of a list of fields where it may stand in a message (RFC 9114, sections 4.1 and 4.3), and what the whole list reads as.
-use Rattle.std.specs.Prelude.{Bool, true, false, ◌&&◌, not, is_some, Some, None}
+use Rattle.std.specs.Prelude.{ℕ, Bool, true, false, ◌&&◌, not, is_some, List, codes, if◌then◌else◌, Option, Some, None}
 use Rattle.h3_field.specs.Field.{Field}
 use Rattle.h3_header.specs.Head.{Head, has_pseudo}
 use Rattle.h3_header.specs.HeadRead.{HeadRead, IsHead, IsNone}
 use Rattle.h3_header.specs.Reads.{kind_of, status_number}
 use Rattle.h3_header.specs.declared.headers.kind.FieldKind.{FieldKind}
 use Rattle.h3_header.specs.declared.headers.kind.FieldKind.TheVariants.{Method, Scheme, Authority, Path, Status, Protocol, Regular}
+use Rattle.h3_messages.specs.Messages.{holds, value_of}
 use Rattle.h3_proto.specs.declared.stream.Side.{Side}
 use Rattle.h3_proto.specs.declared.stream.Side.TheVariants.{Client, Server}
 use Rattle.h3_connection.specs.Pulling.{malformation_of}
@@ -42,6 +43,10 @@ is_sent_outline Server o = is_some o.status && not o.method
 abbrev pub is_read_outline : Side → Outline → Bool
 is_read_outline Client o = is_some o.status && not o.method
 is_read_outline Server o = o.method && not (is_some o.status)
+
+-- the status that the first `:status` of a list tells
+abbrev pub first_status : List Field → Option ℕ
+first_status fields = if holds (codes ":status") fields then Some (status_number (value_of (codes ":status") fields)) else None
 
 -- what a list is told to be
 abbrev pub list_read : HeadRead → ListRead

@@ -76,19 +76,24 @@ pub trait Answer: Drop {
 
     /// Tells what a decoded list is, and puts the head or trailer that it is at this place there, for this side. What is malformed is told
     /// alone. An `Err` tells that memory was refused: of a list for which such an answer asks for it; and of none that is malformed, unless
-    /// it has more fields than a map has names for.
+    /// it has more fields than a map has names for. An answer that keeps lists is told what the list is where that is known.
     fn give_message(
         &mut self,
         alloc: Global,
         side: Side,
         place: Place,
+        known: Option<ListRead>,
         fields: FieldBlock,
     ) -> Result<ListRead, AllocError>
+        requires { IfSome known (λ r. r ≡ list_read (head_of fields)) }
         ensures read { IfOk result (λ r. r ≡ list_read (head_of fields)) }
         ensures head { OnOk result ((h : Head) → head_of fields ≡ IsHead h → told self.new ≡ pull.Item (message_at side place h)) }
         ensures list { OnOk result ((h : Head) → head_of fields ≡ IsHead h → IfSome (listed self.new) (λ l. l ≡ fields)) }
         ensures memory { OnErr result (asks fields) }
         ensures good { OnErr result (IsHeadUnlessMany fields) };
+
+    /// Whether heads and trailers are kept as their lists, of which no header is made.
+    fn keeps_lists() -> bool;
 
     /// An empty block for the fields of a section, with the memory of the last answer where that kept one. What is told then is not said:
     /// the caller gives an answer behind.
@@ -252,9 +257,14 @@ impl Answer for Pull {
         alloc: Global,
         side: Side,
         place: Place,
+        _known: Option<ListRead>,
         fields: FieldBlock,
     ) -> Result<ListRead, AllocError> {
         give_header(self, alloc, side, place, &fields.fields())
+    }
+
+    fn keeps_lists() -> bool {
+        false
     }
 
     fn room(&mut self, alloc: Global) -> FieldBlock {

@@ -8,7 +8,7 @@ ghost use Rattle.h3_incoming.specs.FieldsPulls.{list_of, listed_as, pull_of};
 ghost use Rattle.h3_incoming.specs.declared.fields.FieldsPull.TheVariants as answer;
 
 use crate::answer::{Answer, MessageKind, Plain, kind_at};
-use crate::outline::{ListRead, read_list};
+use crate::outline::{ListRead, read_unless};
 use h3_connection::event::Fault;
 use h3_connection::place::Place;
 use h3_field::{FieldBlock, Fields};
@@ -133,10 +133,11 @@ impl Answer for BlockPull {
         alloc: Global,
         side: Side,
         place: Place,
+        known: Option<ListRead>,
         fields: FieldBlock,
     ) -> Result<ListRead, AllocError> {
         h3_header::laws::lists_are_their_value();
-        match read_list(alloc, &fields.fields()) {
+        match read_unless(known, alloc, &fields.fields()) {
             Ok(ListRead::Head(outline)) => {
                 let kind = kind_at(side, place, &outline);
                 self.hold(kind, outline.status(), fields);
@@ -151,6 +152,10 @@ impl Answer for BlockPull {
                 Err(e)
             }
         }
+    }
+
+    fn keeps_lists() -> bool {
+        true
     }
 
     fn room(&mut self, alloc: Global) -> FieldBlock {

@@ -12,7 +12,7 @@ ghost use Rattle.h3_incoming.specs.declared.fields.FieldsPull.TheVariants as ans
 ghost use Rattle.h3_incoming.specs.declared.outline.ListRead.TheVariants as read;
 
 use crate::answer::{Answer, MessageKind, Plain, kind_at, put};
-use crate::outline::{ListRead, Outline, read_list};
+use crate::outline::{ListRead, Outline, read_unless};
 use bytes::Bytes;
 use h3_connection::event::Fault;
 use h3_connection::place::Place;
@@ -126,9 +126,14 @@ impl Answer for FieldsPull {
         alloc: Global,
         side: Side,
         place: Place,
+        known: Option<ListRead>,
         fields: FieldBlock,
     ) -> Result<ListRead, AllocError> {
-        give_fields(self, alloc, side, place, &fields)
+        give_fields(self, alloc, side, place, known, &fields)
+    }
+
+    fn keeps_lists() -> bool {
+        true
     }
 
     fn room(&mut self, alloc: Global) -> FieldBlock {
@@ -169,8 +174,10 @@ fn give_fields(
     alloc: Global,
     side: Side,
     place: Place,
+    known: Option<ListRead>,
     fields: &FieldBlock,
 ) -> Result<ListRead, AllocError>
+    requires { IfSome known (λ r. r ≡ list_read (head_of fields.now)) }
     ensures read { IfOk result (λ r. r ≡ list_read (head_of fields.now)) }
     ensures head { OnOk result ((h : Head) → head_of fields.now ≡ IsHead h → pull_of out.new ≡ pull.Item (message_at side place h)) }
     ensures list { OnOk result ((h : Head) → head_of fields.now ≡ IsHead h → IfSome (list_of out.new) (λ l. l ≡ fields.now)) }
@@ -178,7 +185,7 @@ fn give_fields(
     ensures good { OnErr result (IsHeadUnlessMany fields.now) }
 {
     h3_header::laws::lists_are_their_value();
-    match read_list(alloc, &fields.fields()) {
+    match read_unless(known, alloc, &fields.fields()) {
         Ok(ListRead::Head(outline)) => {
             let kind = kind_at(side, place, &outline);
             give_copies(out, alloc, kind, outline, fields)

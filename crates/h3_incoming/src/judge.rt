@@ -17,7 +17,7 @@ ghost use Rattle.h3_incoming.specs.Outline.{outline_of};
 
 use crate::answer::{Answer, Plain};
 use crate::outline::{ListRead, Outline};
-use crate::strict::{if_whole, large_content_at, read_strictly};
+use crate::strict::{if_whole, large_content_at, read_at};
 use h3_connection::event::Malformation;
 use h3_connection::place::Place;
 use h3_connection::setup::Announced;
@@ -114,14 +114,24 @@ fn judge_fields<O: Answer>(
     ensures memory { OnErr result (O.asks fields) }
     ensures good { OnErr result (IsHeadUnlessMany fields) }
 {
-    let read = read_strictly(side, announced, place, content, known, &fields.fields());
-    let broken = if_whole(content, read.broken);
-    match out.give_message(alloc, side, place, fields) {
+    let keeps_lists = O::keeps_lists();
+    let read = read_at(
+        keeps_lists,
+        side,
+        announced,
+        place,
+        content,
+        known,
+        &fields.fields(),
+    );
+    let strict = read.strict;
+    let broken = if_whole(content, strict.broken);
+    match out.give_message(alloc, side, place, read.list, fields) {
         Ok(ListRead::Head(outline)) => Ok(judge_message(
             side,
             place,
-            read.content,
-            read.response,
+            strict.content,
+            strict.response,
             broken,
             &outline,
         )),

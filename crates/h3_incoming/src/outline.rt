@@ -1,6 +1,6 @@
 //! What a list of fields reads as, told where its fields lie.
-ghost use Rattle.std.specs.Prelude.{◌≡◌, ◌≤◌, ◌<◌, [], All, true, Some, None, IfOk, OnErr, length, fold, option_map, is_some};
-ghost use Rattle.h3_header.specs.BadPart.{bad_part, refusal_of};
+ghost use Rattle.std.specs.Prelude.{◌≡◌, ◌≤◌, ◌<◌, [], All, true, Some, None, IfOk, IfSome, OnErr, length, fold, option_map, is_some};
+ghost use Rattle.h3_header.specs.BadPart.{bad_part, refusal_of, AreGood};
 ghost use Rattle.h3_header.specs.Head.{trailer_head};
 ghost use Rattle.h3_header.specs.BadPart.{IsHeadUnlessMany};
 ghost use Rattle.h3_header.specs.HeadRead.{HeadRefusal, head_of, is_value_at, told};
@@ -9,12 +9,13 @@ ghost use Rattle.h3_header.specs.declared.headers.kind.FieldKind.TheVariants as 
 ghost use Rattle.h3_connection.specs.Pulling.{malformation_of};
 ghost use Rattle.h3_connection.specs.Pulling.{is_interim};
 ghost use Rattle.h3_incoming.specs.Judging.{Tells};
-ghost use Rattle.h3_incoming.specs.Outline.{outline_of, empty_outline, outlined, outlined_by, is_sent_outline, is_read_outline, list_read};
+ghost use Rattle.h3_incoming.specs.Outline.{outline_of, empty_outline, first_status, outlined, outlined_by, is_sent_outline, is_read_outline, list_read};
 ghost use Rattle.h3_incoming.specs.declared.outline.ListRead.TheVariants as read;
 
 use h3_connection::event::Malformation;
 use h3_field::{FieldRef, Fields};
 use h3_header::{BadPart, FieldKind, Header, HeaderError, MOST_NAMES, field_kind, first_bad_part};
+use h3_messages::Survey;
 use h3_proto::stream::Side;
 use http::StatusCode;
 use std::alloc::{AllocError, Global};
@@ -143,6 +144,23 @@ pub fn read_list(alloc: Global, fields: &Fields<'_>) -> Result<ListRead, AllocEr
     Ok(read_short(fields))
 }
 
+/// The same where it may be known.
+pub(crate) fn read_unless(
+    known: Option<ListRead>,
+    alloc: Global,
+    fields: &Fields<'_>,
+) -> Result<ListRead, AllocError>
+    requires { IfSome known (λ r. r ≡ list_read (head_of fields.now)) }
+    ensures ok { IfOk result (λ read. read ≡ list_read (head_of fields.now)) }
+    ensures err { OnErr result (24576 < length fields.now) }
+    ensures memory { OnErr result (RefusesOne (trailer_head []) fields.now HeaderError.OutOfMemory) }
+{
+    match known {
+        Some(read) => Ok(read),
+        None => read_list(alloc, fields),
+    }
+}
+
 // One of so few fields that a map has room for all their names.
 fn read_short(fields: &Fields<'_>) -> ListRead
     requires { length fields.now ≤ 24576 }
@@ -159,6 +177,38 @@ fn read_short(fields: &Fields<'_>) -> ListRead
         }
     }
     ListRead::Head(outline)
+}
+
+/// The same, by the walk that the rules of strict messages ask for, where nothing is malformed of any field. The walk keeps the first
+/// `:status`, and the last one counts here: where there are two it does not tell.
+pub(crate) fn read_survey(survey: &Survey<'_>) -> Option<ListRead>
+    requires few { length survey.now.fields.now ≤ 24576 }
+    requires good { AreGood survey.now.fields.now }
+    ensures { IfSome result (λ read. read ≡ list_read (head_of survey.now.fields.now)) }
+{
+    h3_header::laws::lists_are_their_value();
+    h3_header::laws::fields_are_judged_alone();
+    if survey.repeats_status() {
+        return None;
+    }
+    let outline = Outline {
+        method: survey.has_method(),
+        pseudo: survey.has_pseudo(),
+        status: first_status(survey),
+    };
+    Some(ListRead::Head(outline))
+}
+
+// The status that the first `:status` tells.
+fn first_status(survey: &Survey<'_>) -> Option<StatusCode>
+    requires few { length survey.now.fields.now ≤ 24576 }
+    requires good { AreGood survey.now.fields.now }
+    ensures { result ≡ first_status survey.now.fields.now }
+{
+    match survey.status() {
+        Some(text) => status_of(text),
+        None => None,
+    }
 }
 
 // Any list, by the header that is made of it.
@@ -202,8 +252,8 @@ fn status_of(digits: &[u8]) -> Option<StatusCode>
     }
 }
 
-// Why a list is malformed of which a field is by itself.
-fn malformation_by(part: BadPart) -> Malformation
+/// Why a list is malformed of which a field is by itself.
+pub(crate) fn malformation_by(part: BadPart) -> Malformation
     ensures { result ≡ malformation_of (refusal_of part) }
 {
     match part {

@@ -1,13 +1,20 @@
 //! Which rule of well-formed messages a field list breaks, and how much content follows it, where the endpoint asks for them (RFC 9114, sections
 //! 4.1.2 and 4.2 to 4.5).
-ghost use Rattle.std.specs.Prelude.{◌≡◌, option_map};
-ghost use Rattle.h3_connection.specs.StrictMessages.{broken_rule, malformation_by, violation_of_head, content_of_head, content_behind_large, content_at, large_content_at, response_of_head, response_at, if_whole};
+ghost use Rattle.std.specs.Prelude.{◌≡◌, ◌≤◌, option_map, length, true, IfSome};
+ghost use Rattle.h3_header.specs.Head.{Head};
+ghost use Rattle.h3_header.specs.HeadRead.{IsHead, head_of};
+ghost use Rattle.h3_connection.specs.StrictMessages.{broken_rule, malformation_by, violation_at, violation_of_head, content_of_head, content_behind, content_behind_large, content_at, large_content_at, response_of_head, response_behind, response_at, if_whole};
+ghost use Rattle.h3_incoming.specs.Outline.{list_read};
 
+use crate::outline::{ListRead, malformation_by, read_survey};
 use h3_connection::event::Malformation;
 use h3_connection::place::Place;
 use h3_connection::setup::Announced;
 use h3_field::Fields;
-use h3_messages::{Content, Violation, read_request, read_response, trailer_violation_of};
+use h3_header::MOST_NAMES;
+use h3_messages::{
+    Content, Seen, Survey, Violation, request_by, response_by, trailer_violation_by,
+};
 use h3_proto::stream::Side;
 
 /// What the rules of strict messages make of a field list at its place.
@@ -21,9 +28,77 @@ pub(crate) struct StrictRead {
     pub(crate) response: Option<Content>,
 }
 
-/// What a field list says at its place, in front of which such content was left, and this was known of the content of a response. One walk tells
-/// it. An endpoint that asks for no strict messages looks at no field.
-pub(crate) fn read_strictly(
+/// What a list is, where the walk tells it that the rules ask for, and what the rules make of it.
+#[derive(Clone, Copy)]
+pub(crate) struct OneRead {
+    pub(crate) list: Option<ListRead>,
+    pub(crate) strict: StrictRead,
+}
+
+/// What a field list says at its place, in front of which such content was left, and this was known of the content of a response. Where a
+/// strict endpoint keeps it as a list, one walk tells what the list is too. A list that is no head's says nothing.
+#[inline(always)]
+pub(crate) fn read_at(
+    keeps_lists: bool,
+    side: Side,
+    announced: &Announced,
+    place: Place,
+    content: Content,
+    known: Option<Content>,
+    fields: &Fields<'_>,
+) -> OneRead
+    ensures list { IfSome result.list (λ r. r ≡ list_read (head_of fields.now)) }
+    ensures broken { (h : Head) → head_of fields.now ≡ IsHead h → result.strict.broken ≡ broken_rule side announced.now place fields.now }
+    ensures content { (h : Head) → head_of fields.now ≡ IsHead h → result.strict.content ≡ content_at side announced.now place content fields.now }
+    ensures response { (h : Head) → head_of fields.now ≡ IsHead h → result.strict.response ≡ response_at side announced.now place known fields.now }
+{
+    if keeps_lists && announced.choices.strict_messages && fields.len() <= MOST_NAMES {
+        return read_once(side, announced, place, content, known, fields);
+    }
+    OneRead {
+        list: None,
+        strict: read_strictly(side, announced, place, content, known, fields),
+    }
+}
+
+// The same of a list of so few fields that a map has room for all their names, where messages are strict.
+fn read_once(
+    side: Side,
+    announced: &Announced,
+    place: Place,
+    content: Content,
+    known: Option<Content>,
+    fields: &Fields<'_>,
+) -> OneRead
+    requires strict { announced.now.choices.strict_messages ≡ true }
+    requires few { length fields.now ≤ 24576 }
+    ensures list { IfSome result.list (λ r. r ≡ list_read (head_of fields.now)) }
+    ensures broken { (h : Head) → head_of fields.now ≡ IsHead h → result.strict.broken ≡ broken_rule side announced.now place fields.now }
+    ensures content { (h : Head) → head_of fields.now ≡ IsHead h → result.strict.content ≡ content_at side announced.now place content fields.now }
+    ensures response { (h : Head) → head_of fields.now ≡ IsHead h → result.strict.response ≡ response_at side announced.now place known fields.now }
+{
+    let mut seen = Seen::new();
+    match seen.take_good(fields) {
+        Ok(()) => {
+            let survey = Survey::of(fields, &seen);
+            OneRead {
+                list: read_survey(&survey),
+                strict: survey_at(side, announced, place, content, known, &survey),
+            }
+        }
+        Err(part) => OneRead {
+            list: Some(ListRead::Malformed(malformation_by(part))),
+            strict: StrictRead {
+                broken: None,
+                content,
+                response: known,
+            },
+        },
+    }
+}
+
+// What the rules make of a list. An endpoint that asks for no strict messages looks at no field.
+fn read_strictly(
     side: Side,
     announced: &Announced,
     place: Place,
@@ -42,10 +117,35 @@ pub(crate) fn read_strictly(
             response: known,
         };
     }
+    let mut seen = Seen::new();
+    seen.take_all(fields);
+    survey_at(
+        side,
+        announced,
+        place,
+        content,
+        known,
+        &Survey::of(fields, &seen),
+    )
+}
+
+// What a list says at its place, over which the walk was made.
+fn survey_at(
+    side: Side,
+    announced: &Announced,
+    place: Place,
+    content: Content,
+    known: Option<Content>,
+    survey: &Survey<'_>,
+) -> StrictRead
+    ensures broken { result.broken ≡ option_map malformation_by (violation_at side announced.now place survey.now.fields.now) }
+    ensures content { result.content ≡ content_behind side place content survey.now.fields.now }
+    ensures response { result.response ≡ response_behind side place known survey.now.fields.now }
+{
     match place {
-        Place::BeforeHead => read_head(side, announced, content, known, fields),
+        Place::BeforeHead => read_head(side, announced, content, known, survey),
         Place::InBody | Place::AfterTrailer | Place::InSession => StrictRead {
-            broken: told(trailer_violation_of(fields)),
+            broken: told(trailer_violation_by(survey)),
             content,
             response: known,
         },
@@ -58,15 +158,15 @@ fn read_head(
     announced: &Announced,
     awaited: Content,
     known: Option<Content>,
-    fields: &Fields<'_>,
+    survey: &Survey<'_>,
 ) -> StrictRead
-    ensures broken { result.broken ≡ option_map malformation_by (violation_of_head side announced.now fields.now) }
-    ensures content { result.content ≡ content_of_head side awaited fields.now }
-    ensures response { result.response ≡ response_of_head side known fields.now }
+    ensures broken { result.broken ≡ option_map malformation_by (violation_of_head side announced.now survey.now.fields.now) }
+    ensures content { result.content ≡ content_of_head side awaited survey.now.fields.now }
+    ensures response { result.response ≡ response_of_head side known survey.now.fields.now }
 {
     match side {
         Side::Client => {
-            let head = read_response(awaited, fields);
+            let head = response_by(awaited, survey);
             StrictRead {
                 broken: told(head.violation),
                 content: head.content,
@@ -74,7 +174,7 @@ fn read_head(
             }
         }
         Side::Server => {
-            let head = read_request(fields, announced.extended_connect());
+            let head = request_by(survey, announced.extended_connect());
             StrictRead {
                 broken: told(head.violation),
                 content: head.content,

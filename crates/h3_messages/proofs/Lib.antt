@@ -1,4 +1,5 @@
 pub mod ContentRows
+pub mod KindNames
 pub mod Names
 pub mod Pushes
 pub mod RequestRows

@@ -1,5 +1,7 @@
 -- The names that the rules speak of, and which of them a name is.
 use Rattle.std.specs.Prelude.{ℕ, List, codes, bytes_eq, length, slice_index, ◌==◌, if◌then◌else◌, Option, Some, None}
+use Rattle.h3_header.specs.declared.headers.kind.FieldKind.{FieldKind}
+use Rattle.h3_header.specs.declared.headers.kind.FieldKind.TheVariants as kind
 use Rattle.h3_messages.specs.declared.known.Known.{Known}
 use Rattle.h3_messages.specs.declared.known.Known.TheVariants.{Method, Scheme, Authority, Path, Protocol, Status, Host, ContentLength, Te, Connection, KeepAlive, ProxyConnection, TransferEncoding, Upgrade}
 
@@ -66,3 +68,13 @@ if_named name None = None
 
 abbrev pub known_of : List ℕ → Option Known
 known_of name = if_named name (candidate (length name) (slice_index name 2))
+
+-- the name of a pseudo-header field of this kind
+abbrev pub known_at : FieldKind → Option Known
+known_at kind.Method = Some Method
+known_at kind.Scheme = Some Scheme
+known_at kind.Authority = Some Authority
+known_at kind.Path = Some Path
+known_at kind.Status = Some Status
+known_at kind.Protocol = Some Protocol
+known_at kind.Regular = None

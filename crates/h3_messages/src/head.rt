@@ -40,11 +40,19 @@ pub fn read_request(fields: &Fields<'_>, extended_connect: bool) -> RequestRead
 {
     let mut seen = Seen::new();
     seen.take_all(fields);
-    let survey = Survey::of(fields, &seen);
+    request_by(&Survey::of(fields, &seen), extended_connect)
+}
+
+/// The same of one over which the walk was made.
+pub fn request_by(survey: &Survey, extended_connect: bool) -> RequestRead
+    ensures violation { result.violation ≡ violation_of_request extended_connect survey.now.fields.now }
+    ensures content { result.content ≡ content_of_request survey.now.fields.now }
+    ensures awaited { result.awaited ≡ awaited_by survey.now.fields.now }
+{
     RequestRead {
-        violation: request::violation_of(&survey, extended_connect),
-        content: content_of_request(&survey),
-        awaited: awaited_by(&survey),
+        violation: request::violation_of(survey, extended_connect),
+        content: content_of_request(survey),
+        awaited: awaited_by(survey),
     }
 }
 
@@ -55,10 +63,17 @@ pub fn read_response(awaited: Content, fields: &Fields<'_>) -> ResponseRead
 {
     let mut seen = Seen::new();
     seen.take_all(fields);
-    let survey = Survey::of(fields, &seen);
+    response_by(awaited, &Survey::of(fields, &seen))
+}
+
+/// The same of one over which the walk was made.
+pub fn response_by(awaited: Content, survey: &Survey) -> ResponseRead
+    ensures violation { result.violation ≡ violation_of_response survey.now.fields.now }
+    ensures content { result.content ≡ content_behind_response awaited survey.now.fields.now }
+{
     ResponseRead {
-        violation: response::violation_of(&survey),
-        content: content_behind_response(awaited, &survey),
+        violation: response::violation_of(survey),
+        content: content_behind_response(awaited, survey),
     }
 }
 

@@ -1,8 +1,9 @@
 //! The names that the rules speak of.
 ghost use Rattle.std.specs.Prelude.{◌≡◌, ◌≢◌, ◌<◌, bytes_eq, length, slice_index, if◌then◌else◌, Some, None};
-ghost use Rattle.h3_messages.specs.Known.{place, known_of};
+ghost use Rattle.h3_messages.specs.Known.{place, known_at, known_of};
 
 use crate::text::is_same;
+use h3_header::FieldKind;
 
 /// A field name that a rule speaks of.
 #[derive(Clone, Copy)]
@@ -43,6 +44,7 @@ impl Known {
     }
 
     /// Which of them a name with no colon ahead is.
+    #[inline(always)]
     pub(crate) fn of_regular(name: &[u8]) -> Option<Known>
         requires { slice_index name.now 0 ≢ 58 }
         ensures { result ≡ known_of name.now }
@@ -56,6 +58,21 @@ impl Known {
             16 => if_same(name, b"proxy-connection", Known::ProxyConnection),
             17 => if_same(name, b"transfer-encoding", Known::TransferEncoding),
             _ => None,
+        }
+    }
+
+    /// That of a pseudo-header field of this kind.
+    pub(crate) fn of_kind(kind: FieldKind) -> Option<Known>
+        ensures { result ≡ known_at kind }
+    {
+        match kind {
+            FieldKind::Method => Some(Known::Method),
+            FieldKind::Scheme => Some(Known::Scheme),
+            FieldKind::Authority => Some(Known::Authority),
+            FieldKind::Path => Some(Known::Path),
+            FieldKind::Status => Some(Known::Status),
+            FieldKind::Protocol => Some(Known::Protocol),
+            FieldKind::Regular => None,
         }
     }
 

@@ -15,14 +15,18 @@ mod pseudo;
 mod regular;
 mod request;
 mod response;
-mod seen;
+pub mod seen;
 mod slot;
-mod survey;
+pub mod survey;
 mod text;
 pub mod violation;
 
 pub use content::{Asked, Content, is_interim_status};
-pub use head::{RequestRead, ResponseRead, read_request, read_response};
+pub use head::{RequestRead, ResponseRead, read_request, read_response, request_by, response_by};
 pub use request::request_violation;
-pub use response::{response_violation, trailer_violation, trailer_violation_of};
+pub use response::{
+    response_violation, trailer_violation, trailer_violation_by, trailer_violation_of,
+};
+pub use seen::Seen;
+pub use survey::Survey;
 pub use violation::Violation;

@@ -87,11 +87,12 @@ pub fn trailer_violation_of(fields: &Fields<'_>) -> Option<Violation>
 {
     let mut seen = Seen::new();
     seen.take_all(fields);
-    violation_of_trailer(&Survey::of(fields, &seen))
+    trailer_violation_by(&Survey::of(fields, &seen))
 }
 
+/// The same of one over which the walk was made.
 #[tactic(auto, unfolding(crate::specs::Messages::violation_of_trailer))]
-fn violation_of_trailer(survey: &Survey) -> Option<Violation>
+pub fn trailer_violation_by(survey: &Survey) -> Option<Violation>
     ensures { result ≡ violation_of_trailer survey.now.fields.now }
 {
     if has_pseudo(survey) {

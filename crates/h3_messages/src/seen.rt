@@ -1,17 +1,21 @@
 //! What the fields that came so far hold of all that the rules ask.
-ghost use Rattle.std.specs.Prelude.{◌≡◌, ◌<◌, ◌==◌, ◌||◌, ◌&&◌, not, codes, [], length, slice_index_or, if◌then◌else◌};
-ghost use Rattle.h3_messages.specs.Known.{place};
-ghost use Rattle.h3_messages.specs.Messages.{is_word};
+ghost use Rattle.std.specs.Prelude.{◌≡◌, ◌<◌, ◌≤◌, ◌==◌, ◌||◌, ◌&&◌, not, codes, [], length, slice_index_or, if◌then◌else◌, true, false, Some, None, OnOk, IfErr};
+ghost use Rattle.h3_header.specs.BadPart.{bad_part, refusal_of, AreGood};
+ghost use Rattle.h3_header.specs.HeadRead.{IsNone, head_of};
+ghost use Rattle.h3_header.specs.Reads.{kind_of};
+ghost use Rattle.h3_messages.specs.Known.{place, known_of};
+ghost use Rattle.h3_messages.specs.Messages.{is_pseudo, is_word};
 
 use crate::known::Known;
 use crate::name_set::NameSet;
 use crate::slot::Slot;
 use crate::text::{byte_at, has_space_around, is_word};
 use h3_field::{FieldRef, Fields};
+use h3_header::{BadPart, FieldKind, field_kind};
 
 /// What the fields that came so far hold.
 #[derive(Drop)]
-pub(crate) struct Seen<'a> {
+pub struct Seen<'a> {
     pub(crate) slots: [Slot<'a>; Known::COUNT],
     /// The names that a field has.
     pub(crate) there: NameSet,
@@ -30,7 +34,7 @@ impl<'a> Seen<'a> {
     ghost use Rattle.h3_messages.specs.declared.slot.Slot.{Slot};
 
     /// What no field holds.
-    pub(crate) fn new() -> Seen<'a>
+    pub fn new() -> Seen<'a>
         ensures { IsSeen [] result }
     {
         Seen {
@@ -46,7 +50,7 @@ impl<'a> Seen<'a> {
     }
 
     /// Each field of the list, behind none.
-    pub(crate) fn take_all(&mut self, fields: &Fields<'a>)
+    pub fn take_all(&mut self, fields: &Fields<'a>)
         requires { IsSeen [] self.old }
         ensures { IsSeen fields.now self.new }
     {
@@ -75,6 +79,69 @@ impl<'a> Seen<'a> {
                 Some(known) => self.take_known(known, value),
                 None => {}
             }
+        }
+    }
+
+    /// Each field of the list, behind none, where nothing is malformed of any by itself, or else the first part that is. The kind that this
+    /// tells of a field is the name of a pseudo-header field, which is compared with no other.
+    #[inline(never)]
+    pub fn take_good(&mut self, fields: &Fields<'a>) -> Result<(), BadPart>
+        requires none { IsSeen [] self.old }
+        requires few { length fields.now ≤ 24576 }
+        ensures seen { OnOk result (IsSeen fields.now self.new) }
+        ensures good { OnOk result (AreGood fields.now) }
+        ensures err { IfErr result (λ part. head_of fields.now ≡ IsNone (refusal_of part)) }
+    {
+        h3_header::laws::fields_are_judged_alone();
+        'fields: for place in 0..fields.len() {
+            let field = fields.get(place);
+            match field_kind(&field) {
+                Ok(kind) => self.take_of(kind, &field),
+                Err(part) => return Err(part),
+            }
+        }
+        Ok(())
+    }
+
+    // One field more, of this kind.
+    #[inline(always)]
+    fn take_of(&mut self, kind: FieldKind, field: &FieldRef<'a>)
+        requires kind { kind ≡ kind_of field.now.name }
+        requires good { bad_part field.now ≡ None }
+        ensures { TakesField field.now self.old self.new }
+    {
+        match Known::of_kind(kind) {
+            Some(known) => self.take_pseudo(known, field),
+            None => self.take_regular(field),
+        }
+    }
+
+    // One pseudo-header field more, of this name.
+    #[inline(always)]
+    fn take_pseudo(&mut self, known: Known, field: &FieldRef<'a>)
+        requires named { Some known ≡ known_of field.now.name }
+        requires pseudo { is_pseudo field.now ≡ true }
+        ensures { TakesField field.now self.old self.new }
+    {
+        let value = field.value();
+        note(&mut self.has_spaced_value, has_space_around(value));
+        let is_late = self.has_regular;
+        note(&mut self.is_out_of_order, is_late);
+        self.take_known(known, value);
+    }
+
+    // One regular field more.
+    #[inline(always)]
+    fn take_regular(&mut self, field: &FieldRef<'a>)
+        requires { is_pseudo field.now ≡ false }
+        ensures { TakesField field.now self.old self.new }
+    {
+        let value = field.value();
+        note(&mut self.has_spaced_value, has_space_around(value));
+        self.has_regular = true;
+        match Known::of_regular(field.name()) {
+            Some(known) => self.take_known(known, value),
+            None => {}
         }
     }
 

@@ -15,14 +15,15 @@ returns-in-Ok-Head-clause-judged g c = λ id r i replies few at left told.
     let place = c.args.place in
     let fields = c.args.fields in
     let list = c.fields.ensures in
+    reads_head (head_of fields) c.in-Ok-Head.outline (rw c.in-Ok-Head.field-0-is at c.in-Ok-Head.ensures.read) _ (λ h head is.
+    let lent = ap head_of list ∙ head in
     let rule : if_whole i.content (broken_rule side own place fields) ≡ c.if_whole-broken.result =
     ap (λ l. if_whole l (broken_rule side own place fields)) left ∙ ap (λ l. if_whole c.args.content (broken_rule side own place l)) (sym list)
-    ∙ ap (if_whole c.args.content) (sym c.read_strictly-read.ensures.broken) ∙ sym c.if_whole-broken.ensures in
-    let behind : (with_content side own i fields).content ≡ c.read_strictly-read.result.content =
-    ap (λ p. content_at side own p i.content fields) at ∙ ap (λ l. content_at side own place l fields) left ∙ ap (content_at side own place c.args.content) (sym list) ∙ sym c.read_strictly-read.ensures.content in
-    let response : (with_content side own i fields).response ≡ c.read_strictly-read.result.response =
-    ap (λ p. response_at side own p i.response fields) at ∙ ap (λ k. response_at side own place k fields) told ∙ ap (response_at side own place c.args.known) (sym list) ∙ sym c.read_strictly-read.ensures.response in
-    reads_head (head_of fields) c.in-Ok-Head.outline (rw c.in-Ok-Head.field-0-is at c.in-Ok-Head.ensures.read) _ (λ h head is.
+    ∙ ap (if_whole c.args.content) (sym (c.read_at-read.ensures.broken h lent)) ∙ sym c.if_whole-broken.ensures in
+    let behind : (with_content side own i fields).content ≡ c.read_at-read.result.strict.content =
+    ap (λ p. content_at side own p i.content fields) at ∙ ap (λ l. content_at side own place l fields) left ∙ ap (content_at side own place c.args.content) (sym list) ∙ sym (c.read_at-read.ensures.content h lent) in
+    let response : (with_content side own i fields).response ≡ c.read_at-read.result.strict.response =
+    ap (λ p. response_at side own p i.response fields) at ∙ ap (λ k. response_at side own place k fields) told ∙ ap (response_at side own place c.args.known) (sym list) ∙ sym (c.read_at-read.ensures.response h lent) in
     read_head side own id r i replies fields place h few head at
     ∙ ap (λ b. head_or_trailer side id (with_content side own i fields) replies b place h) rule
     ∙ c.judge_message.ensures id (with_content side own i fields) replies h is at behind response
