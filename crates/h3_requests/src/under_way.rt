@@ -1,10 +1,11 @@
 //! The request streams under way, found by their ids: one in its place of a row, and in a map those whose place another has.
 ghost use Rattle.std.specs.Borrow.{sem};
 ghost use Rattle.std.specs.Option.{option_copied_mut};
-ghost use Rattle.std.specs.Prelude.{◌≡◌, [], None, is_some, option_copied, OnErr, OnOk};
+ghost use Rattle.std.specs.Prelude.{◌≡◌, [], None, Some, is_some, option_copied, IfSome, OnErr, OnOk};
 ghost use Rattle.h3_blocked.specs.Sums.{TakesOut};
 ghost use Rattle.h3_connection.specs.Calls.{fresh_request, Sets};
 ghost use Rattle.h3_connection.specs.State.{kept_at};
+ghost use Rattle.h3_requests.specs.Row.{KeepsOthers};
 ghost use Rattle.h3_requests.specs.UnderWayLending.{LendsUnderWay};
 
 use crate::boxed::BoxedStream;
@@ -60,8 +61,15 @@ impl StreamsUnderWay {
         if let Some(stream) = self.row.get(id) {
             return Some(stream);
         }
-        match self.others.get(&id) {
-            Some(stream) => Some(stream.get()),
+        get_far(&self.others, id)
+    }
+
+    /// The stream of this id, where it stands in the row: it is found with no search.
+    pub(crate) fn get_near(&self, id: u64) -> Option<&RequestStream>
+        ensures { IfSome result (λ stream. kept_at self.now id ≡ Some stream.now) }
+    {
+        match self.row.get(id) {
+            Some(stream) => Some(stream),
             None => None,
         }
     }
@@ -110,7 +118,7 @@ impl StreamsUnderWay {
             self.row.put(id, stream);
             return Ok(());
         }
-        let Ok(_) = self.others.insert(id, stream) else {
+        let Ok(()) = put_far(&mut self.others, id, stream) else {
             return Err(AllocError);
         };
         Ok(())
@@ -124,8 +132,9 @@ impl StreamsUnderWay {
         if let Some(stream) = self.row.take(id) {
             return Some(stream);
         }
-        self.others.remove(&id)
+        take_far(&mut self.others, id)
     }
+
     /// Drops the stream of this id, and keeps its block for the next one. It takes no memory.
     pub(crate) fn retire(&mut self, alloc: Global, id: u64)
         ensures { TakesOut self.old self.new id }
@@ -134,4 +143,42 @@ impl StreamsUnderWay {
             self.spare.keep(alloc, stream);
         }
     }
+}
+
+// The stream of this id in the map.
+#[inline(never)]
+fn get_far(others: &BTreeMap<u64, BoxedStream>, id: u64) -> Option<&RequestStream>
+    ensures { option_copied result ≡ kept_at others.now.entries id }
+{
+    match others.get(&id) {
+        Some(stream) => Some(stream.get()),
+        None => None,
+    }
+}
+
+// Puts a stream into the map. An `Err` changes nothing: memory was refused.
+#[inline(never)]
+fn put_far(
+    others: &mut BTreeMap<u64, BoxedStream>,
+    id: u64,
+    stream: BoxedStream,
+) -> Result<(), AllocError>
+    ensures own { OnOk result (kept_at others.new.entries id ≡ Some stream) }
+    ensures others { OnOk result (KeepsOthers others.old.entries others.new.entries id) }
+    ensures err { OnErr result (others.new.entries ≡ others.old.entries) }
+{
+    let Ok(_) = others.insert(id, stream) else {
+        return Err(AllocError);
+    };
+    Ok(())
+}
+
+// Takes the stream of this id out of the map. It takes no memory.
+#[inline(never)]
+fn take_far(others: &mut BTreeMap<u64, BoxedStream>, id: u64) -> Option<BoxedStream>
+    ensures value { result ≡ kept_at others.old.entries id }
+    ensures own { kept_at others.new.entries id ≡ None }
+    ensures others { KeepsOthers others.old.entries others.new.entries id }
+{
+    others.remove(&id)
 }

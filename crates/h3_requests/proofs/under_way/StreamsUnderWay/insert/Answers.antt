@@ -17,11 +17,11 @@ returns-then-has_room-clause-ok c =
 pub invariant_of-self-2 : goal.invariant_of-self-2
 invariant_of-self-2 c =
     let none = in_neither (held_at c.self.inside.row) c.self.inside.others.entries c.args.self.now c.self.view_is c.args.id c.ranges.id.fits c.requires in
-    apart_behind (held_at c.reserve.new.self) c.self.inside.others.entries c.insert.new.self.entries c.args.id (c.reserve.ensures c.args.id ∙ none.0) c.in-Ok.ensures.updates.2
+    apart_behind (held_at c.reserve.new.self) c.self.inside.others.entries c.put_far.new.others.entries c.args.id (c.reserve.ensures c.args.id ∙ none.0) c.in-Ok.ensures.others
     (λ q some. c.self.invariant q (subst (λ o. IsSome o) (c.reserve.ensures q) some))
 
 pub returns-clause-ok : goal.returns-clause-ok
 returns-clause-ok c =
     let none = in_neither (held_at c.self.inside.row) c.self.inside.others.entries c.args.self.now c.self.view_is c.args.id c.ranges.id.fits c.requires in
-    sets_behind (held_at c.self.inside.row) c.self.inside.others.entries c.args.self.now c.self.view_is c.args.id c.ranges.id.fits (held_at c.reserve.new.self) c.insert.new.self.entries c.args.stream none.0 c.reserve.ensures
-    c.in-Ok.ensures.updates.1 c.in-Ok.ensures.updates.2
+    sets_behind (held_at c.self.inside.row) c.self.inside.others.entries c.args.self.now c.self.view_is c.args.id c.ranges.id.fits (held_at c.reserve.new.self) c.put_far.new.others.entries c.args.stream none.0 c.reserve.ensures
+    c.in-Ok.ensures.own c.in-Ok.ensures.others

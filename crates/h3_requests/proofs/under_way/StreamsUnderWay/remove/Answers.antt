@@ -15,9 +15,9 @@ returns-in-Some-clause-takes_out c =
 
 pub returns-clause-value : goal.returns-clause-value
 returns-clause-value c =
-    sym (behind (held_at c.self.inside.row) c.self.inside.others.entries c.args.self.now c.self.view_is c.args.id c.ranges.id.fits c.remove.result (sym c.take.ensures.value ∙ c.in_default.is) c.remove.ensures.value)
+    sym (behind (held_at c.self.inside.row) c.self.inside.others.entries c.args.self.now c.self.view_is c.args.id c.ranges.id.fits c.take_far.result (sym c.take.ensures.value ∙ c.in_default.is) c.take_far.ensures.value)
 
 pub returns-clause-takes_out : goal.returns-clause-takes_out
 returns-clause-takes_out c =
-    takes (held_at c.self.inside.row) c.self.inside.others.entries c.args.self.now c.self.view_is c.args.id c.ranges.id.fits (held_at c.take.new.self) c.remove.new.self.entries c.take.ensures.taken.own c.take.ensures.taken.others
-    c.remove.ensures.updates.1 c.remove.ensures.updates.2
+    takes (held_at c.self.inside.row) c.self.inside.others.entries c.args.self.now c.self.view_is c.args.id c.ranges.id.fits (held_at c.take.new.self) c.take_far.new.others.entries c.take.ensures.taken.own c.take.ensures.taken.others
+    c.take_far.ensures.own c.take_far.ensures.others
