@@ -5,18 +5,18 @@ ghost use Rattle.std.specs.Prelude.{◌≡◌, [], None, Some, is_some, option_c
 ghost use Rattle.h3_blocked.specs.Sums.{TakesOut};
 ghost use Rattle.h3_connection.specs.Calls.{fresh_request, Sets};
 ghost use Rattle.h3_connection.specs.State.{kept_at};
-ghost use Rattle.h3_requests.specs.Row.{KeepsOthers};
 ghost use Rattle.h3_requests.specs.UnderWayLending.{LendsUnderWay};
 
 use crate::boxed::BoxedStream;
 use crate::spare::Spare;
 use crate::stream::RequestStream;
 use std::alloc::{AllocError, Global};
-use std::collections::BTreeMap;
 use std::marker::Model;
 
+mod others;
 mod row;
 
+use others::Others;
 use row::Row;
 
 /// The streams under way, no id twice. A contract sees the list of them, and finds one by `kept_at`.
@@ -24,7 +24,7 @@ use row::Row;
 pub(crate) struct StreamsUnderWay {
     row: Row,
     // those that found their place taken
-    others: BTreeMap<u64, BoxedStream>,
+    others: Others,
     // the block of a stream that went
     spare: Spare,
 }
@@ -37,9 +37,9 @@ impl Model for StreamsUnderWay {
 
     ghost Value = { Streams RequestState };
 
-    ghost view = { λ s. streams_of (found_at s.row s.others.entries) };
+    ghost view = { λ s. streams_of (found_at s.row s.others.streams.entries) };
 
-    ghost invariant = { λ s. AreApart s.row s.others.entries };
+    ghost invariant = { λ s. AreApart s.row s.others.streams.entries };
 }
 
 impl StreamsUnderWay {
@@ -49,7 +49,7 @@ impl StreamsUnderWay {
     {
         StreamsUnderWay {
             row: Row::new(alloc),
-            others: BTreeMap::new(alloc),
+            others: Others::new(alloc),
             spare: Spare::new(),
         }
     }
@@ -61,7 +61,7 @@ impl StreamsUnderWay {
         if let Some(stream) = self.row.get(id) {
             return Some(stream);
         }
-        get_far(&self.others, id)
+        self.others.get(id)
     }
 
     /// The stream of this id, where it stands in the row: it is found with no search.
@@ -78,7 +78,7 @@ impl StreamsUnderWay {
     pub(crate) fn contains(&self, id: u64) -> bool
         ensures { result ≡ is_some (kept_at self.now id) }
     {
-        self.row.has(id) || self.others.contains_key(&id)
+        self.row.has(id) || self.others.has(id)
     }
 
     /// The stream of this id, to be changed.
@@ -89,8 +89,8 @@ impl StreamsUnderWay {
         if self.row.has(id) {
             return Some(self.row.get_mut(id));
         }
-        match self.others.get_mut(&id) {
-            Some(stream) => Some(stream.get_mut()),
+        match self.others.get_mut(id) {
+            Some(stream) => Some(stream),
             None => None,
         }
     }
@@ -118,7 +118,7 @@ impl StreamsUnderWay {
             self.row.put(id, stream);
             return Ok(());
         }
-        let Ok(()) = put_far(&mut self.others, id, stream) else {
+        let Ok(()) = self.others.put(id, stream) else {
             return Err(AllocError);
         };
         Ok(())
@@ -132,7 +132,7 @@ impl StreamsUnderWay {
         if let Some(stream) = self.row.take(id) {
             return Some(stream);
         }
-        take_far(&mut self.others, id)
+        self.others.take(id)
     }
 
     /// Drops the stream of this id, and keeps its block for the next one. It takes no memory.
@@ -143,42 +143,4 @@ impl StreamsUnderWay {
             self.spare.keep(alloc, stream);
         }
     }
-}
-
-// The stream of this id in the map.
-#[inline(never)]
-fn get_far(others: &BTreeMap<u64, BoxedStream>, id: u64) -> Option<&RequestStream>
-    ensures { option_copied result ≡ kept_at others.now.entries id }
-{
-    match others.get(&id) {
-        Some(stream) => Some(stream.get()),
-        None => None,
-    }
-}
-
-// Puts a stream into the map. An `Err` changes nothing: memory was refused.
-#[inline(never)]
-fn put_far(
-    others: &mut BTreeMap<u64, BoxedStream>,
-    id: u64,
-    stream: BoxedStream,
-) -> Result<(), AllocError>
-    ensures own { OnOk result (kept_at others.new.entries id ≡ Some stream) }
-    ensures others { OnOk result (KeepsOthers others.old.entries others.new.entries id) }
-    ensures err { OnErr result (others.new.entries ≡ others.old.entries) }
-{
-    let Ok(_) = others.insert(id, stream) else {
-        return Err(AllocError);
-    };
-    Ok(())
-}
-
-// Takes the stream of this id out of the map. It takes no memory.
-#[inline(never)]
-fn take_far(others: &mut BTreeMap<u64, BoxedStream>, id: u64) -> Option<BoxedStream>
-    ensures value { result ≡ kept_at others.old.entries id }
-    ensures own { kept_at others.new.entries id ≡ None }
-    ensures others { KeepsOthers others.old.entries others.new.entries id }
-{
-    others.remove(&id)
 }
