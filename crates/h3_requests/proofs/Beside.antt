@@ -13,6 +13,7 @@ use Rattle.h3_connection.specs.State.{RequestState, kept_at}
 use Rattle.h3_connection.specs.StreamSets.{Streams}
 use Rattle.h3_connection.specs.StreamSetLaws.{other_id}
 use Rattle.h3_requests.specs.Listed.{either, streams_of}
+use Rattle.h3_requests.specs.Row.{KeepsOthers}
 use Rattle.h3_requests.specs.UnderWayLending.{WritesThere}
 use Rattle.h3_requests.proofs.Found.{at_each, found, sets, takes_out}
 use Rattle.h3_requests.proofs.Listed.{nothing, same_streams}
@@ -20,10 +21,6 @@ use Rattle.h3_requests.proofs.Listed.{nothing, same_streams}
 -- another id is at another key
 not_at : (id q : ℕ) → q ≢ id → is_at (nat_cmp id) q ≡ false
 not_at id q differs = unsigned_tied id q ∙ other_id q id differs
-
--- at each other key the same is found
-abbrev pub KeepsOthers : Streams RequestState → Streams RequestState → ℕ → Type 0
-KeepsOthers old new id = (q : ℕ) → is_at (nat_cmp id) q ≡ false → kept_at new q ≡ kept_at old q
 
 -- what is found of a stream in the row, or else in the map
 abbrev pub beside : (ℕ → Option RequestState) → Streams RequestState → ℕ → Option RequestState

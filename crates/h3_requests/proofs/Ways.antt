@@ -156,6 +156,10 @@ behind ways n =
     let before : suc n - 1 ≡ n = omega arith in
     way_found ways (suc n) some ∙ ap (slice_get ways) before
 
+-- each of the ways is over
+pub way_stands : (ways : List Way) (n : ℕ) (w : Way) → ((way : ℕ) → IfSome (way_at ways way) IsWay) → slice_get ways n ≡ Some w → IsOver w.stream
+way_stands ways n w all at = (subst (λ o. IfSome o IsWay) (behind ways n ∙ at) (all (suc n))).over
+
 all_true : (a b c d e : Bool) → a ≡ true → b ≡ true → c ≡ true → d ≡ true → e ≡ true → (a && b && c && d && e) ≡ true
 all_true a b c d e p q r s t = rw (p, q, r, s, t) refl
 

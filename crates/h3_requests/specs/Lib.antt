@@ -9,6 +9,7 @@ pub mod Coming
 pub mod FirstWord
 pub mod Listed
 pub mod Marks
+pub mod OthersLending
 pub mod Over
 pub mod Ready
 pub mod Refused

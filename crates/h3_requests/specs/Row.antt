@@ -1,5 +1,7 @@
 -- A row of places for request streams, and the streams in it and in a map behind it.
-use Rattle.std.specs.Prelude.{◌≡◌, ◌≢◌, ℕ, ◌/◌, ◌%◌, ◌==◌, if◌then◌else◌, List, slice_get, Option, Some, None, IsSome}
+use Rattle.std.specs.Prelude.{◌≡◌, ◌≢◌, ℕ, ◌/◌, ◌%◌, ◌==◌, if◌then◌else◌, false, List, slice_get, Option, Some, None, IsSome}
+use Rattle.std.specs.BTreeMap.{is_at}
+use Rattle.std.specs.Ordering.{nat_cmp}
 use Rattle.h3_connection.specs.State.{RequestState, kept_at}
 use Rattle.h3_connection.specs.StreamSets.{Streams}
 use Rattle.h3_requests.specs.Listed.{either}
@@ -46,3 +48,7 @@ found_at r others id = either (held_at r id) (kept_at others id)
 -- what stands in the row does not stand in the map
 abbrev pub AreApart : Row → Streams RequestState → Type 0
 AreApart r others = (q : ℕ) → IsSome (held_at r q) → kept_at others q ≡ None
+
+-- in the map the same is found at each other key
+abbrev pub KeepsOthers : Streams RequestState → Streams RequestState → ℕ → Type 0
+KeepsOthers old new id = (q : ℕ) → is_at (nat_cmp id) q ≡ false → kept_at new q ≡ kept_at old q

@@ -45,6 +45,17 @@ impl StreamMap {
     pub(crate) fn get_alike(&self, id: StreamId) -> Option<&RequestStream>
         ensures { AreAlike (option_copied result) (kept_at (streams_in self.now) id) }
     {
+        if let Some(stream) = self.under_way.get_near(id.into_inner()) {
+            return Some(stream);
+        }
+        self.get_any_alike(id)
+    }
+
+    // The same wherever it is: a call of its own, so that one in the row of those under way is found with no frame.
+    #[inline(never)]
+    fn get_any_alike(&self, id: StreamId) -> Option<&RequestStream>
+        ensures { AreAlike (option_copied result) (kept_at (streams_in self.now) id) }
+    {
         match self.under_way.get(id.into_inner()) {
             Some(stream) => Some(stream),
             None => self.over.get_alike(id),

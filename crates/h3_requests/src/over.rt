@@ -1,5 +1,5 @@
 //! The request streams that are over, in a few bytes each.
-ghost use Rattle.std.specs.Prelude.{◌≡◌, ◌<◌, ◌≤◌, ◌^◌, [], Some, true, false, length, is_some, option_copied, IfSome};
+ghost use Rattle.std.specs.Prelude.{◌≡◌, ◌<◌, ◌≤◌, ◌^◌, ℕ, [], Some, true, false, length, is_some, option_copied, IfSome};
 ghost use Rattle.h3_blocked.specs.Sums.{TakesOut};
 ghost use Rattle.h3_connection.specs.Calls.{Sets};
 ghost use Rattle.h3_connection.specs.State.{kept_at};
@@ -143,6 +143,7 @@ impl OverStreams {
     }
 
     // The same of a stream that was reset with this code, which is kept beside its way.
+    #[inline(never)]
     fn put_coded(&mut self, id: StreamId, stream: &RequestStream, code: u64) -> bool
         requires over { IsOver stream.now }
         requires reset { stream.now.incoming.fault ≡ Some (Reset code) }
@@ -215,7 +216,8 @@ fn like_way(way: &Way, alloc: Global, code: u64) -> RequestStream
 
 // The way in which a stream is over, each reset with a code of its own, or 0 where there are too many, or memory is refused for one more.
 fn coded_way(ways: &mut Vec<Way>, stream: &RequestStream) -> u8
-    requires { IsOver stream.now }
+    requires over { IsOver stream.now }
+    requires ways { (way : ℕ) → IfSome (way_at ways.old.items way) IsWay }
     ensures is { 0 < result → way_at ways.new.items result ≡ Some (record { stream = reset_with stream.now 0; has_code = true }) }
     ensures known { result ≤ length ways.new.items }
     ensures others { HasWays ways.old.items ways.new.items }
@@ -227,8 +229,10 @@ fn coded_way(ways: &mut Vec<Way>, stream: &RequestStream) -> u8
 }
 
 // The way in which a stream is over, each with a code of its own or not, or 0 where there are too many, or memory is refused for one more.
+#[inline(always)]
 fn way_of(ways: &mut Vec<Way>, stream: &RequestStream, has_code: bool, most: usize) -> u8
     requires over { IsOver stream.now }
+    requires ways { (way : ℕ) → IfSome (way_at ways.old.items way) IsWay }
     requires code { has_code ≡ true → stream.now.incoming.fault ≡ Some (Reset 0) }
     requires most { most ≤ 255 }
     ensures is { 0 < result → way_at ways.new.items result ≡ Some (record { stream = stream.now; has_code = has_code }) }
@@ -240,6 +244,20 @@ fn way_of(ways: &mut Vec<Way>, stream: &RequestStream, has_code: bool, most: usi
     if known > 0 {
         return known;
     }
+    add_ways(ways, stream, has_code, most)
+}
+
+// A way more, and with an end that waits two.
+#[inline(never)]
+fn add_ways(ways: &mut Vec<Way>, stream: &RequestStream, has_code: bool, most: usize) -> u8
+    requires over { IsOver stream.now }
+    requires code { has_code ≡ true → stream.now.incoming.fault ≡ Some (Reset 0) }
+    requires most { most ≤ 255 }
+    ensures is { 0 < result → way_at ways.new.items result ≡ Some (record { stream = stream.now; has_code = has_code }) }
+    ensures known { result ≤ length ways.new.items }
+    ensures others { HasWays ways.old.items ways.new.items }
+    ensures adds { AddsWays ways.old.items ways.new.items }
+{
     if stream.outgoing().end_waits() {
         return add_both(ways, stream, has_code, most);
     }
@@ -300,6 +318,8 @@ fn add_both(ways: &mut Vec<Way>, stream: &RequestStream, has_code: bool, most: u
 
 // The same among the ways that are known, or 0 where no other was over so.
 fn known_way(ways: &[Way], stream: &RequestStream, has_code: bool) -> u8
+    requires over { IsOver stream.now }
+    requires ways { (way : ℕ) → IfSome (way_at ways.now way) IsWay }
     ensures is { 0 < result → way_at ways.now result ≡ Some (record { stream = stream.now; has_code = has_code }) }
     ensures known { result ≤ length ways.now }
 {
@@ -316,6 +336,8 @@ fn known_way(ways: &[Way], stream: &RequestStream, has_code: bool) -> u8
 
 // Whether a stream is over in this way.
 fn is_way(way: &Way, stream: &RequestStream, has_code: bool) -> bool
+    requires over { IsOver stream.now }
+    requires way { IsOver way.now.stream }
     ensures { result ≡ true → way.now ≡ record { stream = stream.now; has_code = has_code } }
 {
     way.has_code == has_code && way.stream.is_over_like(stream)

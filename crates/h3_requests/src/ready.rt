@@ -73,9 +73,21 @@ impl ReadyStreams {
         ensures ending { (q : ℕ) → is_waiting self.new.ends q ≡ is_waiting self.old.ends q }
         ensures places { (q : ℕ) → has_place self.old.ends q ≡ true → has_place self.new.ends q ≡ true }
     {
-        if self.was_last(id) && self.bytes.has_place(id) && self.ends.has_place(id) {
+        if self.was_last(id) && self.bytes.has_near_place(id) && self.ends.has_near_place(id) {
             return Ok(());
         }
+        self.reserve_places(id)
+    }
+
+    // The same where it may have none.
+    #[inline(never)]
+    fn reserve_places(&mut self, id: StreamId) -> Result<(), AllocError>
+        ensures listed { OnOk result (is_listed self.new id ≡ true) }
+        ensures placed { OnOk result (has_place self.new.ends id ≡ true) }
+        ensures same { (q : ℕ) → is_ready self.new q ≡ is_ready self.old q }
+        ensures ending { (q : ℕ) → is_waiting self.new.ends q ≡ is_waiting self.old.ends q }
+        ensures places { (q : ℕ) → has_place self.old.ends q ≡ true → has_place self.new.ends q ≡ true }
+    {
         self.ends.reserve(id)?;
         self.reserve(id)
     }
@@ -113,11 +125,21 @@ impl ReadyStreams {
         ensures bytes { (q : ℕ) → is_ready self.new q ≡ is_ready self.old q }
     {
         if !waits {
-            self.ends.take(id);
-            self.bytes.release(id);
+            self.leave_end(id);
             return;
         }
         self.ends.put(id);
+    }
+
+    // The end of a stream does not wait, and all its places go. It takes no memory.
+    #[inline(never)]
+    fn leave_end(&mut self, id: StreamId)
+        ensures end { IsOneTest id false (is_waiting self.old.ends) (is_waiting self.new.ends) }
+        ensures places { (q : ℕ) → q ≢ id → has_place self.new.ends q ≡ has_place self.old.ends q }
+        ensures bytes { (q : ℕ) → is_ready self.new q ≡ is_ready self.old q }
+    {
+        self.ends.take(id);
+        self.bytes.release(id);
     }
 
     /// Neither bytes nor an end wait on a stream from now on. It takes no memory.

@@ -15,10 +15,19 @@ use std::alloc::Global;
 use std::marker::Model;
 
 /// A request stream: what came on it, and what is sent on it. A contract sees it as the definitions' `RequestState`.
-#[derive(Drop)]
 pub struct RequestStream {
     pub(crate) incoming: IncomingStream,
     pub(crate) outgoing: OutgoingStream,
+}
+
+/// In the body of its caller, so that neither part is copied for it.
+impl Drop for RequestStream {
+    #[inline(always)]
+    fn drop(self) {
+        let RequestStream { incoming, outgoing } = self;
+        drop(incoming);
+        drop(outgoing);
+    }
 }
 
 impl Model for RequestStream {
@@ -87,14 +96,14 @@ impl RequestStream {
             && self.outgoing.is_empty()
     }
 
-    // Whether both are over, and in the same way.
+    // Whether one that is over is over in the same way as another.
     #[tactic(auto, using(crate::proofs::Ways::over_alike))]
     pub(crate) fn is_over_like(&self, other: &RequestStream) -> bool
+        requires over { IsOver self.now }
+        requires other { IsOver other.now }
         ensures { result ≡ true → self.now ≡ other.now }
     {
-        self.is_over()
-            && other.is_over()
-            && receives_alike(&self.incoming, &other.incoming)
+        receives_alike(&self.incoming, &other.incoming)
             && sends_alike(&self.outgoing, &other.outgoing)
     }
 

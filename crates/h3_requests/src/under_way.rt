@@ -1,7 +1,7 @@
 //! The request streams under way, found by their ids: one in its place of a row, and in a map those whose place another has.
 ghost use Rattle.std.specs.Borrow.{sem};
 ghost use Rattle.std.specs.Option.{option_copied_mut};
-ghost use Rattle.std.specs.Prelude.{◌≡◌, [], None, is_some, option_copied, OnErr, OnOk};
+ghost use Rattle.std.specs.Prelude.{◌≡◌, [], None, Some, is_some, option_copied, IfSome, OnErr, OnOk};
 ghost use Rattle.h3_blocked.specs.Sums.{TakesOut};
 ghost use Rattle.h3_connection.specs.Calls.{fresh_request, Sets};
 ghost use Rattle.h3_connection.specs.State.{kept_at};
@@ -11,11 +11,12 @@ use crate::boxed::BoxedStream;
 use crate::spare::Spare;
 use crate::stream::RequestStream;
 use std::alloc::{AllocError, Global};
-use std::collections::BTreeMap;
 use std::marker::Model;
 
+mod others;
 mod row;
 
+use others::Others;
 use row::Row;
 
 /// The streams under way, no id twice. A contract sees the list of them, and finds one by `kept_at`.
@@ -23,7 +24,7 @@ use row::Row;
 pub(crate) struct StreamsUnderWay {
     row: Row,
     // those that found their place taken
-    others: BTreeMap<u64, BoxedStream>,
+    others: Others,
     // the block of a stream that went
     spare: Spare,
 }
@@ -36,9 +37,9 @@ impl Model for StreamsUnderWay {
 
     ghost Value = { Streams RequestState };
 
-    ghost view = { λ s. streams_of (found_at s.row s.others.entries) };
+    ghost view = { λ s. streams_of (found_at s.row s.others.streams.entries) };
 
-    ghost invariant = { λ s. AreApart s.row s.others.entries };
+    ghost invariant = { λ s. AreApart s.row s.others.streams.entries };
 }
 
 impl StreamsUnderWay {
@@ -48,7 +49,7 @@ impl StreamsUnderWay {
     {
         StreamsUnderWay {
             row: Row::new(alloc),
-            others: BTreeMap::new(alloc),
+            others: Others::new(alloc),
             spare: Spare::new(),
         }
     }
@@ -60,8 +61,15 @@ impl StreamsUnderWay {
         if let Some(stream) = self.row.get(id) {
             return Some(stream);
         }
-        match self.others.get(&id) {
-            Some(stream) => Some(stream.get()),
+        self.others.get(id)
+    }
+
+    /// The stream of this id, where it stands in the row: it is found with no search.
+    pub(crate) fn get_near(&self, id: u64) -> Option<&RequestStream>
+        ensures { IfSome result (λ stream. kept_at self.now id ≡ Some stream.now) }
+    {
+        match self.row.get(id) {
+            Some(stream) => Some(stream),
             None => None,
         }
     }
@@ -70,7 +78,7 @@ impl StreamsUnderWay {
     pub(crate) fn contains(&self, id: u64) -> bool
         ensures { result ≡ is_some (kept_at self.now id) }
     {
-        self.row.has(id) || self.others.contains_key(&id)
+        self.row.has(id) || self.others.has(id)
     }
 
     /// The stream of this id, to be changed.
@@ -81,8 +89,8 @@ impl StreamsUnderWay {
         if self.row.has(id) {
             return Some(self.row.get_mut(id));
         }
-        match self.others.get_mut(&id) {
-            Some(stream) => Some(stream.get_mut()),
+        match self.others.get_mut(id) {
+            Some(stream) => Some(stream),
             None => None,
         }
     }
@@ -110,7 +118,7 @@ impl StreamsUnderWay {
             self.row.put(id, stream);
             return Ok(());
         }
-        let Ok(_) = self.others.insert(id, stream) else {
+        let Ok(()) = self.others.put(id, stream) else {
             return Err(AllocError);
         };
         Ok(())
@@ -124,8 +132,9 @@ impl StreamsUnderWay {
         if let Some(stream) = self.row.take(id) {
             return Some(stream);
         }
-        self.others.remove(&id)
+        self.others.take(id)
     }
+
     /// Drops the stream of this id, and keeps its block for the next one. It takes no memory.
     pub(crate) fn retire(&mut self, alloc: Global, id: u64)
         ensures { TakesOut self.old self.new id }

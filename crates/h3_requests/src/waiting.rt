@@ -81,6 +81,17 @@ impl WaitingStreams {
         number % STEP == 0 && (word.places >> (number / STEP % WORD)) % 2 == 1
     }
 
+    /// Whether a request stream has a place in a word that is found with no search.
+    pub(crate) fn has_near_place(&self, id: StreamId) -> bool
+        ensures { result ≡ true → has_place self.now id ≡ true }
+    {
+        let number = id.into_inner();
+        let Some(word) = self.words.near(word_of(number)) else {
+            return false;
+        };
+        number % STEP == 0 && (word.places >> (number / STEP % WORD)) % 2 == 1
+    }
+
     /// A place for a request stream, so that something can come to wait on it with no memory. On which it waits stays as it was.
     pub(crate) fn reserve(&mut self, id: StreamId) -> Result<(), AllocError>
         ensures placed { OnOk result (has_place self.new id ≡ true) }

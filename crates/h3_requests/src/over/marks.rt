@@ -18,7 +18,7 @@ pub(crate) struct Marks {
     // the page that came last, where one has come, and its number: so streams that follow one another are found with no search
     number: u64,
     last: Vec<u8>,
-    // of each other page the marks up to that of its last stream for which room was taken
+    // the other pages, each with the marks of all its streams
     pages: BTreeMap<u64, Vec<u8>>,
 }
 
@@ -50,16 +50,20 @@ fn lengthen(page: &mut Vec<u8>, place: usize) -> Result<(), AllocError>
     ensures same { (k : ℕ) → slice_index_or page.new.items k 0 ≡ slice_index_or page.old.items k 0 }
     ensures longer { length page.old.items ≤ length page.new.items }
 {
-    let len = page.len();
-    if place < len {
+    if place < page.len() {
         return Ok(());
     }
-    if place == len {
-        page.reserve(1)?;
-        page.push_reserved(0);
-        return Ok(());
-    }
-    page.resize(place + 1, 0)
+    fill(page, PAGE as usize)
+}
+
+// Makes a page so long, where it is shorter.
+#[inline(never)]
+fn fill(page: &mut Vec<u8>, len: usize) -> Result<(), AllocError>
+    requires { length page.old.items < len }
+    ensures same { (k : ℕ) → slice_index_or page.new.items k 0 ≡ slice_index_or page.old.items k 0 }
+    ensures longer { length page.old.items ≤ length page.new.items }
+{
+    page.resize(len, 0)
 }
 
 // The mark at a place of a page, or 0.
@@ -130,6 +134,16 @@ impl Marks {
         if self.is_last(number) {
             return lengthen(&mut self.last, place);
         }
+        self.reserve_far(alloc, number, place)
+    }
+
+    // The same on another page than the last one.
+    #[inline(never)]
+    fn reserve_far(&mut self, alloc: Global, number: u64, place: usize) -> Result<(), AllocError>
+        requires within { place < 128 }
+        requires other { is_last self.old number ≡ false }
+        ensures { HaveSameMarks (mark_at self.old) (mark_at self.new) }
+    {
         let Some(page) = self.pages.get_mut(&number) else {
             return self.add_page(alloc, number, place);
         };
@@ -183,9 +197,21 @@ impl Marks {
         if self.is_last(number) {
             return set_in(&mut self.last, place, mark);
         }
-        let Some(page) = self.pages.get_mut(&number) else {
+        self.set_far(id, mark)
+    }
+
+    // The same on another page than the last one.
+    #[inline(never)]
+    fn set_far(&mut self, id: u64, mark: u8) -> bool
+        requires stream { id % 4 ≡ 0 }
+        requires other { is_last self.old (id / 512) ≡ false }
+        ensures set { result ≡ true → IsOneMark id mark (mark_at self.old) (mark_at self.new) }
+        ensures same { result ≡ false → HaveSameMarks (mark_at self.old) (mark_at self.new) }
+        ensures none { result ≡ false → mark_at self.old id ≡ 0 }
+    {
+        let Some(page) = self.pages.get_mut(&page_of(id)) else {
             return false;
         };
-        set_in(page, place, mark)
+        set_in(page, place_of(id), mark)
     }
 }

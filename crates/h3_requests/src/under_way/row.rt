@@ -1,6 +1,6 @@
 //! A row of places in which request streams stand by their ids, so that one is found by one comparison.
 ghost use Rattle.std.specs.Borrow.{sem};
-ghost use Rattle.std.specs.Prelude.{◌≡◌, ◌/◌, ◌%◌, ℕ, true, Some, None, is_some, option_copied, IsSome};
+ghost use Rattle.std.specs.Prelude.{◌≡◌, ◌/◌, ◌%◌, ℕ, length, true, Some, None, is_some, option_copied, IsSome};
 ghost use Rattle.h3_requests.specs.Row.{held_at, in_place, HasFreePlace, IsOneHeld, HoldSame};
 ghost use Rattle.h3_requests.specs.RowLending.{LendsHeld, LendsPlaced};
 
@@ -126,6 +126,15 @@ impl Row {
         if self.places.len() > 0 {
             return Ok(());
         }
+        self.fill()
+    }
+
+    // The places, which are not there yet.
+    #[inline(never)]
+    fn fill(&mut self) -> Result<(), AllocError>
+        requires { length self.old.places.items ≡ 0 }
+        ensures { HoldSame self.old self.new }
+    {
         self.places.reserve_exact(PLACES)?;
         for _ in 0..PLACES {
             self.places.push_reserved(Place::free());

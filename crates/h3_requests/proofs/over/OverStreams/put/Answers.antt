@@ -30,3 +30,6 @@ returns-clause-put c = λ put.
     let same = same_marked c.self.inside.ways.items c.way_of-way.new.ways.items (mark_at c.self.inside.marks) (mark_at c.self.inside.marks) (code_at c.self.inside.codes) (code_at c.self.inside.codes) c.self.invariant
     c.way_of-way.ensures.others (λ id. refl) (λ q some. refl) ∙ c.self.view_is in
     subst (λ l. Sets l c.put_coded.new.self c.args.id c.args.stream.now) same (c.put_coded.ensures.put put)
+
+pub way_of-way-requires-clause-ways : goal.way_of-way-requires-clause-ways
+way_of-way-requires-clause-ways c = c.self.invariant.over

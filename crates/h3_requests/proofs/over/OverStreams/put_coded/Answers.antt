@@ -36,3 +36,6 @@ returns-clause-same c = λ unset.
     let one : IsOneMark c.into_inner-number.result c.args.code (code_at c.self.inside.codes) (code_at c.set.new.self) = search rules in
     same_marked c.self.inside.ways.items c.coded_way-way.new.ways.items (mark_at c.self.inside.marks) (mark_at c.set-2.new.self) (code_at c.self.inside.codes) (code_at c.set.new.self) c.self.invariant c.coded_way-way.ensures.others (c.set-2.ensures.same unset)
     (λ q some. one.others q (λ is. some (ap (mark_at c.self.inside.marks) is ∙ c.set-2.ensures.none unset))) ∙ c.self.view_is
+
+pub coded_way-way-requires-clause-ways : goal.coded_way-way-requires-clause-ways
+coded_way-way-requires-clause-ways c = c.self.invariant.over

@@ -8,9 +8,9 @@ use Rattle.h3_requests.proofs.under_way.StreamsUnderWay.contains.Goals as goal
 pub returns-then-has : goal.returns-then-has
 returns-then-has c =
     c.has.ensures
-    ∙ sym (ap is_some (in_row (held_at c.self.inside.row) c.self.inside.others.entries c.args.self.now c.self.view_is c.args.id c.ranges.id.fits (held_at c.self.inside.row c.args.id) refl (sym c.has.ensures ∙ c.if-has.true)))
+    ∙ sym (ap is_some (in_row (held_at c.self.inside.row) c.self.inside.others.streams.entries c.args.self.now c.self.view_is c.args.id c.ranges.id.fits (held_at c.self.inside.row c.args.id) refl (sym c.has.ensures ∙ c.if-has.true)))
 
 pub returns-else-has : goal.returns-else-has
 returns-else-has c =
-    c.contains_key.ensures
-    ∙ sym (ap is_some (behind (held_at c.self.inside.row) c.self.inside.others.entries c.args.self.now c.self.view_is c.args.id c.ranges.id.fits (kept_at c.self.inside.others.entries c.args.id) (has_none _ (sym c.has.ensures ∙ c.if-has.false)) refl))
+    c.has-else-has.ensures
+    ∙ sym (ap is_some (behind (held_at c.self.inside.row) c.self.inside.others.streams.entries c.args.self.now c.self.view_is c.args.id c.ranges.id.fits (kept_at c.self.inside.others.streams.entries c.args.id) (has_none _ (sym c.has.ensures ∙ c.if-has.false)) refl))

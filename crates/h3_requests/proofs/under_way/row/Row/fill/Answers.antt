@@ -2,13 +2,13 @@
 use Rattle.std.proofs.Common.{arith, sym, ◌∙◌, ap}
 use Rattle.h3_requests.specs.Row.{held_in}
 use Rattle.h3_requests.proofs.Places.{empty, lengthened}
-use Rattle.h3_requests.proofs.under_way.row.Row.reserve.Goals as goal
+use Rattle.h3_requests.proofs.under_way.row.Row.fill.Goals as goal
 
 pub loop-init : goal.loop-init
 loop-init c = (
   λ q.
-      ap (λ l. held_in l q) c.reserve_exact.ensures.items ∙ empty c.args.self.now.places.items (omega (arith, c.args.self.now.places.ok.0, c.len.ensures, c.if-len-gt0.false)) q,
-  omega (arith, c.reserve_exact.ensures.len, c.len.ensures, c.if-len-gt0.false),
+      ap (λ l. held_in l q) c.reserve_exact.ensures.items ∙ empty c.args.self.now.places.items (omega (arith, c.args.self.now.places.ok.0, c.requires)) q,
+  omega (arith, c.reserve_exact.ensures.len, c.requires),
   omega (arith, c.in_ok-reserve_exact.ensures.ok),
 )
 
@@ -23,4 +23,4 @@ loop-preserved c = (
 )
 
 pub returns : goal.returns
-returns c = λ q. c.loop.invariant.0 q ∙ sym (empty c.args.self.now.places.items (omega (arith, c.args.self.now.places.ok.0, c.len.ensures, c.if-len-gt0.false)) q)
+returns c = λ q. c.loop.invariant.0 q ∙ sym (empty c.args.self.now.places.items (omega (arith, c.args.self.now.places.ok.0, c.requires)) q)
