@@ -32,7 +32,8 @@ use h3_qpack::laws::sections_leave_their_counts;
 use h3_requests::SectionRoom;
 use h3_streams::streams::ConnectionStreams;
 use http::StatusCode;
-use std::alloc::{AllocError, Global};
+use std::alloc::AllocError;
+use std::mem;
 
 /// How many bytes of a section a short field takes: one of the static table takes 1, and a value behind a name of it often 10 to 20.
 const SHORT_FIELD: usize = 16;
@@ -251,7 +252,7 @@ impl Endpoint {
         ensures err { OnErr result ((e : EndpointHistory) → StandsFor self.old e → CutsOff e room fields.now self.new) }
     {
         let id = room.id();
-        let Ok((section, count)) = encode(&mut self.streams, self.alloc, &room, fields) else {
+        let Ok((section, count)) = encode(&mut self.streams, &mut self.block, &room, fields) else {
             return Err(AllocError);
         };
         let Ok(()) = self.requests.send_section(room, section, place) else {
@@ -263,10 +264,11 @@ impl Endpoint {
 }
 
 /// Encodes a field section for which room was taken, and writes its instructions on the own encoder stream. It answers the section and its
-/// required insert count. Where memory is refused the section is cut off.
+/// required insert count. The block in which it was written is kept and serves again, unless the section is long and takes it along: so little
+/// memory is kept. Where memory is refused the section is cut off.
 fn encode(
     streams: &mut ConnectionStreams,
-    alloc: Global,
+    kept: &mut Vec<u8>,
     room: &SectionRoom,
     fields: &[HeaderField],
 ) -> Result<(EncodedSection, usize), AllocError>
@@ -275,24 +277,28 @@ fn encode(
     ensures err { OnErr result ((s : EncoderHistory) → streams.old.encoding.encoder ≡ encoder_state s → StopsEncoding s room.now fields.now streams.old streams.new) }
 {
     let id = room.id();
-    let Ok(mut block) = block_for(alloc, fields) else {
+    let Ok(mut block) = block_for(kept, fields) else {
         return Err(AllocError);
     };
     let Ok(count) = encode_into(&mut block, streams, room, id, fields) else {
         return Err(AllocError);
     };
-    let Some(section) = EncodedSection::behind_room(block) else {
+    let Some(section) = EncodedSection::taken_from(&mut block) else {
         withdraw(streams, id, count);
         return Err(AllocError);
     };
+    *kept = block;
     Ok((section, count))
 }
 
-/// A block with room for the section of so many short fields, so that it seldom grows while that is written.
-fn block_for(alloc: Global, fields: &[HeaderField]) -> Result<Vec<u8>, AllocError>
+/// A block with room for the section of so many short fields, so that it seldom grows while that is written: the one that is kept, if it is one.
+fn block_for(kept: &mut Vec<u8>, fields: &[HeaderField]) -> Result<Vec<u8>, AllocError>
     ensures { IfOk result (λ block. length block.items ≡ 9) }
 {
-    EncodedSection::block(alloc, SHORT_FIELD * fields.len().min(MANY_FIELDS))
+    let alloc = *kept.allocator();
+    let mut block = mem::replace(kept, Vec::new(alloc));
+    EncodedSection::begin(&mut block, SHORT_FIELD * fields.len().min(MANY_FIELDS))?;
+    Ok(block)
 }
 
 /// The same into such a block, on the stream that there is room on. It answers the required insert count.
