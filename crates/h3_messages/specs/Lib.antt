@@ -2,4 +2,5 @@ pub mod Content
 pub mod KindLaws
 pub mod Known
 pub mod Messages
+pub mod ResponseSaid
 pub mod Survey

@@ -15,6 +15,7 @@ mod pseudo;
 mod regular;
 mod request;
 mod response;
+pub mod response_said;
 pub mod seen;
 mod slot;
 pub mod survey;
@@ -22,11 +23,15 @@ mod text;
 pub mod violation;
 
 pub use content::{Asked, Content, is_interim_status};
-pub use head::{RequestRead, ResponseRead, read_request, read_response, request_by, response_by};
+pub use head::{
+    AnyResponseRead, RequestRead, ResponseRead, read_any_response, read_request, read_response,
+    request_by, response_by,
+};
 pub use request::request_violation;
 pub use response::{
     response_violation, trailer_violation, trailer_violation_by, trailer_violation_of,
 };
+pub use response_said::ResponseSaid;
 pub use seen::Seen;
 pub use survey::Survey;
 pub use violation::Violation;

@@ -19,8 +19,8 @@ use h3_messages::Content;
 use std::alloc::{AllocError, Global};
 use std::marker::Model;
 
-/// A request stream at its sender. Its frames wait one behind the other: a section in the block in which it was written, and a body that was
-/// handed over as the payload itself. Neither is copied. A contract sees the pieces that wait.
+/// A request stream at its sender. Its frames wait one behind the other: a short section in the frame itself, a longer one in the block in which
+/// it was written, and a body that was handed over as the payload itself. Only the first is copied. A contract sees the pieces that wait.
 #[derive(Drop)]
 pub struct OutgoingStream {
     frames: WaitingFrames,

@@ -54,14 +54,17 @@ impl EncodedSection {
         Some(EncodedSection { block })
     }
 
-    /// Empties a block but for 9 bytes, behind which a section is to be written, with room for so many bytes of it. It takes memory where the
-    /// block has too little.
+    /// Empties a block but for 9 bytes, behind which a section is to be written. One that has fewer takes memory once, with room for so many
+    /// bytes of it.
     pub fn begin(block: &mut Vec<u8>, size: usize) -> Result<(), AllocError>
         ensures { OnOk result (length block.new.items ≡ 9) }
     {
-        block.clear();
-        block.reserve_exact(HEAD_ROOM.saturating_add(size))?;
-        block.extend_from_slice(&[0; HEAD_ROOM])
+        if block.len() < HEAD_ROOM {
+            *block = EncodedSection::block(*block.allocator(), size)?;
+            return Ok(());
+        }
+        block.truncate(HEAD_ROOM);
+        Ok(())
     }
 
     /// The section that was written behind the first 9 bytes of a block; none where it has fewer. A short one is copied, so that the block

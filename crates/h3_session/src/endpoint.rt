@@ -48,6 +48,8 @@ pub struct Endpoint {
     last_goaway: Option<VarInt>,
     kept: VecDeque<Arrival>,
     sent: u64,
+    // a section is written in it: what it has says nothing, and a contract does not see it
+    block: Vec<u8>,
 }
 
 impl Model for Endpoint {
@@ -121,6 +123,7 @@ impl Endpoint {
             last_goaway: None,
             kept: VecDeque::new(alloc),
             sent: 0,
+            block: Vec::new(alloc),
         })
     }
 
