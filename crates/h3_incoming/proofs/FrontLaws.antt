@@ -16,10 +16,13 @@ use Rattle.h3_wire.specs.declared.frame.errors.FrameStreamError.TheVariants as s
 use Rattle.h3_wire.specs.declared.proto.frame.PayloadLen.{PayloadLen}
 use Rattle.h3_wire.specs.declared.proto.frame.Frame.{Frame}
 use Rattle.h3_wire.specs.declared.proto.frame.Frame.TheVariants as frame
+use Rattle.h3_proto.specs.declared.stream.Side.{Side}
+use Rattle.h3_connection.specs.declared.place.Place.{Place}
 use Rattle.h3_connection.specs.Incoming.{Incoming, Passes, is_body}
 use Rattle.h3_connection.specs.Skipping.{is_empty_data, skip_front, skipped}
 use Rattle.h3_connection.specs.SkippingLaws.{skipped_step}
-use Rattle.h3_incoming.specs.Finding.{Finds, IsWithin, PassesFrames}
+use Rattle.h3_messages.specs.declared.content.Content.{Content}
+use Rattle.h3_incoming.specs.Finding.{Finds, FindsFrame, FindsLess, FindsRefused, IsWithin, KeepsWithin, PassesFrames}
 use Rattle.h3_incoming.specs.declared.stream.front.Found.{Found}
 use Rattle.h3_incoming.specs.declared.stream.front.Found.TheVariants as found
 
@@ -43,6 +46,11 @@ passes_known in_body bytes left is more =
     let same : known (left ++ more) ≡ known (bytes ++ more) = ap (λ l. known (l ++ more)) is ∙ sym (known-more bytes more) in
     skipped_step in_body (left ++ more) ∙ ap (λ l. skip_front (skipped in_body) in_body l (frame_at l)) same ∙ sym (skipped_step in_body (bytes ++ more))
 
+-- what is no DATA frame is no empty one
+pub none_empty : (in_body : Bool) → (in_body && false) ≡ false
+none_empty true = refl
+none_empty false = refl
+
 -- any error leaves the bytes from the first known frame on
 pub refused_leaves : (e : FrameStreamError) (old new : List ℕ) → Gives (Err e) old new → new ≡ known old
 refused_leaves (stream.Proto e) old new h = h.0
@@ -54,7 +62,7 @@ one_found : (in_body : Bool) (bytes rest : List ℕ) (f : Frame PayloadLen) → 
 one_found in_body bytes rest f e t =
     ap frame_at (skipped_step in_body bytes ∙ ap (λ x. skip_front (skipped in_body) in_body (known bytes) x) e ∙ ap (λ b. if b then skipped in_body rest else known bytes) t) ∙ e
 
-pub finds_frame : (in_body : Bool) (bytes rest : List ℕ) (f : Frame PayloadLen) → frame_at (known bytes) ≡ Whole f rest → (in_body && is_empty_data f) ≡ false → Finds in_body (found.Frame f) bytes rest
+pub finds_frame : (in_body : Bool) (bytes rest : List ℕ) (f : Frame PayloadLen) → frame_at (known bytes) ≡ Whole f rest → (in_body && is_empty_data f) ≡ false → FindsFrame in_body f bytes rest
 finds_frame in_body bytes rest f e t more = one_found in_body (bytes ++ more) (rest ++ more) f (known_frame-more bytes rest more f e) t
 
 waiting_stays : (in_body : Bool) (bytes : List ℕ) (x : Front) → frame_at (known bytes) ≡ x → IsWaiting x → skipped in_body bytes ≡ known bytes
@@ -63,12 +71,12 @@ waiting_stays in_body bytes (Whole f rest) e h = absurd h
 waiting_stays in_body bytes (Unknown kind rest) e h = absurd h
 waiting_stays in_body bytes (Refused why) e h = absurd h
 
-pub finds_unfinished : (in_body : Bool) (bytes left : List ℕ) → left ≡ known bytes → IsWaiting (frame_at left) → Finds in_body found.Unfinished bytes left
+pub finds_unfinished : (in_body : Bool) (bytes left : List ℕ) → left ≡ known bytes → IsWaiting (frame_at left) → FindsLess in_body bytes left
 finds_unfinished in_body bytes left is h =
     let waits : IsWaiting (frame_at (known bytes)) = subst (λ l. IsWaiting (frame_at l)) is h in
     (is ∙ sym (waiting_stays in_body bytes (frame_at (known bytes)) refl waits), h, passes_known in_body bytes left is)
 
-pub finds_refused : (in_body : Bool) (bytes left : List ℕ) (e : FrameProtocolError) → left ≡ known bytes → frame_at left ≡ Refused (refusal e) → Finds in_body (found.Refused e) bytes left
+pub finds_refused : (in_body : Bool) (bytes left : List ℕ) (e : FrameProtocolError) → left ≡ known bytes → frame_at left ≡ Refused (refusal e) → FindsRefused in_body e bytes left
 finds_refused in_body bytes left e is h =
     let here : frame_at (known bytes) ≡ Refused (refusal e) = ap frame_at (sym is) ∙ h in
     (is ∙ sym (skipped_step in_body bytes ∙ ap (λ x. skip_front (skipped in_body) in_body (known bytes) x) here), h)
@@ -77,7 +85,7 @@ finds_refused in_body bytes left e is h =
 pub passed_now : (in_body : Bool) (old new : List ℕ) → PassesFrames in_body old new → skipped in_body new ≡ skipped in_body old
 passed_now in_body old new p = ap (skipped in_body) (sym (append-nil new)) ∙ p [] ∙ ap (skipped in_body) (append-nil old)
 
-pub found_now : (in_body : Bool) (f : Frame PayloadLen) (old new : List ℕ) → Finds in_body (found.Frame f) old new → frame_at (skipped in_body old) ≡ Whole f new
+pub found_now : (in_body : Bool) (f : Frame PayloadLen) (old new : List ℕ) → FindsFrame in_body f old new → frame_at (skipped in_body old) ≡ Whole f new
 found_now in_body f old new h = ap (λ l. frame_at (skipped in_body l)) (sym (append-nil old)) ∙ h [] ∙ ap (λ l. Whole f l) (append-nil new)
 
 -- **What was found is no longer than its reader takes, or is told as longer.**
@@ -122,7 +130,7 @@ pub within_refused : (most : ℕ) (in_body : Bool) (bytes left : List ℕ) (why 
 within_refused most in_body bytes left why is h e = ap (is_excessive most) (sym (finds_refused in_body bytes left why is h).0 ∙ is) ∙ e
 
 pub within_frame : (most : ℕ) (in_body : Bool) (bytes rest : List ℕ) (f : Frame PayloadLen) → frame_at (known bytes) ≡ Whole f rest → (in_body && is_empty_data f) ≡ false → is_excessive most (known bytes) ≡ false
-    → IsWithin most in_body (found.Frame f) bytes
+    → KeepsWithin most in_body bytes
 within_frame most in_body bytes rest f e t none more =
     let finished : IsFinished (frame_at (known bytes)) = subst IsFinished (sym e) tt in
     let here : frame_at (known bytes ++ more) ≡ Whole f (rest ++ more) = frame_at-more (known bytes) more finished ∙ ap (λ x. with_more x more) e in
@@ -133,19 +141,19 @@ within_frame most in_body bytes rest f e t none more =
     ap (is_excessive most) (all ∙ same) ∙ excessive_more most (known bytes) more finished ∙ none
 
 pub within_on : (most : ℕ) (in_body : Bool) (f : Found) (old mid : List ℕ) → PassesFrames in_body old mid → IsWithin most in_body f mid → IsWithin most in_body f old
-within_on most in_body (found.Frame f) old mid p h = λ more. ap (is_excessive most) (sym (p more)) ∙ h more
+within_on most in_body (found.Begun b) old mid p h = λ more. ap (is_excessive most) (sym (p more)) ∙ h more
 within_on most in_body found.Unfinished old mid p h = ap (is_excessive most) (sym (passed_now in_body old mid p)) ∙ h
 within_on most in_body (found.Refused why) old mid p h = ap (is_excessive most) (sym (passed_now in_body old mid p)) ∙ h
 within_on most in_body found.Excessive old mid p h = ap (is_excessive most) (sym (passed_now in_body old mid p)) ∙ h
 
-pub within_now : (most : ℕ) (in_body : Bool) (f : Frame PayloadLen) (old : List ℕ) → IsWithin most in_body (found.Frame f) old → is_excessive most (skipped in_body old) ≡ false
+pub within_now : (most : ℕ) (in_body : Bool) (f : Frame PayloadLen) (old : List ℕ) → KeepsWithin most in_body old → is_excessive most (skipped in_body old) ≡ false
 within_now most in_body f old h = ap (λ l. is_excessive most (skipped in_body l)) (sym (append-nil old)) ∙ h []
 
-pub finds_on : (in_body : Bool) (f : Found) (old mid new : List ℕ) → PassesFrames in_body old mid → Finds in_body f mid new → Finds in_body f old new
-finds_on in_body (found.Frame f) old mid new p h = λ more. ap frame_at (sym (p more)) ∙ h more
-finds_on in_body found.Unfinished old mid new p h = (h.0 ∙ passed_now in_body old mid p, h.1, λ more. h.2 more ∙ p more)
-finds_on in_body (found.Refused why) old mid new p h = (h.0 ∙ passed_now in_body old mid p, h.1)
-finds_on in_body found.Excessive old mid new p h = tt
+pub finds_on : (side : Side) (place : Place) (message : Content) (f : Found) (old mid new : List ℕ) → PassesFrames (is_body place) old mid → Finds side place message f mid new → Finds side place message f old new
+finds_on side place message (found.Begun b) old mid new p h = (h.0, h.1, λ more. ap frame_at (sym (p more)) ∙ h.2 more)
+finds_on side place message found.Unfinished old mid new p h = (h.0 ∙ passed_now (is_body place) old mid p, h.1, λ more. h.2 more ∙ p more)
+finds_on side place message (found.Refused why) old mid new p h = (h.0 ∙ passed_now (is_body place) old mid p, h.1)
+finds_on side place message found.Excessive old mid new p h = tt
 
 pub passed_then : (in_body : Bool) (old mid new : List ℕ) → PassesFrames in_body old mid → PassesFrames in_body mid new → PassesFrames in_body old new
 passed_then in_body old mid new p q more = q more ∙ p more
@@ -167,12 +175,7 @@ pub passes_frames : (old stored : Incoming) (left : List (List ℕ)) (in_body : 
 passes_frames old stored left in_body r h =
     subst (λ (o : Incoming). PassesFrames (is_body old.place) (concat o.unread) (concat left)) r.is (subst (λ b. PassesFrames b (concat stored.unread) (concat left)) r.body h)
 
-pub within : (most : ℕ) (old stored : Incoming) (left : List (List ℕ)) (in_body : Bool) (f : Found) → Reads old stored left in_body → IsWithin most in_body f (concat stored.unread)
-    → IsWithin most (is_body old.place) f (concat old.unread)
-within most old stored left in_body f r h =
-    subst (λ (o : Incoming). IsWithin most (is_body old.place) f (concat o.unread)) r.is (subst (λ b. IsWithin most b f (concat stored.unread)) r.body h)
-
-pub finds : (old stored : Incoming) (left : List (List ℕ)) (in_body : Bool) (f : Found) → Reads old stored left in_body → Finds in_body f (concat stored.unread) (concat left)
-    → Finds (is_body old.place) f (concat old.unread) (concat left)
-finds old stored left in_body f r h =
-    subst (λ (o : Incoming). Finds (is_body old.place) f (concat o.unread) (concat left)) r.is (subst (λ b. Finds b f (concat stored.unread) (concat left)) r.body h)
+-- what holds of the place and the bytes that were stored
+pub stored_is : (P : Bool → List ℕ → Type 0) (old stored : Incoming) (left : List (List ℕ)) (in_body : Bool) → Reads old stored left in_body → P in_body (concat stored.unread) → P (is_body old.place) (concat old.unread)
+stored_is P old stored left in_body r h =
+    subst (λ (o : Incoming). P (is_body old.place) (concat o.unread)) r.is (subst (λ b. P b (concat stored.unread)) r.body h)

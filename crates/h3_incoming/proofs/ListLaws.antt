@@ -13,9 +13,8 @@ use Rattle.h3_connection.specs.Incoming.{Incoming, is_body}
 use Rattle.h3_connection.specs.Skipping.{skipped}
 use Rattle.h3_incoming.specs.Answering.{Lists}
 use Rattle.h3_incoming.specs.Coming.{decoded_fields, fields_in, fields_next, next_section, section_in}
-use Rattle.h3_incoming.specs.Finding.{Finds}
-use Rattle.h3_incoming.specs.declared.stream.front.Found.TheVariants as found
-use Rattle.h3_incoming.proofs.FrontLaws.{Reads, finds, found_now}
+use Rattle.h3_incoming.specs.Finding.{FindsFrame}
+use Rattle.h3_incoming.proofs.FrontLaws.{Reads, stored_is, found_now}
 
 -- no list is any
 pub lists_none : (listed came : Option (List Field)) → listed ≡ None → Lists listed came
@@ -44,9 +43,9 @@ lists_waiting r i None listed e there h = absurd (cc)
 
 -- that of the next frame
 pub lists_framed : (r : DecoderState) (old stored : Incoming) (left : List (List ℕ)) (in_body : Bool) (f : Frame PayloadLen) (bytes : List ℕ) (listed : Option (List Field)) → Reads old stored left in_body
-    → Finds in_body (found.Frame f) (concat stored.unread) (concat left) → old.section ≡ None → f ≡ frame.Headers bytes → Lists listed (fields_in r (Some bytes)) → Lists listed (fields_next r old)
+    → FindsFrame in_body f (concat stored.unread) (concat left) → old.section ≡ None → f ≡ frame.Headers bytes → Lists listed (fields_in r (Some bytes)) → Lists listed (fields_next r old)
 lists_framed r old stored left in_body f bytes listed reads h none is list =
     let there : frame_at (skipped (is_body old.place) (concat old.unread)) ≡ Whole f (concat left) =
-    found_now (is_body old.place) f (concat old.unread) (concat left) (finds old stored left in_body (found.Frame f) reads h) in
+    found_now (is_body old.place) f (concat old.unread) (concat left) (stored_is (λ b l. FindsFrame b f l (concat left)) old stored left in_body reads h) in
     let section : next_section old old.section ≡ Some bytes = ap (next_section old) none ∙ ap section_in there ∙ ap (λ g. section_in (Whole g (concat left))) is in
     subst (λ o. Lists listed (fields_in r o)) (sym section) list

@@ -30,10 +30,9 @@ use Rattle.h3_connection.specs.Codes.{refusal_code}
 use Rattle.h3_connection.specs.Incoming.{Incoming, Passes, is_body}
 use Rattle.h3_connection.specs.Skipping.{skipped}
 use Rattle.h3_connection.specs.Pulling.{Pulled, is_memory, just, connection_fault, left_with, raw, malformed, in_payload, at_payload, at_section, at_frame, framed, next_frame, between_frames, excess, in_message, next_item, pull_stream}
-use Rattle.h3_incoming.specs.Finding.{Finds}
+use Rattle.h3_incoming.specs.Finding.{FindsRefused}
 use Rattle.h3_incoming.specs.Gives.{Gives}
 use Rattle.h3_incoming.specs.Placing.{is_session}
-use Rattle.h3_incoming.specs.declared.stream.front.Found.TheVariants as found
 use Rattle.h3_connection.specs.SkippingLaws.{skipped-length}
 
 pub gives_as : (p q : Pulled) (answer : Pull) (new : Incoming) (before after : List ℕ) → p ≡ q → Gives q answer new before after → Gives p answer new before after
@@ -156,7 +155,7 @@ module _ (side : Side) (own : Announced) (id : ℕ) (r : DecoderState) where
       between_within i within ∙ ap (λ bytes. next_frame side own id r (left_with i bytes) bytes) (sym e)
       ∙ ap (λ j. next_frame side own id r j (concat new.unread)) (sym (left_is i new p))
 
-  pub between_refused : (i new : Incoming) (e : FrameProtocolError) → Passes i new → Finds (is_body i.place) (found.Refused e) (concat i.unread) (concat new.unread)
+  pub between_refused : (i new : Incoming) (e : FrameProtocolError) → Passes i new → FindsRefused (is_body i.place) e (concat i.unread) (concat new.unread)
       → is_excessive own.choices.unfinished_limit (skipped (is_body i.place) (concat i.unread)) ≡ false
       → between_frames side own id r i ≡ connection_fault (refusal_code (refusal e)) new
   between_refused i new e p h within = between_unfinished i new p h.0 within ∙ next_is new (concat new.unread) (Refused (refusal e)) h.1 tt

@@ -21,10 +21,9 @@ use Rattle.h3_connection.specs.Incoming.{Incoming, Passes, is_body, given_up}
 use Rattle.h3_connection.specs.Skipping.{skipped, is_empty_data}
 use Rattle.h3_connection.specs.Codes.{frame_unexpected}
 use Rattle.h3_connection.specs.Pulling.{begun_section, begun_payload, left_with, at_payload, new_section, connection_fault, excess, at_frame, next_frame, between_frames, pull_stream}
-use Rattle.h3_incoming.specs.Finding.{Finds, IsWithin, PassesFrames}
+use Rattle.h3_incoming.specs.Finding.{FindsFrame, KeepsWithin, PassesFrames}
 use Rattle.h3_incoming.specs.Placing.{is_session}
 use Rattle.h3_incoming.specs.Resuming.{Begins, Resumes, delivered}
-use Rattle.h3_incoming.specs.declared.stream.front.Found.TheVariants as found
 use Rattle.h3_connection.specs.SkippingLaws.{skipped-length, found_not_empty}
 use Rattle.h3_incoming.proofs.PullLaws.{pull_of_section, pull_of_payload, pull_of_frame, left_is, left_left, place_passed, between_frame}
 
@@ -183,8 +182,8 @@ is_begun mid new (frame.MaxPushId push) place none h = absurd h
 is_begun mid new (frame.WebTransportStream session) place none h = absurd h
 is_begun mid new (frame.Grease kind) place none h = absurd h
 
-pub resumes_begun : (own : Announced) (old mid new : Incoming) (f : Frame PayloadLen) → IsBetween old → Passes old mid → Finds (is_body old.place) (found.Frame f) (concat old.unread) (concat mid.unread)
-    → IsWithin own.choices.unfinished_limit (is_body old.place) (found.Frame f) (concat old.unread) → Begins mid.place f mid new → Resumes own old new
+pub resumes_begun : (own : Announced) (old mid new : Incoming) (f : Frame PayloadLen) → IsBetween old → Passes old mid → FindsFrame (is_body old.place) f (concat old.unread) (concat mid.unread)
+    → KeepsWithin own.choices.unfinished_limit (is_body old.place) (concat old.unread) → Begins mid.place f mid new → Resumes own old new
 resumes_begun own old mid new f b p finds small begins =
     let here = between_passed old mid p b in
     let begun = is_begun mid new f mid.place here.waits begins in

@@ -16,6 +16,7 @@ use h3_wire::frame::FrameBuffer;
 use std::alloc::{AllocError, Global};
 use std::marker::Model;
 
+mod begun;
 mod body;
 mod frames;
 mod front;

@@ -1,5 +1,5 @@
 //! A frame at its place in a message (RFC 9114, sections 4.1 and 7.2).
-ghost use Rattle.std.specs.Prelude.{◌≡◌, ℕ, true, false, [], None, length};
+ghost use Rattle.std.specs.Prelude.{◌≡◌, true, false, [], None};
 ghost use Rattle.std.specs.List.{concat};
 ghost use Rattle.h3_wire.specs.Frames.{frame_at};
 ghost use Rattle.h3_wire.specs.Known.{IsWaiting, refusal};
@@ -7,30 +7,25 @@ ghost use Rattle.h3_qpack.specs.DecoderState.{DecoderState};
 ghost use Rattle.h3_connection.specs.Codes.{excessive_load, refusal_code};
 ghost use Rattle.h3_connection.specs.declared.event.Fault.TheVariants.{Connection};
 ghost use Rattle.h3_connection.specs.declared.event.Pull.TheVariants as pull;
-ghost use Rattle.h3_connection.specs.Incoming.{Incoming, is_body};
-ghost use Rattle.h3_connection.specs.Pulling.{is_memory, at_frame, next_frame, between_frames};
-ghost use Rattle.h3_incoming.specs.Beginning.{IsBegunBy, IsSectionOf, begun_as};
+ghost use Rattle.h3_connection.specs.Pulling.{is_memory, next_frame, between_frames};
 ghost use Rattle.h3_incoming.specs.Answering.{Lists};
 ghost use Rattle.h3_incoming.specs.Coming.{fields_next};
 ghost use Rattle.h3_incoming.specs.Gives.{Gives};
 ghost use Rattle.h3_incoming.specs.Resuming.{Resumes};
-ghost use Rattle.h3_incoming.specs.Placing.{is_session, promise_code};
+ghost use Rattle.h3_incoming.specs.Placing.{is_session};
 
 use super::IncomingStream;
+use super::begun::Begun;
 use super::front::{Found, front};
 use crate::answer::{Answer, Plain, fail, pause};
-use bytes::Bytes;
 use h3_connection::event::{Fault, Malformation};
 use h3_connection::place::Place;
 use h3_connection::setup::Announced;
-use h3_messages::Content;
 use h3_proto::error::Code;
 use h3_proto::frame::SettingsError;
 use h3_proto::stream::{Side, StreamId};
-use h3_proto::webtransport::SessionId;
 use h3_qpack::Decoder;
 use h3_wire::frame::{FrameBuffer, FrameProtocolError};
-use h3_wire::proto::frame::{Frame, PayloadLen};
 use std::alloc::Global;
 
 impl IncomingStream {
@@ -56,14 +51,20 @@ impl IncomingStream {
         ensures memory { is_memory (O.told out.new) ≡ true → Resumes announced.now self.old self.new × (replies.new.items ≡ replies.old.items) }
         ensures list { Lists (O.listed out.new) (fields_next decoder.now self.old) }
     {
-        let in_body = self.is_in_body();
         let most = announced.choices.unfinished_limit;
-        match front(&mut self.unread, alloc, in_body, most) {
+        match front(
+            &mut self.unread,
+            alloc,
+            side,
+            self.place,
+            self.content,
+            most,
+        ) {
             Err(_) => fail(out, Fault::Memory),
             Ok(Found::Unfinished) => self.pull_end(alloc, id, replies, out),
             Ok(Found::Refused(e)) => fail(out, Fault::Connection(refused_code(e))),
             Ok(Found::Excessive) => self.refuse_excess(alloc, out),
-            Ok(Found::Frame(frame)) => match begun_by(side, self.place, self.content, frame) {
+            Ok(Found::Begun(begun)) => match begun {
                 Begun::Section(section) => {
                     self.section = Some(section);
                     self.waits_for = 0;
@@ -95,15 +96,6 @@ impl IncomingStream {
         fail(out, Fault::Connection(Code::H3_EXCESSIVE_LOAD))
     }
 
-    fn is_in_body(&self) -> bool
-        ensures { result ≡ is_body self.now.place }
-    {
-        match self.place {
-            Place::InBody => true,
-            Place::BeforeHead | Place::AfterTrailer | Place::InSession => false,
-        }
-    }
-
     // No frame is whole.
     fn pull_end<O: Answer>(
         &mut self,
@@ -133,84 +125,6 @@ impl IncomingStream {
             return self.refuse_message(alloc, id, Malformation::ContentLength, replies, out);
         }
         self.finish(alloc, out)
-    }
-}
-
-/// What a frame begins at its place.
-#[derive(Drop)]
-enum Begun {
-    Section(Bytes),
-    /// The payload of a DATA frame, of so many bytes.
-    Payload(usize),
-    Session(SessionId),
-    /// It may not stand there.
-    Fault(Code),
-}
-
-// What a frame begins at its place (RFC 9114, sections 4.1 and 7.2).
-fn begun_by(side: Side, place: Place, content: Content, frame: Frame<PayloadLen>) -> Begun
-    ensures is { (own : Announced) (id : ℕ) (r : DecoderState) (i : Incoming) → i.content ≡ content → at_frame side own id r side i place frame ≡ begun_as side own id r i result }
-    ensures begins { IsBegunBy place content frame result }
-    ensures section { IsSectionOf frame result }
-{
-    match frame {
-        Frame::Headers(section) => match place {
-            Place::BeforeHead => Begun::Section(section),
-            Place::InBody => begun_by_trailer(content, section),
-            Place::AfterTrailer | Place::InSession => Begun::Fault(Code::H3_FRAME_UNEXPECTED),
-        },
-        Frame::Data(len) => match place {
-            Place::InBody => Begun::Payload(len.0),
-            Place::BeforeHead | Place::AfterTrailer | Place::InSession => {
-                Begun::Fault(Code::H3_FRAME_UNEXPECTED)
-            }
-        },
-        Frame::WebTransportStream(session) => begun_by_session(side, place, session),
-        // a client permits none, since it sends no MAX_PUSH_ID (RFC 9114, section 7.2.5), and a server gets none
-        Frame::PushPromise(_) => Begun::Fault(promise_code(side)),
-        Frame::CancelPush(_)
-        | Frame::Settings(_)
-        | Frame::Goaway(_)
-        | Frame::MaxPushId(_)
-        | Frame::Grease(_) => Begun::Fault(Code::H3_FRAME_UNEXPECTED),
-    }
-}
-
-// In a tunnel no trailer may stand (RFC 9114, section 4.4).
-fn begun_by_trailer(content: Content, section: Bytes) -> Begun
-    ensures is { (side : Side) (own : Announced) (id : ℕ) (r : DecoderState) (i : Incoming) → i.content ≡ content
-        → at_frame side own id r side i Place.InBody (Frame.Headers section) ≡ begun_as side own id r i result }
-    ensures begins { IsBegunBy Place.InBody content (Frame.Headers section) result }
-    ensures section { IsSectionOf (Frame.Headers section) result }
-{
-    if content.takes_trailer() {
-        return Begun::Section(section);
-    }
-    drop(section);
-    Begun::Fault(Code::H3_FRAME_UNEXPECTED)
-}
-
-// At a server a session may stand in the place of a message.
-fn begun_by_session(side: Side, place: Place, session: SessionId) -> Begun
-    ensures is { (own : Announced) (id : ℕ) (r : DecoderState) (i : Incoming) → at_frame side own id r side i place (Frame.WebTransportStream session) ≡ begun_as side own id r i result }
-    ensures begins { (content : Content) → IsBegunBy place content (Frame.WebTransportStream session) result }
-    ensures section { IsSectionOf (Frame.WebTransportStream session) result }
-{
-    if let Side::Client = side {
-        return Begun::Fault(Code::H3_FRAME_UNEXPECTED);
-    }
-    if let Place::BeforeHead = place {
-        return Begun::Session(session);
-    }
-    Begun::Fault(Code::H3_FRAME_UNEXPECTED)
-}
-
-fn promise_code(side: Side) -> Code
-    ensures { result ≡ promise_code side }
-{
-    match side {
-        Side::Client => Code::H3_ID_ERROR,
-        Side::Server => Code::H3_FRAME_UNEXPECTED,
     }
 }
 

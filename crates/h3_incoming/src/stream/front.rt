@@ -1,18 +1,23 @@
 //! The next frame of a message that gives something.
 ghost use Rattle.std.specs.Prelude.{◌≡◌, ◌<◌, length, OnErr, IfOk, IfSome, IfNone};
 ghost use Rattle.std.specs.List.{concat};
-ghost use Rattle.h3_wire.specs.Pieces.{IsRest};
-ghost use Rattle.h3_connection.specs.Skipping.{is_empty_data};
-ghost use Rattle.h3_incoming.specs.Finding.{Finds, IsWithin, LeavesBetween, PassesFrames};
+ghost use Rattle.h3_wire.specs.Pieces.{IsRest, ending};
+ghost use Rattle.h3_wire.specs.UnreadFrames.{AreBetween};
+ghost use Rattle.h3_connection.specs.Incoming.{is_body};
+ghost use Rattle.h3_incoming.specs.Finding.{Finds, GivesBegun, IsWithin, LeavesBetween, PassesFrames};
 
+use super::begun::{Begun, begun_by, begun_by_first, is_empty};
+use h3_connection::place::Place;
+use h3_messages::Content;
+use h3_proto::stream::Side;
 use h3_wire::frame::{FrameBuffer, FrameProtocolError, FrameStreamError};
-use h3_wire::proto::frame::{Frame, PayloadLen};
 use std::alloc::{AllocError, Global};
 
 /// What stands behind all frames that give nothing.
 #[derive(Drop)]
 pub(super) enum Found {
-    Frame(Frame<PayloadLen>),
+    /// A frame: what it begins.
+    Begun(Begun),
     /// Less than a frame, or nothing.
     Unfinished,
     Refused(FrameProtocolError),
@@ -21,24 +26,25 @@ pub(super) enum Found {
 }
 
 /// Reads up to the first frame that gives something, and takes it: unknown frames are passed (RFC 9114, section 9), and in a
-/// body those of DATA without a payload. One that says a length above the limit is told, and not taken. It stands in its caller, so that a
-/// frame is not moved once more.
+/// body those of DATA without a payload. One that says a length above the limit is told, and not taken.
 #[inline(always)]
 #[tactic(auto, using(crate::proofs::FrontLaws::finds_on, crate::proofs::FrontLaws::within_on, crate::proofs::FrontLaws::passed_then, h3_wire::specs::PieceLaws::rest_same, h3_wire::specs::PieceLaws::rest_then))]
 pub(super) fn front(
     unread: &mut FrameBuffer,
     alloc: Global,
-    in_body: bool,
+    side: Side,
+    place: Place,
+    content: Content,
     most: u64,
 ) -> Result<Found, AllocError>
-    ensures finds { IfOk result (λ f. Finds in_body f (concat unread.old.pieces) (concat unread.new.pieces)) }
-    ensures within { IfOk result (λ f. IsWithin most in_body f (concat unread.old.pieces)) }
-    ensures between { IfOk result (λ f. LeavesBetween in_body f unread.new) }
-    ensures err { OnErr result (PassesFrames in_body (concat unread.old.pieces) (concat unread.new.pieces)) }
+    ensures finds { IfOk result (λ f. Finds side place content f (concat unread.old.pieces) (concat unread.new.pieces)) }
+    ensures within { IfOk result (λ f. IsWithin most (is_body place) f (concat unread.old.pieces)) }
+    ensures between { IfOk result (λ f. LeavesBetween f unread.new) }
+    ensures err { OnErr result (PassesFrames (is_body place) (concat unread.old.pieces) (concat unread.new.pieces)) }
     ensures rest { IsRest unread.old.pieces unread.new.pieces }
 {
     loop {
-        match front_one(unread, alloc, in_body, most) {
+        match front_one(unread, alloc, side, place, content, most) {
             Ok(Some(found)) => return Ok(found),
             Ok(None) => {}
             Err(e) => return Err(e),
@@ -52,39 +58,71 @@ pub(super) fn front(
 fn front_one(
     unread: &mut FrameBuffer,
     alloc: Global,
-    in_body: bool,
+    side: Side,
+    place: Place,
+    content: Content,
     most: u64,
 ) -> Result<Option<Found>, AllocError>
-    ensures finds { IfOk result (λ o. IfSome o (λ f. Finds in_body f (concat unread.old.pieces) (concat unread.new.pieces))) }
-    ensures within { IfOk result (λ o. IfSome o (λ f. IsWithin most in_body f (concat unread.old.pieces))) }
-    ensures between { IfOk result (λ o. IfSome o (λ f. LeavesBetween in_body f unread.new)) }
-    ensures on { IfOk result (λ o. IfNone o (PassesFrames in_body (concat unread.old.pieces) (concat unread.new.pieces))) }
+    ensures finds { IfOk result (λ o. IfSome o (λ f. Finds side place content f (concat unread.old.pieces) (concat unread.new.pieces))) }
+    ensures within { IfOk result (λ o. IfSome o (λ f. IsWithin most (is_body place) f (concat unread.old.pieces))) }
+    ensures between { IfOk result (λ o. IfSome o (λ f. LeavesBetween f unread.new)) }
+    ensures on { IfOk result (λ o. IfNone o (PassesFrames (is_body place) (concat unread.old.pieces) (concat unread.new.pieces))) }
     ensures less { IfOk result (λ o. IfNone o (length (concat unread.new.pieces) < length (concat unread.old.pieces))) }
-    ensures err { OnErr result (PassesFrames in_body (concat unread.old.pieces) (concat unread.new.pieces)) }
+    ensures err { OnErr result (PassesFrames (is_body place) (concat unread.old.pieces) (concat unread.new.pieces)) }
     ensures rest { IsRest unread.old.pieces unread.new.pieces }
 {
     if unread.is_excessive(most) {
         return Ok(Some(Found::Excessive));
     }
-    match unread.next_frame(alloc) {
+    match next_begun(unread, alloc, side, place, content) {
         Ok(None) => Ok(Some(Found::Unfinished)),
-        Ok(Some(frame)) => {
-            if in_body && is_empty_data(&frame) {
+        Ok(Some(begun)) => {
+            if is_empty(&begun) {
                 return Ok(None);
             }
-            Ok(Some(Found::Frame(frame)))
+            Ok(Some(Found::Begun(begun)))
         }
         Err(FrameStreamError::Proto(e)) => Ok(Some(Found::Refused(e))),
         Err(_) => Err(AllocError),
     }
 }
 
-// Whether it is a DATA frame without a payload.
-fn is_empty_data(frame: &Frame<PayloadLen>) -> bool
-    ensures { result ≡ is_empty_data frame.now }
+// Takes the next frame, as `FrameBuffer::next_frame` does, and answers what it begins.
+#[inline(always)]
+fn next_begun(
+    unread: &mut FrameBuffer,
+    alloc: Global,
+    side: Side,
+    place: Place,
+    content: Content,
+) -> Result<Option<Begun>, FrameStreamError>
+    ensures gives { GivesBegun side place content result (concat unread.old.pieces) (concat unread.new.pieces) }
+    ensures between { IfOk result (λ o. IfSome o (λ b. AreBetween unread.new)) }
+    ensures pieces { unread.new.pieces ≡ ending (length (concat unread.new.pieces)) unread.old.pieces }
 {
-    if let Frame::Data(len) = frame {
-        return len.0 == 0;
+    match unread.next_first() {
+        Some(Some(first)) => Ok(Some(begun_by_first(place, content, first))),
+        Some(None) => Ok(None),
+        None => next_anywhere(unread, alloc, side, place, content),
     }
-    false
+}
+
+// The same of any frame, wherever it lies. It stays apart, since a `Frame` has room for the largest, and is moved from call to call.
+#[inline(never)]
+fn next_anywhere(
+    unread: &mut FrameBuffer,
+    alloc: Global,
+    side: Side,
+    place: Place,
+    content: Content,
+) -> Result<Option<Begun>, FrameStreamError>
+    ensures gives { GivesBegun side place content result (concat unread.old.pieces) (concat unread.new.pieces) }
+    ensures between { IfOk result (λ o. IfSome o (λ b. AreBetween unread.new)) }
+    ensures pieces { unread.new.pieces ≡ ending (length (concat unread.new.pieces)) unread.old.pieces }
+{
+    match unread.next_frame(alloc) {
+        Ok(Some(frame)) => Ok(Some(begun_by(side, place, content, frame))),
+        Ok(None) => Ok(None),
+        Err(e) => Err(e),
+    }
 }
