@@ -95,10 +95,17 @@ pub fn read_any_response(fields: &Fields<'_>) -> AnyResponseRead
 {
     let mut seen = Seen::new();
     seen.take_all(fields);
-    let survey = Survey::of(fields, &seen);
+    any_response_by(&Survey::of(fields, &seen))
+}
+
+/// The same of one over which the walk was made.
+pub fn any_response_by(survey: &Survey) -> AnyResponseRead
+    ensures violation { result.violation ≡ violation_of_response survey.now.fields.now }
+    ensures said { result.said ≡ response_said survey.now.fields.now }
+{
     AnyResponseRead {
-        violation: response::violation_of(&survey),
-        said: response_said(&survey),
+        violation: response::violation_of(survey),
+        said: response_said(survey),
     }
 }
 

@@ -24,8 +24,8 @@ pub mod violation;
 
 pub use content::{Asked, Content, is_interim_status};
 pub use head::{
-    AnyResponseRead, RequestRead, ResponseRead, read_any_response, read_request, read_response,
-    request_by, response_by,
+    AnyResponseRead, RequestRead, ResponseRead, any_response_by, read_any_response, read_request,
+    read_response, request_by, response_by,
 };
 pub use request::request_violation;
 pub use response::{
