@@ -145,6 +145,7 @@ pub fn read_list(alloc: Global, fields: &Fields<'_>) -> Result<ListRead, AllocEr
 }
 
 /// The same where it may be known.
+#[inline(always)]
 pub(crate) fn read_unless(
     known: Option<ListRead>,
     alloc: Global,
@@ -181,6 +182,7 @@ fn read_short(fields: &Fields<'_>) -> ListRead
 
 /// The same, by the walk that the rules of strict messages ask for, where nothing is malformed of any field. The walk keeps the first
 /// `:status`, and the last one counts here: where there are two it does not tell.
+#[inline(always)]
 pub(crate) fn read_survey(survey: &Survey<'_>) -> Option<ListRead>
     requires few { length survey.now.fields.now ≤ 24576 }
     requires good { AreGood survey.now.fields.now }
@@ -200,6 +202,7 @@ pub(crate) fn read_survey(survey: &Survey<'_>) -> Option<ListRead>
 }
 
 // The status that the first `:status` tells.
+#[inline(always)]
 fn first_status(survey: &Survey<'_>) -> Option<StatusCode>
     requires few { length survey.now.fields.now ≤ 24576 }
     requires good { AreGood survey.now.fields.now }

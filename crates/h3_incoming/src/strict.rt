@@ -130,6 +130,7 @@ fn read_strictly(
 }
 
 // What a list says at its place, over which the walk was made.
+#[inline(always)]
 fn survey_at(
     side: Side,
     announced: &Announced,
@@ -153,6 +154,7 @@ fn survey_at(
 }
 
 // What a head says: a client reads responses, and a server requests.
+#[inline(always)]
 fn read_head(
     side: Side,
     announced: &Announced,
