@@ -1,5 +1,5 @@
 -- What a head that is sent says of content, as one walk over its list tells it.
-use Rattle.std.specs.Prelude.{◌≡◌, false, List}
+use Rattle.std.specs.Prelude.{◌≡◌, true, false, List}
 use Rattle.h3_field.specs.Field.{Field}
 use Rattle.h3_messages.specs.Content.{awaited_by, content_of_request}
 use Rattle.h3_messages.specs.ResponseSaid.{response_said}
