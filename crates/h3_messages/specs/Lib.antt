@@ -1,4 +1,5 @@
 pub mod Content
 pub mod Known
 pub mod Messages
+pub mod ResponseSaid
 pub mod Survey

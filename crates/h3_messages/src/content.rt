@@ -68,7 +68,7 @@ impl Content {
     }
 
     // What the request asked behind which this is awaited.
-    fn asked(self) -> Asked
+    pub(crate) fn asked(self) -> Asked
         ensures { result ≡ asked_for self }
     {
         match self {
@@ -203,7 +203,7 @@ fn is_without_content(status: &[u8]) -> bool
 }
 
 // The content of a response with this status and this `content-length`.
-fn content_of_status(status: &[u8], size: &[u8]) -> Content
+pub(crate) fn content_of_status(status: &[u8], size: &[u8]) -> Content
     ensures { result ≡ content_of_status status.now size.now }
 {
     if is_without_content(status) {

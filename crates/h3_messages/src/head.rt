@@ -1,12 +1,14 @@
 //! What the head of a message says, by one walk over its list: the rule that it breaks, and how much content follows it.
 ghost use Rattle.std.specs.Prelude.{◌≡◌};
 ghost use Rattle.h3_messages.specs.Content.{awaited_by, content_behind_response, content_of_request};
+ghost use Rattle.h3_messages.specs.ResponseSaid.{response_said};
 ghost use Rattle.h3_messages.specs.Messages.{violation_of_request, violation_of_response};
 
 use crate::content::{Asked, Content, behind_status, said};
 use crate::known::Known;
 use crate::request::{self, is_connect};
 use crate::response;
+use crate::response_said::ResponseSaid;
 use crate::seen::Seen;
 use crate::survey::Survey;
 use crate::violation::Violation;
@@ -30,6 +32,15 @@ pub struct ResponseRead {
     pub violation: Option<Violation>,
     /// The content behind it, as `Content::behind_response` tells it.
     pub content: Content,
+}
+
+/// What the head of a response says, whatever was awaited in front of it.
+#[derive(Clone, Copy, Debug, PartialEq, Eq)]
+pub struct AnyResponseRead {
+    /// The first rule that it breaks, as `response_violation` tells it.
+    pub violation: Option<Violation>,
+    /// What it says of the content behind it.
+    pub said: ResponseSaid,
 }
 
 /// What the head of a request says. The choice is whether its server announced extended CONNECT.
@@ -62,6 +73,20 @@ pub fn read_response(awaited: Content, fields: &Fields<'_>) -> ResponseRead
     }
 }
 
+/// What the head of a response says, where it is not known yet what was awaited.
+pub fn read_any_response(fields: &Fields<'_>) -> AnyResponseRead
+    ensures violation { result.violation ≡ violation_of_response fields.now }
+    ensures said { result.said ≡ response_said fields.now }
+{
+    let mut seen = Seen::new();
+    seen.take_all(fields);
+    let survey = Survey::of(fields, &seen);
+    AnyResponseRead {
+        violation: response::violation_of(&survey),
+        said: response_said(&survey),
+    }
+}
+
 // The content behind the head of a request.
 fn content_of_request(survey: &Survey) -> Content
     ensures { result ≡ content_of_request survey.now.fields.now }
@@ -85,4 +110,12 @@ fn content_behind_response(awaited: Content, survey: &Survey) -> Content
 {
     let status = survey.value_of(Known::Status);
     behind_status(awaited, status, survey.value_of(Known::ContentLength))
+}
+
+// What the head of a response says of it.
+fn response_said(survey: &Survey) -> ResponseSaid
+    ensures { result ≡ response_said survey.now.fields.now }
+{
+    let status = survey.value_of(Known::Status);
+    ResponseSaid::by(status, survey.value_of(Known::ContentLength))
 }

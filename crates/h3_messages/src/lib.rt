@@ -15,6 +15,7 @@ mod pseudo;
 mod regular;
 mod request;
 mod response;
+pub mod response_said;
 mod seen;
 mod slot;
 mod survey;
@@ -22,7 +23,10 @@ mod text;
 pub mod violation;
 
 pub use content::{Asked, Content, is_interim_status};
-pub use head::{RequestRead, ResponseRead, read_request, read_response};
+pub use head::{
+    AnyResponseRead, RequestRead, ResponseRead, read_any_response, read_request, read_response,
+};
 pub use request::request_violation;
 pub use response::{response_violation, trailer_violation, trailer_violation_of};
+pub use response_said::ResponseSaid;
 pub use violation::Violation;

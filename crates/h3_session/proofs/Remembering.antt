@@ -1,9 +1,10 @@
 -- What a head says is remembered where the endpoint asks for strict messages.
 use Rattle.std.proofs.Common.{◌≡◌, ℕ, Bool, true, false, if◌then◌else◌, List, Option, Some, None, refl, ap, sym, subst, ◌∙◌}
-use Rattle.std.specs.Prelude.{◌&&◌, not, IfSome, option_map}
+use Rattle.std.specs.Prelude.{◌≢◌, ◌&&◌, IfSome, option_map}
 use Rattle.h3_field.specs.Field.{Field}
 use Rattle.h3_messages.specs.Content.{awaited_by, content_of_request}
 use Rattle.h3_messages.specs.declared.content.Content.{Content}
+use Rattle.h3_messages.specs.declared.response_said.ResponseSaid.{ResponseSaid}
 use Rattle.h3_proto.specs.declared.stream.Side.{Side}
 use Rattle.h3_proto.specs.declared.stream.Side.TheVariants.{Client, Server}
 use Rattle.h3_outgoing.specs.HistoryLaws.{said}
@@ -13,14 +14,18 @@ use Rattle.h3_connection.specs.Endpoint.{EndpointHistory}
 use Rattle.h3_connection.specs.Incoming.{Incoming, awaiting}
 use Rattle.h3_connection.specs.Outgoing.{Outgoing, with_said}
 use Rattle.h3_connection.specs.Pulling.{is_client}
-use Rattle.h3_connection.specs.Sending.{asked, awaiting_at, content_of_own, content_of_response_to, known_of, remembers, saying_at}
+use Rattle.h3_connection.specs.Sending.{asked, awaiting_at, content_of_own, content_of_response_to, known_of, saying_at}
 use Rattle.h3_connection.specs.StandsLaws.{stands_both, stands_sending}
 use Rattle.h3_connection.specs.State.{EndpointState, IsOfOutgoing, OutgoingState, RequestState, SameAt, StandsFor, kept_at}
 use Rattle.h3_connection.specs.StreamSets.{Streams, stream_at}
 use Rattle.h3_connection.specs.declared.event.Refusal.{Refusal}
 use Rattle.h3_connection.specs.declared.place.SendPlace.{SendPlace}
+use Rattle.h3_connection.specs.declared.place.SendPlace.TheVariants.{NothingSent, HeadSent, TrailerSent}
 use Rattle.h3_session.proofs.Opened.{stands_same}
-use Rattle.h3_session.specs.SendingFields.{Remembers, SendsFields, asking, counts_responses}
+use Rattle.h3_session.specs.SendingFields.{Remembers, SendsFields, asking}
+use Rattle.h3_session.specs.SentHeads.{IsSaid}
+use Rattle.h3_session.specs.declared.endpoint.strict.Said.{Said}
+use Rattle.h3_session.specs.declared.endpoint.strict.Said.TheVariants.{Nothing, Request, Response}
 
 received_at : (s : EndpointState) (e : EndpointHistory) (id : ℕ) (there : Option RequestState) → StandsFor s e → kept_at s.requests id ≡ there → stream_at e.incoming id ≡ option_map (λ r. r.incoming) there
 received_at s e id there h was = sym (h.incoming id) ∙ ap (option_map (λ r. r.incoming)) was
@@ -88,22 +93,6 @@ answered_stands s e new id fields (Some r) h was sets same =
     (subst (λ o. StandsFor (record s { requests = new }) (with_sent e id fields (Some r.incoming) o)) (sym sender.is)
     (stands_sending s e new id r (record r { outgoing = is_to_have r.outgoing content }) (with_said sender.here content) h was refl (said sender.here r.outgoing content sender.stands) sets))
 
--- whether rules are asked, and by which side
-is_strict_client : (strict : Bool) (side : Side) → true ≡ (strict && is_client side) → (strict ≡ true) × (side ≡ Client)
-is_strict_client true Client h = (refl, refl)
-is_strict_client true Server h = absurd (cc)
-is_strict_client false side h = absurd (cc)
-
-is_strict_server : (strict : Bool) (side : Side) → true ≡ (strict && not (is_client side)) → (strict ≡ true) × (side ≡ Server)
-is_strict_server true Server h = (refl, refl)
-is_strict_server true Client h = absurd (cc)
-is_strict_server false side h = absurd (cc)
-
-is_plain : (strict : Bool) (side : Side) → false ≡ (strict && is_client side) → false ≡ (strict && not (is_client side)) → strict ≡ false
-is_plain false side h k = refl
-is_plain true Client h k = absurd (cc)
-is_plain true Server h k = absurd (cc)
-
 said_so : (s : EndpointState) (new : Streams RequestState) (id : ℕ) (fields : List Field) (strict : Bool) (side : Side) → (s.announced.choices.strict_messages ≡ strict) × (s.side ≡ side)
     → ((e : EndpointHistory) → StandsFor s e → StandsFor (record s { requests = new }) (said_at strict side e id fields)) → Remembers s (record s { requests = new }) id fields
 said_so s new id fields strict side is stands = record {
@@ -114,39 +103,41 @@ said_so s new id fields strict side is stands = record {
 }
 
 -- A client that asks for strict messages,
-pub told : (s now : EndpointState) (new : Streams RequestState) (id : ℕ) (fields : List Field) (expected sent : Content) → s ≡ now → true ≡ remembers now.side now.announced → expected ≡ awaited_by fields
-    → sent ≡ content_of_request fields
+pub told : (s now : EndpointState) (new : Streams RequestState) (id : ℕ) (fields : List Field) (expected sent : Content) → s ≡ now → IsSaid now.side now.announced fields (Request expected sent)
     → IfSome (kept_at s.requests id) (λ r. Sets s.requests new id (record r { incoming = awaiting r.incoming expected; outgoing = is_to_have r.outgoing sent })) → (kept_at s.requests id ≡ None → AllSame s.requests new)
     → Remembers now (record s { requests = new }) id fields
-told s now new id fields expected sent view strict says has sets same =
+told s now new id fields expected sent view is sets same =
     subst (λ v. Remembers v (record s { requests = new }) id fields) view
-    (said_so s new id fields true Client (is_strict_client s.announced.choices.strict_messages s.side (strict ∙ sym (ap (λ (v : EndpointState). remembers v.side v.announced) view)))
+    (said_so s new id fields true Client (ap (λ (v : EndpointState). v.announced.choices.strict_messages) view ∙ is.0, ap (λ (v : EndpointState). v.side) view ∙ is.1.0)
     (λ e h.
-    subst (λ c. StandsFor (record s { requests = new }) (with_both e id c (content_of_request fields) (stream_at e.incoming id) (stream_at e.outgoing id))) says
-    (subst (λ c. StandsFor (record s { requests = new }) (with_both e id expected c (stream_at e.incoming id) (stream_at e.outgoing id))) has (awaited_stands s e new id expected sent (kept_at s.requests id) h refl sets same))))
+    subst (λ c. StandsFor (record s { requests = new }) (with_both e id c (content_of_request fields) (stream_at e.incoming id) (stream_at e.outgoing id))) is.1.1
+    (subst (λ c. StandsFor (record s { requests = new }) (with_both e id expected c (stream_at e.incoming id) (stream_at e.outgoing id))) is.1.2 (awaited_stands s e new id expected sent (kept_at s.requests id) h refl sets same))))
 
 -- a server that does,
-pub answered : (s now : EndpointState) (new : Streams RequestState) (id : ℕ) (fields : List Field) → s ≡ now → true ≡ counts_responses now.side now.announced
+pub answered : (s now : EndpointState) (new : Streams RequestState) (id : ℕ) (fields : List Field) (response : ResponseSaid) → s ≡ now → IsSaid now.side now.announced fields (Response response)
     → IfSome (kept_at s.requests id) (λ r. Sets s.requests new id (record r { outgoing = is_to_have r.outgoing (content_of_response_to r.incoming.response fields) })) → (kept_at s.requests id ≡ None → AllSame s.requests new)
     → Remembers now (record s { requests = new }) id fields
-answered s now new id fields view strict sets same =
+answered s now new id fields response view is sets same =
     subst (λ v. Remembers v (record s { requests = new }) id fields) view
-    (said_so s new id fields true Server (is_strict_server s.announced.choices.strict_messages s.side (strict ∙ sym (ap (λ (v : EndpointState). counts_responses v.side v.announced) view)))
+    (said_so s new id fields true Server (ap (λ (v : EndpointState). v.announced.choices.strict_messages) view ∙ is.0, ap (λ (v : EndpointState). v.side) view ∙ is.1.0)
     (λ e h. answered_stands s e new id fields (kept_at s.requests id) h refl sets same))
 
 -- and any other
-pub silent : (s now : EndpointState) (id : ℕ) (fields : List Field) → s ≡ now → false ≡ remembers now.side now.announced → false ≡ counts_responses now.side now.announced → Remembers now s id fields
-silent s now id fields view plain unasked =
+pub silent : (s now : EndpointState) (id : ℕ) (fields : List Field) → s ≡ now → IsSaid now.side now.announced fields Nothing → Remembers now s id fields
+silent s now id fields view is =
     subst (λ v. Remembers v s id fields) view
-    (said_so s s.requests id fields false s.side
-    (is_plain s.announced.choices.strict_messages s.side (plain ∙ sym (ap (λ (v : EndpointState). remembers v.side v.announced) view)) (unasked ∙ sym (ap (λ (v : EndpointState). counts_responses v.side v.announced) view)), refl)
-    (λ e h. h))
+    (said_so s s.requests id fields false s.side (ap (λ (v : EndpointState). v.announced.choices.strict_messages) view ∙ is, refl) (λ e h. h))
 
--- A head was sent, and that is remembered;
-pub head_goes : (old mid new : EndpointState) (id : ℕ) (fields : List Field) (place : SendPlace) → SendsFields (λ e. e) old mid id fields place None → Remembers mid new id fields → SendsFields (asking id fields) old new id fields place None
-head_goes old mid new id fields place h r =
+-- A head was sent, and what it says is remembered;
+pub head_goes : (old mid new : EndpointState) (id : ℕ) (fields : List Field) (place : SendPlace) (said : Said) → SendsFields (λ e. e) old mid id fields place None
+    → IsSaid old.side old.announced fields said → (IsSaid mid.side mid.announced fields said → Remembers mid new id fields) → SendsFields (asking id fields) old new id fields place None
+head_goes old mid new id fields place said h says remembers =
     record {
-      done = λ none e part stands is. r.stands _ (h.done none e part stands is);
+      done = λ none e part stands is.
+          let there = h.done none e part stands is in
+          let says_there : IsSaid mid.side mid.announced fields said
+          = subst (λ side. IsSaid side mid.announced fields said) (stands.side ∙ sym there.side) (subst (λ own. IsSaid old.side own fields said) (stands.announced ∙ sym there.announced) says) in
+          (remembers says_there).stands _ there;
       list = h.list;
       same = λ some. absurd (some refl);
       memory = λ some. absurd (cc);
@@ -163,3 +154,8 @@ head_stays old new id fields place r h =
       memory = h.memory;
       too_large = h.too_large;
     }
+
+-- A head is in front of every trailer.
+pub before_trailer : (interim : Bool) (place : SendPlace) → place ≡ (if interim then NothingSent else HeadSent) → place ≢ TrailerSent
+before_trailer true place is never = cc
+before_trailer false place is never = cc

@@ -14,6 +14,7 @@ pub mod Copied
 pub mod Typed
 pub mod Headlines
 pub mod Messages
+pub mod SentHeads
 pub mod Strict
 pub mod Frames
 pub mod SendingLists

@@ -1,15 +1,12 @@
 -- A field section goes out: what each step of that leaves.
-use Rattle.std.specs.Prelude.{◌≡◌, ◌≢◌, ◌≤◌, ◌<◌, ◌^◌, ℕ, ◌+◌, Bool, false, not, ◌&&◌, List, [], ◌∷◌, ◌++◌, length, take, flat_map, Option, Some, None}
+use Rattle.std.specs.Prelude.{◌≡◌, ◌≢◌, ◌≤◌, ◌<◌, ◌^◌, ℕ, ◌+◌, false, List, [], ◌∷◌, ◌++◌, length, take, flat_map, Option, Some, None}
 use Rattle.h3_field.specs.Field.{Field, section_size}
 use Rattle.h3_field.specs.Instruction.{encoder_bytes}
 use Rattle.h3_qpack.specs.EncoderHistory.{EncoderHistory, writing_on}
 use Rattle.h3_qpack.specs.EncoderState.{encoder_state}
 use Rattle.h3_qpack.specs.SectionEncoding.{draft_of, required_insert_count, sent_section}
 use Rattle.h3_streams.specs.Placed.{StreamsState}
-use Rattle.h3_proto.specs.declared.stream.Side.{Side}
 use Rattle.h3_connection.specs.Endpoint.{EndpointHistory}
-use Rattle.h3_connection.specs.Pulling.{is_client}
-use Rattle.h3_connection.specs.declared.setup.Announced.{Announced}
 use Rattle.h3_connection.specs.Outgoing.{OwnPart}
 use Rattle.h3_connection.specs.Sections.{written_section, own_instructions, having_inserted}
 use Rattle.h3_connection.specs.Sending.{appended, asked, encoded, outgoing_at, fields_cost, counted}
@@ -53,10 +50,6 @@ pub record IsPart (e : EndpointHistory) (id : ℕ) (fields : List Field) (place 
 pub record Queues (old new : EndpointState) (id : ℕ) (fields : List Field) (place : SendPlace) : Type 0 where
   pub stands : (e : EndpointHistory) (part : OwnPart) → StandsFor old e → IsPart e id fields place part → StandsFor new (appended (encoded e id fields) id part)
   pub sent : new.sent ≡ old.sent
-
--- a server that asks for strict messages
-abbrev pub counts_responses : Side → Announced → Bool
-counts_responses side own = own.choices.strict_messages && not (is_client side)
 
 -- What a head says is remembered.
 abbrev pub asking : ℕ → List Field → EndpointHistory → EndpointHistory

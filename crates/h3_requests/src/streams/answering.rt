@@ -1,13 +1,15 @@
 //! How much content follows the head of a response.
-ghost use Rattle.std.specs.Prelude.{◌≡◌, None, IfSome};
+ghost use Rattle.std.specs.Prelude.{◌≡◌, List, None, IfSome};
 ghost use Rattle.h3_connection.specs.Calls.{Sets, AllSame};
 ghost use Rattle.h3_connection.specs.Sending.{content_of_response_to};
 ghost use Rattle.h3_connection.specs.State.{kept_at};
+ghost use Rattle.h3_field.specs.Field.{Field};
+ghost use Rattle.h3_messages.specs.ResponseSaid.{response_said};
 ghost use Rattle.h3_outgoing.specs.Sent.{is_to_have};
 
 use super::RequestStreams;
 use h3_field::HeaderField;
-use h3_messages::Content;
+use h3_messages::{Content, ResponseSaid};
 use h3_proto::stream::StreamId;
 
 impl RequestStreams {
@@ -25,6 +27,20 @@ impl RequestStreams {
         let content = content_of_response(stream.incoming.response(), fields);
         stream.outgoing.expect(content);
     }
+
+    /// The same of a response of which it is known what it says.
+    pub fn expect_said(&mut self, id: StreamId, said: ResponseSaid)
+        ensures there { (fields : List Field) → said ≡ response_said fields → IfSome (kept_at self.old id) (λ r.
+            Sets self.old self.new id (record r { outgoing = is_to_have r.outgoing (content_of_response_to r.incoming.response fields) })) }
+        ensures absent { kept_at self.old id ≡ None → AllSame self.old self.new }
+    {
+        let Some(stream) = self.streams.get_mut(id) else {
+            let _over = self.streams.is_over(id);
+            return;
+        };
+        let content = content_behind(stream.incoming.response(), said);
+        stream.outgoing.expect(content);
+    }
 }
 
 // The content behind the head of a response, where so much is known of it.
@@ -35,4 +51,14 @@ fn content_of_response(known: Option<Content>, fields: &[HeaderField]) -> Conten
         Some(awaited) => awaited.behind_response(fields),
         None => Content::Unsaid,
     }
+}
+
+// The same of one of which it is known what it says.
+fn content_behind(known: Option<Content>, said: ResponseSaid) -> Content
+    ensures { (fields : List Field) → said ≡ response_said fields → result ≡ content_of_response_to known fields }
+{
+    let Some(awaited) = known else {
+        return Content::Unsaid;
+    };
+    said.behind(awaited)
 }

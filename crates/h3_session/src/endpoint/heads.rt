@@ -10,21 +10,23 @@ ghost use Rattle.h3_connection.specs.Endpoint.{EndpointHistory};
 ghost use Rattle.h3_connection.specs.OwnIds.{other};
 ghost use Rattle.h3_connection.specs.Pulling.{is_for, is_interim};
 ghost use Rattle.h3_connection.specs.Refusals.{is_too_large, or_later};
-ghost use Rattle.h3_connection.specs.Sending.{fields_cost, remembers};
+ghost use Rattle.h3_connection.specs.Sending.{fields_cost};
 ghost use Rattle.h3_connection.specs.SendingContracts.{SendsHead, SendsTrailer, CutsOff};
 ghost use Rattle.h3_connection.specs.State.{StandsFor, kept_at};
 ghost use Rattle.h3_connection.specs.declared.event.Refusal.TheVariants.{OutOfMemory};
+ghost use Rattle.h3_connection.specs.declared.place.SendPlace.TheVariants.{TrailerSent};
 ghost use Rattle.h3_requests.specs.Refused.{head_refused_at, body_refused_at, early_trailer_at};
 ghost use Rattle.h3_session.specs.Refused.{side_refused, pseudo_refused, size_refused, refused_behind};
-ghost use Rattle.h3_session.specs.SendingFields.{Encodes, StopsEncoding, Queues, Remembers, SendsFields, IsJudged, asking, counts_responses};
+ghost use Rattle.h3_session.specs.SendingFields.{Encodes, StopsEncoding, Queues, Remembers, SendsFields, IsJudged, asking};
+ghost use Rattle.h3_session.specs.SentHeads.{IsSaid};
 
 use super::Endpoint;
+use super::strict::Said;
 use h3_coding::varint::VarInt;
 use h3_connection::event::Refusal;
 use h3_connection::place::SendPlace;
 use h3_field::{HeaderField, section_size};
 use h3_header::Header;
-use h3_messages::Content;
 use h3_outgoing::EncodedSection;
 use h3_proto::frame::SettingId;
 use h3_proto::stream::{Side, StreamId};
@@ -100,7 +102,7 @@ impl Endpoint {
         let Ok(fields) = trailer.fields(self.alloc) else {
             return Err(Refusal::OutOfMemory);
         };
-        self.send_section(room, fields.as_slice(), SendPlace::TrailerSent)
+        self.send_trailer_section(room, fields.as_slice())
     }
 
     // Room for the frame of a trailer on a stream that takes one, unless `later` refuses it. The streams are found as they were.
@@ -118,92 +120,88 @@ impl Endpoint {
         self.requests.reserve_trailer(id, later)
     }
 
-    // Sends the fields of a head so, and a strict client remembers what a request asks.
+    // Sends the fields of a head so, and what they say of content is remembered.
     pub(super) fn send_head_section(
         &mut self,
         room: SectionRoom,
         fields: &[HeaderField],
         place: SendPlace,
     ) -> Result<(), Refusal>
-        ensures { SendsFields (asking room fields.now) self.old self.new room fields.now place (call_refused result) }
+        ensures { place ≢ TrailerSent → SendsFields (asking room fields.now) self.old self.new room fields.now place (call_refused result) }
     {
         let id = room.id();
         match self.send_section(room, fields, place) {
-            Ok(()) => {
-                self.await_response(id, fields);
+            Ok(said) => {
+                self.await_response(id, said);
                 Ok(())
             }
             Err(refusal) => Err(refusal),
         }
     }
 
-    // What a head of these fields says of content is remembered on its stream, where the endpoint asks for strict messages: that of a request
-    // also of its response.
-    fn await_response(&mut self, id: StreamId, fields: &[HeaderField])
-        ensures { Remembers self.old self.new id fields.now }
+    // What a head says of content is remembered on its stream, where the endpoint asks for strict messages: that of a request also of its
+    // response.
+    fn await_response(&mut self, id: StreamId, said: Said)
+        ensures { (fields : List Field) → IsSaid self.old.side self.old.announced fields said → Remembers self.old self.new id fields }
     {
-        if self.remembers() {
-            let awaited = Content::awaited_by(fields);
-            self.requests
-                .await_content(id, awaited, Content::of_request(fields));
-            return;
-        }
-        if self.counts_responses() {
-            self.requests.expect_content(id, fields);
+        match said {
+            Said::Nothing => {}
+            Said::Request(awaited, content) => self.requests.await_content(id, awaited, content),
+            Said::Response(said) => self.requests.expect_said(id, said),
         }
     }
 
-    // Whether this is a server that asks for strict messages.
-    fn counts_responses(&self) -> bool
-        ensures { result ≡ counts_responses self.now.side self.now.announced }
+    // Sends the fields of a trailer so.
+    pub(super) fn send_trailer_section(
+        &mut self,
+        room: SectionRoom,
+        fields: &[HeaderField],
+    ) -> Result<(), Refusal>
+        ensures { SendsFields (λ e. e) self.old self.new room fields.now TrailerSent (call_refused result) }
     {
-        match self.side {
-            Side::Client => false,
-            Side::Server => self.announced.choices.strict_messages,
+        match self.send_section(room, fields, SendPlace::TrailerSent) {
+            Ok(_) => Ok(()),
+            Err(refusal) => Err(refusal),
         }
     }
 
-    // Whether this is a client that asks for strict messages.
-    fn remembers(&self) -> bool
-        ensures { result ≡ remembers self.now.side self.now.announced }
-    {
-        match self.side {
-            Side::Client => self.announced.choices.strict_messages,
-            Side::Server => false,
-        }
-    }
-
-    // Sends fields on a stream that takes them and has room for their frame, where their list is allowed.
-    pub(super) fn send_section(
+    // Sends fields on a stream that takes them and has room for their frame, where their list is allowed, and answers what a head says of content.
+    fn send_section(
         &mut self,
         room: SectionRoom,
         fields: &[HeaderField],
         place: SendPlace,
-    ) -> Result<(), Refusal>
-        ensures { SendsFields (λ e. e) self.old self.new room fields.now place (call_refused result) }
+    ) -> Result<Said, Refusal>
+        ensures sends { SendsFields (λ e. e) self.old self.new room fields.now place (call_refused result) }
+        ensures said { IfOk result (λ said. place ≢ TrailerSent → IsSaid self.old.side self.old.announced fields.now said) }
     {
-        let sum = match self.judge_list(fields, place) {
-            Ok(sum) => sum,
+        let (sum, said) = match self.judge_list(fields, place) {
+            Ok(judged) => judged,
             Err(refusal) => return Err(refusal),
         };
         let Ok(()) = self.queue_section(room, fields, place) else {
             return Err(Refusal::OutOfMemory);
         };
         self.sent = sum;
-        Ok(())
+        Ok(said)
     }
 
-    // What was sent, with these fields, where they break no rule that is asked and the peer allows their size.
-    fn judge_list(&self, fields: &[HeaderField], place: SendPlace) -> Result<u64, Refusal>
-        ensures ok { IfOk result (λ sum. IsJudged self.now fields.now sum) }
+    // What was sent, with these fields, and what they say, where they break no rule that is asked and the peer allows their size.
+    fn judge_list(&self, fields: &[HeaderField], place: SendPlace) -> Result<(u64, Said), Refusal>
+        ensures ok { IfOk result (λ judged. IsJudged self.now fields.now judged.0) }
+        ensures said { IfOk result (λ judged. place ≢ TrailerSent → IsSaid self.now.side self.now.announced fields.now judged.1) }
         ensures fits { OnOk result (refused_behind self.now place fields.now ≡ None) }
         ensures err { IfErr result (λ refusal. refusal ≢ Refusal.OutOfMemory → refused_behind self.now place fields.now ≡ Some refusal) }
         ensures memory { IfErr result (λ refusal. refusal ≡ Refusal.OutOfMemory → 2 ^ 56 ≤ self.now.sent + fields_cost fields.now + 64) }
     {
-        if let Some(why) = self.broken_rule(fields, place) {
-            return Err(Refusal::Malformed(why));
+        let said = match self.read_sent(fields, place) {
+            Ok(said) => said,
+            Err(why) => return Err(Refusal::Malformed(why)),
+        };
+        match self.judge_size(fields) {
+            Ok(sum) => Ok((sum, said)),
+            Err(refusal) => Err(refusal),
         }
-        self.judge_size(fields)
     }
 
     // The same where they break none.

@@ -124,7 +124,7 @@ impl Endpoint {
             Ok(room) => room,
             Err(refusal) => return Err(refusal),
         };
-        self.send_section(room, fields, SendPlace::TrailerSent)
+        self.send_trailer_section(room, fields)
     }
 }
 

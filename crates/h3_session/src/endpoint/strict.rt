@@ -1,45 +1,95 @@
-//! Which rule of well-formed messages a list breaks that is to be sent (RFC 9114, sections 4.1.2 and 4.2 to 4.5): as a strict peer would
-//! judge it.
-ghost use Rattle.std.specs.Prelude.{◌≡◌};
-ghost use Rattle.h3_connection.specs.StrictSending.{peer_connects};
+//! What the rules of well-formed messages make of a list that is to be sent (RFC 9114, sections 4.1.2 and 4.2 to 4.5): which of them it breaks, as
+//! a strict peer would judge it, and what it says of content.
+ghost use Rattle.std.specs.Prelude.{◌≡◌, ◌≢◌, None, Some, IfOk, IfErr, OnOk};
+ghost use Rattle.h3_connection.specs.StrictSending.{peer_connects, violation_of_own_head};
+ghost use Rattle.h3_connection.specs.declared.place.SendPlace.TheVariants.{TrailerSent};
 ghost use Rattle.h3_session.specs.Refused.{violation_behind, broken_behind};
+ghost use Rattle.h3_session.specs.SentHeads.{IsSaid, IsSaidBy};
 
 use super::Endpoint;
 use h3_connection::event::Malformation;
 use h3_connection::place::SendPlace;
-use h3_field::HeaderField;
-use h3_messages::{Violation, request_violation, response_violation, trailer_violation};
+use h3_field::{Fields, HeaderField};
+use h3_messages::{
+    Content, ResponseSaid, Violation, read_any_response, read_request, trailer_violation,
+};
 use h3_proto::frame::SettingId;
 use h3_proto::stream::Side;
 
+/// What a list that is sent says of content, where its endpoint asks for strict messages.
+#[derive(Clone, Copy)]
+pub(crate) enum Said {
+    /// Nothing that is asked.
+    Nothing,
+    /// A request: what is awaited in front of its response, and its own content.
+    Request(Content, Content),
+    /// A response.
+    Response(ResponseSaid),
+}
+
+/// What one walk over a list tells.
+#[derive(Clone, Copy)]
+struct SentRead {
+    violation: Option<Violation>,
+    said: Said,
+}
+
 impl Endpoint {
-    // The rule that a list breaks, by the place of its message behind it. An endpoint that asks for no strict messages looks at no field.
-    pub(super) fn broken_rule(
+    // What a list says, or the rule that it breaks, by the place of its message behind it. An endpoint that asks for no strict messages looks at no
+    // field.
+    pub(super) fn read_sent(
         &self,
         fields: &[HeaderField],
         place: SendPlace,
-    ) -> Option<Malformation>
-        ensures { result ≡ broken_behind place self.now fields.now }
+    ) -> Result<Said, Malformation>
+        ensures kept { OnOk result (broken_behind place self.now fields.now ≡ None) }
+        ensures broken { IfErr result (λ why. broken_behind place self.now fields.now ≡ Some why) }
+        ensures said { IfOk result (λ said. place ≢ TrailerSent → IsSaid self.now.side self.now.announced fields.now said) }
     {
         if !self.announced.choices.strict_messages {
-            return None;
+            return Ok(Said::Nothing);
         }
-        match self.violation(fields, place) {
-            Some(violation) => Some(Malformation::by(violation)),
-            None => None,
+        let read = self.read_strictly(fields, place);
+        match read.violation {
+            Some(violation) => Err(Malformation::by(violation)),
+            None => Ok(read.said),
         }
     }
 
-    // That of a head of the request that a client sends, of a head of the response that a server sends, or of a trailer.
-    fn violation(&self, fields: &[HeaderField], place: SendPlace) -> Option<Violation>
-        ensures { result ≡ violation_behind place self.now fields.now }
+    // The same where rules are asked: of a head or of a trailer.
+    fn read_strictly(&self, fields: &[HeaderField], place: SendPlace) -> SentRead
+        ensures violation { result.violation ≡ violation_behind place self.now fields.now }
+        ensures said { place ≢ TrailerSent → IsSaidBy self.now.side fields.now result.said }
     {
         match place {
-            SendPlace::NothingSent | SendPlace::HeadSent => match self.side {
-                Side::Client => request_violation(fields, self.peer_connects()),
-                Side::Server => response_violation(fields),
+            SendPlace::NothingSent | SendPlace::HeadSent => self.read_head(&Fields::of(fields)),
+            SendPlace::TrailerSent => SentRead {
+                violation: trailer_violation(fields),
+                said: Said::Nothing,
             },
-            SendPlace::TrailerSent => trailer_violation(fields),
+        }
+    }
+
+    // That of a head of the request that a client sends, or of the response that a server sends.
+    fn read_head(&self, fields: &Fields<'_>) -> SentRead
+        ensures violation { result.violation ≡ violation_of_own_head self.now.side self.now.peer.settings fields.now }
+        ensures said { IsSaidBy self.now.side fields.now result.said }
+    {
+        match self.side {
+            Side::Client => {
+                let head = read_request(fields, self.peer_connects());
+                SentRead {
+                    violation: head.violation,
+                    said: Said::Request(head.awaited, head.content),
+                }
+            }
+            Side::Server => {
+                let head = read_any_response(fields);
+                SentRead {
+                    violation: head.violation,
+                    said: Said::Response(head.said),
+                }
+            }
         }
     }
 

@@ -2,6 +2,8 @@ use Rattle.std.proofs.Common.{sym, ap, ◌∙◌}
 use Rattle.h3_header.specs.Head.{head_fields}
 use Rattle.h3_connection.specs.State.{EndpointState}
 use Rattle.h3_session.specs.Refused.{side_refused}
+use Rattle.h3_connection.specs.Pulling.{is_interim}
+use Rattle.h3_session.proofs.Remembering.{before_trailer}
 use Rattle.h3_session.proofs.SendingHeads.{head_closed, head_unreserved, head_unlisted, head_sent}
 use Rattle.h3_session.proofs.endpoint.Endpoint.send_head.Goals as goal
 
@@ -21,4 +23,4 @@ returns-in_default-fields c =
 pub returns : goal.returns
 returns c =
     head_sent c.args.self.now c.reserve_head.new.self c.send_head_section.new.self c.args.id c.args.head.now c.side_refusal-later.result c.as_slice.result.now (head_fields c.args.head.now) c.place_behind.result c.send_head_section.result (ap (λ (s : EndpointState). s.closed) (sym c.self.view_is) ∙ c.in_default.is) (c.side_refusal-later.ensures ∙ ap (λ (s : EndpointState). side_refused s.side c.args.head.now) c.self.view_is)
-    c.reserve_head.ensures.rest c.reserve_head.ensures.same c.in-Ok.ensures.taken (c.as_slice.ensures.value ∙ c.in-Ok-fields.ensures.value) c.place_behind.ensures (rw c.in-Ok.ensures.room at c.send_head_section.ensures)
+    c.reserve_head.ensures.rest c.reserve_head.ensures.same c.in-Ok.ensures.taken (c.as_slice.ensures.value ∙ c.in-Ok-fields.ensures.value) c.place_behind.ensures ((rw c.in-Ok.ensures.room at c.send_head_section.ensures) (before_trailer (is_interim c.args.head.now.status) c.place_behind.result c.place_behind.ensures))

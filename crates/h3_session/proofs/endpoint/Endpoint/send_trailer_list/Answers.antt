@@ -9,5 +9,5 @@ returns-in-Err c = λ trailer sent.
 
 pub returns : goal.returns
 returns c = λ trailer sent.
-    trailer_sent c.args.self.now c.reserve_trailer.new.self c.send_section.new.self c.args.id trailer None c.args.fields.now c.args.fields.now c.send_section.result c.requires (sym sent)
-    c.reserve_trailer.ensures.rest c.reserve_trailer.ensures.same c.in-Ok.ensures.taken refl (rw c.in-Ok.ensures.room at c.send_section.ensures)
+    trailer_sent c.args.self.now c.reserve_trailer.new.self c.send_trailer_section.new.self c.args.id trailer None c.args.fields.now c.args.fields.now c.send_trailer_section.result c.requires (sym sent)
+    c.reserve_trailer.ensures.rest c.reserve_trailer.ensures.same c.in-Ok.ensures.taken refl (rw c.in-Ok.ensures.room at c.send_trailer_section.ensures)

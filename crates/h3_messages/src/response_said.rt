@@ -1,0 +1,57 @@
+//! What the head of a response says of the content behind it, whatever its request asked (RFC 9114, 4.1.2; RFC 9110, 6.4.1, 8.6 and 9.3.6).
+ghost use Rattle.std.specs.Prelude.{◌≡◌, List, if◌then◌else◌};
+ghost use Rattle.h3_field.specs.Field.{Field};
+ghost use Rattle.h3_messages.specs.Content.{content_behind_response};
+ghost use Rattle.h3_messages.specs.ResponseSaid.{response_said, said_by};
+ghost use Rattle.h3_messages.specs.declared.content.Content.TheVariants.{Tunnel};
+
+use crate::content::{Asked, Content, content_of_status, is_interim_status};
+use crate::text::byte_at;
+
+/// What the head of a response says of the content behind it.
+#[derive(Clone, Copy, Debug, PartialEq, Eq)]
+pub struct ResponseSaid {
+    /// Whether it is interim, and so leaves what was awaited.
+    pub is_interim: bool,
+    /// Whether a tunnel begins behind it, where its request was CONNECT.
+    pub opens_tunnel: bool,
+    /// The content behind a final one, but behind HEAD and in a tunnel.
+    pub content: Content,
+}
+
+impl ResponseSaid {
+    // What this status and this `content-length` say.
+    pub(crate) fn by(status: &[u8], size: &[u8]) -> ResponseSaid
+        ensures { result ≡ said_by status.now size.now }
+    {
+        ResponseSaid {
+            is_interim: is_interim_status(status),
+            opens_tunnel: byte_at(status, 0) == b'2',
+            content: content_of_status(status, size),
+        }
+    }
+
+    /// The content behind such a head, in front of which this was awaited, as `Content::behind_response` tells it.
+    pub fn behind(self, awaited: Content) -> Content
+        ensures { (fields : List Field) → self ≡ response_said fields → result ≡ content_behind_response awaited fields }
+    {
+        if self.is_interim {
+            return awaited;
+        }
+        match awaited.asked() {
+            Asked::Head => Content::NoContent,
+            Asked::Connect => self.behind_connect(),
+            Asked::Other => self.content,
+        }
+    }
+
+    // The content behind a final response to CONNECT.
+    fn behind_connect(self) -> Content
+        ensures { result ≡ (if self.opens_tunnel then Tunnel else self.content) }
+    {
+        if self.opens_tunnel {
+            return Content::Tunnel;
+        }
+        self.content
+    }
+}
