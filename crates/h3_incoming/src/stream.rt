@@ -130,10 +130,11 @@ impl IncomingStream {
     }
 
     // Where an unknown frame is under way at the front, its bytes are let go.
+    #[inline(always)]
     pub(super) fn spare(&mut self)
         ensures { self.new ≡ self.old }
     {
-        if self.begins_frame() {
+        if self.unread.len() > 0 && self.begins_frame() {
             self.unread.spare();
         }
     }

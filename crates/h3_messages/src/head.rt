@@ -109,34 +109,6 @@ pub fn any_response_by(survey: &Survey) -> AnyResponseRead
     }
 }
 
-/// What the head of a response says, where it is not known yet what was awaited.
-pub fn read_any_response(fields: &Fields<'_>) -> AnyResponseRead
-    ensures violation { result.violation ≡ violation_of_response fields.now }
-    ensures said { result.said ≡ response_said fields.now }
-{
-    let mut seen = Seen::new();
-    seen.take_all(fields);
-    let survey = Survey::of(fields, &seen);
-    AnyResponseRead {
-        violation: response::violation_of(&survey),
-        said: response_said(&survey),
-    }
-}
-
-/// What the head of a response says, where it is not known yet what was awaited.
-pub fn read_any_response(fields: &Fields<'_>) -> AnyResponseRead
-    ensures violation { result.violation ≡ violation_of_response fields.now }
-    ensures said { result.said ≡ response_said fields.now }
-{
-    let mut seen = Seen::new();
-    seen.take_all(fields);
-    let survey = Survey::of(fields, &seen);
-    AnyResponseRead {
-        violation: response::violation_of(&survey),
-        said: response_said(&survey),
-    }
-}
-
 // The content behind the head of a request.
 fn content_of_request(survey: &Survey) -> Content
     ensures { result ≡ content_of_request survey.now.fields.now }

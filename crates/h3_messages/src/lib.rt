@@ -16,11 +16,7 @@ mod regular;
 mod request;
 mod response;
 pub mod response_said;
-<<<<<<< HEAD
 pub mod seen;
-=======
-mod seen;
->>>>>>> 0633afdd7217c05a54c7858d73ea27e1e7c43006
 mod slot;
 pub mod survey;
 mod text;
@@ -28,7 +24,6 @@ pub mod violation;
 
 pub use content::{Asked, Content, is_interim_status};
 pub use head::{
-<<<<<<< HEAD
     AnyResponseRead, RequestRead, ResponseRead, any_response_by, read_any_response, read_request,
     read_response, request_by, response_by,
 };
@@ -39,11 +34,4 @@ pub use response::{
 pub use response_said::ResponseSaid;
 pub use seen::Seen;
 pub use survey::Survey;
-=======
-    AnyResponseRead, RequestRead, ResponseRead, read_any_response, read_request, read_response,
-};
-pub use request::request_violation;
-pub use response::{response_violation, trailer_violation, trailer_violation_of};
-pub use response_said::ResponseSaid;
->>>>>>> 0633afdd7217c05a54c7858d73ea27e1e7c43006
 pub use violation::Violation;
