@@ -183,7 +183,7 @@ fn read_short(fields: &Fields<'_>) -> ListRead
 /// The same, by the walk that the rules of strict messages ask for, where nothing is malformed of any field. The walk keeps the first
 /// `:status`, and the last one counts here: where there are two it does not tell.
 #[inline(always)]
-pub(crate) fn read_survey(survey: &Survey<'_>) -> Option<ListRead>
+pub fn read_survey(survey: &Survey<'_>) -> Option<ListRead>
     requires few { length survey.now.fields.now ≤ 24576 }
     requires good { AreGood survey.now.fields.now }
     ensures { IfSome result (λ read. read ≡ list_read (head_of survey.now.fields.now)) }
@@ -256,7 +256,7 @@ fn status_of(digits: &[u8]) -> Option<StatusCode>
 }
 
 /// Why a list is malformed of which a field is by itself.
-pub(crate) fn malformation_by(part: BadPart) -> Malformation
+pub fn malformation_by(part: BadPart) -> Malformation
     ensures { result ≡ malformation_of (refusal_of part) }
 {
     match part {
