@@ -37,7 +37,7 @@ use http::StatusCode;
 use std::alloc::AllocError;
 use std::mem;
 
-/// How many bytes of a section a field seldom takes more than: one of the static table takes 1, and a value behind a name of it often 10 to 30.
+/// A field seldom takes more bytes of a section: one of the static table takes 1, and a value behind a name of it often 10 to 30.
 const SHORT_FIELD: usize = 32;
 
 /// So many fields have room at first, at most.
