@@ -18,10 +18,10 @@ ghost use Rattle.h3_connection.specs.declared.place.SendPlace.TheVariants.{Trail
 ghost use Rattle.h3_requests.specs.Refused.{head_refused_at, body_refused_at, early_trailer_at};
 ghost use Rattle.h3_session.specs.Refused.{side_refused, pseudo_refused, size_refused, refused_behind};
 ghost use Rattle.h3_session.specs.SendingFields.{Encodes, StopsEncoding, Queues, Remembers, SendsFields, IsJudged, asking};
-ghost use Rattle.h3_session.specs.SentHeads.{IsSaid};
+ghost use Rattle.h3_session.specs.SentHeads.{IsReadOf, IsSaid};
 
 use super::Endpoint;
-use super::strict::Said;
+use super::strict::{Said, SentRead};
 use h3_coding::varint::VarInt;
 use h3_connection::event::Refusal;
 use h3_connection::place::SendPlace;
@@ -66,7 +66,7 @@ impl Endpoint {
         let Ok(fields) = head.fields(self.alloc) else {
             return Err(Refusal::OutOfMemory);
         };
-        self.send_head_section(room, fields.as_slice(), place_behind(head))
+        self.send_head_section(room, fields.as_slice(), place_behind(head), None)
     }
 
     // Room for the frame of a head on a stream that takes one, unless `later` refuses it. The streams are found as they were.
@@ -120,17 +120,19 @@ impl Endpoint {
         self.requests.reserve_trailer(id, later)
     }
 
-    // Sends the fields of a head so, and what they say of content is remembered.
+    // Sends the fields of a head so, of which a walk may have told what the rules make of it, and what they say of content is remembered.
     pub(super) fn send_head_section(
         &mut self,
         room: SectionRoom,
         fields: &[HeaderField],
         place: SendPlace,
+        known: Option<SentRead>,
     ) -> Result<(), Refusal>
+        requires { IfSome known (IsReadOf self.old.side self.old.peer.settings fields.now) }
         ensures { place ≢ TrailerSent → SendsFields (asking room fields.now) self.old self.new room fields.now place (call_refused result) }
     {
         let id = room.id();
-        match self.send_section(room, fields, place) {
+        match self.send_section(room, fields, place, known) {
             Ok(said) => {
                 self.await_response(id, said);
                 Ok(())
@@ -159,7 +161,7 @@ impl Endpoint {
     ) -> Result<(), Refusal>
         ensures { SendsFields (λ e. e) self.old self.new room fields.now TrailerSent (call_refused result) }
     {
-        match self.send_section(room, fields, SendPlace::TrailerSent) {
+        match self.send_section(room, fields, SendPlace::TrailerSent, None) {
             Ok(_) => Ok(()),
             Err(refusal) => Err(refusal),
         }
@@ -171,11 +173,13 @@ impl Endpoint {
         room: SectionRoom,
         fields: &[HeaderField],
         place: SendPlace,
+        known: Option<SentRead>,
     ) -> Result<Said, Refusal>
+        requires { IfSome known (IsReadOf self.old.side self.old.peer.settings fields.now) }
         ensures sends { SendsFields (λ e. e) self.old self.new room fields.now place (call_refused result) }
         ensures said { IfOk result (λ said. place ≢ TrailerSent → IsSaid self.old.side self.old.announced fields.now said) }
     {
-        let (sum, said) = match self.judge_list(fields, place) {
+        let (sum, said) = match self.judge_list(fields, place, known) {
             Ok(judged) => judged,
             Err(refusal) => return Err(refusal),
         };
@@ -187,14 +191,20 @@ impl Endpoint {
     }
 
     // What was sent, with these fields, and what they say, where they break no rule that is asked and the peer allows their size.
-    fn judge_list(&self, fields: &[HeaderField], place: SendPlace) -> Result<(u64, Said), Refusal>
+    fn judge_list(
+        &self,
+        fields: &[HeaderField],
+        place: SendPlace,
+        known: Option<SentRead>,
+    ) -> Result<(u64, Said), Refusal>
+        requires { IfSome known (IsReadOf self.now.side self.now.peer.settings fields.now) }
         ensures ok { IfOk result (λ judged. IsJudged self.now fields.now judged.0) }
         ensures said { IfOk result (λ judged. place ≢ TrailerSent → IsSaid self.now.side self.now.announced fields.now judged.1) }
         ensures fits { OnOk result (refused_behind self.now place fields.now ≡ None) }
         ensures err { IfErr result (λ refusal. refusal ≢ Refusal.OutOfMemory → refused_behind self.now place fields.now ≡ Some refusal) }
         ensures memory { IfErr result (λ refusal. refusal ≡ Refusal.OutOfMemory → 2 ^ 56 ≤ self.now.sent + fields_cost fields.now + 64) }
     {
-        let said = match self.read_sent(fields, place) {
+        let said = match self.read_sent(fields, place, known) {
             Ok(said) => said,
             Err(why) => return Err(Refusal::Malformed(why)),
         };

@@ -1,5 +1,5 @@
 //! Lists of fields that an endpoint sends as they are, with no header made of them.
-ghost use Rattle.std.specs.Prelude.{◌≡◌, ◌≢◌, ◌<◌, true, false, None, Some, IfOk, IfErr, OnOk, length, option_map, if◌then◌else◌};
+ghost use Rattle.std.specs.Prelude.{◌≡◌, ◌≢◌, ◌<◌, ◌≤◌, true, false, None, Some, IfOk, IfErr, IfSome, OnErr, OnOk, length, option_map, if◌then◌else◌};
 ghost use Rattle.h3_header.specs.Head.{Head};
 ghost use Rattle.h3_header.specs.HeadRead.{head_of};
 ghost use Rattle.h3_connection.specs.Answers.{call_refused};
@@ -9,18 +9,22 @@ ghost use Rattle.h3_connection.specs.declared.event.Refusal.TheVariants as refus
 ghost use Rattle.h3_requests.specs.Refused.{head_refused_at, body_refused_at};
 ghost use Rattle.h3_session.specs.Refused.{side_refused, pseudo_refused};
 ghost use Rattle.h3_session.specs.SendingLists.{SendsFieldList, SendsTrailerList, SendsListedHead, SendsListedTrailer, error_after, error_of, no_memory, list_told};
-ghost use Rattle.h3_incoming.specs.Outline.{is_sent_outline};
+ghost use Rattle.h3_incoming.specs.Outline.{is_sent_outline, list_read};
 ghost use Rattle.h3_session.specs.declared.endpoint.lists.FieldsError.TheVariants as error;
+ghost use Rattle.h3_session.specs.SentHeads.{IsReadOf};
 ghost use Rattle.h3_session.specs.JudgedLists.{head_list_error, trailer_list_error, IsHeadAt, IsTrailer};
 
 use super::Endpoint;
 use super::heads::place_of;
+use super::strict::SentRead;
 use h3_connection::event::{Malformation, Refusal};
 use h3_connection::place::SendPlace;
 use h3_field::{Fields, HeaderField};
-use h3_incoming::outline::{ListRead, Outline, read_list};
+use h3_header::MOST_NAMES;
+use h3_incoming::outline::{ListRead, Outline, malformation_by, read_list, read_survey};
+use h3_messages::{Seen, Survey};
 use h3_proto::stream::{Side, StreamId};
-use std::alloc::Global;
+use std::alloc::{AllocError, Global};
 
 /// Why a list of fields is not sent.
 #[derive(Clone, Copy, Debug, PartialEq, Eq)]
@@ -45,11 +49,11 @@ impl Endpoint {
         if let Some(code) = self.closed {
             return Err(FieldsError::Refused(Refusal::Closed(code)));
         }
-        let place = match judge_head(self.alloc, self.side, fields) {
-            Ok(place) => place,
+        let (place, read) = match self.judge_head(fields) {
+            Ok(judged) => judged,
             Err(later) => return Err(self.head_error(id, later)),
         };
-        as_error(self.send_head_at(id, fields, place))
+        as_error(self.send_head_at(id, fields, place, read))
     }
 
     /// A trailer goes out on a stream, as `send_trailer` sends it, but as the list that it is given as. Refused are, in this order, every
@@ -70,6 +74,49 @@ impl Endpoint {
             return Err(self.trailer_error(id, later));
         }
         as_error(self.send_trailer_list(id, fields))
+    }
+
+    // Where the message is behind a list in the place of a head, or why that is none of this side. Where the endpoint asks for strict messages
+    // the walk that tells it tells also what the rules make of it.
+    fn judge_head(
+        &self,
+        fields: &[HeaderField],
+    ) -> Result<(SendPlace, Option<SentRead>), FieldsError>
+        ensures ok { IfOk result (λ judged. IsHeadAt self.now.side (head_of fields.now) judged.0) }
+        ensures read { IfOk result (λ judged. IfSome judged.1 (IsReadOf self.now.side self.now.peer.settings fields.now)) }
+        ensures err { IfErr result (λ e. e ≢ no_memory → head_list_error self.now.side (head_of fields.now) ≡ Some e) }
+        ensures memory { IfErr result (λ e. e ≡ no_memory → 24576 < length fields.now) }
+    {
+        if self.announced.choices.strict_messages && fields.len() <= MOST_NAMES {
+            return self.judge_once(fields);
+        }
+        match judge_place(None, self.alloc, self.side, fields) {
+            Ok(place) => Ok((place, None)),
+            Err(e) => Err(e),
+        }
+    }
+
+    // The same by one walk, of a list of so few fields that a map has room for all their names.
+    fn judge_once(
+        &self,
+        fields: &[HeaderField],
+    ) -> Result<(SendPlace, Option<SentRead>), FieldsError>
+        requires { length fields.now ≤ 24576 }
+        ensures ok { IfOk result (λ judged. IsHeadAt self.now.side (head_of fields.now) judged.0) }
+        ensures read { IfOk result (λ judged. IfSome judged.1 (IsReadOf self.now.side self.now.peer.settings fields.now)) }
+        ensures err { IfErr result (λ e. e ≢ no_memory → head_list_error self.now.side (head_of fields.now) ≡ Some e) }
+        ensures memory { IfErr result (λ e. e ≡ no_memory → 24576 < length fields.now) }
+    {
+        let list = Fields::of(fields);
+        let mut seen = Seen::new();
+        if let Err(part) = seen.take_good(&list) {
+            return Err(FieldsError::Malformed(malformation_by(part)));
+        }
+        let survey = Survey::of(&list, &seen);
+        match judge_place(read_survey(&survey), self.alloc, self.side, fields) {
+            Ok(place) => Ok((place, Some(self.read_survey(&survey)))),
+            Err(e) => Err(e),
+        }
     }
 
     // Why a list is refused in the place of a head that is refused by itself: the stream's own refusal comes first.
@@ -104,15 +151,17 @@ impl Endpoint {
         id: StreamId,
         fields: &[HeaderField],
         place: SendPlace,
+        read: Option<SentRead>,
     ) -> Result<(), Refusal>
-        requires { self.old.closed ≡ None }
+        requires open { self.old.closed ≡ None }
+        requires read { IfSome read (IsReadOf self.old.side self.old.peer.settings fields.now) }
         ensures { (head : Head) → side_refused self.old.side head ≡ None → place ≡ (if is_interim head.status then SendPlace.NothingSent else SendPlace.HeadSent) → SendsListedHead self.old self.new id head fields.now result }
     {
         let room = match self.reserve_head(id, None) {
             Ok(room) => room,
             Err(refusal) => return Err(refusal),
         };
-        self.send_head_section(room, fields, place)
+        self.send_head_section(room, fields, place, read)
     }
 
     // A list that reads as a trailer goes out.
@@ -128,18 +177,42 @@ impl Endpoint {
     }
 }
 
-// Where the message is behind a list in the place of a head, or why that is none of this side.
-fn judge_head(alloc: Global, side: Side, fields: &[HeaderField]) -> Result<SendPlace, FieldsError>
+// Where the message is behind a list in the place of a head, or why that is none of this side. What the list reads as may be known.
+#[inline(always)]
+fn judge_place(
+    known: Option<ListRead>,
+    alloc: Global,
+    side: Side,
+    fields: &[HeaderField],
+) -> Result<SendPlace, FieldsError>
+    requires { IfSome known (λ read. read ≡ list_read (head_of fields.now)) }
     ensures ok { IfOk result (IsHeadAt side (head_of fields.now)) }
     ensures err { IfErr result (λ e. e ≢ no_memory → head_list_error side (head_of fields.now) ≡ Some e) }
     ensures memory { IfErr result (λ e. e ≡ no_memory → 24576 < length fields.now) }
 {
-    let Ok(read) = read_list(alloc, &Fields::of(fields)) else {
+    let Ok(read) = read_unless(known, alloc, fields) else {
         return Err(FieldsError::Refused(Refusal::OutOfMemory));
     };
     match read {
         ListRead::Malformed(why) => Err(FieldsError::Malformed(why)),
         ListRead::Head(outline) => place_behind(side, &outline),
+    }
+}
+
+// What a list reads as, where that may be known.
+#[inline(always)]
+fn read_unless(
+    known: Option<ListRead>,
+    alloc: Global,
+    fields: &[HeaderField],
+) -> Result<ListRead, AllocError>
+    requires { IfSome known (λ read. read ≡ list_read (head_of fields.now)) }
+    ensures ok { IfOk result (λ read. read ≡ list_read (head_of fields.now)) }
+    ensures err { OnErr result (24576 < length fields.now) }
+{
+    match known {
+        Some(read) => Ok(read),
+        None => read_list(alloc, &Fields::of(fields)),
     }
 }
 

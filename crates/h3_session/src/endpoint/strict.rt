@@ -1,17 +1,17 @@
 //! What the rules of well-formed messages make of a list that is to be sent (RFC 9114, sections 4.1.2 and 4.2 to 4.5): which of them it breaks, as
 //! a strict peer would judge it, and what it says of content.
-ghost use Rattle.std.specs.Prelude.{◌≡◌, ◌≢◌, None, Some, IfOk, IfErr, OnOk};
+ghost use Rattle.std.specs.Prelude.{◌≡◌, ◌≢◌, None, Some, IfOk, IfErr, IfSome, OnOk};
 ghost use Rattle.h3_connection.specs.StrictSending.{peer_connects, violation_of_own_head};
 ghost use Rattle.h3_connection.specs.declared.place.SendPlace.TheVariants.{TrailerSent};
 ghost use Rattle.h3_session.specs.Refused.{violation_behind, broken_behind};
-ghost use Rattle.h3_session.specs.SentHeads.{IsSaid, IsSaidBy};
+ghost use Rattle.h3_session.specs.SentHeads.{IsReadOf, IsSaid, IsSaidBy};
 
 use super::Endpoint;
 use h3_connection::event::Malformation;
 use h3_connection::place::SendPlace;
 use h3_field::{Fields, HeaderField};
 use h3_messages::{
-    Content, ResponseSaid, Violation, read_any_response, read_request, trailer_violation,
+    Content, ResponseSaid, Seen, Survey, Violation, any_response_by, request_by, trailer_violation,
 };
 use h3_proto::frame::SettingId;
 use h3_proto::stream::Side;
@@ -29,19 +29,21 @@ pub(crate) enum Said {
 
 /// What one walk over a list tells.
 #[derive(Clone, Copy)]
-struct SentRead {
-    violation: Option<Violation>,
-    said: Said,
+pub(crate) struct SentRead {
+    pub(crate) violation: Option<Violation>,
+    pub(crate) said: Said,
 }
 
 impl Endpoint {
     // What a list says, or the rule that it breaks, by the place of its message behind it. An endpoint that asks for no strict messages looks at no
-    // field.
+    // field. What a walk told of a head is asked of no second one.
     pub(super) fn read_sent(
         &self,
         fields: &[HeaderField],
         place: SendPlace,
+        known: Option<SentRead>,
     ) -> Result<Said, Malformation>
+        requires { IfSome known (IsReadOf self.now.side self.now.peer.settings fields.now) }
         ensures kept { OnOk result (broken_behind place self.now fields.now ≡ None) }
         ensures broken { IfErr result (λ why. broken_behind place self.now fields.now ≡ Some why) }
         ensures said { IfOk result (λ said. place ≢ TrailerSent → IsSaid self.now.side self.now.announced fields.now said) }
@@ -49,7 +51,7 @@ impl Endpoint {
         if !self.announced.choices.strict_messages {
             return Ok(Said::Nothing);
         }
-        let read = self.read_strictly(fields, place);
+        let read = self.read_strictly(fields, place, known);
         match read.violation {
             Some(violation) => Err(Malformation::by(violation)),
             None => Ok(read.said),
@@ -57,12 +59,21 @@ impl Endpoint {
     }
 
     // The same where rules are asked: of a head or of a trailer.
-    fn read_strictly(&self, fields: &[HeaderField], place: SendPlace) -> SentRead
+    fn read_strictly(
+        &self,
+        fields: &[HeaderField],
+        place: SendPlace,
+        known: Option<SentRead>,
+    ) -> SentRead
+        requires { IfSome known (IsReadOf self.now.side self.now.peer.settings fields.now) }
         ensures violation { result.violation ≡ violation_behind place self.now fields.now }
         ensures said { place ≢ TrailerSent → IsSaidBy self.now.side fields.now result.said }
     {
         match place {
-            SendPlace::NothingSent | SendPlace::HeadSent => self.read_head(&Fields::of(fields)),
+            SendPlace::NothingSent | SendPlace::HeadSent => match known {
+                Some(read) => read,
+                None => self.read_head(&Fields::of(fields)),
+            },
             SendPlace::TrailerSent => SentRead {
                 violation: trailer_violation(fields),
                 said: Said::Nothing,
@@ -75,16 +86,26 @@ impl Endpoint {
         ensures violation { result.violation ≡ violation_of_own_head self.now.side self.now.peer.settings fields.now }
         ensures said { IsSaidBy self.now.side fields.now result.said }
     {
+        let mut seen = Seen::new();
+        seen.take_all(fields);
+        self.read_survey(&Survey::of(fields, &seen))
+    }
+
+    // The same of one over which the walk was made.
+    pub(super) fn read_survey(&self, survey: &Survey<'_>) -> SentRead
+        ensures violation { result.violation ≡ violation_of_own_head self.now.side self.now.peer.settings survey.now.fields.now }
+        ensures said { IsSaidBy self.now.side survey.now.fields.now result.said }
+    {
         match self.side {
             Side::Client => {
-                let head = read_request(fields, self.peer_connects());
+                let head = request_by(survey, self.peer_connects());
                 SentRead {
                     violation: head.violation,
                     said: Said::Request(head.awaited, head.content),
                 }
             }
             Side::Server => {
-                let head = read_any_response(fields);
+                let head = any_response_by(survey);
                 SentRead {
                     violation: head.violation,
                     said: Said::Response(head.said),

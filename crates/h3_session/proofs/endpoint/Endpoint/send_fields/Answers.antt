@@ -12,5 +12,5 @@ returns-in-Err c =
 
 pub returns : goal.returns
 returns c =
-    head_list_sent c.args.self.now c.args.id c.args.fields.now c.send_head_at.new.self c.in-Ok.place c.send_head_at.result c.as_error.result
-    (subst (λ (s : EndpointState). IsHeadAt s.side (head_of c.args.fields.now) c.in-Ok.place) c.self.view_is c.in-Ok.ensures.ok) c.send_head_at.ensures c.as_error.ensures
+    head_list_sent c.args.self.now c.args.id c.args.fields.now c.send_head_at.new.self c.in-Ok.judged.0 c.send_head_at.result c.as_error.result
+    (subst (λ (s : EndpointState). IsHeadAt s.side (head_of c.args.fields.now) c.in-Ok.judged.0) c.self.view_is c.in-Ok.ensures.ok) c.send_head_at.ensures c.as_error.ensures
