@@ -1,7 +1,10 @@
 use Rattle.std.proofs.Common.{ap, sym, ◌∙◌}
 use Rattle.h3_connection.specs.State.{EndpointState}
-use Rattle.h3_session.proofs.Lists.{trailer_list_refused, trailer_list_sent}
+use Rattle.h3_session.proofs.Lists.{trailer_list_closed, trailer_list_refused, trailer_list_sent}
 use Rattle.h3_session.proofs.endpoint.Endpoint.send_trailer_fields.Goals as goal
+
+pub returns-in-Some : goal.returns-in-Some
+returns-in-Some c = trailer_list_closed c.args.self.now c.args.id c.args.fields.now c.in-Some.code (ap (λ (s : EndpointState). s.closed) (sym c.self.view_is) ∙ c.in-Some.is)
 
 pub returns-in-Err : goal.returns-in-Err
 returns-in-Err c =
