@@ -36,7 +36,16 @@ pub fn fields(text: &mut String, fields: &[HeaderField]) -> Result<(), AllocErro
 /// A line of a field.
 pub fn field(text: &mut String, name: &[u8], value: &[u8]) -> Result<(), AllocError> {
     text.push_str("  ")?;
-    text.push_str(str::from_utf8(name).unwrap_or("?"))?;
+    push_bytes(text, name)?;
     text.push_str(" = ")?;
-    words(text, str::from_utf8(value).unwrap_or("?"))
+    push_bytes(text, value)?;
+    text.push('\n')
+}
+
+/// Bytes as text, or a question mark where they are none.
+fn push_bytes(text: &mut String, bytes: &[u8]) -> Result<(), AllocError> {
+    match str::from_utf8(bytes) {
+        Ok(part) => text.push_str(part),
+        Err(_) => text.push_str("?"),
+    }
 }
