@@ -1,5 +1,5 @@
 -- What an endpoint is made of.
-use Rattle.std.specs.Prelude.{◌≡◌, ◌≤◌, ◌<◌, ◌*◌, ◌&&◌, ◌==◌, ℕ, Bool, nat_le, not, if◌then◌else◌, List, [], ◌∷◌, length, slice_get, Option, Some, None, unwrap_or, Result, Ok, Err}
+use Rattle.std.specs.Prelude.{◌≡◌, ◌≤◌, ◌<◌, ◌*◌, ◌-◌, ◌^◌, ◌&&◌, ◌==◌, ℕ, Bool, max, nat_le, nat_lt, not, if◌then◌else◌, List, [], ◌∷◌, length, slice_get, Option, Some, None, unwrap_or, Result, Ok, Err}
 use Rattle.h3_proto.specs.Config.{announced}
 use Rattle.h3_proto.specs.declared.config.Config.{Config}
 use Rattle.h3_proto.specs.declared.stream.Side.{Side}
@@ -18,7 +18,7 @@ use Rattle.h3_c.specs.Numbers.{argument, ok, new_told}
 use Rattle.h3_c.specs.Seen.{Seen}
 
 -- `h3_config_default`: a client, whose numbers bound what a stranger can make it hold: a field section of 64 KiB, and a table of 4,096 bytes for
--- which 16 streams may wait. The own encoder's table has as much at most. A frame that is kept until it is whole has 64 KiB. Messages are judged
+-- which 16 streams may wait. The own encoder's table has as much at most. Messages are judged. What is unfinished has the limit that follows from these
 abbrev pub default_config : GivenConfig
 default_config =
     record {
@@ -36,7 +36,7 @@ default_config =
       count_acknowledgments = 1;
       encoder_table = 4096;
       economical_table = 1;
-      unfinished_limit = 65536;
+      unfinished_limit = 0;
     }
 
 -- the numbers of `h3_config`: its size, and the others in its order
@@ -82,6 +82,13 @@ is_on n = not (n == 0)
 abbrev pub side_of : GivenConfig → Side
 side_of given = if is_on given.server then Server else Client
 
+-- The limit on what is unfinished: 0 stands for the least one, four times what is announced. None, where that reaches 2 ^ 62 - 1
+abbrev pub least_for : ℕ → ℕ
+least_for announced = if nat_lt announced (2 ^ 60) then max 256 (4 * announced) else 2 ^ 62 - 1
+
+abbrev pub limit_of_given : GivenConfig → ℕ
+limit_of_given given = if given.unfinished_limit == 0 then least_for (max given.max_field_section_size given.table) else given.unfinished_limit
+
 abbrev pub config_of : GivenConfig → Config
 config_of given =
     record {
@@ -93,7 +100,7 @@ config_of given =
         enable_datagram = is_on given.datagram;
         max_webtransport_sessions = given.max_webtransport_sessions;
       };
-      choices = record { strict_messages = is_on given.strict; acknowledgments_counted = is_on given.count_acknowledgments; encoder_table = given.encoder_table; economical_table = is_on given.economical_table; unfinished_limit = given.unfinished_limit };
+      choices = record { strict_messages = is_on given.strict; acknowledgments_counted = is_on given.count_acknowledgments; encoder_table = given.encoder_table; economical_table = is_on given.economical_table; unfinished_limit = limit_of_given given };
     }
 
 abbrev pub limits_of : GivenConfig → Limits

@@ -67,6 +67,7 @@ malformation_number malformation.Authority = 15
 malformation_number malformation.Path = 16
 malformation_number malformation.Status = 17
 malformation_number malformation.TrailerField = 18
+malformation_number malformation.TooLong = 19
 
 abbrev pub fault_shown : StreamFault → PulledItem
 fault_shown (stream_fault.Malformed why) = numbered 13 (malformation_number why)

@@ -1,8 +1,9 @@
 //! What an endpoint is made of: `h3_config` of the header.
 ghost use Rattle.std.specs.Prelude.{◌≡◌, ◌≤◌, ◌<◌, slice_get, unwrap_or};
 ghost use Rattle.h3_connection.specs.SendingContracts.{Creates};
-ghost use Rattle.h3_c.specs.Configs.{default_config, side_of, config_of, config_given, limits_of, announced_of, numbers_of};
+ghost use Rattle.h3_c.specs.Configs.{default_config, side_of, config_of, config_given, least_for, limit_of_given, limits_of, announced_of, numbers_of};
 
+use h3_coding::varint::VarInt;
 use h3_connection::setup::{Limits, NewError};
 use h3_proto::config::Config;
 use h3_proto::stream::Side;
@@ -51,7 +52,7 @@ impl Default for GivenConfig {
             count_acknowledgments: 1,
             encoder_table: 4096,
             economical_table: 1,
-            unfinished_limit: 1 << 16,
+            unfinished_limit: 0,
         }
     }
 }
@@ -109,6 +110,28 @@ impl GivenConfig {
             self.unfinished_limit,
         ]
     }
+
+    // The limit on what is unfinished. 0 stands for the least one that takes whatever a peer may send that keeps to what is announced.
+    fn limit(&self) -> u64
+        ensures { result ≡ limit_of_given self.now }
+    {
+        if self.unfinished_limit == 0 {
+            least_for(self.max_field_section_size.max(self.table))
+        } else {
+            self.unfinished_limit
+        }
+    }
+}
+
+// Where this is announced: four times as much, and at least 256 bytes; or no limit.
+fn least_for(announced: u64) -> u64
+    ensures { result ≡ least_for announced }
+{
+    if announced < 1 << 60 {
+        (4 * announced).max(256)
+    } else {
+        VarInt::MAX.into_inner()
+    }
 }
 
 fn number_or(numbers: &[u64], at: usize, default: u64) -> u64
@@ -144,7 +167,7 @@ fn config_of(given: &GivenConfig) -> Config
         .with_acknowledgments_counted(given.count_acknowledgments != 0)
         .with_encoder_table(given.encoder_table)
         .with_economical_table(given.economical_table != 0)
-        .with_unfinished_limit(given.unfinished_limit)
+        .with_unfinished_limit(given.limit())
 }
 
 /// The endpoint that is asked for.

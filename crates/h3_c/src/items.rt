@@ -89,6 +89,7 @@ pub(crate) fn malformation_number(why: Malformation) -> u64
         Malformation::Path => 16,
         Malformation::Status => 17,
         Malformation::TrailerField => 18,
+        Malformation::TooLong => 19,
     }
 }
 

@@ -141,7 +141,8 @@ fn malformed(why: Malformation) -> Told
         | Malformation::Authority
         | Malformation::Path
         | Malformation::Status
-        | Malformation::TrailerField => with(27, malformation_number(why)),
+        | Malformation::TrailerField
+        | Malformation::TooLong => with(27, malformation_number(why)),
     }
 }
 

@@ -1,5 +1,5 @@
 -- What an endpoint announces (RFC 9114, section 7.2.4; RFC 9204, section 5).
-use Rattle.std.specs.Prelude.{◌≡◌, ℕ, Bool, false, ◌&&◌, ◌-◌, ◌^◌, List, [], ◌∷◌, ◌++◌, nat_le, nat_lt, if◌then◌else◌, unwrap_or, Result, Ok, Err}
+use Rattle.std.specs.Prelude.{◌≡◌, ℕ, Bool, false, ◌&&◌, ◌*◌, ◌-◌, ◌^◌, List, [], ◌∷◌, ◌++◌, max, nat_le, nat_lt, if◌then◌else◌, unwrap_or, Result, Ok, Err}
 use Rattle.h3_proto.specs.Config.{is_enabled, is_limit}
 use Rattle.h3_proto.specs.Settings.{value_of}
 use Rattle.h3_proto.specs.declared.config.Choices.{Choices}
@@ -13,12 +13,17 @@ use Rattle.h3_connection.specs.declared.setup.NewError.TheVariants.{TableLimit, 
 abbrev pub section_of : Announced → ℕ
 section_of a = unwrap_or (value_of 6 a.settings) (2 ^ 62 - 1)
 
--- It limits what is unfinished, to less than the field sections that it announces to take. No size announced is any size
-abbrev pub is_below_section : Announced → Bool
-is_below_section a = is_limit a.choices.unfinished_limit && nat_lt a.choices.unfinished_limit (section_of a)
+-- The least limit on what is unfinished: whatever a peer sends that keeps to what is announced is within it. The Huffman code writes a byte in up
+-- to 30 bits (RFC 7541, appendix B), so an encoding has at most four times the bytes of its fields. SETTINGS fit too
+abbrev pub least_limit : Announced → ℕ
+least_limit a = max 256 (4 * max (section_of a) a.limits.table)
+
+-- It limits what is unfinished to less than that. No size announced is any size
+abbrev pub is_below_announced : Announced → Bool
+is_below_announced a = is_limit a.choices.unfinished_limit && nat_lt a.choices.unfinished_limit (least_limit a)
 
 abbrev pub unless_below : Announced → Result Announced NewError
-unless_below a = if is_below_section a then Err UnfinishedLimit else Ok a
+unless_below a = if is_below_announced a then Err UnfinishedLimit else Ok a
 
 -- the settings of a configuration, with those of the table behind them
 abbrev pub announcing : List (ℕ × ℕ) → Limits → Choices → Announced
@@ -45,4 +50,4 @@ pub record IsAnnounced (settings : Result (List (ℕ × ℕ)) SettingsError) (li
   pub table : nat_le (2 ^ 30) limits.table ≡ false
   pub blocked : nat_lt 65535 limits.blocked ≡ false
   pub announced : a ≡ announcing pairs limits choices
-  pub within : is_below_section a ≡ false
+  pub within : is_below_announced a ≡ false

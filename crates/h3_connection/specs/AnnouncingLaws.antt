@@ -2,7 +2,7 @@
 use Rattle.std.proofs.Common.{◌≡◌, ℕ, ◌^◌, Bool, true, false, if◌then◌else◌, List, refl, sym, ap, ◌∙◌, subst, nat_le, nat_lt, Result, Ok, Err}
 use Rattle.h3_proto.specs.declared.config.Choices.{Choices}
 use Rattle.h3_proto.specs.declared.frame.SettingsError.{SettingsError}
-use Rattle.h3_connection.specs.Announcing.{IsAnnounced, announced_by, announcing, is_below_section, unless_below, with_limits}
+use Rattle.h3_connection.specs.Announcing.{IsAnnounced, announced_by, announcing, is_below_announced, unless_below, with_limits}
 use Rattle.h3_connection.specs.declared.setup.Announced.{Announced}
 use Rattle.h3_connection.specs.declared.setup.Limits.{Limits}
 use Rattle.h3_connection.specs.declared.setup.NewError.{NewError}
@@ -11,10 +11,10 @@ use Rattle.h3_connection.specs.declared.setup.NewError.TheVariants.{BlockedLimit
 same_ok : {X E : Type 0} (x y : X) → ◌≡◌ {A = Result X E} (Ok x) (Ok y) → x ≡ y
 same_ok x y e = cc
 
-not_below : (made a : Announced) → unless_below made ≡ Ok a → (made ≡ a) × (is_below_section made ≡ false)
-not_below made a e = by_test (is_below_section made) refl e
+not_below : (made a : Announced) → unless_below made ≡ Ok a → (made ≡ a) × (is_below_announced made ≡ false)
+not_below made a e = by_test (is_below_announced made) refl e
   where
-    by_test : (b : Bool) → is_below_section made ≡ b → ◌≡◌ {A = Result Announced NewError} (if b then Err UnfinishedLimit else Ok made) (Ok a) → (made ≡ a) × (is_below_section made ≡ false)
+    by_test : (b : Bool) → is_below_announced made ≡ b → ◌≡◌ {A = Result Announced NewError} (if b then Err UnfinishedLimit else Ok made) (Ok a) → (made ≡ a) × (is_below_announced made ≡ false)
     by_test true k e = absurd (cc)
     by_test false k e = (same_ok made a e, k)
 
@@ -28,10 +28,10 @@ announced_as settings limits choices a e = by_tests (nat_le (2 ^ 30) limits.tabl
     by_tests false k false l (Err why) is e = absurd (cc)
     by_tests false k false l (Ok pairs) is e =
         let made = not_below (announcing pairs limits choices) a e in
-        record { pairs = pairs; is = is; table = k; blocked = l; announced = sym made.0; within = subst (λ x. is_below_section x ≡ false) made.0 made.1 }
+        record { pairs = pairs; is = is; table = k; blocked = l; announced = sym made.0; within = subst (λ x. is_below_announced x ≡ false) made.0 made.1 }
 
 pub announces : (settings : Result (List (ℕ × ℕ)) SettingsError) (limits : Limits) (choices : Choices) (pairs : List (ℕ × ℕ)) → settings ≡ Ok pairs → nat_le (2 ^ 30) limits.table ≡ false → nat_lt 65535 limits.blocked ≡ false
-    → is_below_section (announcing pairs limits choices) ≡ false → announced_by settings limits choices ≡ Ok (announcing pairs limits choices)
+    → is_below_announced (announcing pairs limits choices) ≡ false → announced_by settings limits choices ≡ Ok (announcing pairs limits choices)
 announces settings limits choices pairs is table blocked within =
     ap (λ b. if b then Err TableLimit else (if nat_lt 65535 limits.blocked then Err BlockedLimit else with_limits settings limits choices)) table
     ∙ ap (λ b. if b then Err BlockedLimit else with_limits settings limits choices) blocked

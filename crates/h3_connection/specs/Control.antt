@@ -8,7 +8,7 @@ use Rattle.h3_proto.specs.Settings.{value_of}
 use Rattle.h3_qpack.specs.EncoderHistory.{using_table}
 use Rattle.h3_qpack.specs.Hearing.{Listened}
 use Rattle.h3_connection.specs.ExcessiveInstructions.{listen_up_to}
-use Rattle.h3_connection.specs.Listeners.{heard_more, hearing_fault, listening_fault, keeping_fault, after_hearing, insertions_heard}
+use Rattle.h3_connection.specs.Listeners.{heard_more, hearing_fault, listening_fault, after_hearing, insertions_heard}
 use Rattle.h3_connection.specs.PeerReading.{PeerFound, with_unread, read_peer}
 use Rattle.h3_connection.specs.Endpoint.{EndpointHistory, limit_of, replied}
 
@@ -25,12 +25,12 @@ read_encoder e bytes =
     let h = heard_more (limit_of e) e.decoding bytes in
     (replied (record e { decoding = after_hearing h }) (increment (insertions_heard e.decoding h)), hearing_fault (limit_of e) h)
 
--- the peer's decoder, whose bytes are kept until the settings came
+-- the peer's decoder, whose bytes are kept until the settings came: as many as its stream has credit for
 abbrev pub listened_to : EndpointHistory → Listened → Found
 listened_to e l = (record e { encoder = l.encoder; decoder_unread = l.left }, listening_fault (limit_of e) l)
 
 abbrev pub kept_unread : EndpointHistory → List ℕ → Found
-kept_unread e unread = (record e { decoder_unread = unread }, keeping_fault (limit_of e) unread)
+kept_unread e unread = (record e { decoder_unread = unread }, None)
 
 abbrev pub read_decoder : EndpointHistory → List ℕ → Found
 read_decoder e bytes =

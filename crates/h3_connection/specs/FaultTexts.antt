@@ -29,6 +29,7 @@ malformation_name malformation.Authority = codes "Authority"
 malformation_name malformation.Path = codes "Path"
 malformation_name malformation.Status = codes "Status"
 malformation_name malformation.TrailerField = codes "TrailerField"
+malformation_name malformation.TooLong = codes "TooLong"
 
 abbrev pub stream_fault_text : StreamFault → List ℕ
 stream_fault_text (stream_fault.Malformed why) = codes "malformed " ++ malformation_name why

@@ -18,7 +18,7 @@ pub record Incoming : Type 0 where
   -- head of a response it is what the request said of it
   pub content : Content
   -- what a response to it may have as content, as its client awaits it: nothing is known of that where no head of a request was read by a
-  -- server that asks for strict messages
+  -- server that asks for strict messages. It stays known where the stream is given up, since what was asked does not change
   pub response : Option Content
   pub place : Place
   -- the required insert count that the section waited for, or 0
@@ -51,7 +51,7 @@ nothing_came =
 
 -- nothing more of it is read, and what is there is thrown away
 abbrev pub given_up : Incoming → StreamFault → Incoming
-given_up i fault = record i { unread = []; section = None; body_left = 0; content = Unsaid; response = None; waits_for = 0; fault = Some fault }
+given_up i fault = record i { unread = []; section = None; body_left = 0; content = Unsaid; waits_for = 0; fault = Some fault }
 
 -- some bytes at the front were passed, and nothing else has changed
 pub record Passes (old new : Incoming) : Type 0 where

@@ -1,7 +1,6 @@
 -- The peer's encoder and decoder streams at an endpoint (RFC 9204, section 4).
-use Rattle.std.specs.Prelude.{◌≡◌, ℕ, ◌-◌, Bool, ◌&&◌, nat_lt, List, length, ◌++◌, if◌then◌else◌, Option, Some, None}
+use Rattle.std.specs.Prelude.{◌≡◌, ℕ, ◌-◌, Bool, List, ◌++◌, if◌then◌else◌, Option, Some, None}
 use Rattle.h3_field.specs.Waiting.{encoder_wait, decoder_wait}
-use Rattle.h3_proto.specs.Config.{is_limit}
 use Rattle.h3_qpack.specs.DecoderState.{DecoderState}
 use Rattle.h3_qpack.specs.EncoderHistory.{EncoderHistory}
 use Rattle.h3_qpack.specs.EncoderState.{EncoderState, encoder_state}
@@ -33,10 +32,6 @@ hearing_fault most h = if h.is_bad then Some encoder_stream_error else fault_if 
 
 abbrev pub listening_fault : ℕ → Listened → Option ℕ
 listening_fault most l = if l.is_bad then Some decoder_stream_error else fault_if (exceeds most decoder_wait l.left) excessive_load
-
--- before the peer's settings its decoder stream is kept, up to the limit
-abbrev pub keeping_fault : ℕ → List ℕ → Option ℕ
-keeping_fault most unread = fault_if (is_limit most && nat_lt most (length unread)) excessive_load
 
 abbrev pub after_hearing : Heard → Decoding
 after_hearing h = record { decoder = h.decoder; unread = h.left }

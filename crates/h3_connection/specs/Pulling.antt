@@ -10,7 +10,7 @@ use Rattle.h3_qpack.specs.Sizes.{last_value}
 use Rattle.h3_header.specs.Head.{Head, is_request, is_response, has_pseudo}
 use Rattle.h3_proto.specs.declared.stream.Side.{Side}
 use Rattle.h3_proto.specs.declared.stream.Side.TheVariants.{Client, Server}
-use Rattle.h3_wire.specs.ExcessiveFrames.{is_excessive}
+use Rattle.h3_wire.specs.ExcessiveFrames.{begins_section, is_excessive}
 use Rattle.h3_wire.specs.Frames.{Front, Whole, Unknown, Refused, Unfinished, frame_at}
 use Rattle.h3_wire.specs.Pieces.{first_of, chunk_of, ending}
 use Rattle.h3_wire.specs.declared.proto.frame.PayloadLen.{PayloadLen}
@@ -149,9 +149,11 @@ past_large side own i fields =
 abbrev pub left_with : Incoming → List ℕ → Incoming
 left_with i bytes = record i { unread = ending (length bytes) i.unread }
 
--- A frame is longer than what the endpoint takes, which is a fault of the connection (RFC 9114, sections 8.1 and 10.5). What came is let go
-abbrev pub excess : Incoming → Pulled
-excess i = connection_fault excessive_load (record i { unread = [] })
+-- A frame is longer than what the endpoint takes (RFC 9114, section 10.5), and what came is let go. A field section harms its own message alone,
+-- and any other frame is a fault of the connection
+abbrev pub excess : ℕ → Incoming → List ℕ → Pulled
+excess id i bytes =
+    if begins_section bytes then malformed id malformation.TooLong i [] else connection_fault excessive_load (record i { unread = [] })
 
 -- what of a payload is handed out: the first piece, as far as the payload goes
 abbrev pub body_of : Incoming → Option (List ℕ) × List (List ℕ) → Pulled
@@ -232,7 +234,7 @@ module _ (side : Side) (own : Announced) (id : ℕ) (r : DecoderState) where
   abbrev pub between_frames : Incoming → Pulled
   between_frames i =
       let bytes = skipped (is_body i.place) (concat i.unread) in
-      if is_excessive own.choices.unfinished_limit bytes then excess i else next_frame (left_with i bytes) bytes
+      if is_excessive own.choices.unfinished_limit bytes then excess id i bytes else next_frame (left_with i bytes) bytes
 
   abbrev pub in_message : Incoming → Option (List ℕ) → Pulled
   in_message i (Some bytes) = at_section i bytes

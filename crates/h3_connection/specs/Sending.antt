@@ -1,5 +1,5 @@
 -- Calls of a sender, and the pulls and cancellations of a receiver, with their refusals in order.
-use Rattle.std.specs.Prelude.{ℕ, ◌+◌, Bool, true, false, not, ◌&&◌, ◌||◌, List, [], ◌∷◌, ◌++◌, length, if◌then◌else◌, ◌==◌, nat_lt, Option, Some, None, is_some, unwrap_or}
+use Rattle.std.specs.Prelude.{ℕ, ◌+◌, Bool, true, false, not, ◌&&◌, ◌||◌, List, [], ◌∷◌, ◌++◌, codes, length, slice_index, if◌then◌else◌, ◌==◌, nat_lt, Option, Some, None, is_some, unwrap_or}
 use Rattle.h3_field.specs.Field.{Field}
 use Rattle.h3_qpack.specs.SectionEncoding.{sent_section}
 use Rattle.h3_connection.specs.Refusals.{Sender, SenderStream, seen, refusal_of_head, refusal_of_body, refusal_of_trailer, refusal_of_end, refusal_to_stop, refusal_to_open, refusal_of_goaway}
@@ -22,8 +22,9 @@ use Rattle.h3_connection.specs.StreamSets.{Streams, stream_at, set_stream}
 use Rattle.h3_connection.specs.StrictSending.{broken_head, broken_trailer, early_trailer, passes_content}
 use Rattle.h3_connection.specs.Incoming.{Incoming, awaiting}
 use Rattle.h3_messages.specs.Content.{awaited_by, content_behind_response, content_of_request, may_end}
+use Rattle.h3_messages.specs.Messages.{value_of}
 use Rattle.h3_messages.specs.declared.content.Content.{Content}
-use Rattle.h3_messages.specs.declared.content.Content.TheVariants.{Unsaid}
+use Rattle.h3_messages.specs.declared.content.Content.TheVariants.{Tunnel, Unsaid}
 use Rattle.h3_connection.specs.declared.setup.Announced.{Announced}
 use Rattle.h3_connection.specs.Pulling.{Pulled, pull_stream}
 use Rattle.h3_connection.specs.Unidirectional.{Unidirectional, pull_unidirectional}
@@ -115,17 +116,21 @@ abbrev pub awaiting_at : Streams Incoming → ℕ → Content → Option Incomin
 awaiting_at streams id expected None = streams
 awaiting_at streams id expected (Some i) = set_stream streams id (awaiting i expected)
 
+-- Where it is not known what was asked, a 2xx response may be one to CONNECT, behind which no trailer comes (RFC 9114, section 4.4)
+abbrev pub content_of_unasked : List Field → Content
+content_of_unasked fields = if slice_index (value_of (codes ":status") fields) 0 == 50 then Tunnel else Unsaid
+
 -- How much content follows a head (RFC 9114, section 4.1.2): that of a request says it, and that of a response where it is known what was
 -- asked
 abbrev pub content_of_response_to : Option Content → List Field → Content
-content_of_response_to None fields = Unsaid
+content_of_response_to None fields = content_of_unasked fields
 content_of_response_to (Some awaited) fields = content_behind_response awaited fields
 
 abbrev pub content_of_own : Side → Option Content → List Field → Content
 content_of_own Client known fields = content_of_request fields
 content_of_own Server known fields = content_of_response_to known fields
 
--- A server knows what was asked once it read the request's head, as long as the stream was not given up
+-- A server knows what was asked once it read the request's head
 abbrev pub known_of : Option Incoming → Option Content
 known_of None = None
 known_of (Some i) = i.response

@@ -56,7 +56,8 @@ pub enum Refusal {
 }
 
 /// Why a message is none (RFC 9114, section 4.1.2). Each endpoint tells the first six, in the order in which it judges. What stands behind is
-/// told where the setup asks for strict messages: the rules of `h3_messages::Violation`, behind those six.
+/// told where the setup asks for strict messages: the rules of `h3_messages::Violation`, behind those six; and the last one where it limits
+/// what is unfinished.
 #[derive(Clone, Copy, Debug, PartialEq, Eq)]
 pub enum Malformation {
     /// A field's name is empty, not in lower case, or unknown with a `:` (RFC 9114, sections 4.2 and 4.3).
@@ -98,15 +99,20 @@ pub enum Malformation {
     Status,
     /// A field that is not for trailers (RFC 9110, section 6.5.1).
     TrailerField,
+    /// A HEADERS frame is longer than the endpoint's limit on what is unfinished (RFC 9114, section 10.5). Only an endpoint with that limit tells
+    /// it, whether its messages are strict or not.
+    TooLong,
 }
 
 impl Malformation {
     /// The code to end its stream with, in both directions: H3_MESSAGE_ERROR (RFC 9114, section 4.1.2). At a server a request that ended
-    /// before its head is H3_REQUEST_INCOMPLETE (section 4.1). `side` is the side that reads the message.
+    /// before its head is H3_REQUEST_INCOMPLETE (section 4.1), and a field section that is too long is H3_EXCESSIVE_LOAD (section 10.5).
+    /// `side` is the side that reads the message.
     pub fn code(self, side: Side) -> Code
         ensures { result ≡ malformation_code self side }
     {
         match self {
+            Malformation::TooLong => Code::H3_EXCESSIVE_LOAD,
             Malformation::NoHead => match side {
                 Side::Client => Code::H3_MESSAGE_ERROR,
                 Side::Server => Code::H3_REQUEST_INCOMPLETE,
@@ -178,6 +184,7 @@ impl Malformation {
             Malformation::Path => "Path",
             Malformation::Status => "Status",
             Malformation::TrailerField => "TrailerField",
+            Malformation::TooLong => "TooLong",
         }
     }
 }

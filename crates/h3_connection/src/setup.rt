@@ -1,11 +1,16 @@
 //! What an endpoint announces.
 ghost use Rattle.std.specs.Prelude.{◌≡◌, ◌<◌};
 ghost use Rattle.h3_proto.specs.Config.{announced};
-ghost use Rattle.h3_connection.specs.Announcing.{announced_by, connects, is_below_section, section_of};
+ghost use Rattle.h3_connection.specs.Announcing.{announced_by, connects, is_below_announced, least_limit, section_of};
 
 use h3_coding::varint::VarInt;
 use h3_proto::config::{Choices, Config, MAX_BLOCKED_STREAMS, MAX_TABLE_CAPACITY};
 use h3_proto::frame::{SettingId, Settings, SettingsError};
+
+// Every SETTINGS frame of this library fits into so many bytes, and each instruction that rests on no announced size.
+const LEAST_LIMIT: u64 = 256;
+// The Huffman code writes a byte in at most 30 bits (RFC 7541, appendix B).
+const MOST_ENCODED: u64 = 4;
 
 /// The limits of an endpoint's decoder: the capacity of its table in bytes, and how many streams may wait.
 #[derive(Clone, Copy, Debug, PartialEq, Eq)]
@@ -25,7 +30,8 @@ pub enum NewError {
     BlockedLimit,
     /// A setting cannot be announced.
     Settings(SettingsError),
-    /// The limit on what is unfinished is below the greatest size of a field section, or there is no greatest size.
+    /// The limit on what is unfinished is below four times what is announced (the greatest size of a field section, or the table's capacity),
+    /// or below 256 bytes, or no greatest size is announced.
     UnfinishedLimit,
     /// Memory was refused.
     OutOfMemory,
@@ -71,18 +77,28 @@ impl Announced {
             limits,
             choices,
         };
-        if announced.is_below_section() {
+        if announced.is_below_announced() {
             return Err(NewError::UnfinishedLimit);
         }
         Ok(announced)
     }
 
-    /// Whether it limits what is unfinished to less than the field sections that it announces to take.
-    fn is_below_section(&self) -> bool
-        ensures { result ≡ is_below_section self.now }
+    /// Whether it limits what is unfinished to less than what a peer may send that keeps to what is announced.
+    fn is_below_announced(&self) -> bool
+        requires { self.now.limits.table < 2 ^ 30 }
+        ensures { result ≡ is_below_announced self.now }
     {
         let most = self.choices.unfinished_limit;
-        most < VarInt::MAX.into_inner() && most < self.section()
+        most < VarInt::MAX.into_inner() && most < self.least_limit()
+    }
+
+    // The least limit on what is unfinished.
+    fn least_limit(&self) -> u64
+        requires { self.now.limits.table < 2 ^ 30 }
+        ensures { result ≡ least_limit self.now }
+    {
+        let announced = self.section().max(self.limits.table);
+        LEAST_LIMIT.max(MOST_ENCODED * announced)
     }
 
     /// The greatest size of a field section that it takes (RFC 9114, section 4.2.2), in bytes.

@@ -5,7 +5,7 @@ use Rattle.h3_wire.specs.declared.frame.errors.FrameProtocolError.{FrameProtocol
 use Rattle.h3_wire.specs.declared.frame.errors.FrameStreamError.{FrameStreamError}
 use Rattle.h3_wire.specs.declared.proto.frame.PayloadLen.{PayloadLen}
 use Rattle.h3_wire.specs.declared.proto.frame.Frame.{Frame}
-use Rattle.h3_wire.specs.ExcessiveFrames.{is_excessive}
+use Rattle.h3_wire.specs.ExcessiveFrames.{begins_section, is_excessive}
 use Rattle.h3_wire.specs.Frames.{Whole, Refused, frame_at}
 use Rattle.h3_wire.specs.Known.{Gives, known, refusal, IsWaiting}
 use Rattle.h3_wire.specs.UnreadFrames.{UnreadFrames, AreBetween}
@@ -44,16 +44,22 @@ abbrev pub Finds : Side → Place → Content → Found → List ℕ → List �
 Finds side place content (found.Begun b) old new = (f : Frame PayloadLen) × IsBegun side place content f b × FindsFrame (is_body place) f old new
 Finds _ place _ found.Unfinished old new = FindsLess (is_body place) old new
 Finds _ place _ (found.Refused e) old new = FindsRefused (is_body place) e old new
+Finds _ place _ found.LongSection old new = PassesFrames (is_body place) old new
 Finds _ place _ found.Excessive old new = Unit {0}
 
 -- The frame that stands there is no longer than this, whatever follows.
 abbrev pub KeepsWithin : ℕ → Bool → List ℕ → Type 0
 KeepsWithin most in_body old = (more : List ℕ) → is_excessive most (skipped in_body (old ++ more)) ≡ false
 
+-- The frame that stands there is longer, and is a field section or none.
+abbrev pub IsTooLong : ℕ → Bool → Bool → List ℕ → Type 0
+IsTooLong most in_body is_section old = (is_excessive most (skipped in_body old) ≡ true) × (begins_section (skipped in_body old) ≡ is_section)
+
 -- What stands behind the frames that give nothing is no longer than this, or is told as longer.
 abbrev pub IsWithin : ℕ → Bool → Found → List ℕ → Type 0
 IsWithin most in_body (found.Begun b) old = KeepsWithin most in_body old
-IsWithin most in_body found.Excessive old = is_excessive most (skipped in_body old) ≡ true
+IsWithin most in_body found.LongSection old = IsTooLong most in_body true old
+IsWithin most in_body found.Excessive old = IsTooLong most in_body false old
 IsWithin most in_body _ old = is_excessive most (skipped in_body old) ≡ false
 
 -- Behind a frame no other one is under way, and it begins no empty payload.

@@ -213,7 +213,6 @@ impl IncomingStream {
         self.section = None;
         self.body_left = 0;
         self.content = Content::Unsaid;
-        self.response = None;
         self.waits_for = 0;
         self.fault = Some(fault);
     }

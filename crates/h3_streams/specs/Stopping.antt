@@ -8,7 +8,7 @@ use Rattle.h3_connection.specs.declared.arrival.Arrival.{Arrival}
 use Rattle.h3_connection.specs.Control.{then_decoder}
 use Rattle.h3_connection.specs.Endpoint.{EndpointHistory, limit_of, kind_of}
 use Rattle.h3_connection.specs.Endpoint.Kind.{PeerUnidirectional}
-use Rattle.h3_connection.specs.Listeners.{Decoding, Encoding, Listens, keeping_fault}
+use Rattle.h3_connection.specs.Listeners.{Decoding, Encoding, Listens}
 use Rattle.h3_connection.specs.PartReading.{HearsPart, early_if}
 use Rattle.h3_connection.specs.State.{EndpointState, StandsFor}
 use Rattle.h3_unidirectional.specs.Fronts.{StopsListening}
@@ -25,10 +25,10 @@ HeardPart most (Unheld back) bytes old new before after = (back ≡ bytes) × (n
 HeardPart most Held bytes old new before after =
     HearsPart most (record old { unread = old.unread ++ bytes }) new × (after ≡ before ++ increment_for (new.decoder.table.inserted - old.decoder.table.inserted))
 
--- of the decoder stream, which is read once the settings came, and kept up to the limit before
+-- of the decoder stream, which is read once the settings came, and kept before
 abbrev pub ListensIf : ℕ → Bool → List ℕ → Encoding → Encoding → Option ℕ → Type 0
 ListensIf most true bytes old new fault = (s : EncoderHistory) → old.encoder ≡ encoder_state s → Listens most s (old.unread ++ bytes) new fault
-ListensIf most false bytes old new fault = (new ≡ record old { unread = old.unread ++ bytes }) × (fault ≡ keeping_fault most (old.unread ++ bytes))
+ListensIf most false bytes old new fault = (new ≡ record old { unread = old.unread ++ bytes }) × (fault ≡ None)
 
 abbrev pub ListenedPart : ℕ → Stop → Bool → List ℕ → Encoding → Encoding → Type 0
 ListenedPart most (Unheld back) known bytes old new = (back ≡ bytes) × (new ≡ old)

@@ -78,8 +78,8 @@ pub(crate) fn hear(
     }
 }
 
-/// Bytes of the peer's decoder stream (RFC 9204, section 4.4), of instructions up to `most`. Until its settings are known they are held, and
-/// no more than that.
+/// Bytes of the peer's decoder stream (RFC 9204, section 4.4), of instructions up to `most`. Until its settings are known they are held: as many
+/// as the stream has credit for, which `unread` counts.
 pub(crate) fn listen(
     encoding: &mut Encoding,
     most: u64,
@@ -93,7 +93,7 @@ pub(crate) fn listen(
         return Err(Stop::Unheld(bytes));
     };
     if !is_known {
-        return Ok(encoding.unread_fault(most));
+        return Ok(None);
     }
     match encoding.read(most) {
         Ok(fault) => Ok(fault),

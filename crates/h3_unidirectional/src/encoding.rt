@@ -7,13 +7,13 @@ ghost use Rattle.h3_qpack.specs.EncoderHistory.{EncoderHistory, no_table, withdr
 ghost use Rattle.h3_qpack.specs.EncoderState.{encoder_state};
 ghost use Rattle.h3_connection.specs.Codes.{decoder_stream_error, excessive_load};
 ghost use Rattle.h3_connection.specs.Control.{is_table_usable};
-ghost use Rattle.h3_connection.specs.Listeners.{Listens, fault_if, keeping_fault};
+ghost use Rattle.h3_connection.specs.Listeners.{Listens, fault_if};
 ghost use Rattle.h3_unidirectional.specs.Faults.{IsReplyFaultOf, UnlessMemory};
 ghost use Rattle.h3_unidirectional.specs.Fronts.{ListensFront, StopsListening};
 ghost use Rattle.h3_unidirectional.specs.Learned.{having_learned, usable_capacity};
 ghost use Rattle.h3_unidirectional.specs.Windows.{is_longer, ListeningEnds, ListensWindow, IsRefusedAt};
 
-use crate::limits::{is_longer, is_too_much, window};
+use crate::limits::{is_longer, window};
 use crate::waiting::{WaitingBytes, drop_front};
 use h3_field::HeaderField;
 use h3_field::waiting::{Wait, decoder_wait, decoder_wait_behind};
@@ -80,16 +80,6 @@ impl Encoding {
         self.unread.extend_from_slice(bytes)?;
         self.wait = decoder_wait_behind(self.wait, bytes, self.unread.as_slice());
         Ok(())
-    }
-
-    /// The fault of what is unread before the peer's settings come, until when none of it is read: no more than `most` is kept.
-    pub fn unread_fault(&self, most: u64) -> Option<Code>
-        ensures { result ≡ keeping_fault most self.now.unread }
-    {
-        if is_too_much(most, self.unread.len()) {
-            return Some(Code::H3_EXCESSIVE_LOAD);
-        }
-        None
     }
 
     /// The encoder.

@@ -51,10 +51,3 @@ fn is_above(most: u64, len: u64, missing: u64) -> bool
 {
     len > most || missing > most - len
 }
-
-/// Whether so many bytes that are kept are more than the limit.
-pub(crate) fn is_too_much(most: u64, len: usize) -> bool
-    ensures { result ≡ (is_limit most && nat_lt most len) }
-{
-    is_limit(most) && len as u64 > most
-}

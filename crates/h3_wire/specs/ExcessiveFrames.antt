@@ -17,6 +17,15 @@ abbrev pub says_too_much : ℕ → Option (ℕ × List ℕ) → Bool
 says_too_much most None = false
 says_too_much most (Some p) = is_too_long most p.0 (varint_at p.1)
 
+-- the type is there, and is this one
+abbrev pub is_of_type : ℕ → Option (ℕ × List ℕ) → Bool
+is_of_type kind None = false
+is_of_type kind (Some p) = p.0 == kind
+
+-- The bytes begin with HEADERS (RFC 9114, section 7.2.2)
+abbrev pub begins_section : List ℕ → Bool
+begins_section bytes = is_of_type 1 (varint_at bytes)
+
 -- There is a limit, and the bytes begin with the head of a frame whose payload is kept, and that is longer. The payload need not be there.
 abbrev pub is_excessive : ℕ → List ℕ → Bool
 is_excessive most bytes = is_limit most && says_too_much most (varint_at bytes)

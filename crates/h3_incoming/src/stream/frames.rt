@@ -63,6 +63,7 @@ impl IncomingStream {
             Err(_) => fail(out, Fault::Memory),
             Ok(Found::Unfinished) => self.pull_end(alloc, id, replies, out),
             Ok(Found::Refused(e)) => fail(out, Fault::Connection(refused_code(e))),
+            Ok(Found::LongSection) => self.refuse_message(alloc, id, Malformation::TooLong, replies, out),
             Ok(Found::Excessive) => self.refuse_excess(alloc, out),
             Ok(Found::Begun(begun)) => match begun {
                 Begun::Section(section) => {
@@ -85,7 +86,7 @@ impl IncomingStream {
         }
     }
 
-    // A frame is longer than what the endpoint takes. What came is let go.
+    // A frame that is no field section is longer than what the endpoint takes. What came is let go.
     #[inline(never)]
     fn refuse_excess<O: Answer>(&mut self, alloc: Global, out: &mut O)
         ensures stream { self.new ≡ record self.old { unread = [] } }

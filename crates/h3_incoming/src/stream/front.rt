@@ -1,9 +1,12 @@
 //! The next frame of a message that gives something.
-ghost use Rattle.std.specs.Prelude.{◌≡◌, ◌<◌, length, OnErr, IfOk, IfSome, IfNone};
+ghost use Rattle.std.specs.Prelude.{◌≡◌, ◌<◌, true, false, length, OnErr, IfOk, IfSome, IfNone};
 ghost use Rattle.std.specs.List.{concat};
+ghost use Rattle.h3_wire.specs.ExcessiveFrames.{begins_section};
+ghost use Rattle.h3_wire.specs.Known.{known};
 ghost use Rattle.h3_wire.specs.Pieces.{IsRest, ending};
 ghost use Rattle.h3_wire.specs.UnreadFrames.{AreBetween};
 ghost use Rattle.h3_connection.specs.Incoming.{is_body};
+ghost use Rattle.h3_incoming.specs.declared.stream.front.Found.TheVariants.{Excessive, LongSection};
 ghost use Rattle.h3_incoming.specs.Finding.{Finds, GivesBegun, IsWithin, LeavesBetween, PassesFrames};
 
 use super::begun::{Begun, begun_by, begun_by_first, is_empty};
@@ -21,7 +24,9 @@ pub(super) enum Found {
     /// Less than a frame, or nothing.
     Unfinished,
     Refused(FrameProtocolError),
-    /// A frame that says a length above the limit.
+    /// HEADERS that say a length above the limit.
+    LongSection,
+    /// Another frame that says one.
     Excessive,
 }
 
@@ -72,7 +77,7 @@ fn front_one(
     ensures rest { IsRest unread.old.pieces unread.new.pieces }
 {
     if unread.is_excessive(most) {
-        return Ok(Some(Found::Excessive));
+        return Ok(Some(excess(unread)));
     }
     match next_begun(unread, alloc, side, place, content) {
         Ok(None) => Ok(Some(Found::Unfinished)),
@@ -84,6 +89,19 @@ fn front_one(
         }
         Err(FrameStreamError::Proto(e)) => Ok(Some(Found::Refused(e))),
         Err(_) => Err(AllocError),
+    }
+}
+
+// What stands at the front, which is too long.
+#[inline(never)]
+fn excess(unread: &FrameBuffer) -> Found
+    ensures section { begins_section (known (concat unread.now.pieces)) ≡ true → result ≡ LongSection }
+    ensures other { begins_section (known (concat unread.now.pieces)) ≡ false → result ≡ Excessive }
+{
+    if unread.begins_section() {
+        Found::LongSection
+    } else {
+        Found::Excessive
     }
 }
 

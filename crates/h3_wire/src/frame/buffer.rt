@@ -1,7 +1,7 @@
 //! The bytes of a stream of frames that came and were not read.
 ghost use Rattle.std.specs.Prelude.{◌≡◌, ◌+◌, ◌^◌, ◌<◌, ◌≤◌, ◌++◌, [], None, Ok, false, true, length, IfOk, IfErr, IfSome, IsNone, OnOk, OnErr};
 ghost use Rattle.std.specs.List.{concat};
-ghost use Rattle.h3_wire.specs.ExcessiveFrames.{is_excessive};
+ghost use Rattle.h3_wire.specs.ExcessiveFrames.{begins_section, is_excessive};
 ghost use Rattle.h3_wire.specs.Known.{Gives, framed, known};
 ghost use Rattle.h3_wire.specs.Pieces.{chunk_of, ending, first_of, with_piece};
 ghost use Rattle.h3_wire.specs.Tries.{Counts};
@@ -160,6 +160,13 @@ impl FrameBuffer {
         ensures { result ≡ is_excessive most (known (concat self.now.pieces)) }
     {
         most < VarInt::MAX.into_inner() && self.unread.is_excessive(most)
+    }
+
+    /// Whether the first frame that is no whole unknown one is HEADERS (RFC 9114, section 7.2.2), as far as its type came. Nothing is taken.
+    pub fn begins_section(&self) -> bool
+        ensures { result ≡ begins_section (known (concat self.now.pieces)) }
+    {
+        self.unread.begins_section()
     }
 
     /// The first piece's first bytes, `max` or all of it, where no head is under way. Nothing is copied. An `Err` changes nothing.

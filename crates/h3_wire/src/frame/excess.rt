@@ -2,7 +2,7 @@
 ghost use Rattle.std.specs.Prelude.{◌≡◌, ◌<◌, ◌≤◌, ◌||◌, ◌==◌, true, drop, length, IfSome, IsNone, nat_lt};
 ghost use Rattle.std.specs.List.{concat};
 ghost use Rattle.h3_proto.specs.Config.{is_limit};
-ghost use Rattle.h3_wire.specs.ExcessiveFrames.{is_excessive, is_kept_whole};
+ghost use Rattle.h3_wire.specs.ExcessiveFrames.{begins_section, is_excessive, is_kept_whole};
 ghost use Rattle.h3_wire.specs.Known.{known};
 ghost use Rattle.h3_wire.specs.Place.{left_at};
 
@@ -43,6 +43,44 @@ pub(super) fn is_excessive_behind(src: &BufList<Bytes>, passed: usize, most: u64
             return answer;
         }
     }
+}
+
+/// Whether the first frame behind so many bytes that is no whole unknown one is HEADERS, as far as its type came. Nothing is taken.
+#[inline(never)]
+pub(super) fn begins_section(src: &BufList<Bytes>, passed: usize) -> bool
+    requires there { passed ≤ length (concat src.now.pieces) }
+    ensures { result ≡ begins_section (known (drop passed (concat src.now.pieces))) }
+{
+    let mut cursor = src.cursor();
+    cursor.advance(passed);
+    loop {
+        if let Some(answer) = look_for_section(&mut cursor) {
+            return answer;
+        }
+    }
+}
+
+// Whether the frame under the cursor is HEADERS. One that is unknown and whole tells nothing, and is passed.
+fn look_for_section(cursor: &mut Cursor<'_, Bytes>) -> Option<bool>
+    ensures some { IfSome result (λ b. b ≡ begins_section (known (left_at cursor.old))) }
+    ensures same { IsNone result → known (left_at cursor.new) ≡ known (left_at cursor.old) }
+    ensures less { IsNone result → length (left_at cursor.new) < length (left_at cursor.old) }
+{
+    let Ok(kind) = cursor.get_var() else {
+        return Some(false);
+    };
+    if is_kept_whole(kind) || is_handed_out(kind) {
+        return Some(kind == 1);
+    }
+    let Ok(number) = cursor.get_var() else {
+        return Some(false);
+    };
+    let size = number as usize;
+    if cursor.remaining() < size {
+        return Some(false);
+    }
+    cursor.advance(size);
+    None
 }
 
 // What the frame under the cursor tells. One that is unknown and whole tells nothing, and is passed.

@@ -2,7 +2,7 @@
 ghost use Rattle.std.specs.Prelude.{◌≡◌, ◌+◌, ◌^◌, ◌<◌, ◌≤◌, ◌++◌, [], None, Ok, true, length, drop, IfOk, IfErr, IfSome, IsNone, OnOk, OnErr};
 ghost use Rattle.std.specs.List.{concat};
 ghost use Rattle.h3_proto.specs.Config.{is_limit};
-ghost use Rattle.h3_wire.specs.ExcessiveFrames.{is_excessive};
+ghost use Rattle.h3_wire.specs.ExcessiveFrames.{begins_section, is_excessive};
 ghost use Rattle.h3_wire.specs.Known.{Gives, framed, known};
 ghost use Rattle.h3_wire.specs.Pieces.{IsRest, chunk_of, ending, first_of, with_piece};
 ghost use Rattle.h3_wire.specs.Tries.{Counts, Expects};
@@ -209,6 +209,19 @@ impl FrameBytes {
             return false;
         }
         excess::is_excessive_behind(&self.kept, self.passing - self.gone, most)
+    }
+
+    /// Whether the first frame that is no whole unknown one is HEADERS, as far as its type came. Nothing is taken.
+    pub(super) fn begins_section(&self) -> bool
+        ensures { result ≡ begins_section (known (concat self.now.pieces)) }
+    {
+        if self.passing == 0 {
+            return excess::begins_section(&self.kept, 0);
+        }
+        if self.len() < self.passing {
+            return false;
+        }
+        excess::begins_section(&self.kept, self.passing - self.gone)
     }
 
     /// Whether an unknown frame is under way at the front. A frame has to begin there.
