@@ -92,7 +92,8 @@
  *
  * HOW A CALLER GRANTS CREDIT (RFC 9000, section 4.1)
  *
- * What was delivered is kept until it is pulled or read, an unfinished frame or instruction whole, up to unfinished_limit.
+ * What was delivered is kept until it is pulled or read, an unfinished frame or instruction whole, up to unfinished_limit. What comes of a
+ * decoder stream before its side's settings is kept too, and counts as unread: the stream's credit bounds it.
  * Of a frame of an unknown type (RFC 9114, section 9) nothing is kept while it comes.
  * For each stream of the peer's add up `owed`, the bytes that were delivered and for which no credit was granted. Behind each delivery and its pulls:
  *   h3_stream_state s; h3_stream(&e, id, &s); if (owed > s.unread) { grant(id, owed - s.unread); owed = s.unread; }
@@ -126,8 +127,10 @@
  *     content-length says; it goes by what it sent on the stream before the response came.
  *   In a tunnel only DATA comes (section 4.4): at a server behind the head of a CONNECT request, at a client behind a 2xx response to one.
  *   content that you send is as long as your content-length says: a body that passes it, and an end or a trailer before it is reached, is H3_MALFORMED
- *     with H3_BAD_CONTENT_LENGTH. So is a body in a response to HEAD or with status 204 or 304. A server counts where it handed out the request's head
- *     before it sends the response's, and did not give the stream up since. A trailer in a tunnel is H3_BAD_CONNECT.
+ *     with H3_BAD_CONTENT_LENGTH. So is a body in a response to HEAD or with status 204 or 304. A server counts if it pulled the request's head
+ *     before it sends the response's. A trailer in a tunnel is H3_MALFORMED with H3_BAD_CONNECT. So is a trailer after a 2xx response that a server
+ *     sends before it pulled the request's head: the request may be CONNECT, and a trailer would end its client's connection. Pull first.
+ * Send no empty trailer: finish the stream. An empty trailer is correct, but some QPACK decoders refuse it and close the connection.
  * You must check: of a head that is too large, and at a server that answers before it pulls the request's head, that content is as long as it says; and
  * where `strict` is 0 the whole list above. What was handed out of a body stays handed out where the message turns out malformed later: act on a request
  * that must be whole behind its H3_END.
@@ -136,14 +139,14 @@
  *
  *   H3_CONNECTION of a delivery, or an item of kind H3_FAULT_CONNECTION: close the QUIC connection with the application error code that
  *     stands in `detail` or in `number`. Every later call answers H3_CLOSED, H3_CONNECTION or H3_FAULT_CONNECTION with that code.
- *   H3_FAULT_MALFORMED: the message on this stream is none (RFC 9114, section 4.1.2). Send STOP_SENDING with 0x10e (H3_MESSAGE_ERROR), or
- *     at a server where `number` is H3_NO_HEAD with 0x10d (H3_REQUEST_INCOMPLETE), and reset the own half with it (h3_reset, RESET_STREAM),
- *     or send a response with status 400. The connection goes on.
+ *   H3_FAULT_MALFORMED: the message on this stream is malformed (RFC 9114, section 4.1.2). Send STOP_SENDING with 0x10e (H3_MESSAGE_ERROR), at
+ *     a server if `number` is H3_NO_HEAD with 0x10d (H3_REQUEST_INCOMPLETE), and if `number` is H3_TOO_LONG with 0x107 (H3_EXCESSIVE_LOAD), and
+ *     reset the local half with it (h3_reset, RESET_STREAM), or send a response with status 400 (H3_TOO_LONG: 431). The connection goes on.
  *   H3_FAULT_RESET: the peer cut the stream off with the code in `number`. The own half goes on, or is ended by h3_reset.
  *   H3_FAULT_CANCELED: the caller gave the stream up by h3_cancel.
  *   H3_FAULT_MEMORY: nothing is lost: pull again later.
  *   H3_TOO_LARGE_HEAD: a head or trailer above the own max_field_section_size, whose size is `number`, was passed over. A server may answer
- *     431, a client may cancel. One whose frame is above unfinished_limit closes the connection instead.
+ *     431, a client may cancel. One whose frame is above unfinished_limit is H3_FAULT_MALFORMED with H3_TOO_LONG instead.
  *
  * WHAT IS PROVED, TESTED, TRUSTED: see crates/h3_c/README.md. Trusted of the caller: pointers and lengths are right, a handle is used as said
  * above, malloc and realloc align to 16 bytes and belong to one free. */
@@ -200,7 +203,7 @@ enum h3_answer {
   H3_TABLE_LIMIT = 19,       /* `table` is above 2^30 - 1 */
   H3_BLOCKED_LIMIT = 20,     /* `blocked` is above 65535 */
   H3_SETTING = 21,           /* a setting cannot be announced, as one of 2^62 or more; detail: the setting's id */
-  H3_UNFINISHED_LIMIT = 28,  /* `unfinished_limit` is below `max_field_section_size` */
+  H3_UNFINISHED_LIMIT = 28,  /* `unfinished_limit` is neither 0 nor at least 256 and four times max_field_section_size and `table` */
   /* of a list of fields that is handed in: the first field that is refused decides */
   H3_FIELD_NAME = 22,        /* a name is empty, not in lower case, or an unknown one that begins with ':' */
   H3_FIELD_VALUE = 23,       /* a value is not one of its name's grammar */
@@ -241,6 +244,7 @@ static inline const char *h3_answer_text(uint32_t answer) {
 /* Codes of faults that a program may want by name (RFC 9114, section 8.1). */
 #define H3_CODE_NO_ERROR UINT64_C(0x100)
 #define H3_CODE_INTERNAL_ERROR UINT64_C(0x102)
+#define H3_CODE_EXCESSIVE_LOAD UINT64_C(0x107)
 #define H3_CODE_REQUEST_REJECTED UINT64_C(0x10b)
 #define H3_CODE_REQUEST_CANCELLED UINT64_C(0x10c)
 #define H3_CODE_REQUEST_INCOMPLETE UINT64_C(0x10d)
@@ -274,19 +278,19 @@ typedef struct {
                                        * (RFC 9204, section 2.1.1.1). Where the peer lets no stream wait (`blocked` 0 at the peer) it inserts what
                                        * it writes as a literal, and names the entry once the peer told that it came (section 2.1.2); without this
                                        * the table stays empty there */
-  uint64_t unfinished_limit;          /* the greatest length, in bytes, that a frame may say which is kept until it is whole: any known one but DATA.
-                                       * One that says more closes the connection with code 0x107 (H3_EXCESSIVE_LOAD), as soon as its type and
-                                       * length came: on a request stream a pull tells, on the control stream the delivery. A longer instruction
-                                       * of the peer's encoder or decoder stream (RFC 9204, sections 4.3 and 4.4) does the same, as soon as its
-                                       * bytes tell its length. So does more than this of a decoder stream before its side's settings. A field
-                                       * section is such a frame: a limit below max_field_section_size is refused. This library's encoder writes
-                                       * every string in the Huffman code, so its sections may need four times max_field_section_size, and its
-                                       * insertions four times `table`. 2^62 - 1 and more: there is no limit */
+  uint64_t unfinished_limit;          /* the greatest length, in bytes, of a frame that is kept until it is whole: any known one but DATA. It is told
+                                       * as soon as its type and length came. A longer HEADERS frame makes its message malformed (H3_TOO_LONG), and
+                                       * the connection goes on. Any other longer frame closes the connection with code 0x107 (H3_EXCESSIVE_LOAD): on
+                                       * a request stream a pull tells, on the control stream the delivery. So does a longer instruction of the
+                                       * peer's encoder or decoder stream (RFC 9204, sections 4.3 and 4.4).
+                                       * 0, the default: the least limit, which is at least 256 and four times the greater of max_field_section_size
+                                       * and `table`. No peer that keeps to these exceeds it: the Huffman code writes a byte in at most 30 bits.
+                                       * A lower limit is refused. 2^62 - 1 and more, or a least limit of so much: there is no limit */
 } h3_config;
 
 /* A client whose limits are fit for a peer that is not trusted: it takes field sections of at most 65,536 bytes, and has a dynamic table of 4,096
  * bytes, for which 16 streams may wait. It counts acknowledgments, and the table of its own encoder has at most 4,096 bytes and is used
- * economically. A frame or instruction that it keeps until it is whole has at most 65,536 bytes. It is strict. All else is 0.
+ * economically. A frame or instruction that it keeps until it is whole has at most 262,144 bytes (four times 65,536). It is strict. All else is 0.
  * SECURITY.md says what each limit bounds. */
 static inline void h3_config_default(h3_config *config);
 
@@ -457,7 +461,8 @@ static inline const char *h3_kind_text(uint32_t kind) {
   }
 }
 
-/* Why a message is none. Each endpoint tells the first six, in the order in which it judges; those from 6 on are told where `strict` is set. */
+/* Why a message is malformed. Each endpoint tells the first six, in the order in which it judges; those from 6 to 18 are told where `strict` is set,
+ * and H3_TOO_LONG where there is an unfinished_limit. */
 enum h3_malformation {
   H3_BAD_NAME = 0,
   H3_BAD_VALUE = 1, /* where `strict` is set also: white space stands around a value */
@@ -471,13 +476,15 @@ enum h3_malformation {
   H3_CONNECTION_FIELD = 9,      /* a connection-specific field, or a te that is not "trailers" in a request (4.2) */
   H3_BAD_CONTENT_LENGTH = 10,   /* no number, twice, or not with this status (RFC 9110, section 8.6); at a server also: not as long as what came (4.1.2) */
   H3_BAD_PROTOCOL = 11,         /* :protocol without CONNECT, or where who receives it has not announced it (RFC 8441, section 4; RFC 9220, section 3) */
-  H3_BAD_CONNECT = 12,          /* CONNECT without :authority, or plain CONNECT with :scheme or :path (4.4) */
+  H3_BAD_CONNECT = 12,          /* CONNECT without :authority, or plain CONNECT with :scheme or :path (4.4); a trailer that is sent in a tunnel, or
+                                 * after a 2xx response to a request that was not pulled yet */
   H3_MISSING_PSEUDO_FIELD = 13, /* a request without :method, :scheme or :path, a response without :status (4.3.1, 4.3.2) */
   H3_BAD_SCHEME = 14,           /* empty, or does not begin with a letter (RFC 3986, section 3.1) */
   H3_BAD_AUTHORITY = 15,        /* missing, empty, with userinfo; host twice, no authority, or unlike :authority (4.3.1; RFC 9110, section 7.2) */
   H3_BAD_PATH = 16,             /* does not begin with '/' and is not "*" for OPTIONS, or has a fragment (4.3.1) */
   H3_BAD_STATUS = 17,           /* 101 (4.5) */
-  H3_NO_TRAILER_FIELD = 18      /* content-length or host in a trailer (RFC 9110, section 6.5.1) */
+  H3_NO_TRAILER_FIELD = 18,     /* content-length or host in a trailer (RFC 9110, section 6.5.1) */
+  H3_TOO_LONG = 19              /* a HEADERS frame is longer than unfinished_limit (RFC 9114, section 10.5) */
 };
 
 /* The name of a malformation, for a log, and "an unknown malformation" for a number that is none. */
@@ -492,7 +499,7 @@ static inline const char *h3_malformation_text(uint64_t malformation) {
     case H3_BAD_CONNECT: return "H3_BAD_CONNECT"; case H3_MISSING_PSEUDO_FIELD: return "H3_MISSING_PSEUDO_FIELD";
     case H3_BAD_SCHEME: return "H3_BAD_SCHEME"; case H3_BAD_AUTHORITY: return "H3_BAD_AUTHORITY";
     case H3_BAD_PATH: return "H3_BAD_PATH"; case H3_BAD_STATUS: return "H3_BAD_STATUS";
-    case H3_NO_TRAILER_FIELD: return "H3_NO_TRAILER_FIELD";
+    case H3_NO_TRAILER_FIELD: return "H3_NO_TRAILER_FIELD"; case H3_TOO_LONG: return "H3_TOO_LONG";
     default: return "an unknown malformation";
   }
 }
