@@ -16,7 +16,7 @@ LIST = "CONTRIBUTING.md"
 HEADER = "include/h3.h"
 COVERED = ["README.md", "CONTRIBUTING.md", "SECURITY.md", "CHANGELOG.md", "docs/TUTORIAL.md", "docs/C_API.md", "docs/RFC.md", "docs/DIFFERENCES.md", "docs/PERFORMANCE.md",
            "bindings/go/README.md", "bindings/rust/README.md", "examples/c/README.md", "examples/go/README.md", "examples/rust/README.md", HEADER]
-LATER = {"unfinished_limit", "H3_UNFINISHED_LIMIT", "h3_config_default", "h3_malformation", "h3_deliver_lent", "h3_keep", "unread"}
+LATER = {"unfinished_limit", "H3_UNFINISHED_LIMIT", "h3_config_default", "h3_malformation", "h3_deliver_lent", "h3_keep"}
 LONGEST_COMMENT = 100
 FENCE = re.compile(r"^( *)```\w*\n.*?^\1```$", re.M | re.S)
 LEFT_OUT = [FENCE, re.compile(r"<!--.*?-->", re.S), re.compile(r"``[^`]+``|`[^`]*`"), re.compile(r"\]\([^()\s]+\)")]
@@ -64,7 +64,7 @@ def comments(header):
     for it in re.finditer(r"/\*.*?\*/|//[^\n]*", header, re.S):
         line = header[header.rfind("\n", 0, it.start()) + 1 : it.start()]
         before = re.findall(r"\w+(?= = \d+,?\s*$|;\s*$)", line) or re.findall(r"enum (\w+)", line)
-        after = re.match(r"(?:static inline [\w ]+?\*?|enum |typedef struct \{.*?\} )(\w+)", header[it.end() :].lstrip(), re.S)
+        after = re.match(r"(?:static inline [\w ]+?\*?(?=\w+\()|enum |typedef struct \{.*?\} )(\w+)", header[it.end() :].lstrip(), re.S)
         yield it, before[-1] if before else after[1] if after else ""
 
 
