@@ -177,8 +177,8 @@
  *   A trailer section in a tunnel is not sent: H3_MALFORMED with H3_BAD_CONNECT. So is a trailer
  *     section after a 2xx response that a server sends before it pulled the request's header
  *     section: the request may be CONNECT, and the trailer would close the client's connection.
- * Send no empty trailer section: finish the stream. An empty one is correct, but some QPACK decoders
- * refuse it and close the connection.
+ * Send no empty trailer section: finish the stream. An empty one is correct, but some QPACK
+ * decoders refuse it and close the connection.
  * You must check: that content is as long as was said in a message whose header section is too
  * large, and at a server that answers before it pulls; and without `strict` the whole list above.
  * What was delivered of a body stays delivered if the message turns out to be malformed later: if a
@@ -672,8 +672,8 @@ typedef struct {
   uint64_t unread;       /* bytes that were delivered and are still held: not yet pulled or read. On
                             a canceled or reset stream only what H3_KEPT took counts, until it is
                             read. 0 once the connection has a fault. It is 0 while a frame of an
-                            unknown type comes that is next on the stream; with its last byte the frame counts whole, until the next pull
-                            skips it */
+                            unknown type comes that is next on the stream; with its last byte the
+                            frame counts whole, until the next pull skips it */
   uint32_t has_outgoing; /* 1 if something can be sent: a local unidirectional stream, or a request
                             stream that was opened */
   uint32_t is_finished;  /* 1 if its message was finished */
