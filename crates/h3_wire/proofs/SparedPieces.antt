@@ -18,7 +18,7 @@ use Rattle.h3_wire.specs.PieceLaws.{concat-without, rest_is, rest_same, rest_the
 use Rattle.h3_wire.specs.Pieces.{without, with_piece, first_of, IsRest, ending}
 use Rattle.h3_wire.specs.Tries.{Decoding, Counts, Expects, no_try, finds_less, passes, needed, counted}
 use Rattle.h3_wire.proofs.Tries.{too_few, expects_next}
-use Rattle.h3_wire.specs.UnknownSize.{unknown_size, Sparing, AreLetGo, is_longer, is_under_way}
+use Rattle.h3_wire.specs.UnknownSize.{unknown_size, Sparing, AreLetGo, IsSpared, is_longer, is_under_way}
 use Rattle.h3_wire.specs.UnreadFrames.{UnreadFrames, IsStillUnderWay, IsPassed}
 use Rattle.h3_wire.proofs.LettingGo.{unknown_more, unknown_waits, unknown_whole, unknown_has_head}
 
@@ -97,18 +97,19 @@ pub longer_of : (bytes : List ℕ) (len : ℕ) (size : Option ℕ) → len ≡ l
 longer_of bytes len size e is = ap (λ n. is_longer n size) e ∙ ap (is_longer (length bytes)) (sym is)
 
 -- Fewer bytes are there than a try needs.
-pub still_untried : (old new : UnreadFrames) → Expects old.decoder (concat old.pieces) → length (concat old.pieces) < needed old.decoder → new.pieces ≡ old.pieces → new.decoder ≡ old.decoder → IsStillUnderWay old new
-still_untried old new h few same decoder =
+pub still_untried : (old new : UnreadFrames) → Expects old.decoder (concat old.pieces) → length (concat old.pieces) < needed old.decoder → new.pieces ≡ old.pieces → 0 < new.passing → new.decoder ≡ old.decoder → IsStillUnderWay old new
+still_untried old new h few same passing decoder =
     let waits = too_few old.decoder.expected old.decoder.tries (concat old.pieces) h few in
-    record { pieces = same; gives = (sym waits.0, waits.1); counts = no_try old.decoder new.decoder (concat old.pieces) few decoder }
+    record { pieces = same; passing = passing; gives = (sym waits.0, waits.1); counts = no_try old.decoder new.decoder (concat old.pieces) few decoder }
 
 -- A try finds less than the frame.
 pub still_tried : (old new : UnreadFrames) (size : ℕ) → needed old.decoder ≤ length (concat old.pieces) → unknown_size (concat old.pieces) ≡ Some size → length (concat old.pieces) < size → new.pieces ≡ old.pieces
-    → new.decoder ≡ counted old.decoder (Some size) → IsStillUnderWay old new
-still_tried old new size enough is few same decoder =
+    → 0 < new.passing → new.decoder ≡ counted old.decoder (Some size) → IsStillUnderWay old new
+still_tried old new size enough is few same passing decoder =
     let here = unknown_waits (concat old.pieces) size is few in
     record {
       pieces = same;
+      passing = passing;
       gives = (sym (known-other (concat old.pieces) (subst IsKnown (sym here) tt)), subst IsWaiting (sym here) tt);
       counts = finds_less old.decoder new.decoder (concat old.pieces) size enough here decoder;
     }
@@ -164,7 +165,13 @@ rest_fits front old new most r fits =
     let fewer : length (concat new) ≡ length (concat old) - r.0 = ap length (ap concat r.2 ∙ concat-without r.0 old) ∙ length-drop r.0 (concat old) in
     omega (arith, fewer, size_of_both front old, size_of_both front new, fits)
 
--- with nothing in front all is kept
+-- with nothing in front none is under way, and all is kept
+pub none_spared : (passing gone : ℕ) (kept : List (List ℕ)) → passing ≡ 0 → IsSpared passing gone kept
+none_spared passing gone kept e some = absurd (omega (arith, e, some))
+
+pub none_gone : (passing gone : ℕ) (front : List (List ℕ)) → AreLetGo passing gone front → passing ≡ 0 → gone ≡ 0
+none_gone passing gone front h e = h.gone_is ∙ ap (λ f. length (concat f)) (h.none e)
+
 pub none_in_front : (passing gone : ℕ) (front pieces : List (List ℕ)) → AreLetGo passing gone front → passing ≡ 0 → concat pieces ≡ concat (front ++ pieces)
 none_in_front passing gone front pieces h e = ap (λ f. concat (f ++ pieces)) (sym (h.none e))
 
