@@ -1,9 +1,10 @@
 -- Pieces in front of a buffer that were let go.
-use Rattle.std.proofs.Common.{◌≡◌, ℕ, zero, suc, ◌+◌, ◌-◌, ◌<◌, ◌≤◌, List, [], ◌∷◌, ◌++◌, length, drop, arith, refl, sym, subst, ◌∙◌, ap, length-append, append_assoc, append-nil, if◌then◌else◌, OnOk, OnErr, Option, Some, None, Result, Ok, Err}
+use Rattle.std.proofs.Common.{◌≡◌, true, false, ℕ, zero, suc, ◌+◌, ◌-◌, ◌<◌, ◌≤◌, List, [], ◌∷◌, ◌++◌, length, drop, arith, refl, sym, subst, ◌∙◌, ap, length-append, append_assoc, append-nil, if◌then◌else◌, OnOk, OnErr, Option, Some, None, Result, Ok, Err}
 use Rattle.std.specs.List.{concat}
 use Rattle.std.proofs.lemmas.Bool.{le-ltb}
 use Rattle.std.proofs.lemmas.List.{length-drop}
 use Rattle.std.proofs.lemmas.List.Folds.{concat-append}
+use Rattle.h3_coding.specs.VarintLaws.{none_at_end}
 use Rattle.h3_wire.specs.declared.proto.frame.PayloadLen.{PayloadLen}
 use Rattle.h3_wire.specs.declared.proto.frame.Frame.{Frame}
 use Rattle.h3_wire.specs.declared.frame.errors.FrameStreamError.{FrameStreamError}
@@ -18,7 +19,7 @@ use Rattle.h3_wire.specs.PieceLaws.{concat-without, rest_is, rest_same, rest_the
 use Rattle.h3_wire.specs.Pieces.{without, with_piece, first_of, IsRest, ending}
 use Rattle.h3_wire.specs.Tries.{Decoding, Counts, Expects, no_try, finds_less, passes, needed, counted}
 use Rattle.h3_wire.proofs.Tries.{too_few, expects_next}
-use Rattle.h3_wire.specs.UnknownSize.{unknown_size, Sparing, AreLetGo, IsSpared, is_longer, is_under_way}
+use Rattle.h3_wire.specs.UnknownSize.{unknown_size, size_by, Sparing, AreLetGo, IsSpared, is_longer, is_under_way}
 use Rattle.h3_wire.specs.UnreadFrames.{UnreadFrames, IsStillUnderWay, IsPassed}
 use Rattle.h3_wire.proofs.LettingGo.{unknown_more, unknown_waits, unknown_whole, unknown_has_head}
 
@@ -168,6 +169,11 @@ rest_fits front old new most r fits =
 -- with nothing in front none is under way, and all is kept
 pub none_spared : (passing gone : ℕ) (kept : List (List ℕ)) → passing ≡ 0 → IsSpared passing gone kept
 none_spared passing gone kept e some = absurd (omega (arith, e, some))
+
+pub not_empty : (bytes : List ℕ) → length bytes ≡ 0 → is_under_way bytes ≡ true → ⊥
+unfolding unknown_size
+not_empty [] e h = let wrong : false ≡ true = sym (ap (λ o. is_longer 0 (size_by 0 o)) none_at_end) ∙ h in cc
+not_empty (b ∷ bytes) e h = omega (arith, e)
 
 pub none_gone : (passing gone : ℕ) (front : List (List ℕ)) → AreLetGo passing gone front → passing ≡ 0 → gone ≡ 0
 none_gone passing gone front h e = h.gone_is ∙ ap (λ f. length (concat f)) (h.none e)

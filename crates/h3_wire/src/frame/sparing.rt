@@ -239,10 +239,11 @@ fn release(kept: &mut BufList<Bytes>, let_go: &mut LetGo, gone: &mut usize, pass
     ensures spared { IsSpared passing gone.new kept.new.pieces }
 {
     let len = kept.remaining();
-    if *gone + len < passing {
-        *gone += len;
-        let_all_go(kept, let_go);
+    if *gone + len >= passing {
+        return;
     }
+    *gone += len;
+    let_all_go(kept, let_go);
 }
 
 // Lets go of all pieces.

@@ -1,6 +1,5 @@
-use Rattle.std.proofs.Common.{◌≡◌, ◌++◌, ◌-◌, ◌<◌, ◌≤◌, Some, length, drop, arith, ap, inl, inr, sym, subst, ◌∙◌}
+use Rattle.std.proofs.Common.{◌≡◌, ◌++◌, ◌<◌, ◌≤◌, Some, length, arith, ap, sym, subst, ◌∙◌}
 use Rattle.std.specs.List.{concat}
-use Rattle.std.proofs.lemmas.Bool.{cases_lt}
 use Rattle.h3_wire.specs.ExcessiveFrames.{begins_section}
 use Rattle.h3_wire.specs.Known.{known}
 use Rattle.h3_wire.specs.UnknownSize.{Sparing, unknown_size}
