@@ -16,7 +16,7 @@ use Rattle.h3_messages.specs.declared.content.Content.{Content}
 use Rattle.h3_messages.specs.declared.content.Content.TheVariants.{Unsaid, Exactly, NoContent, Tunnel, Exceeded}
 use Rattle.h3_proto.specs.declared.stream.Side.{Side}
 use Rattle.h3_proto.specs.declared.stream.Side.TheVariants.{Client, Server}
-use Rattle.h3_wire.specs.ExcessiveFrames.{is_excessive}
+use Rattle.h3_wire.specs.ExcessiveFrames.{begins_section, is_excessive}
 use Rattle.h3_wire.specs.Frames.{Front, Whole, Unknown, Refused, Unfinished, frame_at}
 use Rattle.h3_wire.specs.Pieces.{chunk_of}
 use Rattle.h3_wire.specs.declared.proto.frame.PayloadLen.{PayloadLen}
@@ -311,6 +311,15 @@ module _ (all n : ℕ) where
     not_some : (k : ℕ) → nat_lt 0 k ≡ false → k ≡ 0
     not_some k e = grind (arith, common_steps, e)
 
+    excess_fine : (i : Incoming) (bytes : List ℕ) → i.body_left ≡ 0 → Going all n i → Fine (excess id i bytes)
+    excess_fine i bytes closed g =
+        either (begins_section bytes) (malformed id malformation.TooLong i []) (connection_fault 0x107 (record i { unread = [] }))
+        (gives_up id malformation.TooLong i [] g.place g.not_over (at_most i g))
+        (record {
+          whole = tt;
+          after = leaf (record i { unread = [] }) closed (record { no_fault = g.no_fault; not_over = g.not_over; place = g.place; more = g.more; content = g.content; sum = g.sum });
+        })
+
     message_fine : (i : Incoming) (section : Option (List ℕ)) → i.section ≡ section → (is_some i.section ≡ true → i.body_left ≡ 0) → Going all n i → Fine (in_message side own id r i section)
     message_fine i (Some bytes) is apart g = at_fine i bytes (apart (ap is_some is)) g
     message_fine i None is apart g = by_left (nat_lt 0 i.body_left) refl
@@ -321,11 +330,7 @@ module _ (all n : ℕ) where
         by_left : (b : Bool) → nat_lt 0 i.body_left ≡ b → Fine (if b then at_payload id i else between_frames side own id r i)
         by_left true left = content_fine id i is g
         by_left false left =
-            either (is_excessive own.choices.unfinished_limit bytes) (excess i) (next_frame side own id r (left_with i bytes) bytes)
-            (record {
-              whole = tt;
-              after = leaf (record i { unread = [] }) (not_some i.body_left left) (record { no_fault = g.no_fault; not_over = g.not_over; place = g.place; more = g.more; content = g.content; sum = g.sum });
-            })
+            either (is_excessive own.choices.unfinished_limit bytes) (excess id i bytes) (next_frame side own id r (left_with i bytes) bytes) (excess_fine i bytes (not_some i.body_left left) g)
             (next_fine (left_with i bytes) bytes is (not_some i.body_left left) (record { no_fault = g.no_fault; not_over = g.not_over; place = g.place; more = g.more; content = g.content; sum = g.sum }))
 
     item_fine : (i : Incoming) (place : Place) → is_behind_head place ≡ true → (is_some i.section ≡ true → i.body_left ≡ 0) → Going all n i → Fine (next_item side own id r i place)

@@ -17,7 +17,7 @@ use Rattle.h3_messages.specs.declared.content.Content.{Content}
 use Rattle.h3_messages.specs.declared.content.Content.TheVariants.{NoContent, Exceeded}
 use Rattle.h3_proto.specs.declared.stream.Side.{Side}
 use Rattle.h3_proto.specs.declared.stream.Side.TheVariants.{Client}
-use Rattle.h3_wire.specs.ExcessiveFrames.{is_excessive}
+use Rattle.h3_wire.specs.ExcessiveFrames.{begins_section, is_excessive}
 use Rattle.h3_wire.specs.Frames.{Front, Whole, Unknown, Refused, Unfinished, frame_at}
 use Rattle.h3_wire.specs.Pieces.{chunk_of, ending}
 use Rattle.h3_wire.specs.declared.proto.frame.PayloadLen.{PayloadLen}
@@ -232,13 +232,17 @@ module _ (own : Announced) (id : ℕ) (r : DecoderState) where
   next_fine i [] e = either i.ended _ _ (at_end_fine i i.place e) (leaf _ i [] tt e)
   next_fine i (byte ∷ bytes) e = framed_fine i (frame_at (byte ∷ bytes)) e
 
+  excess_fine : (i : Incoming) (bytes : List ℕ) → IsEmpty i → Fine (excess id i bytes)
+  excess_fine i bytes e =
+      either (begins_section bytes) (malformed id malformation.TooLong i []) (connection_fault 0x107 (record i { unread = [] })) (gives_up id malformation.TooLong i [])
+      (leaf _ (record i { unread = [] }) [] tt (record { content = e.content; none = e.none; place = e.place }))
+
   message_fine : (i : Incoming) (section : Option (List ℕ)) → IsEmpty i → Fine (in_message Client own id r i section)
   message_fine i (Some bytes) e = at_fine i bytes e
   message_fine i None e =
       let bytes = skipped (is_body i.place) (concat i.unread) in
       either (nat_lt 0 i.body_left) (at_payload id i) (between_frames Client own id r i) (content_fine id i e)
-      (either (is_excessive own.choices.unfinished_limit bytes) (excess i) (next_frame Client own id r (left_with i bytes) bytes)
-      (leaf _ (record i { unread = [] }) [] tt (record { content = e.content; none = e.none; place = e.place }))
+      (either (is_excessive own.choices.unfinished_limit bytes) (excess id i bytes) (next_frame Client own id r (left_with i bytes) bytes) (excess_fine i bytes e)
       (next_fine (left_with i bytes) bytes (record { content = e.content; none = e.none; place = e.place })))
 
   item_fine : (i : Incoming) (place : Place) → is_message place ≡ true → IsEmpty i → Fine (next_item Client own id r i place)

@@ -11,7 +11,7 @@ use Rattle.h3_header.specs.Head.{Head, has_pseudo}
 use Rattle.h3_header.specs.HeadRead.{HeadRead, IsHead, IsNone, head_of}
 use Rattle.h3_proto.specs.declared.stream.Side.{Side}
 use Rattle.h3_proto.specs.declared.stream.Side.TheVariants.{Client, Server}
-use Rattle.h3_wire.specs.ExcessiveFrames.{is_excessive}
+use Rattle.h3_wire.specs.ExcessiveFrames.{begins_section, is_excessive}
 use Rattle.h3_wire.specs.Frames.{Front, Whole, Unknown, Refused, Unfinished, frame_at}
 use Rattle.h3_wire.specs.Pieces.{chunk_of, first_of, ending}
 use Rattle.h3_wire.specs.declared.proto.frame.PayloadLen.{PayloadLen}
@@ -176,13 +176,18 @@ module _ (side : Side) (own : Announced) (id : ℕ) (r : DecoderState) where
   next_good i [] h = either i.ended _ _ (end_good i i.place h) (good _ h)
   next_good i (byte ∷ bytes) h = framed_good i (frame_at (byte ∷ bytes)) h
 
+  excess_good : (i : Incoming) (bytes : List ℕ) → Ready i → Good (excess id i bytes)
+  excess_good i bytes h =
+      either (begins_section bytes) (malformed id malformation.TooLong i []) (connection_fault 0x107 (record i { unread = [] }))
+      (gives_up id malformation.TooLong i [] h) (faulty 0x107 (record i { unread = [] }) h.tries)
+
   message_good : (i : Incoming) (section : Option (List ℕ)) → Ready i → Good (in_message side own id r i section)
   message_good i (Some bytes) h = at_good i bytes h
   message_good i None h =
       let bytes = skipped (is_body i.place) (concat i.unread) in
       let j = record i { unread = ending (length bytes) i.unread } in
       either (nat_lt 0 i.body_left) _ _ (content_good id i h)
-      (either (is_excessive own.choices.unfinished_limit bytes) (excess i) (next_frame side own id r j bytes) (faulty _ (record i { unread = [] }) h.tries) (next_good j bytes (ready_as i j (refl, refl) h)))
+      (either (is_excessive own.choices.unfinished_limit bytes) (excess id i bytes) (next_frame side own id r j bytes) (excess_good i bytes h) (next_good j bytes (ready_as i j (refl, refl) h)))
 
   item_good : (i : Incoming) (place : Place) → Ready i → Good (next_item side own id r i place)
   item_good i InSession h = raw_good i (first_of i.unread) h

@@ -12,7 +12,7 @@ use Rattle.h3_header.specs.Head.{Head, has_pseudo}
 use Rattle.h3_header.specs.HeadRead.{HeadRead, IsHead, IsNone, head_of}
 use Rattle.h3_proto.specs.declared.stream.Side.{Side}
 use Rattle.h3_proto.specs.declared.stream.Side.TheVariants.{Client, Server}
-use Rattle.h3_wire.specs.ExcessiveFrames.{is_excessive}
+use Rattle.h3_wire.specs.ExcessiveFrames.{begins_section, is_excessive}
 use Rattle.h3_wire.specs.Frames.{Front, Whole, Unknown, Refused, Unfinished, frame_at}
 use Rattle.h3_wire.specs.Pieces.{chunk_of, first_of, with_piece, without, ending}
 use Rattle.std.proofs.lemmas.List.Folds.{concat-append}
@@ -328,13 +328,19 @@ module _ (size : ℕ) (side : Side) (own : Announced) (id : ℕ) (r : DecoderSta
   next_alike i u [] full message none g = either size i.ended _ _ _ _ (end_alike i u i.place) (leaf size _ i u [] refl g.cuts)
   next_alike i u (byte ∷ bytes) full message none g = framed_alike i u (frame_at (byte ∷ bytes)) full message none g
 
+  excess_alike : (i : Incoming) (u : List (List ℕ)) (bytes : List ℕ) → Pulls size (excess id i bytes) (excess id (with_pieces i u) bytes)
+  excess_alike i u bytes =
+      either size (begins_section bytes) (malformed id malformation.TooLong i []) (connection_fault 0x107 (record i { unread = [] }))
+      (malformed id malformation.TooLong (with_pieces i u) []) (connection_fault 0x107 (record i { unread = [] }))
+      (gives_up size id malformation.TooLong i u []) (emptied size (connection_fault 0x107 (record i { unread = [] })) refl tt)
+
   between_alike : (i : Incoming) (u : List (List ℕ)) → i.place ≢ InSession → i.section ≡ None → Goes size i u → Pulls size (between_frames side own id r i) (between_frames side own id r (with_pieces i u))
   between_alike i u message none g =
       let bytes = skipped (is_body i.place) (concat i.unread) in
       subst (λ l. Pulls size (between_frames side own id r i)
-      (if is_excessive own.choices.unfinished_limit (skipped (is_body i.place) l) then excess (with_pieces i u)
+      (if is_excessive own.choices.unfinished_limit (skipped (is_body i.place) l) then excess id (with_pieces i u) (skipped (is_body i.place) l)
       else next_frame side own id r (left_with (with_pieces i u) (skipped (is_body i.place) l)) (skipped (is_body i.place) l))) (sym g.cuts.bytes)
-      (either size (is_excessive own.choices.unfinished_limit bytes) (excess i) _ (excess (with_pieces i u)) _ (leaf size _ (record i { unread = [] }) [] [] refl (record { bytes = refl; first = tt; second = tt }))
+      (either size (is_excessive own.choices.unfinished_limit bytes) (excess id i bytes) _ (excess id (with_pieces i u) bytes) _ (excess_alike i u bytes)
       (next_alike (left_with i bytes) (ending (length bytes) u) bytes (λ f rest e. found_not_empty (is_body i.place) (concat i.unread) rest f e) message none (goes_ending i u (length bytes) g)))
 
   message_alike : (i : Incoming) (u : List (List ℕ)) (section : Option (List ℕ)) → i.section ≡ section → i.place ≢ InSession → Goes size i u → Pulls size (in_message side own id r i section) (in_message side own id r (with_pieces i u) section)

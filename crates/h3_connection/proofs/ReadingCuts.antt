@@ -1,9 +1,7 @@
 -- However the bytes of the control, encoder and decoder streams are cut, they are read alike.
-use Rattle.std.proofs.Common.{◌≡◌, ℕ, ◌+◌, ◌-◌, Bool, true, false, ◌&&◌, if◌then◌else◌, nat_lt, List, [], ◌++◌, length, length-append, inl, inr, refl, ap, sym, ◌∙◌, subst, arith, append_assoc, Option, Some, None}
-use Rattle.std.proofs.lemmas.Bool.{and_parts, cases_lt, lt-ltb, le-ltb}
+use Rattle.std.proofs.Common.{◌≡◌, ℕ, ◌+◌, ◌-◌, Bool, true, false, if◌then◌else◌, List, [], ◌++◌, refl, ap, sym, ◌∙◌, subst, arith, append_assoc, Option, Some, None}
 use Rattle.std.specs.Prelude.{is_some}
 use Rattle.h3_field.specs.Waiting.{encoder_wait, decoder_wait}
-use Rattle.h3_proto.specs.Config.{is_limit}
 use Rattle.h3_qpack.specs.EncoderHistory.{EncoderHistory}
 use Rattle.h3_qpack.specs.Hearing.{Heard, Listened}
 use Rattle.h3_connection.specs.Codes.{encoder_stream_error, decoder_stream_error, excessive_load}
@@ -11,10 +9,10 @@ use Rattle.h3_connection.specs.declared.setup.Announced.{Announced}
 use Rattle.h3_connection.specs.Endpoint.{EndpointHistory, limit_of, replied}
 use Rattle.h3_connection.specs.PeerReading.{Peer, PeerFound, with_unread, read_peer}
 use Rattle.h3_connection.proofs.PeerReadings.{then_peer, peer_more, settings_stay}
-use Rattle.h3_connection.specs.Listeners.{fault_if, heard_more, hearing_fault, listening_fault, keeping_fault, after_hearing, insertions_heard}
+use Rattle.h3_connection.specs.Listeners.{fault_if, heard_more, hearing_fault, listening_fault, after_hearing, insertions_heard}
 use Rattle.h3_connection.specs.ExcessiveInstructions.{exceeds, hear_up_to, listen_up_to, heard_up_to_with, listened_up_to_with}
 use Rattle.h3_connection.specs.LimitedHearingLaws.{hear_cut, hears_no_longer}
-use Rattle.h3_connection.specs.LimitedListeningLaws.{listen_cut, listens_no_longer, listens_nothing, keeps_nothing}
+use Rattle.h3_connection.specs.LimitedListeningLaws.{listen_cut, listens_no_longer, listens_nothing}
 use Rattle.h3_connection.specs.Control.{Found, increment, read_encoder, listened_to, kept_unread, read_decoder, with_table, learned, if_learned, then_decoder, after_peer, read_control}
 use Rattle.h3_connection.specs.DeliveryCuts.{IsSame, with_replies, DiffersInIncrements}
 use Rattle.h3_connection.proofs.Quiet.{quiet_control}
@@ -243,32 +241,21 @@ bad_listened most l b false code is e =
     let still = decoder_exceeds_more most l.left b longer.0 in
     ap (listening_fault most) (listens_no_longer most l.encoder (l.left ++ b) still) ∙ ap (λ x. fault_if x excessive_load) still ∙ longer.1
 
--- or more bytes before the settings than the limit
-kept_longer : (most : ℕ) (unread more : List ℕ) (code : ℕ) → keeping_fault most unread ≡ Some code → keeping_fault most (unread ++ more) ≡ Some code
-kept_longer most unread more code e =
-    let longer = longer_or (is_limit most && nat_lt most (length unread)) excessive_load code e in
-    let said = and_parts (is_limit most) (nat_lt most (length unread)) longer.0 in
-    let still : nat_lt most (length (unread ++ more)) ≡ true =
-    elim (cases_lt most (length unread)) [
-      | inl above ↦ lt-ltb most (length (unread ++ more)) (omega (arith, above, length-append unread more))
-      | inr small ↦ let not = le-ltb most (length unread) small in let wrong : true ≡ false = sym said.1 ∙ not in absurd (cc)
-    ] in
-    ap (λ b. fault_if (b && nat_lt most (length (unread ++ more))) excessive_load) said.0 ∙ ap (λ b. fault_if b excessive_load) still ∙ longer.1
-
+-- and bytes that are kept are none
 bad_read : (came : Bool) (g : EndpointHistory) (a b : List ℕ) (code : ℕ) → (read_if came g a).1 ≡ Some code → (read_if came g (a ++ b)).1 ≡ Some code
 bad_read true g a b code e =
     let most = limit_of g in
     let l = listen_up_to most g.encoder (g.decoder_unread ++ a) in
     ap (listening_fault most) (ap (listen_up_to most g.encoder) (sym (append_assoc g.decoder_unread a b)) ∙ listen_cut most g.encoder (g.decoder_unread ++ a) b) ∙ bad_listened most l b l.is_bad code refl e
-bad_read false g a b code e = ap (keeping_fault (limit_of g)) (sym (append_assoc g.decoder_unread a b)) ∙ kept_longer (limit_of g) (g.decoder_unread ++ a) b code e
+bad_read false g a b code e = let wrong : None ≡ Some code = e in absurd (cc)
 
 pub decoder_fault : (g : EndpointHistory) (a b : List ℕ) (code : ℕ) → (read_decoder g a).1 ≡ Some code → (read_decoder g (a ++ b)).1 ≡ Some code
 decoder_fault g a b code e = bad_read (is_some g.peer.settings) g a b code e
 
--- with no bytes of the decoder stream none are bad, or too many
+-- with no bytes of the decoder stream none are bad
 reads_none : (came : Bool) (e : EndpointHistory) → e.decoder_unread ≡ [] → (read_if came e []).1 ≡ None
 reads_none true e empty = ap (λ l. listening_fault (limit_of e) (listen_up_to (limit_of e) e.encoder (l ++ []))) empty ∙ ap (listening_fault (limit_of e)) (listens_nothing (limit_of e) e.encoder)
-reads_none false e empty = ap (λ l. keeping_fault (limit_of e) (l ++ [])) empty ∙ keeps_nothing (limit_of e)
+reads_none false e empty = refl
 
 fault_found : (g : EndpointHistory) (b left : List ℕ) (x : PeerFound) (code : ℕ) → (g.peer.settings ≡ None → g.decoder_unread ≡ []) → ((pairs : List (ℕ × ℕ)) → g.peer.settings ≡ Some pairs → x.0.settings ≡ Some pairs)
     → (after_peer g x).1 ≡ Some code → (after_peer g (then_peer (limit_of g) g.side b left x)).1 ≡ Some code

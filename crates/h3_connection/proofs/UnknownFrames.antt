@@ -109,9 +109,9 @@ module _ (side : Side) (own : Announced) (id : ℕ) (r : DecoderState) where
       let bytes = skipped (is_body i.place) rest in
       let same : skipped (is_body i.place) (concat i.unread) ≡ bytes = skipped_known (is_body i.place) (concat i.unread) rest (unknown_left_out (concat i.unread) rest b) in
       let few : length rest ≤ length (concat i.unread) = omega (arith, unknown_before (concat i.unread) rest b) in
-      ap (λ l. if is_excessive own.choices.unfinished_limit l then excess i else next_frame side own id r (left_with i l) l) same
-      ∙ ap (λ j. if is_excessive own.choices.unfinished_limit bytes then excess i else next_frame side own id r j bytes) (sym (left_left i rest bytes (skipped-length (is_body i.place) rest) few))
-      ∙ ap (λ l. if is_excessive own.choices.unfinished_limit l then excess i else next_frame side own id r (left_with (left_with i rest) l) l) (sym (ap (skipped (is_body i.place)) there))
+      ap (λ l. if is_excessive own.choices.unfinished_limit l then excess id i l else next_frame side own id r (left_with i l) l) same
+      ∙ ap (λ j. if is_excessive own.choices.unfinished_limit bytes then excess id i bytes else next_frame side own id r j bytes) (sym (left_left i rest bytes (skipped-length (is_body i.place) rest) few))
+      ∙ ap (λ l. if is_excessive own.choices.unfinished_limit l then excess id i l else next_frame side own id r (left_with (left_with i rest) l) l) (sym (ap (skipped (is_body i.place)) there))
 
   pub by_place : (i : Incoming) (place : Place) → place ≢ InSession → next_item side own id r i place ≡ in_message side own id r i i.section
   by_place i BeforeHead h = refl

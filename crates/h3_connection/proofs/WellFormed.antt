@@ -12,7 +12,7 @@ use Rattle.h3_messages.specs.Messages.{violation_of_trailer}
 use Rattle.h3_messages.specs.declared.violation.Violation.{Violation}
 use Rattle.h3_proto.specs.declared.stream.Side.{Side}
 use Rattle.h3_proto.specs.declared.stream.Side.TheVariants.{Client, Server}
-use Rattle.h3_wire.specs.ExcessiveFrames.{is_excessive}
+use Rattle.h3_wire.specs.ExcessiveFrames.{begins_section, is_excessive}
 use Rattle.h3_wire.specs.Frames.{Front, Whole, Unknown, Refused, Unfinished, frame_at}
 use Rattle.h3_wire.specs.Pieces.{chunk_of, first_of, ending}
 use Rattle.h3_wire.specs.declared.proto.frame.PayloadLen.{PayloadLen}
@@ -154,13 +154,16 @@ module _ (side : Side) (own : Announced) (strict : own.choices.strict_messages �
   next_well i [] = either i.ended (at_end side own id r i i.place) (just pull.Pending i) (end_well i i.place) tt
   next_well i (byte ∷ bytes) = framed_well i (frame_at (byte ∷ bytes))
 
+  excess_well : (i : Incoming) (bytes : List ℕ) → Well (excess id i bytes)
+  excess_well i bytes = either (begins_section bytes) (malformed id malformation.TooLong i []) (connection_fault 0x107 (record i { unread = [] })) tt tt
+
   message_well : (i : Incoming) (section : Option (List ℕ)) → Well (in_message side own id r i section)
   message_well i (Some bytes) = at_well i bytes
   message_well i None =
       let bytes = skipped (is_body i.place) (concat i.unread) in
       let j = record i { unread = ending (length bytes) i.unread } in
       either (nat_lt 0 i.body_left) (at_payload id i) (between_frames side own id r i) (content_well i)
-      (either (is_excessive own.choices.unfinished_limit bytes) (excess i) (next_frame side own id r j bytes) tt (next_well j bytes))
+      (either (is_excessive own.choices.unfinished_limit bytes) (excess id i bytes) (next_frame side own id r j bytes) (excess_well i bytes) (next_well j bytes))
 
   item_well : (i : Incoming) (place : Place) → Well (next_item side own id r i place)
   item_well i InSession = raw_well i (first_of i.unread)

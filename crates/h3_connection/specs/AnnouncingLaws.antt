@@ -1,8 +1,11 @@
 -- What an endpoint announces where no setup is refused.
-use Rattle.std.proofs.Common.{◌≡◌, ℕ, ◌^◌, Bool, true, false, if◌then◌else◌, List, refl, sym, ap, ◌∙◌, subst, nat_le, nat_lt, Result, Ok, Err}
+use Rattle.std.proofs.Common.{◌≡◌, ℕ, ◌^◌, ◌*◌, ◌≤◌, Bool, true, false, ◌&&◌, if◌then◌else◌, List, refl, sym, ap, ◌∙◌, subst, arith, inl, inr, nat_le, nat_lt, Result, Ok, Err}
+use Rattle.std.proofs.lemmas.Bool.{cases_lt, lt-ltb}
+use Rattle.h3_proto.specs.Config.{is_limit}
 use Rattle.h3_proto.specs.declared.config.Choices.{Choices}
 use Rattle.h3_proto.specs.declared.frame.SettingsError.{SettingsError}
-use Rattle.h3_connection.specs.Announcing.{IsAnnounced, announced_by, announcing, is_below_announced, unless_below, with_limits}
+use Rattle.h3_qpack.specs.InstructionSizes.{most_instruction}
+use Rattle.h3_connection.specs.Announcing.{IsAnnounced, announced_by, announcing, is_below_announced, least_limit, section_of, unless_below, with_limits}
 use Rattle.h3_connection.specs.declared.setup.Announced.{Announced}
 use Rattle.h3_connection.specs.declared.setup.Limits.{Limits}
 use Rattle.h3_connection.specs.declared.setup.NewError.{NewError}
@@ -37,3 +40,14 @@ announces settings limits choices pairs is table blocked within =
     ∙ ap (λ b. if b then Err BlockedLimit else with_limits settings limits choices) blocked
     ∙ ap (λ r. with_limits r limits choices) is
     ∙ ap (λ b. if b then Err UnfinishedLimit else Ok (announcing pairs limits choices)) within
+
+-- **A limit takes whatever a peer sends that keeps to what is announced**: a list of the greatest size and an instruction for the whole table in up to
+-- four bytes for each of their bytes, and whatever has 256 bytes.
+pub limit_takes_announced : (a : Announced) → is_limit a.choices.unfinished_limit ≡ true → is_below_announced a ≡ false
+    → (4 * section_of a ≤ a.choices.unfinished_limit) × (most_instruction a.limits.table ≤ a.choices.unfinished_limit) × (256 ≤ a.choices.unfinished_limit)
+limit_takes_announced a limited within = elim (cases_lt a.choices.unfinished_limit (least_limit a)) [
+  | inl below ↦
+      let is : is_below_announced a ≡ true = ap (λ b. b && nat_lt a.choices.unfinished_limit (least_limit a)) limited ∙ lt-ltb a.choices.unfinished_limit (least_limit a) below in
+      absurd (let never : true ≡ false = sym is ∙ within in cc)
+  | inr enough ↦ (omega (arith, enough), omega (arith, enough), omega (arith, enough))
+]

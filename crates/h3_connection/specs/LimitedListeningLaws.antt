@@ -1,6 +1,5 @@
 -- The peer's decoder stream, where instructions are taken up to a limit.
-use Rattle.std.proofs.Common.{◌≡◌, ℕ, zero, suc, ◌≤◌, ◌<◌, Bool, true, false, nat_lt, if◌then◌else◌, List, [], ◌∷◌, ◌++◌, length, Some, None, refl, ap, sym, ◌∙◌, arith, inl, inr, ◌⊎◌}
-use Rattle.std.proofs.lemmas.Bool.{and_right, le-ltb}
+use Rattle.std.proofs.Common.{◌≡◌, ℕ, zero, suc, ◌≤◌, ◌<◌, Bool, true, false, if◌then◌else◌, List, [], ◌∷◌, ◌++◌, length, Some, None, refl, ap, sym, ◌∙◌, arith, inl, inr, ◌⊎◌}
 use Rattle.h3_field.specs.Instruction.{DecoderInstruction}
 use Rattle.h3_field.specs.InstructionLaws.{decoder_instruction_stable}
 use Rattle.h3_field.specs.InstructionReading.{decoder_instruction}
@@ -14,7 +13,7 @@ use Rattle.h3_connection.specs.Codes.{decoder_stream_error, excessive_load}
 use Rattle.h3_connection.specs.ExcessiveInstructionLaws.{none_exceeds, decoder_exceeds_unfinished, decoder_finished_within}
 use Rattle.h3_connection.specs.ExcessiveInstructions.{exceeds, listen_limited, listen_up_to, listened_up_to_with}
 use Rattle.h3_connection.specs.LimitedReading.{IsLongerOrListened, StopsOrListens, listened_unless_longer}
-use Rattle.h3_connection.specs.Listeners.{fault_if, listening_fault, keeping_fault}
+use Rattle.h3_connection.specs.Listeners.{fault_if, listening_fault}
 
 -- one instruction, and then the rest
 next_same : (go other : EncoderHistory → List ℕ → Listened) (s : EncoderHistory) (bytes : List ℕ) (i : DecoderInstruction) (rest : List ℕ) (b : Bool) → ((new : EncoderHistory) → go new rest ≡ other new rest)
@@ -53,9 +52,6 @@ listen_step most s bytes =
 pub listens_nothing : (most : ℕ) (s : EncoderHistory) → listen_up_to most s [] ≡ listened s [] false
 unfolding listen_up_to
 listens_nothing most s = refl
-
-pub keeps_nothing : (most : ℕ) → keeping_fault most [] ≡ None
-keeps_nothing most = ap (λ b. fault_if b excessive_load) (and_right (is_limit most) (nat_lt most 0) (le-ltb most 0 (omega arith)))
 
 -- An instruction that is longer than the limit is not read,
 pub listens_no_longer : (most : ℕ) (s : EncoderHistory) (bytes : List ℕ) → exceeds most decoder_wait bytes ≡ true → listen_up_to most s bytes ≡ listened s bytes false

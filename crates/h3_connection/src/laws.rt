@@ -248,9 +248,28 @@ ghost use Rattle.h3_connection.specs.SentContent.{HeadsSayTheirContent, PeersExp
 
 /// What a strict endpoint sends of content is as long as its head said (RFC 9114, section 4.1.2): no more is sent, and the end, and a trailer, go
 /// out behind exactly as much. Behind a head that it sends, as much is to be sent as a strict peer expects there: of a response, where the server
-/// handed out the head of its request before, and did not give the stream up since. Where it did not, no length is held against what it sends.
+/// handed out the head of its request before. Where it did not, no length is held against what it sends, and no trailer goes out behind 2xx.
 pub fn strict_endpoints_send_as_much_content_as_was_said()
     ensures heads { HeadsSayTheirContent }
     ensures peers { PeersExpectAsMuch }
     ensures sent { SendsAsMuchAsSaid }
+{}
+
+ghost use Rattle.std.specs.Prelude.{◌*◌, true};
+ghost use Rattle.h3_proto.specs.Config.{is_limit};
+ghost use Rattle.h3_proto.specs.declared.config.Choices.{Choices};
+ghost use Rattle.h3_proto.specs.declared.frame.SettingsError.{SettingsError};
+ghost use Rattle.h3_qpack.specs.InstructionSizes.{most_instruction};
+ghost use Rattle.h3_connection.specs.Announcing.{announced_by, section_of};
+ghost use Rattle.h3_connection.specs.declared.setup.Limits.{Limits};
+
+/// A limit on what is unfinished takes whatever a peer may send that keeps to what is announced: an encoding of a list of the greatest size
+/// (`section`), an instruction for the whole table (`instruction`), and what has 256 bytes (`other`), as each SETTINGS frame of this library.
+pub fn a_limit_takes_what_is_announced()
+    ensures section { (settings : Result (List (ℕ × ℕ)) SettingsError) (limits : Limits) (choices : Choices) (a : Announced) → announced_by settings limits choices ≡ Ok a →
+        is_limit a.choices.unfinished_limit ≡ true → 4 * section_of a ≤ a.choices.unfinished_limit }
+    ensures instruction { (settings : Result (List (ℕ × ℕ)) SettingsError) (limits : Limits) (choices : Choices) (a : Announced) → announced_by settings limits choices ≡ Ok a →
+        is_limit a.choices.unfinished_limit ≡ true → most_instruction a.limits.table ≤ a.choices.unfinished_limit }
+    ensures other { (settings : Result (List (ℕ × ℕ)) SettingsError) (limits : Limits) (choices : Choices) (a : Announced) → announced_by settings limits choices ≡ Ok a →
+        is_limit a.choices.unfinished_limit ≡ true → 256 ≤ a.choices.unfinished_limit }
 {}

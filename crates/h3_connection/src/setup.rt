@@ -1,5 +1,5 @@
 //! What an endpoint announces.
-ghost use Rattle.std.specs.Prelude.{◌≡◌, ◌<◌};
+ghost use Rattle.std.specs.Prelude.{◌≡◌, ◌<◌, ◌^◌};
 ghost use Rattle.h3_proto.specs.Config.{announced};
 ghost use Rattle.h3_connection.specs.Announcing.{announced_by, connects, is_below_announced, least_limit, section_of};
 
@@ -103,7 +103,8 @@ impl Announced {
 
     /// The greatest size of a field section that it takes (RFC 9114, section 4.2.2), in bytes.
     pub fn section(&self) -> u64
-        ensures { result ≡ section_of self.now }
+        ensures value { result ≡ section_of self.now }
+        ensures bound { result < 2 ^ 62 }
     {
         self.settings
             .get(SettingId::MAX_HEADER_LIST_SIZE)

@@ -1,10 +1,12 @@
 -- Worked rows of content that is sent: a strict endpoint holds it against content-length (RFC 9114, section 4.1.2).
 use Rattle.std.specs.Prelude.{ℕ, List, [], ◌∷◌, codes}
 use Rattle.h3_proto.specs.declared.stream.Side.TheVariants.{Client, Server}
+use Rattle.h3_connection.specs.declared.event.Fault.TheVariants as fault
 use Rattle.h3_connection.specs.declared.event.Item.TheVariants as item
 use Rattle.h3_connection.specs.declared.event.Pull.TheVariants as pulls
 use Rattle.h3_connection.specs.declared.event.Refusal.TheVariants as refusal
 use Rattle.h3_connection.specs.declared.event.Malformation.TheVariants as malformation
+use Rattle.h3_connection.specs.declared.event.StreamFault.TheVariants as stream_fault
 use Rattle.h3_connection.specs.Endpoint.{EndpointHistory, new_endpoint}
 use Rattle.h3_connection.specs.CallLists.{Call, Result}
 use Rattle.h3_connection.specs.CallLists.Call.{OpenRequest, SendHead, SendBody, SendTrailer, Finish, Reset, Deliver, PullStream}
@@ -177,6 +179,42 @@ response_counted_answers =
     Done ∷
     Done ∷
     Done ∷
+    Done ∷
+    Done ∷
+    []
+
+-- Before a server knows what was asked, 2xx may be the answer to CONNECT, behind which no trailer comes (RFC 9114, 4.4). Behind another status, or once
+-- it is known that GET was asked, one may, also where the request was given up since.
+abbrev pub answered_early : List Call
+answered_early =
+    Deliver 0 (hex (codes "01080000d1d7500161c1")) ∷
+    SendHead 0 (head (field (codes ":status") (codes "200") ∷ [])) ∷
+    SendBody 0 (codes "abc") ∷
+    trailer_on 0 ∷
+    Finish 0 ∷
+    Deliver 4 (hex (codes "01080000d1d7500161c1")) ∷
+    SendHead 4 (head (field (codes ":status") (codes "404") ∷ [])) ∷
+    trailer_on 4 ∷
+    Deliver 8 (hex (codes "01080000d1d7500161c101050000214100")) ∷
+    PullStream 8 ∷
+    PullStream 8 ∷
+    SendHead 8 (head (field (codes ":status") (codes "200") ∷ [])) ∷
+    trailer_on 8 ∷
+    []
+
+abbrev pub answered_early_answers : List Result
+answered_early_answers =
+    Done ∷
+    Done ∷
+    Done ∷
+    Refused (refusal.Malformed malformation.Connect) ∷
+    Done ∷
+    Done ∷
+    Done ∷
+    Done ∷
+    Done ∷
+    asked_by (codes "GET") ∷
+    Pulled (pulls.Fault (fault.Stream (stream_fault.Malformed malformation.Name))) ∷
     Done ∷
     Done ∷
     []

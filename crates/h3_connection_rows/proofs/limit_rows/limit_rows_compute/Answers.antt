@@ -66,3 +66,19 @@ returns-clause-decoder_stream_before_the_settings c = refl
 pub returns-clause-decoder_stream_that_waits : goal.returns-clause-decoder_stream_that_waits
 unfolding encoding static_field static_name chars encode varint_at split_of bits code_word octets huffman static_table frame_at frame_of known is_token_byte is_utf8 kind_of head_of unhuffman hear_up_to listen_up_to fields_in decode_section skipped read_peer pull_stream
 returns-clause-decoder_stream_that_waits c = refl
+
+pub returns-clause-cancellation_before_the_settings : goal.returns-clause-cancellation_before_the_settings
+unfolding encoding static_field static_name chars encode varint_at split_of bits code_word octets huffman static_table frame_at frame_of known is_token_byte is_utf8 kind_of head_of unhuffman hear_up_to listen_up_to fields_in decode_section skipped read_peer pull_stream
+returns-clause-cancellation_before_the_settings c = refl
+
+pub returns-clause-section_above_the_limit : goal.returns-clause-section_above_the_limit
+unfolding encoding static_field static_name chars encode varint_at split_of bits code_word octets huffman static_table frame_at frame_of known is_token_byte is_utf8 kind_of head_of unhuffman hear_up_to listen_up_to fields_in decode_section skipped read_peer pull_stream
+returns-clause-section_above_the_limit c = refl
+
+pub returns-clause-section_at_the_limit : goal.returns-clause-section_at_the_limit
+unfolding encoding static_field static_name chars encode varint_at split_of bits code_word octets huffman static_table frame_at frame_of known is_token_byte is_utf8 kind_of head_of unhuffman hear_up_to listen_up_to fields_in decode_section skipped read_peer pull_stream
+returns-clause-section_at_the_limit c = refl
+
+pub returns-clause-settings_on_a_request : goal.returns-clause-settings_on_a_request
+unfolding encoding static_field static_name chars encode varint_at split_of bits code_word octets huffman static_table frame_at frame_of known is_token_byte is_utf8 kind_of head_of unhuffman hear_up_to listen_up_to fields_in decode_section skipped read_peer pull_stream
+returns-clause-settings_on_a_request c = refl
