@@ -47,7 +47,8 @@
  * was, and the call may be made again).
  * Where a call refuses for several reasons, it answers the first in the order that its comment gives. Many calls have a last argument
  * `detail`, which may be NULL: it gets the number that the reason names (below), else 0.
- * On H3_NO_ENDPOINT nothing is written; on any other refusal `detail` is, and no other result unless its comment says so.
+ * On H3_NO_ENDPOINT nothing is written, nor on H3_ARGUMENT of a NULL; on any other refusal `detail` is, and no other result unless its comment
+ * says so.
  *
  * MEMORY
  *
@@ -294,7 +295,7 @@ static inline void h3_config_default(h3_config *config);
  * A config that is shorter than the library's, since the program was compiled with an older header, has the defaults of h3_config_default for
  * what it does not have. Refused, in this order: H3_ARGUMENT (the size is none: not that of a whole row of numbers, or of more than this
  * library or this header knows; grease out of range), H3_TABLE_LIMIT, H3_BLOCKED_LIMIT, H3_SETTING, H3_UNFINISHED_LIMIT, H3_MEMORY. On
- * a refusal *endpoint holds none. */
+ * a refusal *endpoint is as it was: begin with H3_NONE_YET. */
 static inline uint32_t h3_new(h3_endpoint *endpoint, const h3_config *config, uint64_t *detail);
 
 /* Frees an endpoint and all that it keeps; *endpoint holds none then. Of none it does nothing. */
@@ -533,7 +534,7 @@ static inline uint32_t h3_item_bytes(h3_endpoint *endpoint, size_t from, void *b
 typedef struct {
   uint64_t waiting;      /* bytes that wait to be sent */
   uint64_t unread;       /* bytes that were delivered and are still held: not handed out, and not read. Of a stream that was given up only what
-                            H3_KEPT took counts, until it is read. It is 0 while a frame of an unknown type comes that is next on the stream; with
+                            H3_KEPT took counts, until it is read. It is 0 once the connection has a fault. It is 0 while a frame of an unknown type comes that is next on the stream; with
                             its last byte the frame counts whole, until the next pull passes it */
   uint32_t has_outgoing; /* 1 where something can be sent: an own unidirectional stream, or a request stream that was opened */
   uint32_t is_finished;  /* 1 where its message was finished */
@@ -625,9 +626,7 @@ static inline void h3_config_default(h3_config *config) {
 }
 static inline uint32_t h3_new(h3_endpoint *endpoint, const h3_config *config, uint64_t *detail) {
   uint64_t none;
-  if (!endpoint) return H3_ARGUMENT;
-  endpoint->at = NULL;
-  if (!config) return H3_ARGUMENT;
+  if (!endpoint || !config) return H3_ARGUMENT;
   size_t count = config->size > sizeof *config || config->size % sizeof(uint64_t) ? 0 : (size_t)config->size / sizeof(uint64_t);
   return h3_raw_new((const uint64_t *)config, count, detail ? detail : &none, endpoint);
 }
