@@ -30,11 +30,11 @@ held_by_kind s n id k is held e h = held e h ∙ ap (λ kind. counted (held_at e
 -- with what is kept;
 pub shows_unread : (s : EndpointState) (held kept id : ℕ) → is_some s.closed ≡ false → ((e : EndpointHistory) → StandsFor s e → held ≡ counted (held_at e id (kind_of e.side id))) → kept ≡ counted (sum_by (held_in id) s.kept)
     → ShowsUnread s id (min (2 ^ 64 - 1) (held + kept))
-shows_unread s held kept id open is there e h =
+shows_unread s held kept id no_fault is there e h =
     ap (λ n. min (2 ^ 64 - 1) (n + kept)) (is e h)
     ∙ ap (λ n. min (2 ^ 64 - 1) (counted (held_at e id (kind_of e.side id)) + n)) (there ∙ ap (λ (arrivals : List Arrival). counted (sum_by (held_in id) arrivals)) h.kept)
     ∙ counted_sum (held_at e id (kind_of e.side id)) (sum_by (held_in id) e.kept)
-    ∙ ap (λ b. counted (if b then 0 else held_at e id (kind_of e.side id) + sum_by (held_in id) e.kept)) (sym open ∙ ap is_some h.closed)
+    ∙ ap (λ b. counted (if b then 0 else held_at e id (kind_of e.side id) + sum_by (held_in id) e.kept)) (sym no_fault ∙ ap is_some h.closed)
 
 -- and nothing behind a fault of the connection
 pub shows_none : (s : EndpointState) (id : ℕ) → is_some s.closed ≡ true → ShowsUnread s id 0
