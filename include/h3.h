@@ -392,8 +392,8 @@ static inline void h3_config_default(h3_config *config);
  * program was compiled with an older header, gets the values of h3_config_default for the rest.
  * Refused, in this order: H3_ARGUMENT (the size is not as h3_config_default writes it, from this
  * header or an older one of the same major version; grease out of range), H3_TABLE_LIMIT,
- * H3_BLOCKED_LIMIT, H3_SETTING, H3_UNFINISHED_LIMIT, H3_MEMORY. If refused, *endpoint holds
- * none. */
+ * H3_BLOCKED_LIMIT, H3_SETTING, H3_UNFINISHED_LIMIT, H3_MEMORY. H3_ARGUMENT does nothing: *endpoint
+ * is as it was. After any other refusal *endpoint holds none. */
 static inline uint32_t h3_new(h3_endpoint *endpoint, const h3_config *config, uint64_t *detail);
 
 /* Frees an endpoint and all that it keeps; *endpoint then holds none. If it held none, nothing is
@@ -771,11 +771,11 @@ static inline void h3_config_default(h3_config *config) {
 }
 static inline uint32_t h3_new(h3_endpoint *endpoint, const h3_config *config, uint64_t *detail) {
   uint64_t none;
-  if (!endpoint) return H3_ARGUMENT;
-  endpoint->at = NULL;
-  if (!config) return H3_ARGUMENT;
+  if (!endpoint || !config) return H3_ARGUMENT;
   size_t count = config->size > sizeof *config || config->size % sizeof(uint64_t) ? 0 : (size_t)config->size / sizeof(uint64_t);
-  return h3_raw_new((const uint64_t *)config, count, detail ? detail : &none, endpoint);
+  uint32_t answer = h3_raw_new((const uint64_t *)config, count, detail ? detail : &none, endpoint);
+  if (answer && answer != H3_ARGUMENT) endpoint->at = NULL;
+  return answer;
 }
 static inline void h3_free(h3_endpoint *endpoint) {
   if (!endpoint) return;

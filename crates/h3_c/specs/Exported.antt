@@ -24,6 +24,7 @@ use Rattle.h3_session.specs.Listing.{ListsNext}
 use Rattle.h3_c.specs.Items.{last_bytes, last_fields, listed_shown, shown}
 use Rattle.h3_c.specs.Rows.{fits, row_of, sizes_of}
 use Rattle.h3_c.specs.declared.fields.FieldSize.{FieldSize}
+use Rattle.h3_c.specs.declared.last.Last.{Last}
 use Rattle.h3_c.specs.declared.last.Last.TheVariants as last
 use Rattle.h3_c.specs.Numbers.{ok, none, room, argument, memory, call_told, head_told, list_told, refusal_told}
 use Rattle.h3_c.specs.Seen.{Seen}
@@ -138,9 +139,14 @@ GivesField (Some f) n before after =
     (n ≡ room_told (nat_le (length f.name) (length before.name) && nat_le (length f.value) (length before.value)))
     × (after ≡ places (put f.name before.name) (length f.name) (put f.value before.value) (length f.value))
 
+-- Only of a header a list has to be made, which takes memory
+abbrev pub IsAHeader : Last → Type 0
+IsAHeader (last.Pulled answer) = Unit {0}
+IsAHeader (last.Listed answer) = ⊥
+
 -- A field of the head or trailer that was pulled last. Nothing is written where memory was refused.
 abbrev pub ReadsField : Seen → ℕ → Told → Places → Places → Type 0
-ReadsField v index n before after = ((n ≡ memory) × (after ≡ before)) ⊎ GivesField (slice_get (last_fields v.last) index) n before after
+ReadsField v index n before after = (IsAHeader v.last × (n ≡ memory) × (after ≡ before)) ⊎ GivesField (slice_get (last_fields v.last) index) n before after
 
 -- All fields are written at the front of C's two buffers, and the rest of these stays; or nothing is, since one is too small.
 pub record GivesFields (fields : List Field) (n : Told) (sizes_before sizes : List FieldSize) (before after : List ℕ) : Type 0 where
@@ -151,4 +157,4 @@ pub record GivesFields (fields : List Field) (n : Told) (sizes_before sizes : Li
 -- All fields of the head or trailer that was pulled last. Nothing is written where memory was refused.
 abbrev pub ReadsFields : Seen → Told → List FieldSize → List FieldSize → List ℕ → List ℕ → Type 0
 ReadsFields v n sizes_before sizes before after =
-    ((n ≡ memory) × (sizes ≡ sizes_before) × (after ≡ before)) ⊎ GivesFields (last_fields v.last) n sizes_before sizes before after
+    (IsAHeader v.last × (n ≡ memory) × (sizes ≡ sizes_before) × (after ≡ before)) ⊎ GivesFields (last_fields v.last) n sizes_before sizes before after

@@ -57,8 +57,9 @@ held_at e id PeerUnidirectional = held_of_peer e id
 held_at e id ServerOpened = 0
 held_at e id OwnUnidirectional = 0
 
+-- Behind a fault of the connection nothing is read any more, so nothing is held for it
 abbrev pub unread : EndpointHistory → ℕ → ℕ
-unread e id = held_at e id (kind_of e.side id) + sum_by (held_in id) e.kept
+unread e id = if is_some e.closed then 0 else held_at e id (kind_of e.side id) + sum_by (held_in id) e.kept
 
 -- a count of 64 bits: no memory has room for more
 abbrev pub counted : ℕ → ℕ

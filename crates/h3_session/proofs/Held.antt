@@ -1,6 +1,6 @@
 -- How much of what came on a stream is held: what is stored of it, as the definitions count it.
-use Rattle.std.proofs.Common.{arith, ◌≡◌, ℕ, ◌+◌, List, ap, sym, subst, ◌∙◌}
-use Rattle.std.specs.Prelude.{◌-◌, ◌^◌, min, option_map, unwrap_or}
+use Rattle.std.proofs.Common.{arith, ◌≡◌, ℕ, ◌+◌, Bool, true, false, if◌then◌else◌, List, ap, sym, subst, ◌∙◌}
+use Rattle.std.specs.Prelude.{◌-◌, ◌^◌, min, is_some, option_map, unwrap_or}
 use Rattle.std.specs.List.{sum_by}
 use Rattle.h3_connection.specs.declared.arrival.Arrival.{Arrival}
 use Rattle.h3_connection.specs.Delivering.{incoming_at}
@@ -27,10 +27,16 @@ pub held_by_kind : (s : EndpointState) (n id : ℕ) (k : Kind) → k ≡ kind_of
     → (e : EndpointHistory) → StandsFor s e → n ≡ counted (held_at e id (kind_of e.side id))
 held_by_kind s n id k is held e h = held e h ∙ ap (λ kind. counted (held_at e id kind)) (is ∙ ap (λ side. kind_of side id) h.side)
 
--- with what is kept
-pub shows_unread : (s : EndpointState) (held kept id : ℕ) → ((e : EndpointHistory) → StandsFor s e → held ≡ counted (held_at e id (kind_of e.side id))) → kept ≡ counted (sum_by (held_in id) s.kept)
+-- with what is kept;
+pub shows_unread : (s : EndpointState) (held kept id : ℕ) → is_some s.closed ≡ false → ((e : EndpointHistory) → StandsFor s e → held ≡ counted (held_at e id (kind_of e.side id))) → kept ≡ counted (sum_by (held_in id) s.kept)
     → ShowsUnread s id (min (2 ^ 64 - 1) (held + kept))
-shows_unread s held kept id is there e h =
+shows_unread s held kept id no_fault is there e h =
     ap (λ n. min (2 ^ 64 - 1) (n + kept)) (is e h)
     ∙ ap (λ n. min (2 ^ 64 - 1) (counted (held_at e id (kind_of e.side id)) + n)) (there ∙ ap (λ (arrivals : List Arrival). counted (sum_by (held_in id) arrivals)) h.kept)
     ∙ counted_sum (held_at e id (kind_of e.side id)) (sum_by (held_in id) e.kept)
+    ∙ ap (λ b. counted (if b then 0 else held_at e id (kind_of e.side id) + sum_by (held_in id) e.kept)) (sym no_fault ∙ ap is_some h.closed)
+
+-- and nothing behind a fault of the connection
+pub shows_none : (s : EndpointState) (id : ℕ) → is_some s.closed ≡ true → ShowsUnread s id 0
+shows_none s id closed e h =
+    ap (λ b. counted (if b then 0 else held_at e id (kind_of e.side id) + sum_by (held_in id) e.kept)) (sym closed ∙ ap is_some h.closed)

@@ -8,7 +8,7 @@ use Rattle.h3_connection.specs.Endpoint.{EndpointHistory, limit_of, replied}
 use Rattle.h3_connection.specs.ExcessiveInstructions.{hear_up_to, listen_up_to}
 use Rattle.h3_connection.specs.Listeners.{Decoding, Encoding, hearing_fault, heard_more, after_hearing, insertions_heard}
 use Rattle.h3_connection.specs.LimitedHearingLaws.{hears_nothing}
-use Rattle.h3_connection.specs.LimitedListeningLaws.{listens_nothing, keeps_nothing}
+use Rattle.h3_connection.specs.LimitedListeningLaws.{listens_nothing}
 use Rattle.h3_connection.specs.PeerReading.{with_unread, read_peer}
 use Rattle.h3_connection.specs.State.{EndpointState, StandsFor, IsToldPeer}
 use Rattle.h3_streams.proofs.PlacedLaws.{stands_control, stands_encoder, stands_decoder}
@@ -69,7 +69,7 @@ encoder_begins s x e id h told none =
 
 listened_nothing : (e : EndpointHistory) (b : Bool) (l : List ℕ) → l ≡ [] → (if b then listened_to e (listen_up_to (limit_of e) e.encoder l) else kept_unread e l) ≡ (record e { decoder_unread = [] }, None)
 listened_nothing e true l is = ap (λ k. listened_to e (listen_up_to (limit_of e) e.encoder k)) is ∙ ap (λ k. listened_to e k) (listens_nothing (limit_of e) e.encoder)
-listened_nothing e false l is = ap (kept_unread e) is ∙ ap (λ fault. (record e { decoder_unread = [] }, fault)) (keeps_nothing (limit_of e))
+listened_nothing e false l is = ap (kept_unread e) is
 
 pub decoder_begins : (s : EndpointState) (x : StreamsState) (e : EndpointHistory) (id : ℕ) → StandsFor (placed s x) e → IsToldPeer e.side e.unidirectional id → e.decoder_on ≡ None
     → Begins s (record x { decoder_on = Some id }) (read_decoder (record e { decoder_on = Some id }) [])

@@ -10,7 +10,7 @@ use Rattle.h3_connection.specs.Control.{read_decoder, listened_to, kept_unread}
 use Rattle.h3_connection.specs.Delivering.{heard_as}
 use Rattle.h3_connection.specs.Endpoint.{EndpointHistory, limit_of, is_second}
 use Rattle.h3_connection.specs.ExcessiveInstructions.{listen_up_to}
-use Rattle.h3_connection.specs.Listeners.{Encoding, Listens, keeping_fault}
+use Rattle.h3_connection.specs.Listeners.{Encoding, Listens}
 use Rattle.h3_connection.specs.PartReading.{ReadsOn, ListensPart, held_as}
 use Rattle.h3_connection.specs.State.{EndpointState, StandsFor, IsToldPeer}
 use Rattle.h3_connection.specs.Unidirectional.Role.{Decoder}
@@ -52,7 +52,7 @@ read_by s x e id bytes n fault true h told known listens =
 read_by s x e id bytes n fault false h told unknown (same, kept) =
     let unread : n.unread ≡ e.decoder_unread ++ bytes = ap (λ (m : Encoding). m.unread) same ∙ ap (λ l. l ++ bytes) h.decoder_unread in
     let state : n.encoder ≡ encoder_state e.encoder = ap (λ (m : Encoding). m.encoder) same ∙ h.encoder in (
-      kept ∙ ap (λ l. keeping_fault (limit_of e) (l ++ bytes)) h.decoder_unread,
+      kept,
       subst (λ l. StandsFor (placed s (record x { decoder_on = Some id; encoding = n })) (record e { decoder_on = Some id; decoder_unread = l })) unread
           (stands_decoder s x e id n e.encoder h told state h.reached.unlearned),
     )

@@ -42,11 +42,14 @@ impl Connection {
         ensures same { self.new ≡ self.old }
         ensures field { ReadsField self.old index result (places name.old name_len.old value.old value_len.old) (places name.new name_len.new value.new value_len.new) }
     {
-        if let Last::Listed(answer) = &self.last {
-            return match block_told(answer) {
-                Some(fields) => field_at(&fields.fields(), index, name, name_len, value, value_len),
-                None => NONE,
-            };
+        match &self.last {
+            Last::Listed(answer) => {
+                return match block_told(answer) {
+                    Some(fields) => field_at(&fields.fields(), index, name, name_len, value, value_len),
+                    None => NONE,
+                };
+            }
+            Last::Pulled(_) => {}
         }
         let Ok(fields) = self.take_fields(alloc) else {
             return MEMORY;

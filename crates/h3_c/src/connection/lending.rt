@@ -1,8 +1,8 @@
 //! What came and is lent.
-ghost use Rattle.std.specs.Prelude.{◌≡◌};
+ghost use Rattle.std.specs.Prelude.{◌≡◌, ◌<◌, ◌^◌};
 ghost use Rattle.h3_connection.specs.ReceivingContracts.{Delivers};
 ghost use Rattle.h3_c.specs.Exported.{Calls, OnStream, OrMemory};
-ghost use Rattle.h3_c.specs.Lending.{Keeps};
+ghost use Rattle.h3_c.specs.Lending.{Keeps, TakesLent};
 ghost use Rattle.h3_c.specs.Numbers.{delivery_told};
 
 use super::Connection;
@@ -17,7 +17,8 @@ use std::alloc::{AllocError, Global};
 impl Connection {
     /// Bytes came on a stream that stay as they lie. They are copied only where `keep` would not find them.
     pub(crate) fn deliver_lent(&mut self, alloc: Global, id: u64, bytes: &'static [u8]) -> Told
-        ensures { OnStream id result self.old self.new (OrMemory result self.old self.new (Calls delivery_told result self.old self.new (λ call. Delivers self.old.endpoint self.new.endpoint id bytes.now call))) }
+        ensures delivers { OnStream id result self.old self.new (OrMemory result self.old self.new (Calls delivery_told result self.old self.new (λ call. Delivers self.old.endpoint self.new.endpoint id bytes.now call))) }
+        ensures at_once { id < 2 ^ 62 → TakesLent self.old id → Calls delivery_told result self.old self.new (λ call. Delivers self.old.endpoint self.new.endpoint id bytes.now call) }
     {
         let Ok(stream) = StreamId::try_from(id) else {
             return ARGUMENT;

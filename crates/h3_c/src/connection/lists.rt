@@ -55,11 +55,14 @@ impl Connection {
         ensures same { self.new ≡ self.old }
         ensures fields { ReadsFields self.old result sizes.old sizes.new bytes.old bytes.new }
     {
-        if let Last::Listed(answer) = &self.last {
-            return match block_told(answer) {
-                Some(fields) => fields_at_once(fields, sizes, bytes),
-                None => OK,
-            };
+        match &self.last {
+            Last::Listed(answer) => {
+                return match block_told(answer) {
+                    Some(fields) => fields_at_once(fields, sizes, bytes),
+                    None => OK,
+                };
+            }
+            Last::Pulled(_) => {}
         }
         let Ok(fields) = self.take_fields(alloc) else {
             return MEMORY;

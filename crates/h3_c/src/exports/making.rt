@@ -60,7 +60,7 @@ fn make(alloc: Global, given: &GivenConfig, out: &mut Handle) -> Told
     }
 }
 
-/// Lets an endpoint go.
+/// Lets an endpoint go. No clause says that all of its memory is given back: `tests/c` counts what is left.
 #[unsafe(no_mangle)]
 pub extern "C" fn h3_raw_free(alloc: Global, handle: Handle)
     requires { IsSome handle.value }

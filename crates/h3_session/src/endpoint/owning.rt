@@ -22,9 +22,9 @@ impl Endpoint {
 
     /// Puts a copy in a block of its own in the place of all that was delivered on a request stream and is held, where it has none: the bytes
     /// that were not read, and the field section that waits to be decoded. Bytes that were lent to `deliver` (`Bytes::from_static`) while
-    /// `takes_lent` told so may be let go then, but for those of an item that was handed out. Behind a fault of the connection nothing is
-    /// copied, since nothing is read any more. Nothing changes for any other call, also at an `Err`: memory was refused, and the next call
-    /// does the rest.
+    /// `takes_lent` told so may be let go then, but for those of an item that was handed out. After a fault of the connection nothing is
+    /// copied, since no call reads any of them then, also not `unread`. Nothing changes for any other call, also at an `Err`: memory was
+    /// refused, and the next call does the rest.
     pub fn own_unread(&mut self, id: StreamId) -> Result<(), AllocError>
         ensures { IsSame self.old self.new }
     {

@@ -45,12 +45,16 @@ impl Endpoint {
     /// granted for all others that came (RFC 9000, section 4.1), since of these nothing is kept. Counted are the bytes of a request stream that were
     /// not read, as those of an unfinished frame, and the field section that waits to be decoded; of the peer's control, encoder and decoder streams
     /// those behind the last whole frame or instruction; of its other unidirectional streams a type that is not whole and what was not pulled of a
-    /// session; and what was kept of the stream because memory was refused. 0 of a stream that is not there or was given up. At most the greatest
-    /// `u64`. It takes no memory, and one look-up; behind a `Kept` also a pass over what is kept.
-    #[tactic(auto, using(crate::proofs::Held::shows_unread))]
+    /// session; and what was kept of the stream because memory was refused. 0 of a stream that is not there or was given up, and of each stream once
+    /// the connection has a fault: no byte is read then, also not by this call, so bytes that were lent may be gone. At most the greatest `u64`. It
+    /// takes no memory, and one look-up; behind a `Kept` also a pass over what is kept.
+    #[tactic(auto, using(crate::proofs::Held::shows_none, crate::proofs::Held::shows_unread))]
     pub fn unread(&self, id: StreamId) -> u64
         ensures { ShowsUnread self.now id result }
     {
+        if self.closed.is_some() {
+            return 0;
+        }
         let held = self.held(id);
         held.saturating_add(self.held_in_kept(id)) as u64
     }
