@@ -166,6 +166,8 @@ impl FrameBuffer {
     }
 
     /// Whether the first frame that is no whole unknown one is HEADERS (RFC 9114, section 7.2.2), as far as its type came. Nothing is taken.
+    /// It stays apart, so that a reader that finds no frame too long is as short as it was.
+    #[inline(never)]
     pub fn begins_section(&self) -> bool
         ensures { result ≡ begins_section (known (concat self.now.pieces)) }
     {

@@ -44,7 +44,6 @@ pub(super) fn is_excessive_behind(src: &BufList<Bytes>, passed: usize, most: u64
 }
 
 /// Whether the first frame behind so many bytes that is no whole unknown one is HEADERS, as far as its type came. Nothing is taken.
-#[inline(never)]
 pub(super) fn begins_section(src: &BufList<Bytes>, passed: usize) -> bool
     requires there { passed ≤ length (concat src.now.pieces) }
     ensures { result ≡ begins_section (known (drop passed (concat src.now.pieces))) }
