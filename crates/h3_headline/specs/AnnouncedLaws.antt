@@ -139,6 +139,7 @@ announces a made =
     record {
       received = received;
       small = omega (arith, length-payload a.settings, pairs);
+      few = omega (arith, length-payload a.settings, pairs);
       table = ap (λ ps. unwrap_or (value_of 1 ps) 0) meaning;
       blocked = ap (λ ps. unwrap_or (value_of 7 ps) 0) meaning;
       opening = λ most. opening_same most a.limits p.table p.blocked;

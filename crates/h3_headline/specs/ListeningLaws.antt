@@ -10,7 +10,7 @@ use Rattle.h3_qpack.specs.WholeInstructions.{whole_in, rest_in}
 use Rattle.h3_proto.specs.declared.stream.Side.{Side}
 use Rattle.h3_connection.specs.Control.{increment, read_encoder, read_decoder}
 use Rattle.h3_connection.specs.LimitedReading.{heard_whole, listened_whole}
-use Rattle.h3_connection.specs.UnlimitedLaws.{encoder_unlimited, decoder_unlimited, kept_unlimited}
+use Rattle.h3_connection.specs.UnlimitedLaws.{encoder_unlimited, decoder_unlimited, decoder_kept}
 use Rattle.h3_connection.specs.Delivering.{heard_as, unless_second, with_unidirectional}
 use Rattle.h3_connection.specs.Endpoint.{EndpointHistory, is_second}
 use Rattle.h3_connection.specs.OwnIds.{other, encoder_id, decoder_id}
@@ -127,7 +127,7 @@ decoder_read laws side knows e o came count is stream any known h written accept
         decoder_unlimited on bytes any t ∙ ap (listened_whole on) reads
     by_test false t left accepted =
         let all : e.decoder_unread ++ bytes ≡ take (came + count - 1) (flat_map decoder_bytes is) = ap (λ l. l ++ bytes) left ∙ take_both (came - 1) (came + count - 1) (flat_map decoder_bytes is) further in
-        kept_unlimited on bytes any t ∙ ap (λ l. without_fault (record on { decoder_unread = l })) all
+        decoder_kept on bytes t ∙ ap (λ l. without_fault (record on { decoder_unread = l })) all
 
 none_between : (n : ℕ) (is : List DecoderInstruction) → replies_between n n is ≡ []
 none_between n is = all_dropped (take (whole_in decoder_bytes n is) is)

@@ -1,5 +1,5 @@
 -- What an endpoint makes of the bytes of the other side's control, encoder and decoder streams.
-use Rattle.std.proofs.Common.{◌≡◌, ℕ, ◌+◌, ◌^◌, ◌<◌, Bool, ◌++◌, Ok, List, length, min, ◌-◌, if◌then◌else◌, [], take, drop, ◌∷◌, Some, None, flat_map, Option, true, false, nat_le}
+use Rattle.std.proofs.Common.{◌≡◌, ℕ, ◌+◌, ◌^◌, ◌<◌, ◌≤◌, Bool, ◌++◌, Ok, List, length, min, ◌-◌, if◌then◌else◌, [], take, drop, ◌∷◌, Some, None, flat_map, Option, true, false, nat_le}
 use Rattle.h3_proto.specs.Config.{announced, grease_pairs, own_pairs, table_pairs}
 use Rattle.h3_proto.specs.declared.config.Config.{Config}
 use Rattle.h3_proto.specs.declared.config.Settings.{Settings}
@@ -54,6 +54,7 @@ pub record Configured (c : Config) (grease : ℕ) (pairs : List (ℕ × ℕ)) : 
 pub record Announces (a : Announced) : Type 0 where
   pub received : settings_of (payload_of a.settings) ≡ Ok (with_meaning a.settings)
   pub small : length (payload_of a.settings) < 2 ^ 62
+  pub few : length (payload_of a.settings) ≤ 128
   pub table : unwrap_or (value_of 1 (with_meaning a.settings)) 0 ≡ a.limits.table
   pub blocked : unwrap_or (value_of 7 (with_meaning a.settings)) 0 ≡ a.limits.blocked
   pub opening : (most : ℕ) → opening most a.limits ≡ exchange.opening (min most a.limits.table)

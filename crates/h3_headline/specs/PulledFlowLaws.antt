@@ -57,7 +57,7 @@ module _ (side : Side) (announced : Announced) (any : TakesAnyLength announced) 
   pub looks : (i : Incoming) → skipped (is_body i.place) (concat i.unread) ≡ concat i.unread → between_frames side announced id r i ≡ next_frame side announced id r i (concat i.unread)
   looks i all =
       let bytes = skipped (is_body i.place) (concat i.unread) in
-      ap (λ b. if b then excess i else next_frame side announced id r (left_with i bytes) bytes) (none_excessive announced.choices.unfinished_limit bytes any)
+      ap (λ b. if b then excess id i bytes else next_frame side announced id r (left_with i bytes) bytes) (none_excessive announced.choices.unfinished_limit bytes any)
       ∙ ap (λ l. next_frame side announced id r (left_with i l) l) all ∙ ap (λ x. next_frame side announced id r x (concat i.unread)) (left_all i)
 
   -- less than a frame is there

@@ -6,7 +6,6 @@ use Rattle.h3_connection.specs.Control.{Found, listened_to, kept_unread, read_de
 use Rattle.h3_connection.specs.Endpoint.{EndpointHistory, limit_of}
 use Rattle.h3_connection.specs.ExcessiveInstructions.{listen_up_to}
 use Rattle.h3_connection.specs.Incoming.{Incoming}
-use Rattle.h3_connection.specs.Listeners.{keeping_fault}
 use Rattle.h3_connection.specs.PeerReading.{Peer, PeerFound, with_unread, read_peer}
 use Rattle.h3_connection.specs.StreamSets.{Streams}
 use Rattle.h3_memory.specs.Kept.{Delivery}
@@ -39,7 +38,7 @@ module _ (mine : List Delivery) (incoming : Streams Incoming) (kept : List Arriv
           let l = listen_up_to (limit_of behind) behind.encoder all in
           ap (λ l. listened_to f (listen_up_to (limit_of behind) behind.encoder l)) same
           ∙ left_with_none (listened_to behind l).0 l.left (listened_to behind l).1
-      by_settings false = ap (kept_unread f) same ∙ left_with_none behind all (keeping_fault (limit_of behind) all)
+      by_settings false = ap (kept_unread f) same ∙ left_with_none behind all None
 
   -- What settings that come now do: nothing of the decoder stream is held then.
   none_held : Held → Held

@@ -11,7 +11,7 @@ use Rattle.h3_connection.specs.Endpoint.Kind.{PeerUnidirectional}
 use Rattle.h3_connection.specs.ExcessiveInstructions.{hear_up_to, listen_up_to}
 use Rattle.h3_connection.specs.Keeping.{read_arrival}
 use Rattle.h3_connection.specs.LimitedHearingLaws.{hears_nothing}
-use Rattle.h3_connection.specs.LimitedListeningLaws.{listens_nothing, keeps_nothing}
+use Rattle.h3_connection.specs.LimitedListeningLaws.{listens_nothing}
 use Rattle.h3_connection.specs.PeerReading.{Peer, read_peer, with_unread}
 use Rattle.h3_connection.specs.StreamSets.{stream_at}
 use Rattle.h3_connection.specs.StreamSetLaws.{set-same}
@@ -106,7 +106,7 @@ no_bytes_listened e none = by_settings (is_some e.peer.settings)
     by_settings true =
         ap (λ l. listened_to e (listen_up_to (limit_of e) e.encoder (l ++ []))) none ∙ ap (listened_to e) (listens_nothing (limit_of e) e.encoder) ∙ ap (λ l. (record e { decoder_unread = l }, None)) (sym none)
     by_settings false =
-        ap (λ l. kept_unread e (l ++ [])) none ∙ ap (λ fault. (record e { decoder_unread = [] }, fault)) (keeps_nothing (limit_of e)) ∙ ap (λ l. (record e { decoder_unread = l }, None)) (sym none)
+        ap (λ l. kept_unread e (l ++ [])) none ∙ ap (λ l. (record e { decoder_unread = l }, None)) (sym none)
 
 no_frames : (limit : ℕ) (side : Side) (p : Peer) → read_peer limit side (with_unread p []) ≡ (with_unread p [], None)
 unfolding read_peer
