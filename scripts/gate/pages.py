@@ -165,7 +165,7 @@ def counts(page):
     judged = [it for it in edits if re.search(r"^judged:", read(it), re.M)]
     by_itself = (r"(prover\s+refuses\s+)\d+(\s+by\s+itself)", len(edits) - len(judged))
     if page == "README.md":
-        return ((r"(attacked\W+: )\d+( edits)", len(edits)), by_itself, (r"(of\s+the\s+other\s+)\d+(\s+a\s+reader)", len(judged)))
+        return ((r"(contracts\W+: )\d+( wrong\s+edits)", len(edits)), by_itself, (r"(for\s+the\s+other\s+)\d+(\s+a\s+reader)", len(judged)))
     return ((r"(There are )\d+(\s+edits\s+of)", len(edits)), by_itself, (r"(reader judged )\d+(\W)", len(judged)))
 
 

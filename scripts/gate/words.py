@@ -1,12 +1,15 @@
 #!/usr/bin/env python3
 """Do the pages use the standards' words? The list of terms is the table of CONTRIBUTING.md below "Words": what to say, and what not.
 
-    python3 scripts/gate/words.py           one line 'ok FILE' or 'failed FILE:LINE ..' for each file of COVERED and each word that it may not have
+    python3 scripts/gate/words.py     for each file of COVERED 'ok FILE', or 'failed FILE:LINE ..' for each word that it may not have
 
-Of a page its text is read, of include/h3.h its comments: code, names between backticks and the targets of links are left out. A phrase is found across the end
-of a line too. Its first letter may be a capital one: `head` finds Head and not HEAD. The column "Fine" has phrases in which the word may stand.
-COVERED grows as pages are mended. Not in it yet: pages for provers (docs/PROVED.md, MESSAGES, HEADLINE, MODEL, PROOFS, GATE, ARCHITECTURE, STATES, DECISIONS and
-their folders, crates/*/README.md), which quote statements and names of definitions. LATER has names whose comments in include/h3.h are not mended yet."""
+Of a page its text is read, of include/h3.h its comments: code, names between backticks and the targets of links are left out. A phrase is
+found across the end of a line too. Its first letter may be a capital one: `head` finds Head and not HEAD. The column "Fine" has phrases in
+which the word may stand. No comment of include/h3.h makes a line longer than LONGEST_COMMENT.
+
+COVERED grows as pages are mended. Not in it yet: the pages for provers (docs/PROVED.md, MESSAGES, HEADLINE, MODEL, PROOFS, GATE,
+ARCHITECTURE, STATES, DECISIONS and their folders, crates/*/README.md), which quote statements and names of definitions. LATER has the names
+whose comments in include/h3.h are not mended yet."""
 import os
 import re
 import sys
@@ -14,8 +17,9 @@ import sys
 ROOT = os.path.dirname(os.path.dirname(os.path.dirname(os.path.realpath(__file__))))
 LIST = "CONTRIBUTING.md"
 HEADER = "include/h3.h"
-COVERED = ["README.md", "CONTRIBUTING.md", "SECURITY.md", "CHANGELOG.md", "docs/TUTORIAL.md", "docs/C_API.md", "docs/RFC.md", "docs/DIFFERENCES.md", "docs/PERFORMANCE.md",
-           "bindings/go/README.md", "bindings/rust/README.md", "examples/c/README.md", "examples/go/README.md", "examples/rust/README.md", HEADER]
+COVERED = ["README.md", "CONTRIBUTING.md", "SECURITY.md", "CHANGELOG.md", "docs/QUICKSTART.md", "docs/TUTORIAL.md", "docs/C_API.md",
+           "docs/RFC.md", "docs/DIFFERENCES.md", "docs/PERFORMANCE.md", "bindings/go/README.md", "bindings/rust/README.md",
+           "examples/c/README.md", "examples/go/README.md", "examples/rust/README.md", HEADER]
 LATER = {"unfinished_limit", "H3_UNFINISHED_LIMIT", "h3_config_default", "h3_malformation", "h3_deliver_lent", "h3_keep"}
 LONGEST_COMMENT = 100
 FENCE = re.compile(r"^( *)```\w*\n.*?^\1```$", re.M | re.S)
