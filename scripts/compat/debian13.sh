@@ -4,15 +4,15 @@
 # and the system's lists stay as they are.
 set -euo pipefail
 cd "$(dirname "$0")/../.."
-[ ! -e build/nghttp3/usr/include/nghttp3/nghttp3.h ] || exit 0
+if bash scripts/compat/versions.sh | grep -q '^libnghttp3.so.9 '; then exit 0; fi
 
 room=$(mktemp -d)
 trap 'rm -rf "$room"' EXIT
 mkdir -p "$room"/{lists/partial,cache/archives/partial,packages,root}
 echo "deb [signed-by=/usr/share/keyrings/debian-archive-keyring.gpg] http://deb.debian.org/debian trixie main" > "$room/sources.list"
 apt=(apt-get -q -o Dir::Etc::sourcelist="$room/sources.list" -o Dir::Etc::sourceparts=/dev/null -o Dir::State::lists="$room/lists"
-  -o Dir::Cache="$room/cache" -o Dir::State::status=/dev/null -o Acquire::Languages=none -o APT::Sandbox::User=root -o Acquire::Retries=1
-  -o APT::Update::Error-Mode=any)
+  -o Dir::Cache="$room/cache" -o Dir::State::status=/dev/null -o Acquire::Languages=none -o Acquire::Retries=1
+  -o Acquire::http::Timeout=20 -o APT::Sandbox::User=root -o APT::Update::Error-Mode=any)
 "${apt[@]}" update
 (cd "$room/packages" && "${apt[@]}" download libnghttp3-dev libnghttp3-9)
 for package in "$room"/packages/*.deb; do dpkg -x "$package" "$room/root"; done
