@@ -4,7 +4,7 @@
 # and the system's lists stay as they are.
 set -euo pipefail
 cd "$(dirname "$0")/../.."
-if bash scripts/compat/versions.sh | grep -q '^libnghttp3.so.9 '; then exit 0; fi
+if grep -q '^libnghttp3.so.9 ' <<< "$(bash scripts/compat/versions.sh)"; then exit 0; fi
 
 room=$(mktemp -d)
 trap 'rm -rf "$room"' EXIT
