@@ -1,9 +1,9 @@
 #!/usr/bin/env bash
 # test.sh LIB: builds the drop-in for nghttp3 over the library in LIB and tests it beside Debian's own library in one process
-# (compat/nghttp3/tests), for each version of nghttp3 that is there: the exported calls, byte scripts, calls and steps that are compared,
-# random exchanges and cancellations between all four pairs, refused memory, and some of these with the sanitizers of addresses and
-# undefined behaviour. A minute or two. A version that is not there is skipped, and says so. Lines 'ok NAME', 'failed NAME' and 'skipped
-# NAME'; the last is the sum.
+# (compat/nghttp3/tests), for each version of nghttp3 that is there: the exported calls; byte scripts, calls and steps, which are
+# compared; the scripts in pieces; random exchanges and cancellations between all four pairs; refused memory; and some of these with the
+# sanitizers of addresses and undefined behaviour. A minute or two. A version that is not there is skipped, and says so. Lines 'ok NAME',
+# 'failed NAME' and 'skipped NAME'; the last is the sum.
 set -uo pipefail
 cd "$(dirname "$0")/../.."
 lib=$1
@@ -55,6 +55,7 @@ checks() { # SONAME, the folder of the header, Debian's library
   run exports "${python[@]}" $tests/exports.py
   run calls "${python[@]}" $tests/calls.py
   run "byte scripts" "${python[@]}" $tests/byte_scripts.py
+  run cuts "${python[@]}" $tests/cuts.py 0 60
   run steps "${python[@]}" $tests/steps.py
   run tables "${python[@]}" $tests/tables.py
   run exchanges "${python[@]}" $tests/exchanges.py 0 100
@@ -62,6 +63,7 @@ checks() { # SONAME, the folder of the header, Debian's library
   run "refused memory" refused
   [ -e "$out/$SONAME.sanitized" ] || return
   sanitized "byte scripts" "${python[@]}" $tests/byte_scripts.py
+  sanitized cuts "${python[@]}" $tests/cuts.py 1000 1020
   sanitized steps "${python[@]}" $tests/steps.py
   sanitized exchanges "${python[@]}" $tests/exchanges.py 1000 1020
   sanitized cancellations "${python[@]}" $tests/cancellations.py 1000 1015

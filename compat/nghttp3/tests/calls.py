@@ -5,7 +5,7 @@ import random
 import sys
 
 from differences import judge
-from library import IS_VERSION_1, libraries
+from library import IS_VERSION_1, Settings, Vector, libraries
 
 PRIORITIES = [
     b"u=1", b"i", b"u=1, i", b"u=1,i=?0", b"i=?1", b"u=8", b"u=-1", b"u=0;a=1", b'u="1"', b"x=(1 2);q, u=2", b"u=1.5", b"u=1,", b",u=1",
@@ -30,8 +30,17 @@ def changed(chance, value):
     return bytes(value)
 
 
+def defaults(library):
+    settings = Settings()
+    library.settings_default(1, settings)
+    return [getattr(settings, name) for name, _ in Settings._fields_]
+
+
 def questions():
     """(name, what is asked of a library)"""
+    yield "version", lambda it: (it.version(0)[0].age, it.version(0)[0].number, bool(it.version(1 << 24)))
+    yield "settings_default", defaults
+    yield "vec_len", lambda it: it.vec_len((Vector * 3)(Vector(None, 5), Vector(None, 0), Vector(None, 1 << 40)), 3)
     for number in range(-1000, 1):
         yield f"strerror({number})", lambda it, number=number: it.strerror(number)
         yield f"err_infer_quic_app_error_code({number})", lambda it, number=number: it.err_infer_quic_app_error_code(number)

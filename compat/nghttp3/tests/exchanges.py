@@ -59,7 +59,7 @@ class Exchange:
 
 
 def scenario(seed, client, server):
-    """exchanges, and the settings of both sides. nghttp3's encoder errs where the table has another size than 4,096: it is told of no other"""
+    """exchanges, and the settings of both sides. nghttp3's encoder errs with tables of other sizes than 4,096: it is told of no other"""
     chance = random.Random(seed)
     exchanges = [Exchange(chance) for _ in range(chance.randint(1, 8))]
     settings = [{"table": chance.choice((0, 0, 220, 4096)), "blocked": chance.choice((0, 1, 100))} for _ in range(2)]

@@ -87,6 +87,7 @@ CALLS = {
     "http_parse_priority": (c_int, [POINTER(Priority), c_char_p, c_size_t]),
     "strerror": (c_char_p, [c_int]), "err_infer_quic_app_error_code": (c_uint64, [c_int]), "err_is_fatal": (c_int, [c_int]),
     "check_header_name": (c_int, [c_char_p, c_size_t]), "check_header_value": (c_int, [c_char_p, c_size_t]),
+    "vec_len": (c_uint64, [POINTER(Vector), c_size_t]),
     "rcbuf_get_buf": (Vector, [c_void_p]), "rcbuf_incref": (None, [c_void_p]), "rcbuf_decref": (None, [c_void_p]),
 }
 OF_0_8 = {"conn_get_stream_priority", "conn_set_stream_priority", "http_parse_priority"}
