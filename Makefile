@@ -1,12 +1,12 @@
 # The commands of this repository. `make help` lists them.
 SCRIPT ?= examples/first.talk
-# of `make examples` and `make load`: the folder that `make lib` or `make lib-unproved` leaves
+# of `make examples`, `make compat` and `make load`: the folder that `make lib` or `make lib-unproved` leaves
 LIB ?= build/c
 # of `make bench-long`: how many exchanges go over the one connection
 EXCHANGES ?= 1000000
 PREFIX ?= /usr/local
 
-.PHONY: help run draw build lib lib-unproved install examples test test-c refused bench bench-build bench-page bench-exchange bench-instructions bench-long interop upstream-root load need-rt
+.PHONY: help run draw build lib lib-unproved install examples compat test test-c test-compat refused bench bench-build bench-page bench-exchange bench-instructions bench-long interop upstream-root load need-rt
 
 help: ## list the commands
 	@grep -hE '^[a-z-]+:.*## ' $(MAKEFILE_LIST) | sed -E 's/^([a-z-]+):.*## /make \1: /'
@@ -38,6 +38,14 @@ examples: ## build the examples in C, Go and Rust over the folder that `make lib
 	@bash scripts/dev/need.sh library "$(LIB)"
 	@bash scripts/dev/packages.sh examples
 	@for language in c go rust; do $(MAKE) --no-print-directory -C examples/$$language LIB="$(abspath $(LIB))" || exit 1; done
+
+compat: ## build the drop-in for nghttp3 over the folder that `make lib` leaves, or LIB=build/c-unproved: build/compat/libnghttp3.so.9 and .so.3 (compat/nghttp3)
+	@bash scripts/dev/need.sh library "$(LIB)"
+	@bash scripts/compat/build.sh "$(LIB)"
+
+test-compat: ## test the drop-in for nghttp3 beside Debian's own, over the folder that `make lib` leaves, or LIB=build/c-unproved: a minute or two
+	@bash scripts/dev/need.sh library "$(LIB)"
+	@bash scripts/compat/test.sh "$(LIB)"
 
 test-c: need-rt ## build the library, and run the C programs of tests/c over it, and the tests of the packages for Go and Rust
 	@bash scripts/c/test-c.sh

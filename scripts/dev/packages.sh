@@ -1,8 +1,8 @@
 #!/usr/bin/env bash
 # packages.sh SET..: are the Debian packages there that a command wants? Names all that are missing at once, with the line that installs them.
 # The sets: c (what `make test-c` is built with), peer (what bench/ is built with), examples-c, examples-go and examples-rust (what the programs of
-# examples/ are), examples (all of these), interop (what `make interop` runs them against), firefox (what it runs where that is there), load (`make load`),
-# upstream (`make upstream-root`), count (`make bench-instructions`).
+# examples/ are), examples (all of these), compat (what the drop-in for nghttp3 is built with), interop (what `make interop` runs them against),
+# firefox (what it runs where that is there), load (`make load`), upstream (`make upstream-root`), count (`make bench-instructions`).
 set -uo pipefail
 
 missing=()
@@ -22,6 +22,9 @@ for set in ${sets// examples / examples-c examples-go examples-rust }; do
       ;;
     count)
       need valgrind valgrind
+      ;;
+    compat)
+      need libnghttp3-dev /usr/include/nghttp3/nghttp3.h
       ;;
     c)
       need gcc "${CC:-cc}"

@@ -3,13 +3,15 @@
 #   and with the peers of scripts/interop/interop_peers.sh: curl, aioquic, nginx, haproxy, and the programs of ngtcp2. What a root that is there lacks is added.
 # upstream.sh there: is the root there, with the Rust crate?
 # upstream.sh peers: is it there, with the peers?
+# upstream.sh curl: is it there, with what runs over the drop-in for nghttp3?
 # upstream.sh quinn: compiles scripts/interop/quinn there, h3 over quinn (a minute or four, once): /root/quinn/target/release/quinn_peer of the root
 # upstream.sh: compares what h3 answers with what we do, over the same bytes (scripts/interop/upstream.py): lines 'ok NAME' and 'failed NAME'.
 set -euo pipefail
 cd "$(dirname "$0")/../.."
 root=build/trixie
 
-packages=(cargo rustc librust-h3-dev librust-h3-quinn-dev librust-rustls-pemfile-dev curl python3-aioquic nginx haproxy ngtcp2-client ngtcp2-server)
+packages=(cargo rustc librust-h3-dev librust-h3-quinn-dev librust-rustls-pemfile-dev curl python3-aioquic nginx haproxy ngtcp2-client ngtcp2-server
+  libnghttp3-dev)
 
 has() { # FILE..: of the root
   local file
@@ -17,10 +19,11 @@ has() { # FILE..: of the root
 }
 has_crate() { has usr/bin/cargo usr/share/cargo/registry; }
 has_quinn() { has usr/share/cargo/registry/h3-quinn-0.0.7 usr/share/cargo/registry/rustls-pemfile-2.2.0; }
+has_curl() { has usr/bin/curl usr/bin/gtlsclient usr/sbin/gtlsserver usr/sbin/nginx usr/include/nghttp3/nghttp3.h; }
 has_peers() { has_quinn && has usr/bin/curl usr/lib/python3/dist-packages/aioquic usr/sbin/nginx usr/sbin/haproxy usr/bin/gtlsclient usr/sbin/gtlsserver; }
 
 make_root() {
-  if has_crate && has_peers; then return; fi
+  if has_crate && has_peers && has_curl; then return; fi
   bash scripts/dev/packages.sh upstream
   [ "$(id -u)" -eq 0 ] || { echo "a root of Debian is made by root alone" >&2; return 1; }
   if [ ! -d "$root" ]; then
@@ -61,6 +64,7 @@ case ${1:-} in
   root) make_root ;;
   there) has_crate ;;
   peers) has_peers ;;
+  curl) has_curl ;;
   quinn) compile quinn ;;
   *)
     compile upstream

@@ -1,0 +1,158 @@
+/* connection.h: what the files of this folder share. One nghttp3_conn is one h3_endpoint, and what nghttp3's calls keep that h3.h does
+ * not: bytes until they are acknowledged, an order among streams, fields that the application holds, user data of streams. */
+#ifndef COMPAT_CONNECTION_H
+#define COMPAT_CONNECTION_H
+#include <nghttp3/nghttp3.h>
+#include <stdbool.h>
+#include <stdint.h>
+#include <sys/queue.h>
+#include "h3.h"
+
+/* The header decides which library this is: that of nghttp3 0.8 is libnghttp3.so.3, that of 1.8 is libnghttp3.so.9. */
+#if NGHTTP3_VERSION_NUM >= 0x010000
+#define HAS_VERSION_1
+#endif
+#ifdef NGHTTP3_CALLBACKS_V2
+#error "nghttp3 1.9 and later have calls and structs that are not there yet: build against the header of 0.8 or of 1.8"
+#endif
+
+#define EXPORT __attribute__((visibility("default")))
+
+/* Calls a callback of the application, where it has set one. */
+#define CALLBACK(connection, name, ...) \
+  ((connection)->callbacks.name && (connection)->callbacks.name((connection), __VA_ARGS__) ? NGHTTP3_ERR_CALLBACK_FAILURE : 0)
+
+/* Bytes that are sent on a stream, kept until they are acknowledged: a copy, which stands behind the struct, or the application's own. */
+typedef struct chunk {
+  STAILQ_ENTRY(chunk) next;
+  const uint8_t *bytes;
+  size_t length;
+  bool is_body; /* the application's: it learns of their acknowledgment */
+} chunk;
+
+/* A list of fields as h3_send_fields takes it: the sizes, and all bytes after the last one. */
+typedef struct {
+  size_t count, length;
+  h3_field_size *sizes;
+} field_list;
+
+/* RFC 9218, section 4. */
+typedef struct {
+  uint32_t urgency;
+  bool is_incremental;
+} priority;
+
+typedef struct stream {
+  int64_t id;           /* QUIC's */
+  uint64_t endpoint_id; /* the endpoint's, which may be another one for an own unidirectional stream */
+  struct stream *next;  /* in the same place of the table */
+  TAILQ_ENTRY(stream) ready, waiting;
+  void *user_data;
+  int holders; /* calls that use it now, which a callback may interrupt: it is freed after the last one */
+
+  nghttp3_read_data_callback read_data; /* NULL: there is no body, or all of it was read */
+  STAILQ_HEAD(, chunk) chunks;          /* what is not acknowledged, in order */
+  chunk *unsent;                        /* the first that QUIC does not have whole */
+  size_t unsent_offset;                 /* how much of it QUIC has */
+  size_t unsent_length;                 /* how many bytes of the stream QUIC does not have */
+  size_t acknowledged_offset;           /* how much of the first chunk is acknowledged */
+  uint64_t sent, acknowledged;          /* bytes that QUIC has; of these are acknowledged */
+  field_list trailer;                   /* which is sent after the body */
+  priority priority;
+  bool is_prioritized; /* the server's application has set the priority, and the client's counts no more */
+  bool is_ready, is_waiting;
+  bool is_blocked;  /* by QUIC's flow control */
+  bool awaits_data; /* read_data answered NGHTTP3_ERR_WOULDBLOCK */
+  bool is_write_shut, has_ended, is_fin_offered, is_fin_taken;
+
+  size_t owed; /* bytes that came, and for which no credit was granted */
+  bool is_read_shut, is_closed;
+  bool is_closing; /* QUIC closed it while a head waited: it is closed after that message */
+  uint64_t close_code;
+} stream;
+
+TAILQ_HEAD(stream_row, stream);
+
+struct nghttp3_conn {
+  h3_endpoint endpoint;
+  nghttp3_callbacks callbacks;
+  void *user_data;
+  bool is_server;
+  bool has_own_bytes; /* the endpoint may have bytes for the own unidirectional streams */
+  bool has_settings;  /* the peer's were told */
+  bool is_leaving;    /* nghttp3_conn_shutdown was called */
+  bool has_goaway;    /* one of the peer's was told, of this id */
+  uint64_t goaway;
+  int64_t next_id; /* after the last request that was opened, or came */
+  int64_t end_id;  /* a server takes no request from here on */
+  stream control, encoder, decoder;
+  struct stream_row ready[NGHTTP3_URGENCY_LEVELS]; /* request streams that may have something to send, by urgency */
+  struct stream_row waiting;                       /* request streams whose head waits for the peer's encoder */
+  stream **table;                                  /* request streams by id */
+  size_t places, streams;
+  uint8_t *scratch;
+  size_t scratch_size;
+};
+
+/* What came in one call on a request stream. */
+typedef struct {
+  const uint8_t *bytes;
+  size_t length;
+  bool has_fin;
+  bool is_delivered;
+} input;
+
+/* errors.c */
+int error_of_code(uint64_t code);
+int error_of_answer(uint32_t answer, uint64_t detail);
+
+/* tokens.c: -1 where nghttp3 has no token for the name */
+int32_t token_of(const uint8_t *name, size_t length);
+
+/* fields.c: a field section as reference-counted buffers, two for each field. NULL where memory is refused. The caller holds one
+ * reference to the whole, and gives it back. */
+typedef struct section section;
+section *section_new(size_t count, const h3_field_size *sizes, const uint8_t *bytes, size_t length);
+nghttp3_rcbuf *section_buffer(section *all, size_t index);
+void section_release(section *all);
+size_t field_list_size(const nghttp3_nv *fields, size_t count);
+field_list field_list_at(void *place, const nghttp3_nv *fields, size_t count);
+
+/* priority_field.c: false where the value is malformed; nothing is written then */
+bool priority_field_parse(priority *to, const uint8_t *value, size_t length);
+
+/* streams.c */
+bool is_request(int64_t id);
+stream *stream_find(nghttp3_conn *connection, int64_t id);
+stream *stream_add(nghttp3_conn *connection, int64_t id);
+void stream_init(stream *s, int64_t id, uint64_t endpoint_id);
+void stream_clear(stream *s);
+void stream_free(nghttp3_conn *connection, stream *s);
+void stream_hold(stream *s);
+void stream_release(nghttp3_conn *connection, stream *s);
+bool stream_has_work(const stream *s);
+void stream_schedule(nghttp3_conn *connection, stream *s);
+void stream_unschedule(nghttp3_conn *connection, stream *s);
+void stream_set_waiting(nghttp3_conn *connection, stream *s, bool is_waiting);
+void stream_set_priority(nghttp3_conn *connection, stream *s, priority to);
+bool reserve_scratch(nghttp3_conn *connection, size_t size);
+
+/* endpoint.c: how bytes enter and leave the endpoint */
+int endpoint_take(nghttp3_conn *connection, stream *s);
+int endpoint_send_body(nghttp3_conn *connection, stream *s, const nghttp3_vec *body);
+int endpoint_next(nghttp3_conn *connection, stream *s, input *in, h3_item *item);
+int endpoint_body(nghttp3_conn *connection, const h3_item *item, const uint8_t **bytes);
+int endpoint_finish_input(nghttp3_conn *connection, stream *s, const input *in);
+int endpoint_deliver(nghttp3_conn *connection, int64_t id, const uint8_t *bytes, size_t length, bool has_fin);
+int append_copy(stream *s, const uint8_t *bytes, size_t length);
+
+/* sending.c */
+int send_message_end(nghttp3_conn *connection, stream *s);
+int send_trailer(nghttp3_conn *connection, stream *s);
+int send_fields(nghttp3_conn *connection, stream *s, const field_list *fields, bool is_trailer);
+
+/* receiving.c */
+void give_up_reading(nghttp3_conn *connection, stream *s);
+void give_up_writing(nghttp3_conn *connection, stream *s);
+
+#endif

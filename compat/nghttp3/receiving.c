@@ -1,0 +1,285 @@
+/* receiving.c: what came on a stream, told to the application by its callbacks, and the end of a stream. */
+#include <stdlib.h>
+#include "connection.h"
+
+/* ---- streams that are given up ---- */
+
+/* Nothing more of the stream is told. */
+void give_up_reading(nghttp3_conn *connection, stream *s) {
+  s->is_read_shut = true;
+  stream_set_waiting(connection, s, false);
+  h3_cancel(&connection->endpoint, s->endpoint_id, NULL);
+  connection->has_own_bytes = true;
+}
+
+/* Nothing more of the stream is sent. */
+void give_up_writing(nghttp3_conn *connection, stream *s) {
+  h3_reset(&connection->endpoint, s->endpoint_id, NULL);
+  s->is_write_shut = true;
+  stream_unschedule(connection, s);
+}
+
+/* Both ends of a stream, with a code of the application protocol (RFC 9000, sections 19.4 and 19.5). */
+static int refuse(nghttp3_conn *connection, stream *s, uint64_t code) {
+  int error = CALLBACK(connection, stop_sending, s->id, code, connection->user_data, s->user_data);
+  return error ? error : CALLBACK(connection, reset_stream, s->id, code, connection->user_data, s->user_data);
+}
+
+static int refuse_message(nghttp3_conn *connection, stream *s, uint64_t code) {
+  give_up_reading(connection, s);
+  give_up_writing(connection, s);
+  return refuse(connection, s, code);
+}
+
+/* The code of a malformed message (RFC 9114, sections 4.1 and 4.1.2). Numbers after those of the rules for messages are those of limits. */
+static uint64_t code_of_malformation(const nghttp3_conn *connection, uint64_t malformation) {
+  if (malformation > H3_NO_TRAILER_FIELD) return NGHTTP3_H3_EXCESSIVE_LOAD;
+  return connection->is_server && malformation == H3_NO_HEAD ? NGHTTP3_H3_REQUEST_INCOMPLETE : NGHTTP3_H3_MESSAGE_ERROR;
+}
+
+/* ---- items ---- */
+
+/* A request's `priority` field counts until its application sets another one (RFC 9218, section 5). */
+static void read_priority(nghttp3_conn *connection, stream *s, nghttp3_vec value) {
+  priority to = {.urgency = NGHTTP3_DEFAULT_URGENCY};
+  if (connection->is_server && !s->is_prioritized && priority_field_parse(&to, value.base, value.len))
+    stream_set_priority(connection, s, to);
+}
+
+static int tell_field(nghttp3_conn *connection, stream *s, nghttp3_rcbuf *name, nghttp3_rcbuf *value, bool is_trailer) {
+  nghttp3_vec name_bytes = nghttp3_rcbuf_get_buf(name);
+  int32_t token = token_of(name_bytes.base, name_bytes.len);
+  if (is_trailer) return CALLBACK(connection, recv_trailer, s->id, token, name, value, 0, connection->user_data, s->user_data);
+  if (token == NGHTTP3_QPACK_TOKEN_PRIORITY) read_priority(connection, s, nghttp3_rcbuf_get_buf(value));
+  return CALLBACK(connection, recv_header, s->id, token, name, value, 0, connection->user_data, s->user_data);
+}
+
+/* The fields of the item that was pulled last; NULL where memory is refused. */
+static section *fields_of(nghttp3_conn *connection, const h3_item *item) {
+  size_t sizes_length = item->fields * sizeof(h3_field_size);
+  if (!reserve_scratch(connection, sizes_length + item->len)) return NULL;
+  h3_field_size *sizes = (h3_field_size *)connection->scratch;
+  uint8_t *bytes = connection->scratch + sizes_length;
+  if (h3_item_fields(&connection->endpoint, sizes, item->fields, bytes, item->len) != H3_OK) return NULL;
+  return section_new(item->fields, sizes, bytes, item->len);
+}
+
+static int tell_fields(nghttp3_conn *connection, stream *s, const h3_item *item) {
+  bool is_trailer = item->kind == H3_TRAILER;
+  section *all = fields_of(connection, item);
+  if (!all) return NGHTTP3_ERR_NOMEM;
+  int error = is_trailer ? CALLBACK(connection, begin_trailers, s->id, connection->user_data, s->user_data)
+                         : CALLBACK(connection, begin_headers, s->id, connection->user_data, s->user_data);
+  for (size_t i = 0; i < item->fields && !error && !s->is_read_shut; i++)
+    error = tell_field(connection, s, section_buffer(all, 2 * i), section_buffer(all, 2 * i + 1), is_trailer);
+  section_release(all);
+  return error;
+}
+
+/* The end of a field section is told with the next item: then it is known whether the stream ends there. */
+static int tell_end_of_fields(nghttp3_conn *connection, stream *s, uint32_t kind, int is_end) {
+  return kind == H3_TRAILER ? CALLBACK(connection, end_trailers, s->id, is_end, connection->user_data, s->user_data)
+                            : CALLBACK(connection, end_headers, s->id, is_end, connection->user_data, s->user_data);
+}
+
+/* The application grants credit for a body that it is told of. */
+static int tell_body(nghttp3_conn *connection, stream *s, const h3_item *item) {
+  const uint8_t *bytes;
+  s->owed -= item->len < s->owed ? item->len : s->owed;
+  if (!connection->callbacks.recv_data || item->len == 0) return 0;
+  int error = endpoint_body(connection, item, &bytes);
+  return error ? error : CALLBACK(connection, recv_data, s->id, bytes, item->len, connection->user_data, s->user_data);
+}
+
+/* `is_last`: nothing follows now. */
+static int tell_item(nghttp3_conn *connection, stream *s, const h3_item *item, bool *is_last) {
+  switch (item->kind) {
+    case H3_HEAD:
+    case H3_INTERIM:
+    case H3_TRAILER: return tell_fields(connection, s, item);
+    case H3_BODY: return tell_body(connection, s, item);
+    case H3_END: s->is_read_shut = true; return CALLBACK(connection, end_stream, s->id, connection->user_data, s->user_data);
+    case H3_TOO_LARGE_HEAD: return refuse_message(connection, s, NGHTTP3_H3_EXCESSIVE_LOAD);
+    case H3_FAULT_MALFORMED: return refuse_message(connection, s, code_of_malformation(connection, item->number));
+    case H3_FAULT_CONNECTION: return error_of_code(item->number);
+    case H3_FAULT_MEMORY: return NGHTTP3_ERR_NOMEM;
+    default: *is_last = true; return 0;
+  }
+}
+
+static bool is_section(uint32_t kind) { return kind == H3_HEAD || kind == H3_INTERIM || kind == H3_TRAILER; }
+
+/* Tells all items that are there, of what came before and of `in`. */
+static int tell_items(nghttp3_conn *connection, stream *s, input *in) {
+  uint32_t before = H3_PENDING; /* the kind of the item before */
+  bool is_last = false;
+  int error = 0;
+  while (!error && !is_last && !s->is_read_shut && !s->is_closed) {
+    h3_item item;
+    error = endpoint_next(connection, s, in, &item);
+    if (!error && is_section(before)) error = tell_end_of_fields(connection, s, before, item.kind == H3_END);
+    if (error || s->is_read_shut || s->is_closed) break;
+    before = item.kind;
+    stream_set_waiting(connection, s, item.kind == H3_WAITING);
+    error = tell_item(connection, s, &item, &is_last);
+  }
+  return error;
+}
+
+/* ---- credit ---- */
+
+/* The bytes for which credit is due now: all but those after a head that waits for the peer's encoder. */
+static size_t take_credit(nghttp3_conn *connection, stream *s) {
+  size_t due = s->owed, kept = 0;
+  h3_stream_state state;
+  if (s->is_waiting && h3_stream(&connection->endpoint, s->endpoint_id, &state) == H3_OK)
+    kept = state.unread < due ? (size_t)state.unread : due;
+  s->owed = kept;
+  return due - kept;
+}
+
+/* ---- the end of a stream ---- */
+
+static int close_now(nghttp3_conn *connection, stream *s) {
+  int error = CALLBACK(connection, stream_close, s->id, s->close_code, connection->user_data, s->user_data);
+  if (!s->is_read_shut) give_up_reading(connection, s);
+  if (!s->is_fin_taken) give_up_writing(connection, s);
+  stream_unschedule(connection, s);
+  s->is_closed = true;
+  return error;
+}
+
+/* A stream whose head waits is closed after that message, as nghttp3 does: its application is told all that came. */
+EXPORT int nghttp3_conn_close_stream(nghttp3_conn *connection, int64_t id, uint64_t code) {
+  stream *s = stream_find(connection, id);
+  bool is_of_peer = id % 4 != 0 && (id % 2 == 1) != connection->is_server;
+  if (!s) return is_of_peer ? 0 : NGHTTP3_ERR_STREAM_NOT_FOUND;
+  if (!is_request(id)) return NGHTTP3_ERR_H3_CLOSED_CRITICAL_STREAM;
+  if (s->is_closed || s->is_closing) return NGHTTP3_ERR_STREAM_NOT_FOUND;
+  s->close_code = code, s->is_closing = true;
+  stream_unschedule(connection, s);
+  if (s->is_waiting) return 0;
+  stream_hold(s);
+  int error = close_now(connection, s);
+  stream_release(connection, s);
+  return error;
+}
+
+EXPORT int nghttp3_conn_shutdown_stream_read(nghttp3_conn *connection, int64_t id) {
+  stream *s = stream_find(connection, id);
+  if (s && is_request(id) && !s->is_read_shut) give_up_reading(connection, s);
+  return 0;
+}
+
+EXPORT void nghttp3_conn_shutdown_stream_write(nghttp3_conn *connection, int64_t id) {
+  stream *s = stream_find(connection, id);
+  if (s && is_request(id)) give_up_writing(connection, s);
+}
+
+/* ---- unidirectional streams ---- */
+
+/* A head of the stream may be there now that waited for the peer's encoder. */
+static int resume_waiting(nghttp3_conn *connection, stream *s) {
+  input nothing = {.is_delivered = true};
+  stream_hold(s);
+  int error = tell_items(connection, s, &nothing);
+  size_t credit = error ? 0 : take_credit(connection, s);
+  if (credit > 0) error = CALLBACK(connection, deferred_consume, s->id, credit, connection->user_data, s->user_data);
+  if (!error && s->is_closing && !s->is_waiting && !s->is_closed) error = close_now(connection, s);
+  stream_release(connection, s);
+  return error;
+}
+
+/* Each stream that waits now, once. */
+static int resume_all_waiting(nghttp3_conn *connection) {
+  struct stream_row row = TAILQ_HEAD_INITIALIZER(row);
+  int error = 0;
+  TAILQ_CONCAT(&row, &connection->waiting, waiting);
+  for (stream *s; (s = TAILQ_FIRST(&row));) {
+    TAILQ_REMOVE(&row, s, waiting);
+    TAILQ_INSERT_TAIL(&connection->waiting, s, waiting);
+    if (!error) error = resume_waiting(connection, s);
+  }
+  return error;
+}
+
+static int tell_settings(nghttp3_conn *connection, const h3_state *state) {
+  connection->has_settings = true;
+#ifdef HAS_VERSION_1
+  enum { ENABLE_CONNECT_PROTOCOL = 0x08, H3_DATAGRAM = 0x33 }; /* RFC 9220, section 5; RFC 9297, section 5.1 */
+  uint64_t connect = 0, datagram = 0;
+  h3_peer_setting(&connection->endpoint, ENABLE_CONNECT_PROTOCOL, &connect);
+  h3_peer_setting(&connection->endpoint, H3_DATAGRAM, &datagram);
+  nghttp3_settings peer = {
+      .max_field_section_size = state->peer_section,
+      .qpack_max_dtable_capacity = (size_t)state->peer_table,
+      .qpack_blocked_streams = (size_t)state->peer_blocked,
+      .enable_connect_protocol = connection->is_server && connect == 1, /* as nghttp3 tells it */
+      .h3_datagram = datagram == 1,
+  };
+  return CALLBACK(connection, recv_settings, &peer, connection->user_data);
+#else
+  return (void)state, 0;
+#endif
+}
+
+/* The peer's control stream may have been read. */
+static int tell_control(nghttp3_conn *connection) {
+  h3_state state;
+  if (h3_connection(&connection->endpoint, &state) != H3_OK) return 0;
+  int error = state.has_settings && !connection->has_settings ? tell_settings(connection, &state) : 0;
+  if (error || !state.has_goaway || (connection->has_goaway && connection->goaway == state.goaway)) return error;
+  connection->has_goaway = true, connection->goaway = state.goaway;
+  return CALLBACK(connection, shutdown, (int64_t)state.goaway, connection->user_data);
+}
+
+static nghttp3_ssize read_unidirectional(nghttp3_conn *connection, int64_t id, const uint8_t *bytes, size_t length, int fin) {
+  int fault = endpoint_deliver(connection, id, bytes, length, fin);
+  connection->has_own_bytes = true;
+  int error = tell_control(connection);
+  if (fault || error) return fault ? fault : error;
+  error = resume_all_waiting(connection);
+  return error ? error : (nghttp3_ssize)length;
+}
+
+/* ---- request streams ---- */
+
+static int read_request(nghttp3_conn *connection, stream *s, input *in, size_t *credit) {
+  stream_hold(s);
+  s->owed += in->length;
+  int error = tell_items(connection, s, in);
+  int kept = endpoint_finish_input(connection, s, in);
+  connection->has_own_bytes = true;
+  *credit = take_credit(connection, s);
+  stream_release(connection, s);
+  return error ? error : kept;
+}
+
+/* A request that comes after the own GOAWAY (RFC 9114, section 5.2). */
+static int reject(nghttp3_conn *connection, stream *s) {
+  stream_hold(s);
+  s->is_read_shut = s->is_write_shut = true;
+  int error = refuse(connection, s, NGHTTP3_H3_REQUEST_REJECTED);
+  stream_release(connection, s);
+  return error;
+}
+
+EXPORT nghttp3_ssize nghttp3_conn_read_stream(nghttp3_conn *connection, int64_t id, const uint8_t *bytes, size_t length, int fin) {
+  input in = {.bytes = bytes, .length = length, .has_fin = fin};
+  size_t credit = 0;
+  if (!is_request(id)) return read_unidirectional(connection, id, bytes, length, fin);
+  stream *s = stream_find(connection, id);
+  if (!s && !connection->is_server) return id < connection->next_id ? (nghttp3_ssize)length : NGHTTP3_ERR_H3_STREAM_CREATION_ERROR;
+  if (!s) {
+    s = stream_add(connection, id);
+    if (!s) return NGHTTP3_ERR_NOMEM;
+    if (id >= connection->end_id) {
+      int error = reject(connection, s);
+      return error ? error : (nghttp3_ssize)length;
+    }
+    if (id >= connection->next_id) connection->next_id = id + 4;
+  }
+  if (s->is_read_shut || s->is_closed) return (nghttp3_ssize)length;
+  int error = read_request(connection, s, &in, &credit);
+  return error ? error : (nghttp3_ssize)credit;
+}
