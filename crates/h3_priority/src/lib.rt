@@ -1,0 +1,8 @@
+//! Priorities of responses (RFC 9218).
+#![tactic(auto)]
+
+mod characters;
+mod cursor;
+mod dictionary;
+mod item;
+pub mod priority;
