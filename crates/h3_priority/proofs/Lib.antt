@@ -5,3 +5,5 @@ pub mod ParameterLoop
 pub mod ListsShorter
 pub mod Members
 pub mod ListLoop
+pub mod ReadsBack
+pub mod RowsHold

@@ -1,12 +1,12 @@
 -- The loop over the items of an inner list: what is left reads as the whole does.
-use Rattle.std.proofs.Common.{◌≡◌, ℕ, ◌-◌, ◌<◌, ◌≤◌, ◌||◌, Bool, true, false, List, [], ◌∷◌, length, Some, None, refl, ◌∙◌, arith}
+use Rattle.std.proofs.Common.{◌≡◌, ℕ, ◌<◌, ◌≤◌, ◌||◌, true, false, List, [], ◌∷◌, length, Some, arith}
 use Rattle.h3_priority.specs.declared.characters.Class.TheVariants.{Space}
 use Rattle.h3_priority.specs.declared.item.Item.{Item}
 use Rattle.h3_priority.specs.Characters.{is_in}
 use Rattle.h3_priority.specs.Items.{item_at}
 use Rattle.h3_priority.specs.Dictionary.{listed_from, listed_at}
 use Rattle.h3_priority.specs.Reading.{begins_with, after, go_on}
-use Rattle.h3_priority.proofs.Shorter.{Leaves, after_le}
+use Rattle.h3_priority.proofs.Shorter.{after_le}
 use Rattle.h3_priority.proofs.ListsShorter.{item_shorter, listed_next}
 
 -- an item was read, and what may stand behind it comes next

@@ -1,5 +1,5 @@
 -- What follows parameters, inner lists and members is shorter than the text.
-use Rattle.std.proofs.Common.{◌≡◌, ℕ, zero, suc, ◌+◌, ◌-◌, ◌<◌, ◌≤◌, ◌||◌, ◌==◌, Bool, true, false, if◌then◌else◌, List, [], ◌∷◌, length, drop, Some, None, refl, arith, length-drop}
+use Rattle.std.proofs.Common.{◌≡◌, ℕ, zero, suc, ◌-◌, ◌<◌, ◌≤◌, ◌||◌, ◌==◌, Bool, true, false, if◌then◌else◌, List, [], ◌∷◌, length, drop, Some, None, refl, arith}
 use Rattle.h3_priority.specs.declared.characters.Class.TheVariants.{Space, Whitespace}
 use Rattle.h3_priority.specs.declared.item.Item.{Item}
 use Rattle.h3_priority.specs.Characters.{is_in}
@@ -8,7 +8,7 @@ use Rattle.h3_priority.specs.Dictionary.{after_listed, listed_from, listed_round
 use Rattle.h3_priority.specs.Reading.{Read, begins_with, after, Round, go_on, rounds, all_rounds}
 use Rattle.h3_priority.specs.Reading.Round.{Again, Finished, Refused}
 use Rattle.h3_priority.proofs.Rounds.{EachLeavesLess, LeavesLess, first_round}
-use Rattle.h3_priority.proofs.Shorter.{Leaves, leaves_more, leaves_if, leaves_then, leaves_some, after_le, drop_le, behind, behind_one, key_shorter, bare_item_shorter, parameter_shorter, round_if}
+use Rattle.h3_priority.proofs.Shorter.{Leaves, leaves_more, leaves_if, leaves_then, after_le, drop_le, key_shorter, bare_item_shorter, parameter_shorter, round_if}
 
 -- a round of a loop over a text leaves at most so many characters
 abbrev pub RoundLeaves : {A : Type 0} → ℕ → Round (List ℕ) (A × List ℕ) → Type 0
@@ -38,8 +38,8 @@ unfolding parameters_at all_rounds
 parameters_shorter text =
     rounds_leave parameter_round
     (λ t. leaves_round_if (length t) (begins_with 59 t) (after_parameter (parameter_at (drop 1 t))) (Finished (tt, t))
-      (after_parameter_leaves (length t) (parameter_at (drop 1 t)) (leaves_more (length (drop 1 t)) (length t) (parameter_at (drop 1 t)) (drop_le t) (parameter_shorter (drop 1 t))))
-      (omega arith))
+    (after_parameter_leaves (length t) (parameter_at (drop 1 t)) (leaves_more (length (drop 1 t)) (length t) (parameter_at (drop 1 t)) (drop_le t) (parameter_shorter (drop 1 t))))
+    (omega arith))
     (suc (length text)) text
 
 pub item_shorter : (text : List ℕ) → Leaves (length text - 1) (item_at text)
@@ -118,10 +118,10 @@ member_shorter text =
     let most = length text - 1 in
     leaves_then most most (key_at text) _ (key_shorter text)
     (λ key rest less. leaves_then most most (if begins_with 61 rest then value_at (drop 1 rest) else true_at rest) _
-      (leaves_if most (begins_with 61 rest) _ _
-        (λ is. leaves_more (length (drop 1 rest)) most (value_at (drop 1 rest)) (omega (arith, drop_le rest)) (value_shorter (drop 1 rest)))
-        (λ not. leaves_more (length rest) most (true_at rest) less (true_shorter rest)))
-      (λ item more h. h))
+    (leaves_if most (begins_with 61 rest) _ _
+    (λ is. leaves_more (length (drop 1 rest)) most (value_at (drop 1 rest)) (omega (arith, drop_le rest)) (value_shorter (drop 1 rest)))
+    (λ not. leaves_more (length rest) most (true_at rest) less (true_shorter rest)))
+    (λ item more h. h))
 
 another_shorter : (text : List ℕ) → Leaves (length text) (another_at text)
 another_shorter [] = tt

@@ -1,12 +1,12 @@
 -- The loop over members: the priority of those that were read, and what the rest adds to it.
-use Rattle.std.proofs.Common.{◌≡◌, ℕ, zero, suc, ◌+◌, ◌-◌, ◌<◌, ◌≤◌, Bool, true, false, List, [], ◌∷◌, length, not, ◌==◌, Option, Some, None, option_map, refl, ap, sym, ◌∙◌, arith}
+use Rattle.std.proofs.Common.{◌≡◌, ℕ, suc, ◌<◌, Bool, true, false, List, [], ◌∷◌, length, not, ◌==◌, Option, Some, None, option_map, refl, ap, sym, ◌∙◌, arith}
+use Rattle.std.proofs.lemmas.Bool.Decides.{nat_tests}
 use Rattle.h3_priority.specs.Dictionary.{Member, Members, member_at, comma_at, members_from, dictionary_in, dictionary_of, after_comma}
 use Rattle.h3_priority.specs.Priority.{PriorityParameters, default_parameters, parameters_in, priority_of}
 use Rattle.h3_priority.specs.Reading.{go_on, after}
 use Rattle.h3_priority.specs.Characters.{is_in}
 use Rattle.h3_priority.specs.declared.characters.Class.TheVariants.{Space}
 use Rattle.h3_priority.specs.declared.item.Item.{Item}
-use Rattle.h3_priority.proofs.Shorter.{Leaves}
 use Rattle.h3_priority.proofs.ListsShorter.{member_shorter, comma_shorter, members_next, no_member}
 
 -- the members where another one follows, and where none does
@@ -23,9 +23,12 @@ abbrev pub measure : Bool → List ℕ → ℕ
 measure true text = suc (length text)
 measure false text = 0
 
+some : (b : ℕ) (text : List ℕ) → (length (b ∷ text) == 0) ≡ false
+some b text = grind (arith, nat_tests)
+
 first_member : (text : List ℕ) → dictionary_in text ≡ members_of (not (length text == 0)) [] text
 first_member [] = refl
-first_member (b ∷ text) = refl
+first_member (b ∷ text) = rw (some b text) refl
 
 pub begun : (value text : List ℕ) (priority : PriorityParameters) → text ≡ after (is_in Space) value → priority ≡ default_parameters → Standing value (not (length text == 0)) text priority
 unfolding dictionary_of
@@ -49,11 +52,15 @@ more value text rest next key item is_another before after s m with_member = rec
 
 pub no_member_read : (value text : List ℕ) (priority : PriorityParameters) → Standing value true text priority → member_at text ≡ None → priority_of value ≡ None
 unfolding priority_of
-no_member_read value text priority s none = ap (option_map parameters_in) (s.same ∙ members_next (s.members, text) ∙ rw none refl)
+no_member_read value text priority s none =
+    let first : members_from (s.members, text) ≡ None = members_next (s.members, text) ∙ rw none refl in
+    ap (option_map parameters_in) (s.same ∙ first)
 
 pub no_comma_read : (value text rest : List ℕ) (m : Member) (priority : PriorityParameters) → Standing value true text priority → member_at text ≡ Some (m, rest) → comma_at rest ≡ None → priority_of value ≡ None
 unfolding priority_of
-no_comma_read value text rest m priority s read none = ap (option_map parameters_in) (s.same ∙ members_next (s.members, text) ∙ rw (read, none) refl)
+no_comma_read value text rest m priority s read none =
+    let first : members_from (s.members, text) ≡ None = members_next (s.members, text) ∙ rw (read, none) refl in
+    ap (option_map parameters_in) (s.same ∙ first)
 
 pub done : (value text : List ℕ) (priority : PriorityParameters) → Standing value false text priority → Some priority ≡ priority_of value
 unfolding priority_of

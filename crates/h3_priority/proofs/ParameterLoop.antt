@@ -1,9 +1,9 @@
 -- The loop over parameters: what is left reads as the whole does.
-use Rattle.std.proofs.Common.{◌≡◌, ℕ, ◌<◌, ◌≤◌, Bool, true, false, if◌then◌else◌, List, length, drop, Some, None, refl, ◌∙◌, arith}
+use Rattle.std.proofs.Common.{◌≡◌, ℕ, ◌<◌, Bool, true, false, if◌then◌else◌, List, length, drop, Some, None, refl, ◌∙◌, arith}
 use Rattle.h3_priority.specs.declared.item.Item.{Item}
 use Rattle.h3_priority.specs.Items.{parameter_at, parameters_at}
-use Rattle.h3_priority.specs.Reading.{begins_with, go_on}
-use Rattle.h3_priority.proofs.Shorter.{Leaves, behind_one, parameter_shorter, parameters_next}
+use Rattle.h3_priority.specs.Reading.{begins_with}
+use Rattle.h3_priority.proofs.Shorter.{behind_one, parameter_shorter, parameters_next}
 
 -- a parameter was read, behind its ";"
 pub record IsParameter (text taken rest : List ℕ) (item : Item) : Type 0 where

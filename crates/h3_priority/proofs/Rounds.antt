@@ -1,5 +1,5 @@
 -- Rounds that leave less each time: how many are allowed does not matter, so all of them are one and the rest.
-use Rattle.std.proofs.Common.{◌≡◌, ℕ, zero, suc, ◌<◌, Option, Some, None, refl, arith}
+use Rattle.std.proofs.Common.{◌≡◌, ℕ, zero, suc, ◌<◌, Option, refl, arith}
 use Rattle.h3_priority.specs.Reading.{Round, go_on, rounds, all_rounds}
 use Rattle.h3_priority.specs.Reading.Round.{Again, Finished, Refused}
 

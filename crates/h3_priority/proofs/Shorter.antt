@@ -5,9 +5,9 @@ use Rattle.std.proofs.lemmas.Bool.Decides.{nat_tests}
 use Rattle.h3_priority.specs.declared.characters.Class.TheVariants.{Space, Digit, KeyStart, Key, TokenStart, Token, Base64, Printable}
 use Rattle.h3_priority.specs.declared.item.Item.{Item}
 use Rattle.h3_priority.specs.Characters.{is_between, is_in}
-use Rattle.h3_priority.specs.Items.{key_at, integer_of, decimal_of, number_from, number_at, string_from, byte_sequence_at, boolean_at, bare_item_at, parameter_at, after_parameter, parameter_round, parameters_at, item_at}
-use Rattle.h3_priority.specs.Reading.{Read, then_read, begins_with, begins_in, after, Round, all_rounds, go_on}
-use Rattle.h3_priority.specs.Reading.Round.{Again, Finished, Refused}
+use Rattle.h3_priority.specs.Items.{key_at, integer_of, decimal_of, number_from, number_at, string_from, byte_sequence_at, boolean_at, bare_item_at, parameter_at, after_parameter, parameter_round, parameters_at}
+use Rattle.h3_priority.specs.Reading.{Read, then_read, begins_with, begins_in, after, Round, go_on}
+use Rattle.h3_priority.specs.Reading.Round.{Finished}
 use Rattle.h3_priority.proofs.Rounds.{EachLeavesLess, LeavesLess, first_round}
 
 -- what was read leaves at most so many characters
@@ -130,8 +130,8 @@ parameter_shorter text =
     let most = length text in
     leaves_then (length key_text - 1) most (key_at key_text) _ (key_shorter key_text)
     (λ key rest less. leaves_if most (begins_with 61 rest) _ _
-      (λ is. leaves_more (length (drop 1 rest) - 1) most (bare_item_at (drop 1 rest)) (omega (arith, after_le (is_in Space) text, drop_le rest)) (bare_item_shorter (drop 1 rest)))
-      (λ not. leaves_some most rest (omega (arith, after_le (is_in Space) text))))
+    (λ is. leaves_more (length (drop 1 rest) - 1) most (bare_item_at (drop 1 rest)) (omega (arith, after_le (is_in Space) text, drop_le rest)) (bare_item_shorter (drop 1 rest)))
+    (λ not. leaves_some most rest (omega (arith, after_le (is_in Space) text))))
 
 -- each parameter takes a character at least
 round_leaves : (text : List ℕ) (r : Read Item) → begins_with 59 text ≡ true → Leaves (length (drop 1 text)) r → LeavesLess length (length text) (after_parameter r)

@@ -1,5 +1,5 @@
 -- Dictionaries of structured fields (RFC 8941, section 4.2).
-use Rattle.std.specs.Prelude.{ℕ, Bool, true, false, not, ◌||◌, ◌==◌, List, [], ◌∷◌, length, drop, Option, Some, None, if◌then◌else◌}
+use Rattle.std.specs.Prelude.{ℕ, Bool, true, false, ◌||◌, ◌==◌, List, [], ◌∷◌, length, drop, Option, Some, None, if◌then◌else◌}
 use Rattle.h3_priority.specs.declared.characters.Class.TheVariants.{Space, Whitespace}
 use Rattle.h3_priority.specs.declared.item.Item.{Item}
 use Rattle.h3_priority.specs.declared.item.Item.TheVariants.{Boolean, Other}
@@ -38,7 +38,7 @@ Member = List ℕ × Item
 unfoldable pub member_at : List ℕ → Read Member
 member_at text =
     then_read (key_at text) (λ key rest.
-      then_read (if begins_with 61 rest then value_at (drop 1 rest) else true_at rest) (λ item more. Some ((key, item), more)))
+    then_read (if begins_with 61 rest then value_at (drop 1 rest) else true_at rest) (λ item more. Some ((key, item), more)))
 
 -- what stands behind a member: nothing, or "," and another member; whether there is one
 abbrev pub another_at : List ℕ → Read Bool

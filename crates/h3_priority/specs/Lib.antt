@@ -3,3 +3,4 @@ pub mod Reading
 pub mod Items
 pub mod Dictionary
 pub mod Priority
+pub mod Rows

@@ -1,7 +1,7 @@
 -- The priority of a response (RFC 9218, section 4).
 use Rattle.std.specs.Prelude.{ℕ, ◌+◌, Bool, true, false, nat_le, ◌==◌, List, [], ◌∷◌, ◌++◌, codes, bytes_eq, Option, Some, None, option_map, if◌then◌else◌}
 use Rattle.h3_priority.specs.declared.item.Item.{Item}
-use Rattle.h3_priority.specs.declared.item.Item.TheVariants.{Integer, Boolean, Other}
+use Rattle.h3_priority.specs.declared.item.Item.TheVariants.{Integer, Boolean}
 use Rattle.h3_priority.specs.Dictionary.{Members, dictionary_of}
 
 pub record PriorityParameters : Type 0 where

@@ -56,7 +56,9 @@ impl Class {
             Class::KeyStart => is_lowercase(byte) || byte == b'*',
             Class::Key => is_lowercase(byte) || is_digit(byte) || b"_-.*".contains(&byte),
             Class::TokenStart => is_alpha(byte) || byte == b'*',
-            Class::Token => is_alpha(byte) || is_digit(byte) || b"!#$%&'*+-.^_`|~:/".contains(&byte),
+            Class::Token => is_alpha(byte)
+                || is_digit(byte)
+                || b"!#$%&'*+-.^_`|~:/".contains(&byte),
             Class::Base64 => is_alpha(byte) || is_digit(byte) || b"+/=".contains(&byte),
             Class::Printable => byte >= b' ' && byte <= b'~',
         }

@@ -67,14 +67,19 @@ impl<'a> Cursor<'a> {
         let digits = self.take_all(Class::Digit);
         if self.take(b'.') {
             let fraction = self.take_all(Class::Digit);
-            let is_decimal = digits.len() <= MOST_WHOLE_DIGITS && fraction.len() >= 1 && fraction.len() <= MOST_FRACTION_DIGITS;
+            let is_decimal = digits.len() <= MOST_WHOLE_DIGITS
+                && fraction.len() >= 1
+                && fraction.len() <= MOST_FRACTION_DIGITS;
             return if is_decimal { Some(Item::Other) } else { None };
         }
         if digits.len() > MOST_DIGITS {
             return None;
         }
         let magnitude = number_of(digits);
-        Some(Item::Integer { is_negative, magnitude })
+        Some(Item::Integer {
+            is_negative,
+            magnitude,
+        })
     }
 
     /// Takes a string, behind its first quote.
@@ -106,7 +111,11 @@ impl<'a> Cursor<'a> {
         ensures { Answers (byte_sequence_at self.old) result self.new }
     {
         self.take_all(Class::Base64);
-        if self.take(b':') { Some(Item::Other) } else { None }
+        if self.take(b':') {
+            Some(Item::Other)
+        } else {
+            None
+        }
     }
 
     /// Takes a boolean, behind its "?".

@@ -5,4 +5,5 @@ mod characters;
 mod cursor;
 mod dictionary;
 mod item;
+pub mod laws;
 pub mod priority;

@@ -34,7 +34,10 @@ impl Default for Priority {
 
     /// Urgency 3, not incremental.
     fn default() -> Self {
-        Priority { urgency: DEFAULT_URGENCY, incremental: false }
+        Priority {
+            urgency: DEFAULT_URGENCY,
+            incremental: false,
+        }
     }
 }
 
@@ -52,7 +55,10 @@ impl Priority {
         if urgency > MOST_URGENCY {
             return None;
         }
-        Some(Priority { urgency, incremental })
+        Some(Priority {
+            urgency,
+            incremental,
+        })
     }
 
     /// From 0, the most urgent, to 7.
@@ -92,10 +98,16 @@ impl Priority {
         ensures { (members : Members) → self ≡ parameters_in members → result ≡ parameters_in ((key.now, item) ∷ members) }
     {
         if is_key(key, b'u') {
-            return Priority { urgency: urgency_of(item), incremental: self.incremental };
+            return Priority {
+                urgency: urgency_of(item),
+                incremental: self.incremental,
+            };
         }
         if is_key(key, b'i') {
-            return Priority { urgency: self.urgency, incremental: is_true(item) };
+            return Priority {
+                urgency: self.urgency,
+                incremental: is_true(item),
+            };
         }
         self
     }
@@ -114,7 +126,11 @@ impl Priority {
             6 => b"u=6, i",
             _ => b"u=7, i",
         };
-        if self.incremental { incremental } else { &incremental[..3] }
+        if self.incremental {
+            incremental
+        } else {
+            &incremental[..3]
+        }
     }
 }
 
@@ -134,7 +150,10 @@ fn urgency_of(item: Item) -> u8
     ensures most { result ≤ 7 }
 {
     match item {
-        Item::Integer { is_negative, magnitude } if magnitude == 0 || !is_negative && magnitude <= 7 => magnitude as u8,
+        Item::Integer {
+            is_negative,
+            magnitude,
+        } if magnitude == 0 || !is_negative && magnitude <= 7 => magnitude as u8,
         _ => DEFAULT_URGENCY,
     }
 }

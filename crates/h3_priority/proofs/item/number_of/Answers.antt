@@ -1,5 +1,5 @@
 use Rattle.std.proofs.Common.{arith}
-use Rattle.h3_priority.proofs.Numbers.{room, more}
+use Rattle.h3_priority.proofs.Numbers.{room}
 use Rattle.h3_priority.proofs.item.number_of.Goals as goal
 
 pub overflow_mul-number : goal.overflow_mul-number

@@ -1,4 +1,3 @@
-use Rattle.std.proofs.Common.{◌≡◌, length}
 use Rattle.h3_priority.proofs.Members.{Standing, measure}
 use Rattle.h3_priority.proofs.priority.Priority.read.Given as goal
 
