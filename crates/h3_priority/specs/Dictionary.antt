@@ -25,7 +25,7 @@ listed_at text = all_rounds listed_round length text
 unfoldable pub inner_list_at : List ℕ → Read Item
 inner_list_at text = then_read (listed_at text) (λ items rest. then_read (parameters_at rest) (λ parameters more. Some (Other, more)))
 
--- what stands behind a key: "=" and an item or an inner list, or true with parameters
+-- what follows a key: "=" and an item or an inner list, or true with parameters
 unfoldable pub value_at : List ℕ → Read Item
 value_at text = if begins_with 40 text then inner_list_at (drop 1 text) else item_at text
 
@@ -40,7 +40,7 @@ member_at text =
     then_read (key_at text) (λ key rest.
     then_read (if begins_with 61 rest then value_at (drop 1 rest) else true_at rest) (λ item more. Some ((key, item), more)))
 
--- what stands behind a member: nothing, or "," and another member; whether there is one
+-- what follows a member: nothing, or "," and another member; whether there is one
 abbrev pub another_at : List ℕ → Read Bool
 another_at [] = None
 another_at (b ∷ text) = Some (true, b ∷ text)

@@ -29,7 +29,11 @@ incremental_of _ = false
 
 -- what is not known is ignored
 abbrev pub parameters_in : Members → PriorityParameters
-parameters_in members = record { urgency = urgency_of (value_of (codes "u") members); incremental = incremental_of (value_of (codes "i") members) }
+parameters_in members =
+    record {
+      urgency = urgency_of (value_of (codes "u") members);
+      incremental = incremental_of (value_of (codes "i") members);
+    }
 
 -- the priority that a field's value says; none where it is no dictionary
 unfoldable pub priority_of : List ℕ → Option PriorityParameters

@@ -8,7 +8,7 @@ use crate::cursor::Cursor;
 use crate::item::Item;
 
 impl<'a> Cursor<'a> {
-    // Whether what may stand behind an item of an inner list comes next.
+    // Whether what may follow an item of an inner list comes next.
     fn is_at_end_of_item(&self) -> bool
         ensures { result ≡ (begins_with 32 self.now || begins_with 41 self.now) }
     {
@@ -20,6 +20,7 @@ impl<'a> Cursor<'a> {
         ensures { Answers (listed_at self.old) result self.new }
     {
         self.take_all(Class::Space);
+        // (the label names the loop in its proof)
         'items: while !self.take(b')') {
             self.item()?;
             if !self.is_at_end_of_item() {
@@ -30,7 +31,7 @@ impl<'a> Cursor<'a> {
         Some(())
     }
 
-    // Takes an inner list, behind its "(".
+    // Takes an inner list. Its "(" was read.
     #[tactic(auto, unfolding(crate::specs::Dictionary::inner_list_at))]
     fn inner_list(&mut self) -> Option<Item>
         ensures { Answers (inner_list_at self.old) result self.new }
@@ -65,7 +66,7 @@ impl<'a> Cursor<'a> {
         Some((key, Item::Boolean(true)))
     }
 
-    /// Takes what stands behind a member, and says whether another one follows.
+    /// Takes what follows a member, and says whether another member follows.
     #[tactic(auto, unfolding(crate::specs::Dictionary::comma_at))]
     pub fn comma(&mut self) -> Option<bool>
         ensures { Answers (comma_at self.old) result self.new }

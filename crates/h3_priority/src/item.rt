@@ -6,10 +6,10 @@ ghost use Rattle.h3_priority.specs.Reading.{Answers};
 use crate::characters::Class;
 use crate::cursor::Cursor;
 
-/// What stands behind a key, as far as a priority needs it.
+/// What a key stands for, as far as a priority needs it.
 #[derive(Clone, Copy)]
 pub enum Item {
-    /// An integer: its sign, and the number behind it.
+    /// An integer: its sign, and its number without it.
     Integer {
         /// Whether "-" stands before it.
         is_negative: bool,
@@ -28,7 +28,7 @@ const MOST_DIGITS: usize = 15;
 /// The most digits of a decimal before its point.
 const MOST_WHOLE_DIGITS: usize = 12;
 
-/// The most digits of a decimal behind its point.
+/// The most digits of a decimal after its point.
 const MOST_FRACTION_DIGITS: usize = 3;
 
 /// The number that digits are.
@@ -56,7 +56,7 @@ impl<'a> Cursor<'a> {
         Some(self.take_all(Class::Key))
     }
 
-    /// Takes an integer or a decimal, behind its sign.
+    /// Takes an integer or a decimal. Its sign was read.
     #[tactic(auto, unfolding(crate::specs::Items::number_at))]
     fn number(&mut self, is_negative: bool) -> Option<Item>
         ensures { Answers (number_at is_negative self.old) result self.new }
@@ -82,12 +82,13 @@ impl<'a> Cursor<'a> {
         })
     }
 
-    /// Takes a string, behind its first quote.
+    /// Takes a string. Its first quote was read.
     #[tactic(auto, unfolding(crate::specs::Items::string_from))]
     fn string(&mut self) -> Option<Item>
         ensures { Answers (string_from false self.old) result self.new }
     {
         let mut is_escape = false;
+        // (the label names the loop in its proof)
         'characters: while let Some(byte) = self.next() {
             if is_escape {
                 if byte != b'"' && byte != b'\\' {
@@ -105,7 +106,7 @@ impl<'a> Cursor<'a> {
         None
     }
 
-    /// Takes a byte sequence, behind its first ":".
+    /// Takes a byte sequence. Its first ":" was read.
     #[tactic(auto, unfolding(crate::specs::Items::byte_sequence_at))]
     fn byte_sequence(&mut self) -> Option<Item>
         ensures { Answers (byte_sequence_at self.old) result self.new }
@@ -118,7 +119,7 @@ impl<'a> Cursor<'a> {
         }
     }
 
-    /// Takes a boolean, behind its "?".
+    /// Takes a boolean. Its "?" was read.
     #[tactic(auto, unfolding(crate::specs::Items::boolean_at))]
     fn boolean(&mut self) -> Option<Item>
         ensures { Answers (boolean_at self.old) result self.new }
@@ -159,7 +160,7 @@ impl<'a> Cursor<'a> {
         None
     }
 
-    /// Takes a parameter, behind its ";".
+    /// Takes a parameter. Its ";" was read.
     #[tactic(auto, unfolding(crate::specs::Items::parameter_at))]
     fn parameter(&mut self) -> Option<Item>
         ensures { Answers (parameter_at self.old) result self.new }
@@ -176,6 +177,7 @@ impl<'a> Cursor<'a> {
     pub fn parameters(&mut self) -> Option<()>
         ensures { Answers (parameters_at self.old) result self.new }
     {
+        // (the label names the loop in its proof)
         'parameters: while self.take(b';') {
             self.parameter()?;
         }

@@ -4,6 +4,7 @@
 mod characters;
 mod cursor;
 mod dictionary;
+pub mod examples;
 mod item;
 pub mod laws;
 pub mod priority;

@@ -85,6 +85,7 @@ impl Priority {
         cursor.take_all(Class::Space);
         let mut priority = Priority::default();
         let mut is_another = !cursor.is_empty();
+        // (the label names the loop in its proof)
         'members: while is_another {
             let (key, item) = cursor.member()?;
             priority = priority.with_member(key, item);
