@@ -1,0 +1,2 @@
+pub mod Capsule
+pub mod Told

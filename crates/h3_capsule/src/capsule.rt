@@ -1,0 +1,118 @@
+//! Capsules on the data of a stream (RFC 9297, section 3.2): read in any pieces, and written.
+ghost use Rattle.std.specs.Prelude.{◌≡◌, ◌<◌, [], length, IfNone};
+ghost use Rattle.h3_capsule.specs.Capsule.{head_of, is_between, read_on, value_on, IsInValue};
+ghost use Rattle.h3_capsule.specs.Capsule.Place.{InHead};
+
+use crate::head_bytes::HeadBytes;
+use h3_coding::coding::BufExt;
+use std::marker::Model;
+
+/// What a reader tells of the bytes that it took.
+#[derive(Clone, Copy, PartialEq, Eq, Debug)]
+pub enum Capsule {
+    /// A capsule begins, of this type and with a value of this length.
+    Head(u64, u64),
+    /// So many bytes that were taken are of its value.
+    Value(usize),
+    /// The capsule is whole.
+    End,
+    /// All bytes were taken, and nothing more can be told of them.
+    Pending,
+}
+
+/// A reader of capsules, which takes their bytes in any pieces. It keeps the bytes of a head that is not whole, and no other.
+#[derive(Drop)]
+pub struct CapsuleReader {
+    head: HeadBytes,
+    left: u64,
+    is_at_end: bool,
+}
+
+impl Model for CapsuleReader {
+    ghost use Rattle.std.specs.Prelude.{◌<◌, length};
+    ghost use Rattle.h3_capsule.specs.Capsule.{Place, place_of};
+
+    ghost Value = { Place };
+
+    ghost view = { λ r. place_of r.is_at_end r.left r.head };
+
+    ghost invariant = { λ r. length r.head < 16 };
+}
+
+/// The type and the length that bytes begin with, where both are whole.
+#[tactic(auto, unfolding(crate::specs::Capsule::head_of))]
+fn head_of(bytes: &[u8]) -> Option<(u64, u64)>
+    ensures value { result ≡ head_of bytes.now }
+    ensures few { IfNone result (length bytes.now < 16) }
+{
+    let mut rest = bytes;
+    let Ok(kind) = rest.get_var() else {
+        return None;
+    };
+    let Ok(length) = rest.get_var() else {
+        return None;
+    };
+    Some((kind, length))
+}
+
+impl CapsuleReader {
+    /// A reader at the beginning of the data.
+    pub fn new() -> Self
+        ensures { result ≡ InHead [] }
+    {
+        CapsuleReader {
+            head: HeadBytes::new(),
+            left: 0,
+            is_at_end: false,
+        }
+    }
+
+    /// Reads on in bytes that follow: how many of them it took, and what it tells of these. Call it with the bytes that are left
+    /// until it answers `Pending`, and then with the bytes that come next.
+    #[tactic(auto, using(crate::proofs::Heads::more, crate::proofs::Heads::whole, crate::proofs::Heads::done), unfolding(crate::specs::Capsule::read_on))]
+    pub fn read(&mut self, bytes: &[u8]) -> (usize, Capsule)
+        ensures { read_on self.old bytes.now ≡ (result.0, result.1, self.new) }
+    {
+        if self.is_at_end {
+            self.is_at_end = false;
+            self.left = 0;
+            self.head.clear();
+            return (0, Capsule::End);
+        }
+        if self.left > 0 {
+            return self.read_value(bytes.len());
+        }
+        'head: for (index, byte) in bytes.iter().enumerate() {
+            self.head.push(*byte);
+            if let Some((kind, length)) = head_of(self.head.as_slice()) {
+                self.head.clear();
+                self.left = length;
+                self.is_at_end = length == 0;
+                return (index + 1, Capsule::Head(kind, length));
+            }
+        }
+        (bytes.len(), Capsule::Pending)
+    }
+
+    // Takes the bytes of a value, of which so many are there.
+    fn read_value(&mut self, there: usize) -> (usize, Capsule)
+        requires { IsInValue self.old }
+        ensures { value_on self.old there ≡ (result.0, result.1, self.new) }
+    {
+        let count = self.left.min(there as u64);
+        if count == 0 {
+            return (0, Capsule::Pending);
+        }
+        self.left -= count;
+        self.is_at_end = self.left == 0;
+        (count as usize, Capsule::Value(count as usize))
+    }
+
+    /// Whether the data may end here: no capsule was begun, or each that was begun was told to be whole. Where it is false at
+    /// the end of a stream, the message is malformed (RFC 9297, section 3.3).
+    pub fn is_between(&self) -> bool
+        ensures { result ≡ is_between self.now }
+    {
+        !self.is_at_end && self.left == 0 && self.head.is_empty()
+    }
+}

@@ -1,0 +1,5 @@
+//! Capsules and the heads of HTTP Datagrams (RFC 9297).
+#![tactic(auto)]
+
+pub mod capsule;
+mod head_bytes;
