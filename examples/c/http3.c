@@ -7,14 +7,13 @@ enum {
   PIECE = 16 * 1024,         /* bytes that are moved at once, and of the longest value that is looked for */
   NAME = 64,                 /* of the longest name of such a field */
   WAITING_LIMIT = 64 * 1024, /* bytes of a body that may wait in the endpoint */
-  HELD_LIMIT = 128 * 1024,   /* bytes of a request that the endpoint may hold: more is no frame that is taken */
+  HELD_LIMIT = 264 * 1024,   /* bytes of a request that the endpoint may hold: a header section of 64 KiB has up to 256 KiB in the Huffman code */
   GRACE = 100,               /* milliseconds that a client has for an answer before it is told to send no more */
   LINGER = 5,                /* seconds of silence behind which a connection that takes no more requests is closed */
   NOTICE = 1                 /* seconds between the first GOAWAY and the last: requests that were on their way come */
 };
 
 static const uint64_t ANY_ID = (UINT64_C(1) << 62) - 4;
-static const uint64_t EXCESSIVE_LOAD = 0x107; /* RFC 9114, section 8.1 */
 
 /* One of the peer's unidirectional streams, while some is owed for it. */
 typedef struct {
@@ -120,13 +119,27 @@ static void tell_body(http3_request *request, const h3_item *item) {
   }
 }
 
-/* The request's own message is over: an end, or a fault. */
+/* The code that ends the stream of a malformed message (RFC 9114, sections 4.1.2 and 8.1). */
+static uint64_t code_of(const http3 *h, uint64_t malformation) {
+  if (malformation == H3_TOO_LONG) return H3_CODE_EXCESSIVE_LOAD;
+  return h->setup->server && malformation == H3_NO_HEAD ? H3_CODE_REQUEST_INCOMPLETE : H3_CODE_MESSAGE_ERROR;
+}
+
+/* A request whose header section is longer than the endpoint keeps. No more of it is needed, and the program answers it as one that is too large. */
+static void tell_too_long(http3_request *request) {
+  http3 *h = request->connection;
+  quic_stop(h->quic, (int64_t)request->entry.id, H3_CODE_EXCESSIVE_LOAD);
+  h->setup->events->head(request, &(h3_item){.kind = H3_TOO_LARGE_HEAD});
+}
+
+/* The peer's message is over: an end, or a fault. */
 static void settle(http3_request *request, const h3_item *item) {
   http3 *h = request->connection;
   request->settled = true;
   if (item->kind == H3_END) return h->setup->events->end(request);
+  if (item->kind == H3_FAULT_MALFORMED && item->number == H3_TOO_LONG && h->setup->server && !request->has_head) return tell_too_long(request);
   if (item->kind == H3_FAULT_MALFORMED)
-    cut_off(request, h->setup->server && item->number == H3_NO_HEAD ? H3_CODE_REQUEST_INCOMPLETE : H3_CODE_MESSAGE_ERROR);
+    cut_off(request, code_of(h, item->number));
   else if (item->kind == H3_FAULT_RESET)
     cut_off(request, H3_CODE_REQUEST_CANCELLED);
   if (item->kind != H3_FAULT_CANCELED) h->setup->events->failed(request, item);
@@ -139,7 +152,10 @@ static bool tell(http3_request *request, const h3_item *item) {
   case H3_HEAD:
   case H3_INTERIM:
   case H3_TRAILER:
-  case H3_TOO_LARGE_HEAD: h->setup->events->head(request, item); return true;
+  case H3_TOO_LARGE_HEAD:
+    request->has_head = true;
+    h->setup->events->head(request, item);
+    return true;
   case H3_BODY:
   case H3_RAW: tell_body(request, item); return true;
   case H3_SESSION:
@@ -158,8 +174,8 @@ static bool tell(http3_request *request, const h3_item *item) {
 static void go_on(http3_request *request) {
   grant_request(request);
   if (request->settled || request->waiting || request->owed <= HELD_LIMIT) return;
-  http3_give_up(request, EXCESSIVE_LOAD);
-  request->connection->setup->events->failed(request, &(h3_item){.kind = H3_FAULT_CANCELED, .number = EXCESSIVE_LOAD});
+  http3_give_up(request, H3_CODE_EXCESSIVE_LOAD);
+  request->connection->setup->events->failed(request, &(h3_item){.kind = H3_FAULT_CANCELED, .number = H3_CODE_EXCESSIVE_LOAD});
   grant_request(request);
 }
 

@@ -22,6 +22,7 @@ typedef struct http3_request {
   bool waiting;   /* its head needs what the peer's encoder stream has not brought yet */
   bool sending;   /* the head was sent, the end was not */
   bool sent;      /* QUIC has all of it, and its end */
+  bool has_head;  /* a header section came */
   bool settled;   /* the end or a fault was told: nothing more comes */
   bool closed;    /* QUIC has forgotten the stream */
 } http3_request;

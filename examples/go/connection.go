@@ -17,7 +17,7 @@ import (
 
 const (
 	piece     = 16 * 1024  // bytes that are moved at once
-	heldLimit = 128 * 1024 // bytes of a stream that the endpoint may hold: more is no frame that is taken
+	heldLimit = 264 * 1024 // bytes of a stream that the endpoint may hold: a header section of 64 KiB has up to 256 KiB in the Huffman code
 	streams   = 100        // requests that a client may have at once
 	anyID     = 1<<62 - 4  // the greatest id of a request
 
