@@ -7,7 +7,8 @@ enum {
   PIECE = 16 * 1024,         /* bytes that are moved at once, and of the longest value that is looked for */
   NAME = 64,                 /* of the longest name of such a field */
   WAITING_LIMIT = 64 * 1024, /* bytes of a body that may wait in the endpoint */
-  HELD_LIMIT = 264 * 1024,   /* bytes of a request that the endpoint may hold: a header section of 64 KiB has up to 256 KiB in the Huffman code */
+  HELD_LIMIT = 256 * 1024 - 16, /* bytes of a request that the endpoint may hold, just below the window: what fills that never becomes whole. A
+                                 * header section of 64 KiB has up to 240 KiB in the Huffman code */
   GRACE = 100,               /* milliseconds that a client has for an answer before it is told to send no more */
   LINGER = 5,                /* seconds of silence behind which a connection that takes no more requests is closed */
   NOTICE = 1                 /* seconds between the first GOAWAY and the last: requests that were on their way come */
