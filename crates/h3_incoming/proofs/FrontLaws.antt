@@ -2,7 +2,7 @@
 use Rattle.std.proofs.Common.{◌≡◌, ℕ, Bool, true, false, ◌&&◌, if◌then◌else◌, List, [], ◌++◌, refl, ap, sym, ◌∙◌, subst, append-nil}
 use Rattle.std.specs.Prelude.{Err}
 use Rattle.std.specs.List.{concat}
-use Rattle.h3_wire.specs.ExcessiveFrames.{is_excessive}
+use Rattle.h3_wire.specs.ExcessiveFrames.{begins_section, is_excessive}
 use Rattle.h3_wire.specs.ExcessiveLaws.{excessive_more, no_data}
 use Rattle.h3_wire.specs.Frames.{Front, Whole, Unknown, Refused, Unfinished, frame_at}
 use Rattle.h3_wire.specs.FrameLaws.{frame_at-more}
@@ -22,7 +22,7 @@ use Rattle.h3_connection.specs.Incoming.{Incoming, Passes, is_body}
 use Rattle.h3_connection.specs.Skipping.{is_empty_data, skip_front, skipped}
 use Rattle.h3_connection.specs.SkippingLaws.{skipped_step}
 use Rattle.h3_messages.specs.declared.content.Content.{Content}
-use Rattle.h3_incoming.specs.Finding.{Finds, FindsFrame, FindsLess, FindsRefused, IsWithin, KeepsWithin, PassesFrames}
+use Rattle.h3_incoming.specs.Finding.{Finds, FindsFrame, FindsLess, FindsRefused, IsWithin, KeepsWithin, PassesFrames, IsTooLong}
 use Rattle.h3_incoming.specs.declared.stream.front.Found.{Found}
 use Rattle.h3_incoming.specs.declared.stream.front.Found.TheVariants as found
 
@@ -97,8 +97,8 @@ front_stays in_body bytes (Unknown kind rest) e full = skipped_step in_body byte
 front_stays in_body bytes (Refused why) e full = skipped_step in_body bytes ∙ ap (λ x. skip_front (skipped in_body) in_body (known bytes) x) e
 
 -- What is too long gives something: DATA never is.
-pub within_excessive : (most : ℕ) (in_body : Bool) (bytes : List ℕ) → is_excessive most (known bytes) ≡ true → IsWithin most in_body found.Excessive bytes
-within_excessive most in_body bytes e = ap (is_excessive most) (front_stays in_body bytes (frame_at (known bytes)) refl full) ∙ e
+long_is_front : (most : ℕ) (in_body : Bool) (bytes : List ℕ) → is_excessive most (known bytes) ≡ true → skipped in_body bytes ≡ known bytes
+long_is_front most in_body bytes e = front_stays in_body bytes (frame_at (known bytes)) refl full
   where
     empty_is : (a b : Bool) → (a && b) ≡ true → b ≡ true
     empty_is true b h = h
@@ -122,6 +122,12 @@ within_excessive most in_body bytes e = ap (is_excessive most) (front_stays in_b
         by_test true t = absurd (not_empty f at (empty_is in_body (is_empty_data f) t))
         by_test false t = refl
 
+pub long_stays : (most : ℕ) (in_body : Bool) (bytes : List ℕ) → is_excessive most (known bytes) ≡ true → is_excessive most (skipped in_body bytes) ≡ true
+long_stays most in_body bytes e = ap (is_excessive most) (long_is_front most in_body bytes e) ∙ e
+
+pub section_stays : (most : ℕ) (in_body is_section : Bool) (bytes : List ℕ) → is_excessive most (known bytes) ≡ true → begins_section (known bytes) ≡ is_section → begins_section (skipped in_body bytes) ≡ is_section
+section_stays most in_body is_section bytes e is = ap begins_section (long_is_front most in_body bytes e) ∙ is
+
 pub within_unfinished : (most : ℕ) (in_body : Bool) (bytes left : List ℕ) → left ≡ known bytes → IsWaiting (frame_at left) → is_excessive most (known bytes) ≡ false → IsWithin most in_body found.Unfinished bytes
 within_unfinished most in_body bytes left is h e = ap (is_excessive most) (sym (finds_unfinished in_body bytes left is h).0 ∙ is) ∙ e
 
@@ -140,11 +146,17 @@ within_frame most in_body bytes rest f e t none more =
     ∙ ap (λ b. if b then skipped in_body (rest ++ more) else known (bytes ++ more)) t in
     ap (is_excessive most) (all ∙ same) ∙ excessive_more most (known bytes) more finished ∙ none
 
+too_long_on : (most : ℕ) (in_body is_section : Bool) (old mid : List ℕ) → PassesFrames in_body old mid → IsTooLong most in_body is_section mid → IsTooLong most in_body is_section old
+too_long_on most in_body is_section old mid p h =
+    let same = sym (passed_now in_body old mid p) in
+    (ap (is_excessive most) same ∙ h.0, ap begins_section same ∙ h.1)
+
 pub within_on : (most : ℕ) (in_body : Bool) (f : Found) (old mid : List ℕ) → PassesFrames in_body old mid → IsWithin most in_body f mid → IsWithin most in_body f old
 within_on most in_body (found.Begun b) old mid p h = λ more. ap (is_excessive most) (sym (p more)) ∙ h more
 within_on most in_body found.Unfinished old mid p h = ap (is_excessive most) (sym (passed_now in_body old mid p)) ∙ h
 within_on most in_body (found.Refused why) old mid p h = ap (is_excessive most) (sym (passed_now in_body old mid p)) ∙ h
-within_on most in_body found.Excessive old mid p h = ap (is_excessive most) (sym (passed_now in_body old mid p)) ∙ h
+within_on most in_body found.LongSection old mid p h = too_long_on most in_body true old mid p h
+within_on most in_body found.Excessive old mid p h = too_long_on most in_body false old mid p h
 
 pub within_now : (most : ℕ) (in_body : Bool) (f : Frame PayloadLen) (old : List ℕ) → KeepsWithin most in_body old → is_excessive most (skipped in_body old) ≡ false
 within_now most in_body f old h = ap (λ l. is_excessive most (skipped in_body l)) (sym (append-nil old)) ∙ h []
@@ -153,6 +165,7 @@ pub finds_on : (side : Side) (place : Place) (message : Content) (f : Found) (ol
 finds_on side place message (found.Begun b) old mid new p h = (h.0, h.1, λ more. ap frame_at (sym (p more)) ∙ h.2 more)
 finds_on side place message found.Unfinished old mid new p h = (h.0 ∙ passed_now (is_body place) old mid p, h.1, λ more. h.2 more ∙ p more)
 finds_on side place message (found.Refused why) old mid new p h = (h.0 ∙ passed_now (is_body place) old mid p, h.1)
+finds_on side place message found.LongSection old mid new p h = λ more. h more ∙ p more
 finds_on side place message found.Excessive old mid new p h = tt
 
 pub passed_then : (in_body : Bool) (old mid new : List ℕ) → PassesFrames in_body old mid → PassesFrames in_body mid new → PassesFrames in_body old new

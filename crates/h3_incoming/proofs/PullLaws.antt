@@ -1,5 +1,5 @@
 -- Which part of a pull it is that answers.
-use Rattle.std.proofs.Common.{◌≡◌, ℕ, zero, suc, ◌-◌, ◌<◌, ◌≤◌, true, false, nat_lt, if◌then◌else◌, List, [], ◌∷◌, length, refl, ap, sym, ◌∙◌, subst, arith, append-nil}
+use Rattle.std.proofs.Common.{◌≡◌, ℕ, zero, suc, ◌-◌, ◌<◌, ◌≤◌, Bool, true, false, nat_lt, if◌then◌else◌, List, [], ◌∷◌, length, refl, ap, sym, ◌∙◌, subst, arith, append-nil}
 use Rattle.std.specs.Prelude.{Option, Some, None, IfSome, is_some}
 use Rattle.std.specs.List.{concat}
 use Rattle.std.proofs.lemmas.Bool.{lt-ltb}
@@ -26,11 +26,11 @@ use Rattle.h3_connection.specs.declared.event.StreamFault.{StreamFault}
 use Rattle.h3_connection.specs.declared.place.Place.{Place}
 use Rattle.h3_connection.specs.declared.place.Place.TheVariants.{BeforeHead, InBody, AfterTrailer, InSession}
 use Rattle.h3_connection.specs.declared.setup.Announced.{Announced}
-use Rattle.h3_connection.specs.Codes.{refusal_code}
+use Rattle.h3_connection.specs.Codes.{excessive_load, refusal_code}
 use Rattle.h3_connection.specs.Incoming.{Incoming, Passes, is_body}
 use Rattle.h3_connection.specs.Skipping.{skipped}
 use Rattle.h3_connection.specs.Pulling.{Pulled, is_memory, just, connection_fault, left_with, raw, malformed, in_payload, at_payload, at_section, at_frame, framed, next_frame, between_frames, excess, in_message, next_item, pull_stream}
-use Rattle.h3_incoming.specs.Finding.{FindsRefused}
+use Rattle.h3_incoming.specs.Finding.{FindsRefused, IsTooLong}
 use Rattle.h3_incoming.specs.Gives.{Gives}
 use Rattle.h3_incoming.specs.Placing.{is_session}
 use Rattle.h3_connection.specs.SkippingLaws.{skipped-length}
@@ -137,16 +137,18 @@ module _ (side : Side) (own : Announced) (id : ℕ) (r : DecoderState) where
   next_is i (byte ∷ bytes) x e h = ap (framed side own id r i) e
 
   -- what stands between frames is too long, or it is not
-  pub between_excess : (i : Incoming) → is_excessive own.choices.unfinished_limit (skipped (is_body i.place) (concat i.unread)) ≡ true → between_frames side own id r i ≡ excess i
-  between_excess i e =
+  pub between_excess : (i : Incoming) (is_section : Bool) → IsTooLong own.choices.unfinished_limit (is_body i.place) is_section (concat i.unread)
+      → between_frames side own id r i ≡ (if is_section then malformed id malformation.TooLong i [] else connection_fault excessive_load (record i { unread = [] }))
+  between_excess i is_section h =
       let bytes = skipped (is_body i.place) (concat i.unread) in
-      ap (λ b. if b then excess i else next_frame side own id r (left_with i bytes) bytes) e
+      ap (λ b. if b then excess id i bytes else next_frame side own id r (left_with i bytes) bytes) h.0
+      ∙ ap (λ b. if b then malformed id malformation.TooLong i [] else connection_fault excessive_load (record i { unread = [] })) h.1
 
   pub between_within : (i : Incoming) → is_excessive own.choices.unfinished_limit (skipped (is_body i.place) (concat i.unread)) ≡ false
       → between_frames side own id r i ≡ next_frame side own id r (left_with i (skipped (is_body i.place) (concat i.unread))) (skipped (is_body i.place) (concat i.unread))
   between_within i e =
       let bytes = skipped (is_body i.place) (concat i.unread) in
-      ap (λ b. if b then excess i else next_frame side own id r (left_with i bytes) bytes) e
+      ap (λ b. if b then excess id i bytes else next_frame side own id r (left_with i bytes) bytes) e
 
   pub between_unfinished : (i new : Incoming) → Passes i new → concat new.unread ≡ skipped (is_body i.place) (concat i.unread)
       → is_excessive own.choices.unfinished_limit (skipped (is_body i.place) (concat i.unread)) ≡ false

@@ -1,5 +1,5 @@
 -- What a pull makes of the frame that it has read.
-use Rattle.std.proofs.Common.{◌≡◌, ℕ, Bool, List, ap, sym, ◌∙◌, subst}
+use Rattle.std.proofs.Common.{◌≡◌, ℕ, Bool, true, false, List, [], ap, sym, ◌∙◌, subst}
 use Rattle.std.specs.List.{concat}
 use Rattle.h3_wire.specs.Known.{refusal}
 use Rattle.h3_wire.specs.declared.frame.errors.FrameProtocolError.{FrameProtocolError}
@@ -9,11 +9,12 @@ use Rattle.h3_proto.specs.declared.stream.Side.{Side}
 use Rattle.h3_qpack.specs.DecoderState.{DecoderState}
 use Rattle.h3_messages.specs.Content.{left_behind}
 use Rattle.h3_messages.specs.declared.content.Content.{Content}
+use Rattle.h3_connection.specs.declared.event.Malformation.TheVariants as malformation
 use Rattle.h3_connection.specs.declared.event.Pull.{Pull}
 use Rattle.h3_connection.specs.declared.setup.Announced.{Announced}
-use Rattle.h3_connection.specs.Codes.{refusal_code}
+use Rattle.h3_connection.specs.Codes.{excessive_load, refusal_code}
 use Rattle.h3_connection.specs.Incoming.{Incoming, is_body}
-use Rattle.h3_connection.specs.Pulling.{Pulled, connection_fault, excess, at_payload, begun_payload, at_frame, next_frame, between_frames}
+use Rattle.h3_connection.specs.Pulling.{Pulled, connection_fault, malformed, at_payload, begun_payload, at_frame, next_frame, between_frames}
 use Rattle.h3_incoming.specs.Finding.{FindsFrame, FindsLess, FindsRefused, IsWithin, KeepsWithin, PassesFrames}
 use Rattle.h3_incoming.specs.Gives.{Gives}
 use Rattle.h3_incoming.specs.Resuming.{Begins, Resumes}
@@ -22,12 +23,18 @@ use Rattle.h3_incoming.proofs.FrontLaws.{Reads, with_left, passes, passes_frames
 use Rattle.h3_incoming.proofs.PullLaws.{gives_as, between_excess, between_unfinished, between_refused, between_frame, place_passed}
 use Rattle.h3_incoming.proofs.ResumeLaws.{IsBetween, resumes_passed, resumes_begun}
 
--- a frame is too long
+-- a frame is too long: a field section, and any other
+pub pulled_section : (side : Side) (own : Announced) (id : ℕ) (r : DecoderState) (old stored : Incoming) (left : List (List ℕ)) (in_body : Bool) → Reads old stored left in_body
+    → IsWithin own.choices.unfinished_limit in_body found.LongSection (concat stored.unread) → between_frames side own id r old ≡ malformed id malformation.TooLong (with_left stored left) []
+pulled_section side own id r old stored left in_body reads h =
+    between_excess side own id r old true (stored_is (λ b l. IsWithin own.choices.unfinished_limit b found.LongSection l) old stored left in_body reads h)
+    ∙ ap {A = Incoming} (λ i. malformed id malformation.TooLong i []) (sym reads.is)
+
 pub pulled_excess : (side : Side) (own : Announced) (id : ℕ) (r : DecoderState) (old stored : Incoming) (left : List (List ℕ)) (in_body : Bool) → Reads old stored left in_body
-    → IsWithin own.choices.unfinished_limit in_body found.Excessive (concat stored.unread) → between_frames side own id r old ≡ excess (with_left stored left)
+    → IsWithin own.choices.unfinished_limit in_body found.Excessive (concat stored.unread) → between_frames side own id r old ≡ connection_fault excessive_load (record stored { unread = [] })
 pulled_excess side own id r old stored left in_body reads h =
-    between_excess side own id r old (stored_is (λ b l. IsWithin own.choices.unfinished_limit b found.Excessive l) old stored left in_body reads h)
-    ∙ ap {A = Incoming} (λ i. excess i) (sym reads.is)
+    between_excess side own id r old false (stored_is (λ b l. IsWithin own.choices.unfinished_limit b found.Excessive l) old stored left in_body reads h)
+    ∙ ap (λ (i : Incoming). connection_fault excessive_load (record i { unread = [] })) (sym reads.is)
 
 pub pulled_unfinished : (side : Side) (own : Announced) (id : ℕ) (r : DecoderState) (old stored : Incoming) (left : List (List ℕ)) (in_body : Bool) → Reads old stored left in_body
     → FindsLess in_body (concat stored.unread) (concat left) → IsWithin own.choices.unfinished_limit in_body found.Unfinished (concat stored.unread)

@@ -71,8 +71,8 @@ passes_behind old mid pieces ends p = record {
 }
 
 -- what came is let go
-let_go_alike : (old new : Incoming) → Passes old new → excess new ≡ excess old
-let_go_alike old new p = ap {A = Incoming} (λ i. excess i) p.same
+let_go_alike : (id : ℕ) (bytes : List ℕ) (old new : Incoming) → Passes old new → excess id new bytes ≡ excess id old bytes
+let_go_alike id bytes old new p = ap {A = Incoming} (λ i. excess id i bytes) p.same
 
 between_passed : (old new : Incoming) → Passes old new → IsBetween old → IsBetween new
 between_passed old new p b = subst IsBetween (sym p.same) (record { no_fault = b.no_fault; goes_on = b.goes_on; message = b.message; none = b.none; closed = b.closed; waits = b.waits })
@@ -108,9 +108,9 @@ resumes_passed own old new b p skips = record {
         ap (λ (i : Incoming). left_with i bytes) (left_is o n behind)
         ∙ left_left o (concat n.unread) bytes short (rest_short o.unread n.unread behind.rest) in
         between_pull side own id r new pieces ends (between_passed old new p b)
-        ∙ ap (λ l. if is_excessive own.choices.unfinished_limit l then excess n else next_frame side own id r (left_with n l) l) same
-        ∙ ap (λ (i : Incoming). if is_excessive own.choices.unfinished_limit bytes then excess n else next_frame side own id r i bytes) left
-        ∙ ap (λ x. if is_excessive own.choices.unfinished_limit bytes then x else next_frame side own id r (left_with o bytes) bytes) (let_go_alike o n behind)
+        ∙ ap (λ l. if is_excessive own.choices.unfinished_limit l then excess id n l else next_frame side own id r (left_with n l) l) same
+        ∙ ap (λ (i : Incoming). if is_excessive own.choices.unfinished_limit bytes then excess id n bytes else next_frame side own id r i bytes) left
+        ∙ ap (λ x. if is_excessive own.choices.unfinished_limit bytes then x else next_frame side own id r (left_with o bytes) bytes) (let_go_alike id bytes o n behind)
         ∙ sym (between_pull side own id r old pieces ends b)
 
 -- The next frame has begun what it gives.

@@ -1,9 +1,10 @@
 -- Pieces in front of a buffer that were let go.
-use Rattle.std.proofs.Common.{◌≡◌, ℕ, zero, suc, ◌+◌, ◌-◌, ◌<◌, ◌≤◌, List, [], ◌∷◌, ◌++◌, length, drop, arith, refl, sym, subst, ◌∙◌, ap, length-append, append_assoc, append-nil, if◌then◌else◌, OnOk, OnErr, Option, Some, None, Result, Ok, Err}
+use Rattle.std.proofs.Common.{◌≡◌, true, false, ℕ, zero, suc, ◌+◌, ◌-◌, ◌<◌, ◌≤◌, List, [], ◌∷◌, ◌++◌, length, drop, arith, refl, sym, subst, ◌∙◌, ap, length-append, append_assoc, append-nil, if◌then◌else◌, OnOk, OnErr, Option, Some, None, Result, Ok, Err}
 use Rattle.std.specs.List.{concat}
 use Rattle.std.proofs.lemmas.Bool.{le-ltb}
 use Rattle.std.proofs.lemmas.List.{length-drop}
 use Rattle.std.proofs.lemmas.List.Folds.{concat-append}
+use Rattle.h3_coding.specs.VarintLaws.{none_at_end}
 use Rattle.h3_wire.specs.declared.proto.frame.PayloadLen.{PayloadLen}
 use Rattle.h3_wire.specs.declared.proto.frame.Frame.{Frame}
 use Rattle.h3_wire.specs.declared.frame.errors.FrameStreamError.{FrameStreamError}
@@ -18,7 +19,7 @@ use Rattle.h3_wire.specs.PieceLaws.{concat-without, rest_is, rest_same, rest_the
 use Rattle.h3_wire.specs.Pieces.{without, with_piece, first_of, IsRest, ending}
 use Rattle.h3_wire.specs.Tries.{Decoding, Counts, Expects, no_try, finds_less, passes, needed, counted}
 use Rattle.h3_wire.proofs.Tries.{too_few, expects_next}
-use Rattle.h3_wire.specs.UnknownSize.{unknown_size, Sparing, AreLetGo, is_longer, is_under_way}
+use Rattle.h3_wire.specs.UnknownSize.{unknown_size, size_by, Sparing, AreLetGo, IsSpared, is_longer, is_under_way}
 use Rattle.h3_wire.specs.UnreadFrames.{UnreadFrames, IsStillUnderWay, IsPassed}
 use Rattle.h3_wire.proofs.LettingGo.{unknown_more, unknown_waits, unknown_whole, unknown_has_head}
 
@@ -97,18 +98,19 @@ pub longer_of : (bytes : List ℕ) (len : ℕ) (size : Option ℕ) → len ≡ l
 longer_of bytes len size e is = ap (λ n. is_longer n size) e ∙ ap (is_longer (length bytes)) (sym is)
 
 -- Fewer bytes are there than a try needs.
-pub still_untried : (old new : UnreadFrames) → Expects old.decoder (concat old.pieces) → length (concat old.pieces) < needed old.decoder → new.pieces ≡ old.pieces → new.decoder ≡ old.decoder → IsStillUnderWay old new
-still_untried old new h few same decoder =
+pub still_untried : (old new : UnreadFrames) → Expects old.decoder (concat old.pieces) → length (concat old.pieces) < needed old.decoder → new.pieces ≡ old.pieces → 0 < new.passing → new.decoder ≡ old.decoder → IsStillUnderWay old new
+still_untried old new h few same passing decoder =
     let waits = too_few old.decoder.expected old.decoder.tries (concat old.pieces) h few in
-    record { pieces = same; gives = (sym waits.0, waits.1); counts = no_try old.decoder new.decoder (concat old.pieces) few decoder }
+    record { pieces = same; passing = passing; gives = (sym waits.0, waits.1); counts = no_try old.decoder new.decoder (concat old.pieces) few decoder }
 
 -- A try finds less than the frame.
 pub still_tried : (old new : UnreadFrames) (size : ℕ) → needed old.decoder ≤ length (concat old.pieces) → unknown_size (concat old.pieces) ≡ Some size → length (concat old.pieces) < size → new.pieces ≡ old.pieces
-    → new.decoder ≡ counted old.decoder (Some size) → IsStillUnderWay old new
-still_tried old new size enough is few same decoder =
+    → 0 < new.passing → new.decoder ≡ counted old.decoder (Some size) → IsStillUnderWay old new
+still_tried old new size enough is few same passing decoder =
     let here = unknown_waits (concat old.pieces) size is few in
     record {
       pieces = same;
+      passing = passing;
       gives = (sym (known-other (concat old.pieces) (subst IsKnown (sym here) tt)), subst IsWaiting (sym here) tt);
       counts = finds_less old.decoder new.decoder (concat old.pieces) size enough here decoder;
     }
@@ -164,7 +166,18 @@ rest_fits front old new most r fits =
     let fewer : length (concat new) ≡ length (concat old) - r.0 = ap length (ap concat r.2 ∙ concat-without r.0 old) ∙ length-drop r.0 (concat old) in
     omega (arith, fewer, size_of_both front old, size_of_both front new, fits)
 
--- with nothing in front all is kept
+-- with nothing in front none is under way, and all is kept
+pub none_spared : (passing gone : ℕ) (kept : List (List ℕ)) → passing ≡ 0 → IsSpared passing gone kept
+none_spared passing gone kept e some = absurd (omega (arith, e, some))
+
+pub not_empty : (bytes : List ℕ) → length bytes ≡ 0 → is_under_way bytes ≡ true → ⊥
+unfolding unknown_size
+not_empty [] e h = let wrong : false ≡ true = sym (ap (λ o. is_longer 0 (size_by 0 o)) none_at_end) ∙ h in cc
+not_empty (b ∷ bytes) e h = omega (arith, e)
+
+pub none_gone : (passing gone : ℕ) (front : List (List ℕ)) → AreLetGo passing gone front → passing ≡ 0 → gone ≡ 0
+none_gone passing gone front h e = h.gone_is ∙ ap (λ f. length (concat f)) (h.none e)
+
 pub none_in_front : (passing gone : ℕ) (front pieces : List (List ℕ)) → AreLetGo passing gone front → passing ≡ 0 → concat pieces ≡ concat (front ++ pieces)
 none_in_front passing gone front pieces h e = ap (λ f. concat (f ++ pieces)) (sym (h.none e))
 

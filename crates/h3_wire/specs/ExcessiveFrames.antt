@@ -22,6 +22,15 @@ abbrev pub is_of_type : ℕ → Option (ℕ × List ℕ) → Bool
 is_of_type kind None = false
 is_of_type kind (Some p) = p.0 == kind
 
+-- what the head says, as far as it came: its type, and its length, or 0 where that is not there
+abbrev pub length_said : Option (ℕ × List ℕ) → ℕ
+length_said None = 0
+length_said (Some p) = p.0
+
+abbrev pub head_said : Option (ℕ × List ℕ) → Option (ℕ × ℕ)
+head_said None = None
+head_said (Some p) = Some (p.0, length_said (varint_at p.1))
+
 -- The bytes begin with HEADERS (RFC 9114, section 7.2.2)
 abbrev pub begins_section : List ℕ → Bool
 begins_section bytes = is_of_type 1 (varint_at bytes)

@@ -6,7 +6,7 @@ use Rattle.h3_coding.specs.VarintLaws.{cases_number, reads_more}
 use Rattle.h3_proto.specs.Config.{is_limit}
 use Rattle.h3_proto.specs.Settings.{settings_of}
 use Rattle.h3_proto.specs.declared.frame.SettingsError.{SettingsError}
-use Rattle.h3_wire.specs.ExcessiveFrames.{is_kept_whole, is_too_long, says_too_much, is_excessive}
+use Rattle.h3_wire.specs.ExcessiveFrames.{begins_section, head_said, is_kept_whole, is_of_type, is_too_long, length_said, says_too_much, is_excessive}
 use Rattle.h3_wire.specs.FrameLaws.{at_no_kind, at_no_number, at_head}
 use Rattle.h3_wire.specs.Fronts.{IsFinished, IsKept, IsKnown}
 use Rattle.h3_wire.specs.Frames.{Front, Whole, Unknown, Refused, Unfinished, alone, one_number, settings_frame, promise_frame, is_http2, frame_of, with_head, frame_at}
@@ -137,46 +137,34 @@ frame_unknown kind payload rest none other =
     some zero e = absurd (cc)
     some (suc n) e = omega arith
 
--- A head that is not whole is of no frame that is too long.
-not_said : (most : ℕ) (bytes : List ℕ) → says_too_much most (varint_at bytes) ≡ false → IsKnown (frame_at bytes) → is_excessive most (known bytes) ≡ false
-not_said most bytes e here = ap (is_excessive most) (known-other bytes here) ∙ and_right (is_limit most) (says_too_much most (varint_at bytes)) e
+-- **No frame in front of these is passed.** A head that is not whole,
+stays_none : (bytes : List ℕ) → varint_at bytes ≡ None → known bytes ≡ bytes
+stays_none bytes e = known-other bytes (subst IsKnown (sym (at_no_kind bytes e)) tt)
 
-pub no_kind : (most : ℕ) (bytes : List ℕ) → varint_at bytes ≡ None → is_excessive most (known bytes) ≡ false
-no_kind most bytes e = not_said most bytes (ap (says_too_much most) e) (subst IsKnown (sym (at_no_kind bytes e)) tt)
+stays_begun : (kind : ℕ) (bytes mid : List ℕ) → varint_at bytes ≡ Some (kind, mid) → varint_at mid ≡ None → known bytes ≡ bytes
+stays_begun kind bytes mid e k = known-other bytes (subst IsKnown (sym (at_no_number kind bytes mid e k)) tt)
 
-pub no_number : (most kind : ℕ) (bytes mid : List ℕ) → varint_at bytes ≡ Some (kind, mid) → varint_at mid ≡ None → is_excessive most (known bytes) ≡ false
-no_number most kind bytes mid e k = not_said most bytes (ap (says_too_much most) e ∙ ap (is_too_long most kind) k) (subst IsKnown (sym (at_no_number kind bytes mid e k)) tt)
+-- one of a frame whose payload is kept, or is handed out as it comes,
+stays_kept : (kind number : ℕ) (bytes mid behind : List ℕ) → is_kept_whole kind ≡ true → varint_at bytes ≡ Some (kind, mid) → varint_at mid ≡ Some (number, behind) → known bytes ≡ bytes
+stays_kept kind number bytes mid behind kept e k = known-other bytes (subst IsKnown (sym (at_head kind number bytes mid behind e k)) (head_known (length bytes) kind number behind kept))
 
--- The head tells of one whose payload is kept,
-pub kept_says : (most kind number : ℕ) (bytes mid behind : List ℕ) → is_limit most ≡ true → is_kept_whole kind ≡ true → varint_at bytes ≡ Some (kind, mid) → varint_at mid ≡ Some (number, behind)
-    → is_excessive most (known bytes) ≡ nat_lt most number
-kept_says most kind number bytes mid behind limit kept e k =
-    let here = subst IsKnown (sym (at_head kind number bytes mid behind e k)) (head_known (length bytes) kind number behind kept) in
-    ap (is_excessive most) (known-other bytes here)
-    ∙ ap (λ b. b && says_too_much most (varint_at bytes)) limit ∙ ap (says_too_much most) e ∙ ap (is_too_long most kind) k ∙ ap (λ b. b && nat_lt most number) kept
+stays_handed : (kind number : ℕ) (bytes mid behind : List ℕ) → ((kind == 0) || (kind == 0x41)) ≡ true → varint_at bytes ≡ Some (kind, mid) → varint_at mid ≡ Some (number, behind) → known bytes ≡ bytes
+stays_handed kind number bytes mid behind handed e k = known-other bytes (subst IsKnown (sym (at_head kind number bytes mid behind e k)) (handed_known (length bytes) kind number behind handed))
 
--- one whose payload is handed out as it comes is never too long,
-pub handed_says : (most kind number : ℕ) (bytes mid behind : List ℕ) → is_kept_whole kind ≡ false → ((kind == 0) || (kind == 0x41)) ≡ true → varint_at bytes ≡ Some (kind, mid) → varint_at mid ≡ Some (number, behind)
-    → is_excessive most (known bytes) ≡ false
-handed_says most kind number bytes mid behind none handed e k =
-    not_said most bytes (ap (says_too_much most) e ∙ ap (is_too_long most kind) k ∙ ap (λ b. b && nat_lt most number) none)
-    (subst IsKnown (sym (at_head kind number bytes mid behind e k)) (handed_known (length bytes) kind number behind handed))
-
--- nor is an unknown one that is not whole; and one that is whole is left out.
+-- and one of an unknown frame that is not whole. One that is whole is left out.
 unknown_head : (size kind number : ℕ) (behind : List ℕ) → is_kept_whole kind ≡ false → ((kind == 0) || (kind == 0x41)) ≡ false
     → with_head size kind number behind ≡ (if nat_lt (length behind) number then Unfinished (size - length behind + number) else Unknown kind (drop number behind))
 unknown_head size kind number behind none other =
     let parts = or_parts (kind == 0) (kind == 0x41) other in
     rw (parts.1, parts.0, frame_unknown kind (take number behind) (drop number behind) none parts.0) refl
 
-pub unknown_says : (most kind number : ℕ) (bytes mid behind : List ℕ) → is_kept_whole kind ≡ false → ((kind == 0) || (kind == 0x41)) ≡ false → varint_at bytes ≡ Some (kind, mid) → varint_at mid ≡ Some (number, behind)
-    → length behind < number → is_excessive most (known bytes) ≡ false
-unknown_says most kind number bytes mid behind none other e k short =
+stays_unknown : (kind number : ℕ) (bytes mid behind : List ℕ) → is_kept_whole kind ≡ false → ((kind == 0) || (kind == 0x41)) ≡ false → varint_at bytes ≡ Some (kind, mid) → varint_at mid ≡ Some (number, behind)
+    → length behind < number → known bytes ≡ bytes
+stays_unknown kind number bytes mid behind none other e k short =
     let front = at_head kind number bytes mid behind e k ∙ unknown_head (length bytes) kind number behind none other in
     let waits : frame_at bytes ≡ Unfinished (length bytes - length behind + number) =
     front ∙ ap (λ b. if b then Unfinished (length bytes - length behind + number) else Unknown kind (drop number behind)) (lt-ltb (length behind) number short) in
-    not_said most bytes (ap (says_too_much most) e ∙ ap (is_too_long most kind) k ∙ ap (λ b. b && nat_lt most number) none)
-    (subst IsKnown (sym waits) tt)
+    known-other bytes (subst IsKnown (sym waits) tt)
 
 pub unknown_passed : (kind number : ℕ) (bytes mid behind : List ℕ) → is_kept_whole kind ≡ false → ((kind == 0) || (kind == 0x41)) ≡ false → varint_at bytes ≡ Some (kind, mid) → varint_at mid ≡ Some (number, behind)
     → number ≤ length behind → known bytes ≡ known (drop number behind)
@@ -185,6 +173,105 @@ unknown_passed kind number bytes mid behind none other e k there =
     let whole : frame_at bytes ≡ Unknown kind (drop number behind) =
     front ∙ ap (λ b. if b then Unfinished (length bytes - length behind + number) else Unknown kind (drop number behind)) (le-ltb (length behind) number there) in
     known-unknown kind bytes (drop number behind) whole
+
+-- **So the head says what the first frame that is not passed says.**
+says : (bytes : List ℕ) (o : Option (ℕ × List ℕ)) → known bytes ≡ bytes → varint_at bytes ≡ o → head_said o ≡ head_said (varint_at (known bytes))
+says bytes o stays e = sym (ap (λ b. head_said (varint_at b)) stays ∙ ap head_said e)
+
+pub none_says : (bytes : List ℕ) → varint_at bytes ≡ None → None ≡ head_said (varint_at (known bytes))
+none_says bytes e = says bytes None (stays_none bytes e) e
+
+with_length : (kind : ℕ) (mid : List ℕ) (o : Option (ℕ × List ℕ)) → varint_at mid ≡ o → Some (kind, length_said o) ≡ head_said (Some (kind, mid))
+with_length kind mid o k = ap (λ n. Some (kind, length_said n)) (sym k)
+
+pub begun_says : (kind : ℕ) (bytes mid : List ℕ) → varint_at bytes ≡ Some (kind, mid) → varint_at mid ≡ None → Some (kind, 0) ≡ head_said (varint_at (known bytes))
+begun_says kind bytes mid e k = with_length kind mid None k ∙ says bytes (Some (kind, mid)) (stays_begun kind bytes mid e k) e
+
+whole_says : (kind number : ℕ) (bytes mid behind : List ℕ) → known bytes ≡ bytes → varint_at bytes ≡ Some (kind, mid) → varint_at mid ≡ Some (number, behind) → Some (kind, number) ≡ head_said (varint_at (known bytes))
+whole_says kind number bytes mid behind stays e k = with_length kind mid (Some (number, behind)) k ∙ says bytes (Some (kind, mid)) stays e
+
+pub kept_is_known : (kind : ℕ) → is_kept_whole kind ≡ true → (is_kept_whole kind || ((kind == 0) || (kind == 0x41))) ≡ true
+kept_is_known kind kept = ap (λ b. b || ((kind == 0) || (kind == 0x41))) kept
+
+pub handed_is_known : (kind : ℕ) → ((kind == 0) || (kind == 0x41)) ≡ true → (is_kept_whole kind || ((kind == 0) || (kind == 0x41))) ≡ true
+handed_is_known kind handed = by_test (is_kept_whole kind)
+  where
+    by_test : (b : Bool) → (b || ((kind == 0) || (kind == 0x41))) ≡ true
+    by_test true = refl
+    by_test false = handed
+
+pub known_says : (kind number : ℕ) (bytes mid behind : List ℕ) → (is_kept_whole kind || ((kind == 0) || (kind == 0x41))) ≡ true → varint_at bytes ≡ Some (kind, mid) → varint_at mid ≡ Some (number, behind)
+    → Some (kind, number) ≡ head_said (varint_at (known bytes))
+known_says kind number bytes mid behind known_type e k = whole_says kind number bytes mid behind (by_test (is_kept_whole kind) refl known_type) e k
+  where
+    by_test : (b : Bool) → is_kept_whole kind ≡ b → (b || ((kind == 0) || (kind == 0x41))) ≡ true → known bytes ≡ bytes
+    by_test true kept h = stays_kept kind number bytes mid behind kept e k
+    by_test false none h = stays_handed kind number bytes mid behind h e k
+
+pub waiting_says : (kind number : ℕ) (bytes mid behind : List ℕ) → is_kept_whole kind ≡ false → ((kind == 0) || (kind == 0x41)) ≡ false → varint_at bytes ≡ Some (kind, mid) → varint_at mid ≡ Some (number, behind)
+    → length behind < number → Some (kind, number) ≡ head_said (varint_at (known bytes))
+waiting_says kind number bytes mid behind none other e k short = whole_says kind number bytes mid behind (stays_unknown kind number bytes mid behind none other e k short) e k
+
+-- **What is too long, and what is a field section, is told by it.**
+abbrev pub tells_too_much : ℕ → Option (ℕ × ℕ) → Bool
+tells_too_much most None = false
+tells_too_much most (Some h) = is_kept_whole h.0 && nat_lt most h.1
+
+abbrev pub tells_type : ℕ → Option (ℕ × ℕ) → Bool
+tells_type kind None = false
+tells_type kind (Some h) = h.0 == kind
+
+pub excess_told : (most : ℕ) (bytes : List ℕ) (o : Option (ℕ × ℕ)) → is_limit most ≡ true → o ≡ head_said (varint_at bytes) → tells_too_much most o ≡ is_excessive most bytes
+excess_told most bytes o limit e = ap (tells_too_much most) e ∙ by_kind (varint_at bytes) ∙ sym (ap (λ b. b && says_too_much most (varint_at bytes)) limit)
+  where
+    by_number : (kind : ℕ) (n : Option (ℕ × List ℕ)) → (is_kept_whole kind && nat_lt most (length_said n)) ≡ is_too_long most kind n
+    by_number kind None = and_right (is_kept_whole kind) (nat_lt most 0) (le-ltb most 0 (omega arith))
+    by_number kind (Some p) = refl
+
+    by_kind : (x : Option (ℕ × List ℕ)) → tells_too_much most (head_said x) ≡ says_too_much most x
+    by_kind None = refl
+    by_kind (Some p) = by_number p.0 (varint_at p.1)
+
+pub section_told : (bytes : List ℕ) (o : Option (ℕ × ℕ)) → o ≡ head_said (varint_at bytes) → tells_type 1 o ≡ begins_section bytes
+section_told bytes o e = ap (tells_type 1) e ∙ by_kind (varint_at bytes)
+  where
+    by_kind : (x : Option (ℕ × List ℕ)) → tells_type 1 (head_said x) ≡ is_of_type 1 x
+    by_kind None = refl
+    by_kind (Some p) = refl
+
+-- A head that is not there is of no frame that is too long,
+pub no_kind : (most : ℕ) (bytes : List ℕ) → varint_at bytes ≡ None → is_excessive most (known bytes) ≡ false
+no_kind most bytes e = ap (is_excessive most) (stays_none bytes e) ∙ and_right (is_limit most) (says_too_much most (varint_at bytes)) (ap (says_too_much most) e)
+
+-- one whose payload is kept tells,
+pub kept_says : (most kind number : ℕ) (bytes mid behind : List ℕ) → is_limit most ≡ true → is_kept_whole kind ≡ true → varint_at bytes ≡ Some (kind, mid) → varint_at mid ≡ Some (number, behind)
+    → is_excessive most (known bytes) ≡ nat_lt most number
+kept_says most kind number bytes mid behind limit kept e k =
+    ap (is_excessive most) (stays_kept kind number bytes mid behind kept e k)
+    ∙ ap (λ b. b && says_too_much most (varint_at bytes)) limit ∙ ap (says_too_much most) e ∙ ap (is_too_long most kind) k ∙ ap (λ b. b && nat_lt most number) kept
+
+-- and no other is too long.
+not_kept : (most kind number : ℕ) (bytes mid behind : List ℕ) → is_kept_whole kind ≡ false → varint_at bytes ≡ Some (kind, mid) → varint_at mid ≡ Some (number, behind) → known bytes ≡ bytes
+    → is_excessive most (known bytes) ≡ false
+not_kept most kind number bytes mid behind none e k stays =
+    ap (is_excessive most) stays
+    ∙ and_right (is_limit most) (says_too_much most (varint_at bytes)) (ap (says_too_much most) e ∙ ap (is_too_long most kind) k ∙ ap (λ b. b && nat_lt most number) none)
+
+pub handed_says : (most kind number : ℕ) (bytes mid behind : List ℕ) → is_kept_whole kind ≡ false → ((kind == 0) || (kind == 0x41)) ≡ true → varint_at bytes ≡ Some (kind, mid) → varint_at mid ≡ Some (number, behind)
+    → is_excessive most (known bytes) ≡ false
+handed_says most kind number bytes mid behind none handed e k = not_kept most kind number bytes mid behind none e k (stays_handed kind number bytes mid behind handed e k)
+
+pub unknown_says : (most kind number : ℕ) (bytes mid behind : List ℕ) → is_kept_whole kind ≡ false → ((kind == 0) || (kind == 0x41)) ≡ false → varint_at bytes ≡ Some (kind, mid) → varint_at mid ≡ Some (number, behind)
+    → length behind < number → is_excessive most (known bytes) ≡ false
+unknown_says most kind number bytes mid behind none other e k short = not_kept most kind number bytes mid behind none e k (stays_unknown kind number bytes mid behind none other e k short)
+
+pub unknown_begins : (kind number : ℕ) (bytes mid behind : List ℕ) → is_kept_whole kind ≡ false → ((kind == 0) || (kind == 0x41)) ≡ false → varint_at bytes ≡ Some (kind, mid) → varint_at mid ≡ Some (number, behind)
+    → length behind < number → begins_section (known bytes) ≡ false
+unknown_begins kind number bytes mid behind none other e k short =
+    ap begins_section (stays_unknown kind number bytes mid behind none other e k short) ∙ ap (is_of_type 1) e ∙ ne_eqb kind 1 (λ is. absurd (no_section kind none is))
+  where
+    no_section : (n : ℕ) → is_kept_whole n ≡ false → n ≡ 1 → ⊥
+    no_section n h is = let wrong : true ≡ false = ap is_kept_whole (sym is) ∙ h in cc
 
 -- Where a frame is there, no byte behind it matters.
 said_of : (most kind number : ℕ) (bytes mid behind : List ℕ) → varint_at bytes ≡ Some (kind, mid) → varint_at mid ≡ Some (number, behind)
@@ -203,6 +290,15 @@ excessive_more most bytes more there = elim (cases_number bytes) [
     by_number kind mid e (inr (number, behind, k)) =
         said_of most kind number (bytes ++ more) (mid ++ more) (behind ++ more) (reads_more kind bytes mid more e) (reads_more number mid behind more k)
         ∙ sym (said_of most kind number bytes mid behind e k)
+
+-- What is too long has its type, and no byte behind it matters.
+pub section_more : (most : ℕ) (bytes more : List ℕ) → is_excessive most bytes ≡ true → begins_section (bytes ++ more) ≡ begins_section bytes
+section_more most bytes more e = elim (cases_number bytes) [
+  | inl none ↦
+      let wrong : false ≡ true = sym (and_right (is_limit most) (says_too_much most (varint_at bytes)) (ap (says_too_much most) none)) ∙ e in
+      absurd (cc)
+  | inr (kind, mid, k) ↦ ap (is_of_type 1) (reads_more kind bytes mid more k) ∙ sym (ap (is_of_type 1) k)
+]
 
 -- DATA is never too long.
 pub no_data : (most : ℕ) (bytes rest : List ℕ) (len : PayloadLen) → frame_at bytes ≡ Whole (frame.Data len) rest → is_excessive most bytes ≡ true → ⊥

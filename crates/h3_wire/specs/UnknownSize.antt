@@ -44,3 +44,7 @@ pub record AreLetGo (passing gone : ℕ) (front : List (List ℕ)) : Type 0 wher
   pub none : passing ≡ 0 → front ≡ []
   pub unknown : 0 < passing → unknown_size (concat front) ≡ Some passing
   pub under_way : 0 < passing → gone < passing
+
+-- While it is under way none of its bytes are kept.
+abbrev pub IsSpared : ℕ → ℕ → List (List ℕ) → Type 0
+IsSpared passing gone kept = 0 < passing → gone + length (concat kept) < passing → kept ≡ []

@@ -1,12 +1,9 @@
 //! The next frame of a message that gives something.
-ghost use Rattle.std.specs.Prelude.{◌≡◌, ◌<◌, true, false, length, OnErr, IfOk, IfSome, IfNone};
+ghost use Rattle.std.specs.Prelude.{◌<◌, length, OnErr, IfOk, IfSome, IfNone};
 ghost use Rattle.std.specs.List.{concat};
-ghost use Rattle.h3_wire.specs.ExcessiveFrames.{begins_section};
-ghost use Rattle.h3_wire.specs.Known.{known};
 ghost use Rattle.h3_wire.specs.Pieces.{IsRest, ending};
 ghost use Rattle.h3_wire.specs.UnreadFrames.{AreBetween};
 ghost use Rattle.h3_connection.specs.Incoming.{is_body};
-ghost use Rattle.h3_incoming.specs.declared.stream.front.Found.TheVariants.{Excessive, LongSection};
 ghost use Rattle.h3_incoming.specs.Finding.{Finds, GivesBegun, IsWithin, LeavesBetween, PassesFrames};
 
 use super::begun::{Begun, begun_by, begun_by_first, is_empty};
@@ -59,7 +56,7 @@ pub(super) fn front(
 
 // Reads one frame. It answers nothing where the frame gives nothing.
 #[inline(always)]
-#[tactic(auto, using(crate::proofs::FrontLaws::finds_unfinished, crate::proofs::FrontLaws::finds_refused, crate::proofs::FrontLaws::finds_frame, crate::proofs::FrontLaws::within_unfinished, crate::proofs::FrontLaws::within_refused, crate::proofs::FrontLaws::within_frame, crate::proofs::FrontLaws::within_excessive, crate::proofs::FrontLaws::passes_empty, crate::proofs::FrontLaws::passes_known, h3_connection::specs::SkippingLaws::rest_shorter, h3_wire::specs::PieceLaws::ending_rest))]
+#[tactic(auto, using(crate::proofs::FrontLaws::finds_unfinished, crate::proofs::FrontLaws::finds_refused, crate::proofs::FrontLaws::finds_frame, crate::proofs::FrontLaws::within_unfinished, crate::proofs::FrontLaws::within_refused, crate::proofs::FrontLaws::within_frame, crate::proofs::FrontLaws::long_stays, crate::proofs::FrontLaws::section_stays, crate::proofs::FrontLaws::passes_empty, crate::proofs::FrontLaws::passes_known, h3_connection::specs::SkippingLaws::rest_shorter, h3_wire::specs::PieceLaws::ending_rest))]
 fn front_one(
     unread: &mut FrameBuffer,
     alloc: Global,
@@ -77,7 +74,10 @@ fn front_one(
     ensures rest { IsRest unread.old.pieces unread.new.pieces }
 {
     if unread.is_excessive(most) {
-        return Ok(Some(excess(unread)));
+        if unread.begins_section() {
+            return Ok(Some(Found::LongSection));
+        }
+        return Ok(Some(Found::Excessive));
     }
     match next_begun(unread, alloc, side, place, content) {
         Ok(None) => Ok(Some(Found::Unfinished)),
@@ -89,19 +89,6 @@ fn front_one(
         }
         Err(FrameStreamError::Proto(e)) => Ok(Some(Found::Refused(e))),
         Err(_) => Err(AllocError),
-    }
-}
-
-// What stands at the front, which is too long.
-#[inline(never)]
-fn excess(unread: &FrameBuffer) -> Found
-    ensures section { begins_section (known (concat unread.now.pieces)) ≡ true → result ≡ LongSection }
-    ensures other { begins_section (known (concat unread.now.pieces)) ≡ false → result ≡ Excessive }
-{
-    if unread.begins_section() {
-        Found::LongSection
-    } else {
-        Found::Excessive
     }
 }
 

@@ -1,12 +1,12 @@
 //! The bytes of a stream of frames that came and were not read.
-ghost use Rattle.std.specs.Prelude.{◌≡◌, ◌+◌, ◌^◌, ◌<◌, ◌≤◌, ◌++◌, [], None, Ok, false, true, length, IfOk, IfErr, IfSome, IsNone, OnOk, OnErr};
+ghost use Rattle.std.specs.Prelude.{◌≡◌, ◌+◌, ◌^◌, ◌<◌, ◌≤◌, ◌++◌, [], None, Ok, false, true, length, IfOk, IfErr, IfSome, IfNone, IsNone, OnOk, OnErr};
 ghost use Rattle.std.specs.List.{concat};
 ghost use Rattle.h3_wire.specs.ExcessiveFrames.{begins_section, is_excessive};
 ghost use Rattle.h3_wire.specs.Known.{Gives, framed, known};
 ghost use Rattle.h3_wire.specs.Pieces.{chunk_of, ending, first_of, with_piece};
 ghost use Rattle.h3_wire.specs.Tries.{Counts};
 ghost use Rattle.h3_wire.specs.UnknownSize.{held_length};
-ghost use Rattle.h3_wire.specs.UnreadFrames.{none_unread, AreBetween, IsStillUnderWay, IsPassed};
+ghost use Rattle.h3_wire.specs.UnreadFrames.{none_unread, AreBetween, AreSpared, IsStillUnderWay, IsPassed};
 
 use super::decoder::{First, FrameDecoder};
 use super::errors::FrameStreamError;
@@ -70,6 +70,7 @@ impl FrameBuffer {
     ) -> Result<Option<Frame<PayloadLen>>, FrameStreamError>
         ensures gives { Gives result (concat self.old.pieces) (concat self.new.pieces) }
         ensures between { IfOk result (λ o. IfSome o (λ f. AreBetween self.new)) }
+        ensures spared { IfOk result (λ o. IfNone o (AreSpared self.new)) }
         ensures counts { Counts self.old.decoder (concat self.old.pieces) result self.new.decoder }
         ensures pieces { self.new.pieces ≡ ending (length (concat self.new.pieces)) self.old.pieces }
     {
@@ -135,6 +136,7 @@ impl FrameBuffer {
         requires none { self.old.passing ≡ 0 }
         ensures gives { Gives result (concat self.old.pieces) (concat self.new.pieces) }
         ensures between { IfOk result (λ o. IfSome o (λ f. AreBetween self.new)) }
+        ensures spared { IfOk result (λ o. IfNone o (AreSpared self.new)) }
         ensures counts { Counts self.old.decoder (concat self.old.pieces) result self.new.decoder }
         ensures pieces { self.new.pieces ≡ ending (length (concat self.new.pieces)) self.old.pieces }
     {
@@ -150,6 +152,7 @@ impl FrameBuffer {
     pub fn spare(&mut self)
         ensures pieces { self.new.pieces ≡ self.old.pieces }
         ensures decoder { self.new.decoder ≡ self.old.decoder }
+        ensures spared { AreSpared self.new }
     {
         self.unread.spare();
     }
@@ -163,6 +166,8 @@ impl FrameBuffer {
     }
 
     /// Whether the first frame that is no whole unknown one is HEADERS (RFC 9114, section 7.2.2), as far as its type came. Nothing is taken.
+    /// It stays apart, so that a reader that finds no frame too long is as short as it was.
+    #[inline(never)]
     pub fn begins_section(&self) -> bool
         ensures { result ≡ begins_section (known (concat self.now.pieces)) }
     {

@@ -2,7 +2,8 @@
 ghost use Rattle.std.specs.Prelude.{◌≡◌, ◌<◌, ◌≤◌, ◌||◌, ◌==◌, true, drop, length, IfSome, IsNone, nat_lt};
 ghost use Rattle.std.specs.List.{concat};
 ghost use Rattle.h3_proto.specs.Config.{is_limit};
-ghost use Rattle.h3_wire.specs.ExcessiveFrames.{begins_section, is_excessive, is_kept_whole};
+ghost use Rattle.h3_coding.specs.Varint.{varint_at};
+ghost use Rattle.h3_wire.specs.ExcessiveFrames.{begins_section, head_said, is_excessive, is_kept_whole};
 ghost use Rattle.h3_wire.specs.Known.{known};
 ghost use Rattle.h3_wire.specs.Place.{left_at};
 
@@ -36,75 +37,55 @@ pub(super) fn is_excessive_behind(src: &BufList<Bytes>, passed: usize, most: u64
     requires there { passed ≤ length (concat src.now.pieces) }
     ensures { result ≡ is_excessive most (known (drop passed (concat src.now.pieces))) }
 {
-    let mut cursor = src.cursor();
-    cursor.advance(passed);
-    loop {
-        if let Some(answer) = look(&mut cursor, most) {
-            return answer;
-        }
+    match first_head(src, passed) {
+        Some((kind, number)) => is_kept_whole(kind) && number > most,
+        None => false,
     }
 }
 
 /// Whether the first frame behind so many bytes that is no whole unknown one is HEADERS, as far as its type came. Nothing is taken.
-#[inline(never)]
 pub(super) fn begins_section(src: &BufList<Bytes>, passed: usize) -> bool
     requires there { passed ≤ length (concat src.now.pieces) }
     ensures { result ≡ begins_section (known (drop passed (concat src.now.pieces))) }
 {
+    match first_head(src, passed) {
+        Some((kind, _)) => kind == 1,
+        None => false,
+    }
+}
+
+// What the head of that frame says, as far as it came: its type, and its length or 0.
+fn first_head(src: &BufList<Bytes>, passed: usize) -> Option<(u64, u64)>
+    requires there { passed ≤ length (concat src.now.pieces) }
+    ensures { result ≡ head_said (varint_at (known (drop passed (concat src.now.pieces)))) }
+{
     let mut cursor = src.cursor();
     cursor.advance(passed);
     loop {
-        if let Some(answer) = look_for_section(&mut cursor) {
-            return answer;
+        if let Some(head) = look(&mut cursor) {
+            return head;
         }
     }
 }
 
-// Whether the frame under the cursor is HEADERS. One that is unknown and whole tells nothing, and is passed.
-fn look_for_section(cursor: &mut Cursor<'_, Bytes>) -> Option<bool>
-    ensures some { IfSome result (λ b. b ≡ begins_section (known (left_at cursor.old))) }
+// What the head under the cursor says. That of a frame that is unknown and whole says nothing, and the frame is passed.
+fn look(cursor: &mut Cursor<'_, Bytes>) -> Option<Option<(u64, u64)>>
+    ensures some { IfSome result (λ h. h ≡ head_said (varint_at (known (left_at cursor.old)))) }
     ensures same { IsNone result → known (left_at cursor.new) ≡ known (left_at cursor.old) }
     ensures less { IsNone result → length (left_at cursor.new) < length (left_at cursor.old) }
 {
     let Ok(kind) = cursor.get_var() else {
-        return Some(false);
+        return Some(None);
+    };
+    let Ok(number) = cursor.get_var() else {
+        return Some(Some((kind, 0)));
     };
     if is_kept_whole(kind) || is_handed_out(kind) {
-        return Some(kind == 1);
-    }
-    let Ok(number) = cursor.get_var() else {
-        return Some(false);
-    };
-    let size = number as usize;
-    if cursor.remaining() < size {
-        return Some(false);
-    }
-    cursor.advance(size);
-    None
-}
-
-// What the frame under the cursor tells. One that is unknown and whole tells nothing, and is passed.
-fn look(cursor: &mut Cursor<'_, Bytes>, most: u64) -> Option<bool>
-    requires { is_limit most ≡ true }
-    ensures some { IfSome result (λ b. b ≡ is_excessive most (known (left_at cursor.old))) }
-    ensures same { IsNone result → known (left_at cursor.new) ≡ known (left_at cursor.old) }
-    ensures less { IsNone result → length (left_at cursor.new) < length (left_at cursor.old) }
-{
-    let Ok(kind) = cursor.get_var() else {
-        return Some(false);
-    };
-    let Ok(number) = cursor.get_var() else {
-        return Some(false);
-    };
-    if is_kept_whole(kind) {
-        return Some(number > most);
-    }
-    if is_handed_out(kind) {
-        return Some(false);
+        return Some(Some((kind, number)));
     }
     let size = number as usize;
     if cursor.remaining() < size {
-        return Some(false);
+        return Some(Some((kind, number)));
     }
     cursor.advance(size);
     None

@@ -6,7 +6,7 @@ ghost use Rattle.h3_wire.specs.ExcessiveFrames.{begins_section, is_excessive};
 ghost use Rattle.h3_wire.specs.Known.{Gives, framed, known};
 ghost use Rattle.h3_wire.specs.Pieces.{IsRest, chunk_of, ending, first_of, with_piece};
 ghost use Rattle.h3_wire.specs.Tries.{Counts, Expects};
-ghost use Rattle.h3_wire.specs.UnknownSize.{is_known_type, is_longer, is_under_way, unknown_size};
+ghost use Rattle.h3_wire.specs.UnknownSize.{AreLetGo, IsSpared, is_known_type, is_longer, is_under_way, unknown_size};
 
 use super::decoder::{First, FrameDecoder};
 use super::errors::FrameStreamError;
@@ -34,13 +34,15 @@ pub(super) struct FrameBytes {
 impl Model for FrameBytes {
     ghost use Rattle.std.specs.Prelude.{◌++◌, ◌<◌, ◌^◌, length};
     ghost use Rattle.std.specs.List.{concat};
-    ghost use Rattle.h3_wire.specs.UnknownSize.{Sparing, AreLetGo};
+    ghost use Rattle.h3_wire.specs.UnknownSize.{Sparing, AreLetGo, IsSpared};
 
     ghost Value = { Sparing };
 
     ghost view = { λ b. record { pieces = b.let_go.pieces ++ b.kept.pieces; passing = b.passing } };
 
-    ghost invariant = { λ b. AreLetGo b.passing b.gone b.let_go.pieces × (length (concat (b.let_go.pieces ++ b.kept.pieces)) < 2 ^ 64) };
+    ghost invariant = { λ b. AreLetGo b.passing b.gone b.let_go.pieces
+        × (length (concat (b.let_go.pieces ++ b.kept.pieces)) < 2 ^ 64)
+        × IsSpared b.passing b.gone b.kept.pieces };
 }
 
 impl FrameBytes {
@@ -65,26 +67,22 @@ impl FrameBytes {
     {
         match self.kept.keep(bytes) {
             Ok(()) => {
-                self.release();
+                release(
+                    &mut self.kept,
+                    &mut self.let_go,
+                    &mut self.gone,
+                    self.passing,
+                );
                 Ok(())
             }
             Err(e) => Err(e.value),
         }
     }
 
-    // Lets go of what is kept, where the unknown frame under way goes on behind it.
-    fn release(&mut self)
-        ensures { self.new ≡ self.old }
-    {
-        if self.gone + self.kept.remaining() < self.passing {
-            self.gone += self.kept.remaining();
-            let_all_go(&mut self.kept, &mut self.let_go);
-        }
-    }
-
     /// Where the front is an unknown frame under way, its bytes are let go. A frame has to begin there.
     pub(super) fn spare(&mut self)
-        ensures { self.new.pieces ≡ self.old.pieces }
+        ensures pieces { self.new.pieces ≡ self.old.pieces }
+        ensures spared { is_under_way (concat self.new.pieces) ≡ true → 0 < self.new.passing }
     {
         let len = self.kept.remaining();
         if self.passing > 0 || len == 0 {
@@ -215,9 +213,6 @@ impl FrameBytes {
     pub(super) fn begins_section(&self) -> bool
         ensures { result ≡ begins_section (known (concat self.now.pieces)) }
     {
-        if self.passing == 0 {
-            return excess::begins_section(&self.kept, 0);
-        }
         if self.len() < self.passing {
             return false;
         }
@@ -233,6 +228,22 @@ impl FrameBytes {
         }
         is_longer(self.len(), unknown_size(&self.kept))
     }
+}
+
+// Lets go of what is kept, where the unknown frame under way goes on behind it.
+fn release(kept: &mut BufList<Bytes>, let_go: &mut LetGo, gone: &mut usize, passing: usize)
+    requires front { AreLetGo passing gone.old let_go.old.pieces }
+    requires fits { gone.old + length (concat kept.old.pieces) < 2 ^ 64 }
+    ensures front { AreLetGo passing gone.new let_go.new.pieces }
+    ensures pieces { let_go.new.pieces ++ kept.new.pieces ≡ let_go.old.pieces ++ kept.old.pieces }
+    ensures spared { IsSpared passing gone.new kept.new.pieces }
+{
+    let len = kept.remaining();
+    if *gone + len >= passing {
+        return;
+    }
+    *gone += len;
+    let_all_go(kept, let_go);
 }
 
 // Lets go of all pieces.

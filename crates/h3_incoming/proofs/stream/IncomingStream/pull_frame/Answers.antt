@@ -5,7 +5,7 @@ use Rattle.h3_incoming.specs.Resuming.{Resumes}
 use Rattle.h3_incoming.proofs.FrontLaws.{Reads}
 use Rattle.h3_incoming.proofs.ListLaws.{lists_framed}
 use Rattle.h3_incoming.proofs.PullLaws.{gives_as, gives_just}
-use Rattle.h3_incoming.proofs.PulledFrame.{pulled_excess, pulled_unfinished, pulled_refused, pulled_frame, gives_payload, resumes_before, resumes_behind, resumes_payload}
+use Rattle.h3_incoming.proofs.PulledFrame.{pulled_excess, pulled_section, pulled_unfinished, pulled_refused, pulled_frame, gives_payload, resumes_before, resumes_behind, resumes_payload}
 use Rattle.h3_incoming.proofs.ResumeLaws.{IsBetween}
 use Rattle.h3_incoming.proofs.stream.IncomingStream.pull_frame.Goals as goal
 
@@ -106,3 +106,17 @@ returns-in-Ok-Excessive-clause-answer g c = λ h.
     let small = rw c.in-Ok-Excessive.field-0-is at c.in-Ok-Excessive.ensures.within in
     rw (c.refuse_excess.ensures.is, c.refuse_excess.ensures.stream)
     (gives_just _ _ _ _ _ (pulled_excess c.args.side c.args.announced.now c.args.id c.args.decoder.now _ _ _ _ reads small) refl)
+
+pub returns-in-Ok-LongSection-clause-answer : goal.returns-in-Ok-LongSection-clause-answer
+returns-in-Ok-LongSection-clause-answer g c = λ h.
+    let reads : Reads c.args.self.now _ _ _ = record { is = c.self.view_is; body = ap {A = Incoming} (λ i. is_body i.place) c.self.view_is; rest = c.front.ensures.rest } in
+    let small = rw c.in-Ok-LongSection.field-0-is at c.in-Ok-LongSection.ensures.within in
+    gives_as _ _ _ _ _ _ (pulled_section c.args.side c.args.announced.now c.args.id c.args.decoder.now _ _ _ _ reads small) (c.refuse_message.ensures.answer h)
+
+pub returns-in-Ok-LongSection-clause-memory : goal.returns-in-Ok-LongSection-clause-memory
+returns-in-Ok-LongSection-clause-memory g c = λ h.
+    let between : IsBetween c.args.self.now = record { no_fault = c.requires.open; goes_on = c.requires.goes_on; message = c.requires.message; none = c.requires.none; closed = c.requires.closed; waits = c.requires.waits } in
+    let reads : Reads c.args.self.now _ _ _ = record { is = c.self.view_is; body = ap {A = Incoming} (λ i. is_body i.place) c.self.view_is; rest = c.front.ensures.rest } in
+    let finds = rw c.in-Ok-LongSection.field-0-is at c.in-Ok-LongSection.ensures.finds in
+    let same = c.refuse_message.ensures.memory h in
+    (subst (λ x. Resumes c.args.announced.now c.args.self.now x) (sym same.0) (resumes_before c.args.announced.now _ _ _ _ reads between finds), same.1)

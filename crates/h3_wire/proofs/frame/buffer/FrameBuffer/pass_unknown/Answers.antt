@@ -10,9 +10,10 @@ pub returns-then-len-needed-clause-waits : goal.returns-then-len-needed-clause-w
 returns-then-len-needed-clause-waits c = λ h.
     let i = c.self.inside in
     let old : UnreadFrames = record { pieces = i.unread.pieces; passing = i.unread.passing; decoder = i.decoder } in
+    let passing : 0 < i.unread.passing = omega (arith, ap (λ (u : UnreadFrames). u.passing) c.self.view_is, c.requires.under_way) in
     let few : length (concat i.unread.pieces) < needed i.decoder =
     subst (λ n. n < needed i.decoder) c.len-len.ensures (subst (λ n. c.len-len.result < n) c.needed.ensures c.if-len-needed.true) in
-    subst (λ (u : UnreadFrames). IsStillUnderWay u u) c.self.view_is (still_untried old old c.self.invariant few refl refl)
+    subst (λ (u : UnreadFrames). IsStillUnderWay u u) c.self.view_is (still_untried old old c.self.invariant few refl passing refl)
 
 pub invariant_of-self : goal.invariant_of-self
 invariant_of-self c =
@@ -28,11 +29,12 @@ returns-then-len-size-clause-waits c = λ h.
     let i = c.self.inside in
     let old : UnreadFrames = record { pieces = i.unread.pieces; passing = i.unread.passing; decoder = i.decoder } in
     let new : UnreadFrames = record { pieces = i.unread.pieces; passing = i.unread.passing; decoder = c.count.new.self } in
+    let passing : 0 < i.unread.passing = omega (arith, ap (λ (u : UnreadFrames). u.passing) c.self.view_is, c.requires.under_way) in
     let enough : needed i.decoder ≤ length (concat i.unread.pieces) =
     subst (λ n. needed i.decoder ≤ n) c.len-len.ensures (subst (λ n. n ≤ c.len-len.result) c.needed.ensures c.if-len-needed.false) in
     let some : 0 < c.passing-size.result = omega (arith, c.passing-size.ensures.value, ap (λ (u : UnreadFrames). u.passing) c.self.view_is, c.requires.under_way) in
     let few : length (concat i.unread.pieces) < c.passing-size.result = subst (λ n. n < c.passing-size.result) c.len-len.ensures c.if-len-size.true in
-    subst (λ (u : UnreadFrames). IsStillUnderWay u new) c.self.view_is (still_tried old new c.passing-size.result enough (c.passing-size.ensures.unknown some) few refl c.count.ensures)
+    subst (λ (u : UnreadFrames). IsStillUnderWay u new) c.self.view_is (still_tried old new c.passing-size.result enough (c.passing-size.ensures.unknown some) few refl passing c.count.ensures)
 
 pub returns-clause-passed : goal.returns-clause-passed
 returns-clause-passed c = λ h.

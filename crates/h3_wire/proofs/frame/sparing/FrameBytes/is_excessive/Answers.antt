@@ -1,9 +1,9 @@
-use Rattle.std.proofs.Common.{◌≡◌, ◌++◌, ◌<◌, ◌≤◌, Some, length, arith, ap, sym, subst, ◌∙◌}
+use Rattle.std.proofs.Common.{◌≡◌, ◌++◌, ◌≤◌, Some, length, arith, ap, sym, subst, ◌∙◌}
 use Rattle.std.specs.List.{concat}
 use Rattle.h3_wire.specs.ExcessiveFrames.{is_excessive}
 use Rattle.h3_wire.specs.Known.{known}
 use Rattle.h3_wire.specs.UnknownSize.{Sparing, unknown_size}
-use Rattle.h3_wire.proofs.SparedExcess.{behind_both, known_behind, none_under_way}
+use Rattle.h3_wire.proofs.SparedExcess.{left_behind, none_under_way}
 use Rattle.h3_wire.proofs.SparedPieces.{size_of_both, size_with_more}
 use Rattle.h3_wire.proofs.frame.sparing.FrameBytes.is_excessive.Goals as goal
 
@@ -24,12 +24,8 @@ is_excessive_behind-requires-clause-there c =
 pub returns : goal.returns
 returns c =
     let i = c.self.inside in
-    let some : 0 < i.passing = omega (arith, c.if-self-eq0.false) in
-    let all = concat (i.let_go.pieces ++ i.kept.pieces) in
-    let there : length all ≡ length (concat c.args.self.now.pieces) = ap (λ (s : Sparing). length (concat s.pieces)) c.self.view_is in
-    let whole : i.passing ≤ length all = omega (arith, there, c.len.ensures, c.if-len-self.false) in
-    let unknown = size_with_more i.let_go.pieces i.kept.pieces i.passing (c.self.invariant.0.unknown some) in
+    let there : length (concat (i.let_go.pieces ++ i.kept.pieces)) ≡ length (concat c.args.self.now.pieces) = ap (λ (s : Sparing). length (concat s.pieces)) c.self.view_is in
+    let whole : i.passing ≤ length (concat (i.let_go.pieces ++ i.kept.pieces)) = omega (arith, there, c.len.ensures, c.if-len-self.false) in
     c.is_excessive_behind.ensures
-    ∙ ap (λ bytes. is_excessive c.args.most (known bytes)) (behind_both i.let_go.pieces i.kept.pieces i.passing i.gone c.self.invariant.0.gone_is (c.self.invariant.0.under_way some))
-    ∙ ap (is_excessive c.args.most) (sym (known_behind all i.passing unknown whole))
+    ∙ ap (is_excessive c.args.most) (left_behind i.let_go.pieces i.kept.pieces i.passing i.gone c.self.invariant.0 whole)
     ∙ ap (λ (s : Sparing). is_excessive c.args.most (known (concat s.pieces))) c.self.view_is
