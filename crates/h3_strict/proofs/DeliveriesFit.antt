@@ -1,7 +1,7 @@
 -- No delivery between two ends is answered by the fault of what is too long, where each takes the other's settings and GOAWAY frames.
 use Rattle.std.proofs.Common.{◌≡◌, ℕ, ◌+◌, ◌-◌, ◌≤◌, Bool, true, false, not, ◌&&◌, ◌||◌, List, [], ◌∷◌, ◌++◌, flat_map, Option, Some, None, refl, sym, ap, ◌∙◌, arith, length, take, drop, append-nil, append_assoc, take-append-drop, if◌then◌else◌, nat_le, nat_lt}
 use Rattle.std.specs.List.{AllByRecursion}
-use Rattle.std.specs.Prelude.{◌==◌, is_none, is_some}
+use Rattle.std.specs.Prelude.{◌==◌, is_some}
 use Rattle.h3_coding.specs.Encodings.{encoding}
 use Rattle.h3_field.specs.Instruction.{DecoderInstruction, decoder_bytes, encoder_bytes}
 use Rattle.h3_field.specs.InstructionAnswer.{IsReply}
@@ -188,13 +188,6 @@ replies_short : (limit : ℕ) (is : List DecoderInstruction) → 10 ≤ limit �
 replies_short limit [] room = tt
 replies_short limit (i ∷ is) room = (omega (arith, room, reply_short i), replies_short limit is room)
 
--- the settings of the writer are known to who reads its decoder stream, or it is another stream
-known_by : (writer : Side) (o : Option (List (ℕ × ℕ))) → ((decoder_id writer == decoder_id writer) && is_none o) ≡ false → is_some o ≡ true
-known_by Client (Some pairs) h = refl
-known_by Server (Some pairs) h = refl
-known_by Client None h = absurd (cc)
-known_by Server None h = absurd (cc)
-
 module _ (a : Announced) (limit : ℕ) (writer : Side) (own : Own) (er ew : EndpointHistory) (c : Carries a limit writer own er ew) where
   abbrev ComesFit : ℕ → ℕ → Type 0
   ComesFit count id = FoundFits (bytes_at er id (take count (bytes_waiting ew id)) (kind_of er.side id))
@@ -282,42 +275,52 @@ module _ (a : Announced) (limit : ℕ) (writer : Side) (own : Own) (er ew : Endp
       kind_of_encoders Client = refl
       kind_of_encoders Server = refl
 
-  decoder_comes : (count : ℕ) → is_some er.peer.settings ≡ true → ComesFit count (decoder_id writer)
-  decoder_comes count known =
-      let id = decoder_id writer in
-      let came = own.decoder_taken in
-      let is = own.replies in
-      let whole = whole_in decoder_bytes (came - 1) is in
-      let g = goes_on decoder_bytes (came - 1) (came + count - 1) is (omega arith) in
-      let left = drop whole is in
-      let comes = behind_type came count (flat_map decoder_bytes is) in
-      let e : EndpointHistory = record (reading count id came Decoder) { decoder_on = Some id } in
-      let more = drop g.count (flat_map decoder_bytes left) in
-      let unread : er.decoder_unread ≡ rest_in decoder_bytes (came - 1) is = c.decoder_unread ∙ ap (λ b. replies_unread b came is) known in
-      let front : er.decoder_unread ++ comes ≡ take g.count (flat_map decoder_bytes left) = ap (λ l. l ++ comes) unread ∙ g.bytes in
-      let all : (er.decoder_unread ++ comes) ++ more ≡ flat_map decoder_bytes left = ap (λ l. l ++ more) front ∙ take-append-drop g.count (flat_map decoder_bytes left) in
+  decoder_comes : (count : ℕ) → ComesFit count (decoder_id writer)
+  decoder_comes count =
       typed_comes count id 3 came Decoder (flat_map decoder_bytes is) typed_decoder (ap (λ s. kind_of s id) c.side_is ∙ kind_of_decoders writer) c.decoder_is
-      (c.decoder_waits ∙ ap (λ k. drop came (k ++ flat_map decoder_bytes is)) type_of_decoder)
-      (listened_fits e left comes more known c.limit_is (all_dropped IsReply whole is c.replies) all)
+      (c.decoder_waits ∙ ap (λ k. drop came (k ++ flat_map decoder_bytes is)) type_of_decoder) (by_settings (is_some er.peer.settings) refl)
     where
+      id : ℕ
+      id = decoder_id writer
+
+      came : ℕ
+      came = own.decoder_taken
+
+      is : List DecoderInstruction
+      is = own.replies
+
+      comes : List ℕ
+      comes = behind_type came count (flat_map decoder_bytes is)
+
+      e : EndpointHistory
+      e = record (reading count id came Decoder) { decoder_on = Some id }
+
+      -- before the settings it waits
+      by_settings : (b : Bool) → is_some er.peer.settings ≡ b → FoundFits (read_decoder e comes)
+      by_settings false unknown = ap (λ b. is_excess (read_if b e comes).1) unknown
+      by_settings true known =
+          let whole = whole_in decoder_bytes (came - 1) is in
+          let g = goes_on decoder_bytes (came - 1) (came + count - 1) is (omega arith) in
+          let left = drop whole is in
+          let more = drop g.count (flat_map decoder_bytes left) in
+          let unread : er.decoder_unread ≡ rest_in decoder_bytes (came - 1) is = c.decoder_unread ∙ ap (λ b. replies_unread b came is) known in
+          let front : er.decoder_unread ++ comes ≡ take g.count (flat_map decoder_bytes left) = ap (λ l. l ++ comes) unread ∙ g.bytes in
+          let all : (er.decoder_unread ++ comes) ++ more ≡ flat_map decoder_bytes left = ap (λ l. l ++ more) front ∙ take-append-drop g.count (flat_map decoder_bytes left) in
+          listened_fits e left comes more known c.limit_is (all_dropped IsReply whole is c.replies) all
+
       kind_of_decoders : (s : Side) → kind_of (other s) (decoder_id s) ≡ PeerUnidirectional
       kind_of_decoders Client = refl
       kind_of_decoders Server = refl
 
-  -- it is no decoder stream that comes before the settings
-  abbrev InTime : ℕ → Type 0
-  InTime id = ((id == decoder_id writer) && is_none er.peer.settings) ≡ false
-
-  own_comes : (count id : ℕ) → is_own writer id ≡ true → InTime id → ComesFit count id
-  own_comes count id own_id =
-      each_own (λ i. InTime i → ComesFit count i) writer id own_id (λ late. control_comes count) (λ late. encoder_comes count) (λ late. decoder_comes count (known_by writer er.peer.settings late))
+  own_comes : (count id : ℕ) → is_own writer id ≡ true → ComesFit count id
+  own_comes count id own_id = each_own (ComesFit count) writer id own_id (control_comes count) (encoder_comes count) (decoder_comes count)
 
   -- **What waits of any stream.**
-  pub comes_fit : (count id : ℕ) → has_outgoing ew id ≡ true → InTime id → CallFits (arrives er (BytesCame id (take count (bytes_waiting ew id))))
-  comes_fit count id has late = arrives_fit er (BytesCame id (take count (bytes_waiting ew id))) c.nothing_kept c.no_fault (by_own (is_own writer id) refl)
+  pub comes_fit : (count id : ℕ) → has_outgoing ew id ≡ true → CallFits (arrives er (BytesCame id (take count (bytes_waiting ew id))))
+  comes_fit count id has = arrives_fit er (BytesCame id (take count (bytes_waiting ew id))) c.nothing_kept c.no_fault (by_own (is_own writer id) refl)
     where
       by_own : (b : Bool) → is_own writer id ≡ b → ComesFit count id
-      by_own true is = own_comes count id is late
+      by_own true is = own_comes count id is
       by_own false is = ap (λ k. is_excess (bytes_at er id (take count (bytes_waiting ew id)) k).1) (kind_is er.side id (c.requests id is has))
 
   pub end_comes_fit : (id : ℕ) → CallFits (arrives er (EndCame id))
@@ -351,10 +354,10 @@ module _ (ends : Ends) (writer : Side) (a : Announced) (limit : ℕ) (own : Own)
   abbrev sender : EndpointHistory
   sender = ends_of.end_at ends writer
 
-  pub delivery_fits : (id count : ℕ) → ((id == decoder_id writer) && is_none reader.peer.settings) ≡ false → IsWithin (delivery ends writer id count).0
-  delivery_fits id count late =
+  pub delivery_fits : (id count : ℕ) → IsWithin (delivery ends writer id count).0
+  delivery_fits id count =
       by_test (not (has_outgoing sender id)) _ _ refl (λ has. by_test (nat_lt (waiting sender id) count) _ _ refl (λ enough.
-      offered_fits ends writer id count (arrives reader (BytesCame id (take count (bytes_waiting sender id)))) (comes_fit a limit writer own reader sender c count id (has_one (has_outgoing sender id) has) late)))
+      offered_fits ends writer id count (arrives reader (BytesCame id (take count (bytes_waiting sender id)))) (comes_fit a limit writer own reader sender c count id (has_one (has_outgoing sender id) has))))
 
   pub end_delivery_fits : (id : ℕ) → IsWithin (end_delivery ends writer id).0
   end_delivery_fits id =

@@ -1,6 +1,5 @@
 -- What comes of an encoder or a decoder is too long for its reader, or it is read alike without a limit.
-use Rattle.std.proofs.Common.{◌≡◌, ℕ, Bool, true, false, ◌&&◌, List, length, refl, sym, ap, ◌∙◌, inl, inr, nat_lt, Some}
-use Rattle.std.proofs.lemmas.Bool.{and_parts}
+use Rattle.std.proofs.Common.{◌≡◌, ℕ, Bool, true, false, List, refl, sym, ap, ◌∙◌, inl, inr, Some}
 use Rattle.h3_proto.specs.Config.{is_limit}
 use Rattle.h3_qpack.specs.DecoderState.{DecoderState}
 use Rattle.h3_qpack.specs.EncoderHistory.{EncoderHistory}
@@ -10,7 +9,7 @@ use Rattle.h3_connection.specs.ExcessiveInstructions.{hear_up_to, listen_up_to}
 use Rattle.h3_connection.specs.LimitedHearingLaws.{hear_alike, hear_unlimited, hearing_unlimited}
 use Rattle.h3_connection.specs.LimitedListeningLaws.{listen_alike, listen_unlimited, listening_unlimited}
 use Rattle.h3_connection.specs.LimitedReading.{IsLongerOrHeard, IsLongerOrListened}
-use Rattle.h3_connection.specs.Listeners.{fault_if, hearing_fault, keeping_fault, listening_fault}
+use Rattle.h3_connection.specs.Listeners.{fault_if, hearing_fault, listening_fault}
 use Rattle.h3_headline.specs.PeerStreams.{no_limit}
 
 -- the encoder stream
@@ -50,16 +49,3 @@ module _ (most : ℕ) (s : EncoderHistory) (bytes : List ℕ) where
           ListensSame (listen_unlimited no_limit s bytes refl ∙ sym (listen_unlimited most s bytes none)) (listening_unlimited no_limit listened_here refl ∙ sym (listening_unlimited most listened_here none))
       by_limit b limit (inr (same, fault)) =
           ListensSame (listen_unlimited no_limit s bytes refl ∙ sym same) (listening_unlimited no_limit listened_here refl ∙ ap (λ (l : Listened). fault_if l.is_bad decoder_stream_error) same ∙ sym fault)
-
--- and before the settings
-module _ (most : ℕ) (unread : List ℕ) where
-  pub data KeepsAlike : Type 0 where
-    KeepsLong : is_limit most ≡ true → keeping_fault most unread ≡ Some excessive_load → KeepsAlike
-    KeepsSame : keeping_fault no_limit unread ≡ keeping_fault most unread → KeepsAlike
-
-  pub keeps_alike : KeepsAlike
-  keeps_alike = by_length (is_limit most && nat_lt most (length unread)) refl
-    where
-      by_length : (b : Bool) → (is_limit most && nat_lt most (length unread)) ≡ b → KeepsAlike
-      by_length true is = KeepsLong (and_parts (is_limit most) (nat_lt most (length unread)) is).0 (ap (λ b. fault_if b excessive_load) is)
-      by_length false is = KeepsSame (sym (ap (λ b. fault_if b excessive_load) is))

@@ -37,6 +37,7 @@ pub record SameCounts (i j : Incoming) : Type 0 where
 pub record IsLost (i j : Incoming) : Type 0 where
   pub lost : j.fault ≡ None → ⊥
   pub fine : IsFine i.fault → IsFine j.fault
+  pub response : j.response ≡ i.response
 
 abbrev pub KeepsAt : Incoming → Incoming → Type 0
 KeepsAt i j = SameCounts i j ⊎ IsLost i j
@@ -238,14 +239,14 @@ pub once_lost : (i : Incoming) (fault : StreamFault) → is_malformation fault �
 once_lost i fault no_rule = by_fault i.fault refl
   where
     by_fault : (o : Option StreamFault) → i.fault ≡ o → IsLost i (given_up_by i fault o)
-    by_fault (Some first) is = record { lost = λ none. absurd (let never : Some first ≡ None = sym is ∙ none in cc); fine = λ h. h }
-    by_fault None is = record { lost = λ none. absurd (cc); fine = λ h. no_rule }
+    by_fault (Some first) is = record { lost = λ none. absurd (let never : Some first ≡ None = sym is ∙ none in cc); fine = λ h. h; response = refl }
+    by_fault None is = record { lost = λ none. absurd (cc); fine = λ h. no_rule; response = refl }
 
 pub not_itself : (id : ℕ) → (id == id) ≡ false → ⊥
 not_itself id e = grind (arith, common_steps, e)
 
 lost_reset : (i : Incoming) (code : ℕ) → IsLost i (given_up_once (record i { was_reset = true }) (stream_fault.Reset code))
-lost_reset i code = let k = once_lost (record i { was_reset = true }) (stream_fault.Reset code) refl in record { lost = k.lost; fine = k.fine }
+lost_reset i code = let k = once_lost (record i { was_reset = true }) (stream_fault.Reset code) refl in record { lost = k.lost; fine = k.fine; response = k.response }
 
 resets_keep : (e : EndpointHistory) (id code : ℕ) (k : Kind) → KeepsBut (that id) e (reset_at e id code k).0
 resets_keep e id code Request =
@@ -287,24 +288,3 @@ advance_keeps e id count = by_stream (stream_at e.outgoing id) refl
       kept = λ j yes. inl (same_counts (incoming_at e j));
       announced = refl;
     }
-
--- a reset that is refused, or that finds a fault, gives no stream up
-found_refused : (e : EndpointHistory) (x : Found) (r : Refusal) → (closed_by x).0 ≡ Some r → ((code : ℕ) → x.1 ≡ Some code → KeepsBut no_stream e x.0) → KeepsBut no_stream e (closed_by x).1
-found_refused e (f, None) r is h = absurd (cc)
-found_refused e (f, Some code) r is h = let k = h code refl in record { out = k.out; same = k.same; kept = k.kept; announced = k.announced }
-
-taken_refused : (closed : Option ℕ) (q : Option Refusal) (e : EndpointHistory) (x : Found) (r : Refusal) → (taken closed q e x).0 ≡ Some r → ((code : ℕ) → x.1 ≡ Some code → KeepsBut no_stream e x.0) → KeepsBut no_stream e (taken closed q e x).1
-taken_refused (Some code) q e x r is h = streams_keep no_stream e e (same_streams e)
-taken_refused None (Some q) e x r is h = streams_keep no_stream e e (same_streams e)
-taken_refused None None e x r is h = found_refused e x r is h
-
-reset_faults : (e : EndpointHistory) (id code : ℕ) (k : Kind) (c : ℕ) → (reset_at e id code k).1 ≡ Some c → KeepsBut no_stream e (reset_at e id code k).0
-reset_faults e id code Request c is = absurd (cc)
-reset_faults e id code ServerOpened c is = streams_keep no_stream e e (same_streams e)
-reset_faults e id code OwnUnidirectional c is = streams_keep no_stream e e (same_streams e)
-reset_faults e id code PeerUnidirectional c is = streams_keep no_stream e _ (record { incoming = refl; outgoing = refl; announced = refl })
-
-pub reset_refused : (e : EndpointHistory) (id code : ℕ) (r : Refusal) → e.kept ≡ [] → (arrives e (ResetCame id code)).0 ≡ Some r → KeepsBut no_stream e (arrives e (ResetCame id code)).1
-reset_refused e id code r nothing is =
-    subst (λ k. KeepsBut no_stream e (arrives_behind k e (ResetCame id code)).1) (sym nothing)
-    (taken_refused e.closed (delivery_refusal e id) e (reset_at e id code (kind_of e.side id)) r (ap (λ k. (arrives_behind k e (ResetCame id code)).0) (sym nothing) ∙ is) (λ c fault. reset_faults e id code (kind_of e.side id) c fault))

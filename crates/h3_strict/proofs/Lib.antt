@@ -41,5 +41,6 @@ mod ControlTaken
 mod InstructionWaits
 mod InstructionsFit
 mod DeliveriesFit
+mod MadeLimits
 mod LimitCarries
 mod LimitEarly

@@ -38,7 +38,8 @@ use Rattle.h3_strict.proofs.InstructionsFit.{AreShort}
 use Rattle.h3_strict.proofs.LimitSetups.{setup_unlimited}
 use Rattle.h3_strict.proofs.PlainSetups.{setup_plainly}
 use Rattle.h3_strict.proofs.PlainSteps.{has_one, waits}
-use Rattle.h3_strict.specs.Limits.{LimitsTakeWhatIsSent, limit_at, limited_end, unlimited_ends, unlimited_setup}
+use Rattle.h3_strict.proofs.MadeLimits.{limits_made}
+use Rattle.h3_strict.specs.Limits.{limit_at, limited_end, unlimited_ends, unlimited_setup}
 use Rattle.h3_strict.specs.PlainEnds.{plain_ends, plain_setup}
 use Rattle.h3_strict.specs.Plainly.{plainly}
 
@@ -96,7 +97,7 @@ instructions_short streams X w writer made sound =
     taken_instructions_short most is read.decoder (ap (decoder_after_all (Some (announcing most))) (sym (take-length is)) ∙ read.reads)
 
 -- a reader and a writer of which those stand there
-module _ (streams : StreamLaws) (setup X : Setup) (made : IsMadeSetup setup) (stated : IsMadeSetup X) (limits : LimitsTakeWhatIsSent setup) (w : World) (s : Side) (er ew fr fw : EndpointHistory) (reads : SameStreams er fr) (writes : SameStreams ew fw)
+module _ (streams : StreamLaws) (setup X : Setup) (made : IsMadeSetup setup) (stated : IsMadeSetup X) (w : World) (s : Side) (er ew fr fw : EndpointHistory) (reads : SameStreams er fr) (writes : SameStreams ew fw)
     (hr : StandsAt X w s fr) (hw : StandsAt X w (other s) fw) (writable : IsWritable (other s) (party w (other s)).own) (limit : limit_of er ≡ limit_at setup s)
     (same : (announced_at X (other s)).settings ≡ (announced_at setup (other s)).settings) (tables : (announced_at X s).limits.table ≡ (announced_at setup s).limits.table) (sound : IsSoundWorld X w) where
   abbrev own : Own
@@ -134,29 +135,29 @@ module _ (streams : StreamLaws) (setup X : Setup) (made : IsMadeSetup setup) (st
     requests = request_id;
     goaways = writable.goaways;
     instructions = writable.instructions;
-    short = all_below (most_instruction (announced_at setup s).limits.table) (limit_at setup s) own.instructions (omega (arith, limits s))
+    short = all_below (most_instruction (announced_at setup s).limits.table) (limit_at setup s) own.instructions (omega (arith, (limits_made setup made s).0))
         (subst (λ n. AreShort (most_instruction n) own.instructions) (ap (λ x. (announced_at X x).limits.table) (other-other s) ∙ tables) (instructions_short streams X w (other s) stated sound));
     replies = writable.replies;
     announces = announces_at setup (other s) made;
-    settings_taken = omega (arith, limits s);
-    room = omega (arith, limits s);
+    settings_taken = omega (arith, (limits_made setup made s).0);
+    room = omega (arith, (limits_made setup made s).0);
   }
 
 -- what each side sends to the other
 abbrev pub CarriesAt : Setup → Ends → Side → Type 0
 CarriesAt setup ends writer = (own : Own) × Carries (announced_at setup writer) (limit_at setup (other writer)) writer own (end_at ends (other writer)) (end_at ends writer)
 
-module _ (streams : StreamLaws) (setup : Setup) (made : IsMadeSetup setup) (limits : LimitsTakeWhatIsSent setup) (w : World) (ends : Ends) (kept : (side : Side) → limit_of (end_at ends side) ≡ limit_at setup side) where
+module _ (streams : StreamLaws) (setup : Setup) (made : IsMadeSetup setup) (w : World) (ends : Ends) (kept : (side : Side) → limit_of (end_at ends side) ≡ limit_at setup side) where
   -- **Neither asks for strict messages.**
   pub loose_carries : Stands (unlimited_setup setup) w (unlimited_ends ends) → (writer : Side) → CarriesAt setup ends writer
   loose_carries h Client =
-      (w.client.own, carries streams setup (unlimited_setup setup) made (setup_unlimited setup made) limits w Server ends.server ends.client _ _ (unlimited_same ends.server) (unlimited_same ends.client) h.at_server h.at_client h.client_writes (kept Server) refl refl h.sound)
+      (w.client.own, carries streams setup (unlimited_setup setup) made (setup_unlimited setup made) w Server ends.server ends.client _ _ (unlimited_same ends.server) (unlimited_same ends.client) h.at_server h.at_client h.client_writes (kept Server) refl refl h.sound)
   loose_carries h Server =
-      (w.server.own, carries streams setup (unlimited_setup setup) made (setup_unlimited setup made) limits w Client ends.client ends.server _ _ (unlimited_same ends.client) (unlimited_same ends.server) h.at_client h.at_server h.server_writes (kept Client) refl refl h.sound)
+      (w.server.own, carries streams setup (unlimited_setup setup) made (setup_unlimited setup made) w Client ends.client ends.server _ _ (unlimited_same ends.client) (unlimited_same ends.server) h.at_client h.at_server h.server_writes (kept Client) refl refl h.sound)
 
   -- **Both do.**
   pub strict_carries : Stands (plain_setup (unlimited_setup setup)) w (plain_ends (unlimited_ends ends)) → (writer : Side) → CarriesAt setup ends writer
   strict_carries h Client =
-      (w.client.own, carries streams setup (plain_setup (unlimited_setup setup)) made (setup_plainly (unlimited_setup setup) (setup_unlimited setup made)) limits w Server ends.server ends.client _ _ (plain_same ends.server) (plain_same ends.client) h.at_server h.at_client h.client_writes (kept Server) refl refl h.sound)
+      (w.client.own, carries streams setup (plain_setup (unlimited_setup setup)) made (setup_plainly (unlimited_setup setup) (setup_unlimited setup made)) w Server ends.server ends.client _ _ (plain_same ends.server) (plain_same ends.client) h.at_server h.at_client h.client_writes (kept Server) refl refl h.sound)
   strict_carries h Server =
-      (w.server.own, carries streams setup (plain_setup (unlimited_setup setup)) made (setup_plainly (unlimited_setup setup) (setup_unlimited setup made)) limits w Client ends.client ends.server _ _ (plain_same ends.client) (plain_same ends.server) h.at_client h.at_server h.server_writes (kept Client) refl refl h.sound)
+      (w.server.own, carries streams setup (plain_setup (unlimited_setup setup)) made (setup_plainly (unlimited_setup setup) (setup_unlimited setup made)) w Client ends.client ends.server _ _ (plain_same ends.client) (plain_same ends.server) h.at_client h.at_server h.server_writes (kept Client) refl refl h.sound)

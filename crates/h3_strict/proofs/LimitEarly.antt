@@ -28,6 +28,7 @@ use Rattle.h3_headline.specs.SettingsLaws.{too_large_with_meaning}
 use Rattle.h3_headline.specs.Standing.{Stands, are_settings_there, with_meaning}
 use Rattle.h3_strict.proofs.DeliveriesFit.{delivery_fits, end_delivery_fits, reset_delivery_fits}
 use Rattle.h3_strict.proofs.LimitCarries.{CarriesAt, loose_carries, strict_carries}
+use Rattle.h3_strict.proofs.MadeLimits.{limits_made}
 use Rattle.h3_strict.proofs.LimitHeadlines.{loose_world}
 use Rattle.h3_strict.proofs.LimitSetups.{setup_unlimited, unlimited_strictly}
 use Rattle.h3_strict.proofs.LimitWorlds.{RunStrictly, knows_front, loose_limits, loose_unlimited, sendable_front, strict_limits, strict_unlimited}
@@ -35,9 +36,8 @@ use Rattle.h3_strict.proofs.PlainHeadlines.{RunInWorlds}
 use Rattle.h3_strict.proofs.SameWorlds.{ends_more}
 use Rattle.h3_strict.proofs.SentLaws.{head_rules, trailer_rules}
 use Rattle.h3_strict.proofs.TakenWorlds.{SectionsAreShort}
-use Rattle.h3_strict.specs.Limits.{AreTaken, AsksForNone, AsksForStrict, EarlyAreTaken, IsTaken, LimitsTakeWhatIsSent, is_early, limit_at, unlimited_ends, unlimited_setup}
+use Rattle.h3_strict.specs.Limits.{AreTaken, AsksForNone, AsksForStrict, EarlyAreTaken, IsTaken, TakesSection, is_early, limit_at, unlimited_ends, unlimited_setup}
 use Rattle.h3_strict.specs.PlainEnds.{plain_ends, plain_setup}
-use Rattle.h3_qpack.specs.SectionSizes.{most_encoded}
 use Rattle.h3_strict.specs.ServerKnows.{ServerKnows}
 
 -- Of the other side's settings a side knows those that were announced, or none.
@@ -69,9 +69,9 @@ was_accepted : (ends : Ends) (side : Side) (r : Option Refusal) (e f : EndpointH
 was_accepted ends side None e f h = refl
 was_accepted ends side (Some r) e f h = absurd (let never : false ≡ true = h in cc)
 
-module _ (setup : Setup) (limits : LimitsTakeWhatIsSent setup) where
-  taken_by : (side : Side) (fields : List Field) → section_size fields ≤ section_of (announced_at setup side) → most_encoded fields ≤ limit_at setup side
-  taken_by side fields within = omega (arith, within, limits side)
+module _ (setup : Setup) (made : IsMadeSetup setup) where
+  taken_by : (side : Side) (fields : List Field) → section_size fields ≤ section_of (announced_at setup side) → TakesSection setup side fields
+  taken_by side fields within limited = omega (arith, within, (limits_made setup made side).0, (limits_made setup made side).1 limited)
 
   head_taken : (ends : Ends) (side : Side) (id : ℕ) (head : Head) → KnowsSettings setup ends → (b : Bool) → is_none (end_at ends side).peer.settings ≡ b → (b ≡ true → IsTaken setup (event.Head side id head) (answered ends (event.Head side id head)).0)
       → IsTaken setup (event.Head side id head) (answered ends (event.Head side id head)).0
@@ -89,11 +89,6 @@ module _ (setup : Setup) (limits : LimitsTakeWhatIsSent setup) where
       let rules = trailer_rules e id trailer (was_accepted ends side (sender.trailer_refusal e id trailer) e _ accepted) in
       taken_by (other side) (head_fields trailer) (known_within setup (other side) e.peer.settings (head_fields trailer) (knows side) is rules.small)
 
-  delivery_taken : (ends : Ends) (side : Side) (id count : ℕ) → CarriesAt setup ends side → (b : Bool) → is_early ends (event.Deliver side id count) ≡ b
-      → (b ≡ true → IsTaken setup (event.Deliver side id count) (answered ends (event.Deliver side id count)).0) → IsTaken setup (event.Deliver side id count) (answered ends (event.Deliver side id count)).0
-  delivery_taken ends side id count c true is early = early refl
-  delivery_taken ends side id count c false is early = delivery_fits ends side (announced_at setup side) (limit_at setup (other side)) c.0 c.1 id count is
-
   event_taken : (ends : Ends) (e : Event) → Sends setup ends → (is_early ends e ≡ true → IsTaken setup e (answered ends e).0) → IsTaken setup e (answered ends e).0
   event_taken ends (event.Head side id head) sends early = head_taken ends side id head sends.knows (is_none (end_at ends side).peer.settings) refl early
   event_taken ends (event.Trailer side id trailer) sends early = trailer_taken ends side id trailer sends.knows (is_none (end_at ends side).peer.settings) refl early
@@ -103,7 +98,7 @@ module _ (setup : Setup) (limits : LimitsTakeWhatIsSent setup) where
   event_taken ends (event.Reset side id) sends early = tt
   event_taken ends (event.Cancel side id) sends early = tt
   event_taken ends (event.Goaway side id) sends early = tt
-  event_taken ends (event.Deliver side id count) sends early = delivery_taken ends side id count (sends.carries side) (is_early ends (event.Deliver side id count)) refl early
+  event_taken ends (event.Deliver side id count) sends early = let c = sends.carries side in delivery_fits ends side (announced_at setup side) (limit_at setup (other side)) c.0 c.1 id count
   event_taken ends (event.DeliverEnd side id) sends early = let c = sends.carries side in end_delivery_fits ends side (announced_at setup side) (limit_at setup (other side)) c.0 c.1 id
   event_taken ends (event.DeliverReset side id) sends early = let c = sends.carries side in reset_delivery_fits ends side (announced_at setup side) (limit_at setup (other side)) c.0 c.1 id
   event_taken ends (event.Pull side id) sends early = tt
@@ -136,10 +131,10 @@ strict_knows : (setup : Setup) (w : World) (ends : Ends) → Stands (plain_setup
 strict_knows setup w ends h Client = (are_settings_there (plain_setup (unlimited_setup setup)) Server (party w Server).own.control_taken, h.at_client.control.settings)
 strict_knows setup w ends h Server = (are_settings_there (plain_setup (unlimited_setup setup)) Client (party w Client).own.control_taken, h.at_server.control.settings)
 
-module _ (short : SectionsAreShort) (streams : StreamLaws) (setup : Setup) (events : List Event) (made : IsMadeSetup setup) (sendable : AllByRecursion IsSendable events) (limits : LimitsTakeWhatIsSent setup) (early : EarlyAreTaken setup (new_ends setup) events) where
+module _ (short : SectionsAreShort) (streams : StreamLaws) (setup : Setup) (events : List Event) (made : IsMadeSetup setup) (sendable : AllByRecursion IsSendable events) (early : EarlyAreTaken setup (new_ends setup) events) where
   -- **Neither asks for strict messages.**
   pub loose_taken : RunInWorlds → AsksForNone setup → AreTaken setup events (answers_of_ends (new_ends setup) events)
-  loose_taken headline none = taken_from setup limits events [] events known refl tt early
+  loose_taken headline none = taken_from setup made events [] events known refl tt early
     where
       known : (past rest : List Event) → events ≡ past ++ rest → AreTaken setup past (answers_of_ends (new_ends setup) past) → Sends setup (ends_after (new_ends setup) past)
       known past rest is taken =
@@ -147,12 +142,12 @@ module _ (short : SectionsAreShort) (streams : StreamLaws) (setup : Setup) (even
           let ran = loose_world setup past made none sent (loose_unlimited short setup past made sent taken headline none) headline in
           record {
             knows = loose_knows setup ran.0 (ends_after (new_ends setup) past) ran.2;
-            carries = loose_carries streams setup made limits ran.0 (ends_after (new_ends setup) past) (loose_limits short setup past made sent taken headline none) ran.2;
+            carries = loose_carries streams setup made ran.0 (ends_after (new_ends setup) past) (loose_limits short setup past made sent taken headline none) ran.2;
           }
 
   -- **Both do.**
   pub strict_taken : RunStrictly → AsksForStrict setup → ServerKnows events (answers_of_ends (new_ends setup) events) → AreTaken setup events (answers_of_ends (new_ends setup) events)
-  strict_taken headline strict knows = taken_from setup limits events [] events known refl tt early
+  strict_taken headline strict knows = taken_from setup made events [] events known refl tt early
     where
       known : (past rest : List Event) → events ≡ past ++ rest → AreTaken setup past (answers_of_ends (new_ends setup) past) → Sends setup (ends_after (new_ends setup) past)
       known past rest is taken =
@@ -164,5 +159,5 @@ module _ (short : SectionsAreShort) (streams : StreamLaws) (setup : Setup) (even
           subst (λ x. Stands (plain_setup (unlimited_setup setup)) ran.0 (plain_ends x)) (sym runs.leads) ran.2 in
           record {
             knows = strict_knows setup ran.0 (ends_after (new_ends setup) past) stands;
-            carries = strict_carries streams setup made limits ran.0 (ends_after (new_ends setup) past) (strict_limits short setup past made sent taken headline strict asked) stands;
+            carries = strict_carries streams setup made ran.0 (ends_after (new_ends setup) past) (strict_limits short setup past made sent taken headline strict asked) stands;
           }

@@ -115,7 +115,7 @@ module _ (most : ℕ) (side : Side) (own : Announced) (id : ℕ) (r : DecoderSta
   frames_same : (i : Incoming) → IsAlike i → between_frames side any id r i ≡ between_frames side own id r i
   frames_same i alike =
       let bytes = skipped (is_body i.place) (concat i.unread) in
-      ap (λ b. if b then excess i else next_frame side any id r (left_with i bytes) bytes) alike
+      ap (λ b. if b then excess id i bytes else next_frame side any id r (left_with i bytes) bytes) alike
       ∙ either (is_excessive own.choices.unfinished_limit bytes) _ _ _ _ refl (next_same (left_with i bytes) bytes)
 
   message_same : (i : Incoming) (o : Option (List ℕ)) → i.section ≡ o → (o ≡ None → nat_lt 0 i.body_left ≡ false → IsAlike i)

@@ -24,10 +24,10 @@ use Rattle.h3_connection.specs.declared.event.StreamFault.TheVariants as stream_
 use Rattle.h3_connection.specs.declared.setup.Announced.{Announced}
 use Rattle.h3_headline.specs.PeerStreams.{no_limit}
 use Rattle.h3_strict.specs.Limits.{limited_end}
-use Rattle.h3_strict.proofs.InstructionReading.{HearsAlike, HearsLong, HearsSame, KeepsAlike, KeepsLong, KeepsSame, ListensAlike, ListensLong, ListensSame, hears_alike, keeps_alike, listens_alike}
+use Rattle.h3_strict.proofs.InstructionReading.{HearsAlike, HearsLong, HearsSame, ListensAlike, ListensLong, ListensSame, hears_alike, listens_alike}
 use Rattle.h3_strict.proofs.KeepsCounts.{arrival_announced}
 use Rattle.h3_strict.proofs.LimitPulls.{limited_result}
-use Rattle.h3_strict.proofs.PlainReading.{IsLong, PeerPlainly, ReadsSame, closed_too_long, heard_as_found, kept_as_found, listened_as_found, peer_plain, read_if}
+use Rattle.h3_strict.proofs.PlainReading.{IsLong, PeerPlainly, ReadsSame, closed_too_long, heard_as_found, listened_as_found, peer_plain, read_if}
 
 abbrev endless : EndpointHistory → EndpointHistory
 endless e = limited_end no_limit e
@@ -62,11 +62,7 @@ decoder_within true e bytes = by_limit (listens_alike (limit_of e) e.encoder (e.
     by_limit : ListensAlike (limit_of e) e.encoder (e.decoder_unread ++ bytes) → ReadsWithin (read_if true e bytes) (read_if true (endless e) bytes)
     by_limit (ListensLong limit is) = IsTooLong is
     by_limit (ListensSame same fault) = ReadsAlike (ap (λ x. listened_as_found (endless e) x (listening_fault no_limit x)) same ∙ ap (listened_as_found (endless e) l) fault)
-decoder_within false e bytes = by_limit (keeps_alike (limit_of e) (e.decoder_unread ++ bytes))
-  where
-    by_limit : KeepsAlike (limit_of e) (e.decoder_unread ++ bytes) → ReadsWithin (read_if false e bytes) (read_if false (endless e) bytes)
-    by_limit (KeepsLong limit is) = IsTooLong is
-    by_limit (KeepsSame fault) = ReadsAlike (ap (kept_as_found (endless e) (e.decoder_unread ++ bytes)) fault)
+decoder_within false e bytes = ReadsAlike refl
 
 then_reads_within : (before after : Option (List (ℕ × ℕ))) (e : EndpointHistory) (fault : Option ℕ) → ReadsWithin (then_decoder before after e fault) (then_decoder before after (endless e) fault)
 then_reads_within before after e (Some code) = ReadsAlike refl

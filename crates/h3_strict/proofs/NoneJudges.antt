@@ -14,7 +14,6 @@ use Rattle.h3_connection.specs.Incoming.{nothing_came}
 use Rattle.h3_connection.specs.Keeping.{pulls}
 use Rattle.h3_connection.specs.Outgoing.{nothing_sent}
 use Rattle.h3_connection.specs.OwnIds.{other}
-use Rattle.h3_connection.specs.Pulling.{is_client}
 use Rattle.h3_connection.specs.Sending.{outgoing_at}
 use Rattle.h3_connection.specs.declared.setup.Announced.{Announced}
 use Rattle.h3_proto.specs.StreamIds.{is_request_stream}
@@ -113,14 +112,10 @@ module _ (laws : Laws) (setup : Setup) (made : IsMadeSetup (plain_setup setup)) 
   less_by true false d k off is = is
   less_by false c d k off is = is
 
-  lost_by : (b k : Bool) → (if b then false else k) ≡ true → k ≡ true
-  lost_by true k is = absurd (cc)
-  lost_by false k is = is
-
   known_before : (e : Event) (a : Answer) (id : ℕ) (k : Bool) → is_malformed_refusal a ≡ true → knows_behind id k e a ≡ true → k ≡ true
   known_before (event.Pull s i) a id k told is = less_by (is_server s) (i == id) (tells_head a) k (tells_nothing a told).0 is
-  known_before (event.Cancel s i) a id k told is = lost_by (is_server s && (i == id) && is_done a) k is
-  known_before (event.DeliverReset s i) a id k told is = lost_by (is_client s && (i == id) && is_done a) k is
+  known_before (event.Cancel s i) a id k told is = is
+  known_before (event.DeliverReset s i) a id k told is = is
   known_before (event.OpenRequest s) a id k told is = is
   known_before (event.Head s i head) a id k told is = is
   known_before (event.Body s i bytes) a id k told is = is

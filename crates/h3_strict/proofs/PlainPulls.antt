@@ -11,7 +11,7 @@ use Rattle.h3_header.specs.HeadRead.{HeadRead, IsHead, IsNone, head_of}
 use Rattle.h3_messages.specs.Content.{is_exceeded, may_end, takes_trailer}
 use Rattle.h3_proto.specs.declared.stream.Side.{Side}
 use Rattle.h3_proto.specs.declared.stream.Side.TheVariants.{Client, Server}
-use Rattle.h3_wire.specs.ExcessiveFrames.{is_excessive}
+use Rattle.h3_wire.specs.ExcessiveFrames.{begins_section, is_excessive}
 use Rattle.h3_wire.specs.ExcessiveLaws.{none_excessive}
 use Rattle.h3_wire.specs.Frames.{Front, Whole, Unknown, Refused, Unfinished, frame_at}
 use Rattle.h3_wire.specs.Pieces.{chunk_of, first_of}
@@ -19,13 +19,15 @@ use Rattle.h3_wire.specs.declared.proto.frame.PayloadLen.{PayloadLen}
 use Rattle.h3_wire.specs.declared.proto.frame.Frame.{Frame}
 use Rattle.h3_wire.specs.declared.proto.frame.Frame.TheVariants as frame
 use Rattle.h3_connection.specs.Announcing.{section_of}
+use Rattle.h3_connection.specs.Codes.{excessive_load}
 use Rattle.h3_connection.specs.Incoming.{Incoming, is_body}
-use Rattle.h3_connection.specs.Pulling.{Pulled, just, body_of, raw_of, unless_broken, whole_head, whole_trailer, head_or_trailer, judged, read_section, decoded, at_section, at_trailer, at_end, at_frame, framed, next_frame, between_frames, excess, in_message, next_item, pull_stream, in_payload, at_payload, begun_section, begun_payload, left_with, past_section, acknowledgment, is_for, is_client, is_interim, with_content, told_size}
+use Rattle.h3_connection.specs.Pulling.{Pulled, just, connection_fault, malformed, body_of, raw_of, unless_broken, whole_head, whole_trailer, head_or_trailer, judged, read_section, decoded, at_section, at_trailer, at_end, at_frame, framed, next_frame, between_frames, excess, in_message, next_item, pull_stream, in_payload, at_payload, begun_section, begun_payload, left_with, past_section, acknowledgment, is_for, is_client, is_interim, with_content, told_size}
 use Rattle.h3_connection.specs.Skipping.{skipped}
 use Rattle.h3_connection.specs.StrictMessages.{broken_rule, if_whole}
 use Rattle.h3_connection.specs.declared.event.Fault.TheVariants.{Stream}
 use Rattle.h3_connection.specs.declared.event.Item.TheVariants as item
 use Rattle.h3_connection.specs.declared.event.Malformation.{Malformation}
+use Rattle.h3_connection.specs.declared.event.Malformation.TheVariants as malformation
 use Rattle.h3_connection.specs.declared.event.Pull.TheVariants as pull
 use Rattle.h3_connection.specs.declared.event.StreamFault.{StreamFault}
 use Rattle.h3_connection.specs.declared.place.Place.{Place}
@@ -137,13 +139,20 @@ module _ (side : Side) (own : Announced) (id : ℕ) (r : DecoderState) where
   next_plain i [] = either i.ended _ _ _ _ (end_plain i i.place) (Same refl)
   next_plain i (byte ∷ bytes) = framed_plain i (frame_at (byte ∷ bytes))
 
+  excess_told : (i : Incoming) (bytes : List ℕ) → tells_malformed (excess id i bytes).answer ≡ true
+  excess_told i bytes = by_type (begins_section bytes)
+    where
+      by_type : (b : Bool) → tells_malformed (if b then malformed id malformation.TooLong i [] else connection_fault excessive_load (record i { unread = [] })).answer ≡ true
+      by_type true = refl
+      by_type false = refl
+
   message_plain : (i : Incoming) (section : Option (List ℕ)) → PullsPlainly (in_message side own id r i section) (in_message side (plain own) id r (plain_incoming i) section)
   message_plain i (Some bytes) = at_plain i bytes
   message_plain i None =
       let bytes = skipped (is_body i.place) (concat i.unread) in
       either (nat_lt 0 i.body_left) _ _ _ _ (payload_plain id i)
-      (subst (λ b. PullsPlainly (between_frames side own id r i) (if b then excess (plain_incoming i) else next_frame side (plain own) id r (plain_incoming (left_with i bytes)) bytes)) (sym (none_excessive (2 ^ 62 - 1) bytes refl))
-      (unless (is_excessive own.choices.unfinished_limit bytes) (excess i) _ _ refl (next_plain (left_with i bytes) bytes)))
+      (subst (λ b. PullsPlainly (between_frames side own id r i) (if b then excess id (plain_incoming i) bytes else next_frame side (plain own) id r (plain_incoming (left_with i bytes)) bytes)) (sym (none_excessive (2 ^ 62 - 1) bytes refl))
+      (unless (is_excessive own.choices.unfinished_limit bytes) (excess id i bytes) _ _ (excess_told i bytes) (next_plain (left_with i bytes) bytes)))
 
   item_plain : (i : Incoming) (place : Place) → PullsPlainly (next_item side own id r i place) (next_item side (plain own) id r (plain_incoming i) place)
   item_plain i BeforeHead = message_plain i i.section

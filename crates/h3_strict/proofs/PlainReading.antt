@@ -32,7 +32,7 @@ use Rattle.h3_connection.specs.declared.event.StreamFault.TheVariants as stream_
 use Rattle.h3_connection.specs.declared.setup.Announced.{Announced}
 use Rattle.h3_headline.specs.PeerStreams.{no_limit}
 use Rattle.h3_strict.specs.Plainly.{plain_incoming, plainly}
-use Rattle.h3_strict.proofs.InstructionReading.{HearsAlike, HearsLong, HearsSame, KeepsAlike, KeepsLong, KeepsSame, ListensAlike, ListensLong, ListensSame, hears_alike, keeps_alike, listens_alike}
+use Rattle.h3_strict.proofs.InstructionReading.{HearsAlike, HearsLong, HearsSame, ListensAlike, ListensLong, ListensSame, hears_alike, listens_alike}
 use Rattle.h3_strict.proofs.KeepsCounts.{arrival_announced, if_learned_same}
 use Rattle.h3_strict.proofs.PlainCalls.{CallsPlainly, taken_plainly}
 use Rattle.h3_strict.proofs.PlainSends.{gives_up_plainly, opens_as}
@@ -72,9 +72,6 @@ read_if came e bytes = if came then listened_to e (listen_up_to (limit_of e) e.e
 abbrev pub listened_as_found : EndpointHistory → Listened → Option ℕ → Found
 listened_as_found e l fault = (record e { encoder = l.encoder; decoder_unread = l.left }, fault)
 
-abbrev pub kept_as_found : EndpointHistory → List ℕ → Option ℕ → Found
-kept_as_found e unread fault = (record e { decoder_unread = unread }, fault)
-
 decoder_plain : (came : Bool) (e : EndpointHistory) (bytes : List ℕ) → ReadsPlainly (limit_of e) (read_if came e bytes) (read_if came (plainly e) bytes)
 decoder_plain true e bytes = by_limit (listens_alike (limit_of e) e.encoder (e.decoder_unread ++ bytes))
   where
@@ -84,11 +81,7 @@ decoder_plain true e bytes = by_limit (listens_alike (limit_of e) e.encoder (e.d
     by_limit : ListensAlike (limit_of e) e.encoder (e.decoder_unread ++ bytes) → ReadsPlainly (limit_of e) (read_if true e bytes) (read_if true (plainly e) bytes)
     by_limit (ListensLong limit is) = IsTooLong limit is
     by_limit (ListensSame same fault) = ReadsAlike (ap (λ x. listened_as_found (plainly e) x (listening_fault no_limit x)) same ∙ ap (listened_as_found (plainly e) l) fault)
-decoder_plain false e bytes = by_limit (keeps_alike (limit_of e) (e.decoder_unread ++ bytes))
-  where
-    by_limit : KeepsAlike (limit_of e) (e.decoder_unread ++ bytes) → ReadsPlainly (limit_of e) (read_if false e bytes) (read_if false (plainly e) bytes)
-    by_limit (KeepsLong limit is) = IsTooLong limit is
-    by_limit (KeepsSame fault) = ReadsAlike (ap (kept_as_found (plainly e) (e.decoder_unread ++ bytes)) fault)
+decoder_plain false e bytes = ReadsAlike refl
 
 -- the control stream
 then_plain : (before after : Option (List (ℕ × ℕ))) (e : EndpointHistory) (fault : Option ℕ) → ReadsPlainly (limit_of e) (then_decoder before after e fault) (then_decoder before after (plainly e) fault)

@@ -245,12 +245,13 @@ module _ (laws : Laws) (setup : Setup) (made : IsMadeSetup (plain_setup setup)) 
   settled_tally : (x : Pull × EndpointHistory) (v : World) → KeepsBut no_stream (end_at ends side) x.1 → hands_head x.0 ≡ false → v ≡ w
       → Tallies setup v (with_end ends side x.1) (λ j. if is_server side && (id == j) && hands_head x.0 then true else known j)
   settled_tally x v keeps no_head same =
-      quiet_tallies setup w v ends (with_end ends side x.1) known (λ j. if is_server side && (id == j) && hands_head x.0 then true else known j) (only_at side no_stream) (subst (KeepsParts w) (sym same) (keeps_same w))
-      (keeps_one side no_stream ends x.1 keeps) (λ j is. (knows_as_before (is_server side) (id == j) (hands_head x.0) (known j) no_head is, none side j)) t
-    where
-      none : (s : Side) (j : ℕ) → only_at s no_stream Server j ≡ false
-      none Client j = refl
-      none Server j = refl
+      let after = quiet_tallies setup w v ends (with_end ends side x.1) known (only_at side no_stream) (subst (KeepsParts w) (sym same) (keeps_same w)) (keeps_one side no_stream ends x.1 keeps) t in
+      record {
+        flows = after.flows;
+        announced = after.announced;
+        asked = after.asked;
+        knows = λ j is. after.knows j (knows_as_before (is_server side) (id == j) (hands_head x.0) (known j) no_head is);
+      }
 
   -- The pull of a stream that goes on.
   module _ (i : Incoming) (r : Receiving w (end_at ends side) side id i) (alive : (flow w (other side) id).fault ≡ None) (v : World) (p : Pulled)
@@ -343,7 +344,6 @@ module _ (laws : Laws) (setup : Setup) (made : IsMadeSetup (plain_setup setup)) 
         let asks = head_asks (party w (other side)) None 0 f.sent f.parts_out part.0 sound.sent part.1 in
         subst (λ (x : Flow). KnowsResponse x.sent p.incoming) (client_flow w side id is) (record {
           has = asks.1;
-          no_fault = now_alive;
           response = good.responds ∙ head_response p.answer side (next_part f) i.response part.0 head is part.1 ∙ ap Some (sym asks.0);
         })
 
@@ -352,7 +352,6 @@ module _ (laws : Laws) (setup : Setup) (made : IsMadeSetup (plain_setup setup)) 
         let k = t.knows id sure in
         record {
           has = k.has;
-          no_fault = now_alive;
           response = good.responds ∙ response_stays p.answer side (next_part (flow w (other side) id)) i.response off ∙ ap (λ (x : Incoming). x.response) (sym r.here) ∙ ap (λ (e : EndpointHistory). (incoming_at e id).response) (server_here ends side is) ∙ k.response;
         }
 
@@ -366,7 +365,7 @@ module _ (laws : Laws) (setup : Setup) (made : IsMadeSetup (plain_setup setup)) 
         at_server s same e false c at head sure =
             let k = t.knows j sure in
             let o = subst (λ (x : EndpointHistory). SameCounts (incoming_at x j) (incoming_at now j)) (server_here ends side (same ∙ e)) (off_same j at) in
-            record { has = k.has; no_fault = o.fault ∙ k.no_fault; response = o.response ∙ k.response }
+            record { has = k.has; response = o.response ∙ k.response }
 
         by_side : (s : Side) → side ≡ s → KnowsResponse (flow w Client j).sent (incoming_at (end_at (with_end ends side now) Server) j)
         by_side Client e = subst (λ (x : EndpointHistory). KnowsResponse (flow w Client j).sent (incoming_at x j)) (sym (server_kept ends side now e)) (t.knows j (sym (ap (λ s. if is_server s && (id == j) && hands_head p.answer then true else known j) e) ∙ is))

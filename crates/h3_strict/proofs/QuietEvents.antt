@@ -41,14 +41,12 @@ use Rattle.h3_headline.specs.FlowLaws.{open_there}
 use Rattle.h3_headline.specs.KeepsPartsLaws.{keeps_delivery, keeps_end, keeps_flows, keeps_given_up, keeps_reset, keeps_same, keeps_with_flow, keeps_with_party}
 use Rattle.h3_headline.specs.OpeningLaws.{flow_opened}
 use Rattle.h3_headline.specs.Standing.{Stands}
-use Rattle.h3_strict.proofs.KeepsCounts.{KeepsAt, KeepsBut, SameCounts, SendsSame, advance_keeps, arrives_keep, no_stream, not_itself, nothing_taken, once_lost, reset_refused, same_counts, same_streams, sends_same, set_in, set_out, streams_keep}
+use Rattle.h3_strict.proofs.KeepsCounts.{KeepsAt, KeepsBut, SameCounts, SendsSame, advance_keeps, arrives_keep, no_stream, not_itself, nothing_taken, once_lost, same_counts, same_streams, sends_same, set_in, set_out, streams_keep, that}
 use Rattle.h3_strict.proofs.PlainStreams.{at_each}
 use Rattle.h3_strict.proofs.SentTallies.{side_of, stands_at}
 use Rattle.h3_strict.proofs.TallySteps.{quiet_tallies}
 use Rattle.h3_strict.specs.PlainEnds.{plain_ends, plain_setup}
 use Rattle.h3_strict.specs.Plainly.{plain_incoming, plainly}
-use Rattle.h3_headline.specs.Messages.{is_done}
-use Rattle.h3_strict.specs.ServerKnows.{is_server}
 use Rattle.h3_strict.specs.Tallies.{Tallies}
 
 -- what an event leaves of both ends, where only some streams of one of them may be given up
@@ -60,9 +58,6 @@ only_at Server f Server id = f id
 
 abbrev pub KeepsEnds : Side → (ℕ → Bool) → Ends → Ends → Type 0
 KeepsEnds s f ends next = (side : Side) → KeepsBut (only_at s f side) (end_at ends side) (end_at next side)
-
-keeps_none : (e f : EndpointHistory) (only : ℕ → Bool) → KeepsBut no_stream e f → KeepsBut only e f
-keeps_none e f only h = record { out = h.out; same = λ id off. h.same id refl; kept = λ id on. inl (h.same id refl); announced = h.announced }
 
 keeps_self : (e : EndpointHistory) (only : ℕ → Bool) → KeepsBut only e e
 keeps_self e only = streams_keep only e e (same_streams e)
@@ -95,11 +90,6 @@ world_keeps : (r : Option Refusal) (w goal v : World) (success a : Answer) → (
 world_keeps (Some r) w goal v success a h step = subst (KeepsParts w) (sym step.1) (keeps_same w)
 world_keeps None w goal v success a h step = subst (KeepsParts w) (sym step.1) (h refl)
 
--- nothing more is known
-pub weaker : (b k : Bool) → (if b then false else k) ≡ true → (k ≡ true) × (b ≡ false)
-weaker true k e = absurd (cc)
-weaker false k e = (e, refl)
-
 not_refused : (critical there : Bool) (rules : List (Bool × Refusal)) → first_of ((critical, refusal.Critical) ∷ (not there, refusal.NotOpen) ∷ rules) ≡ None → there ≡ true
 not_refused true there rules e = absurd (cc)
 not_refused false true rules e = refl
@@ -109,23 +99,12 @@ module _ (setup : Setup) (w : World) (ends : Ends) (known : ℕ → Bool) (h : S
   nothing_kept : (s : Side) → (end_at ends s).kept ≡ []
   nothing_kept s = (stands_at setup w ends s h).nothing_kept
 
-  quiet : (v : World) (next : Ends) (s : Side) → KeepsParts w v → KeepsEnds s no_stream ends next → Tallies setup v next known
-  quiet v next s parts keeps = quiet_tallies setup w v ends next known known (only_at s no_stream) parts keeps (λ id is. (is, none s id)) t
-    where
-      none : (s : Side) (id : ℕ) → only_at s no_stream Server id ≡ false
-      none Client id = refl
-      none Server id = refl
+  -- some streams of one end may be given up
+  losing : (v : World) (next : Ends) (s : Side) (only : ℕ → Bool) → KeepsParts w v → KeepsEnds s only ends next → Tallies setup v next known
+  losing v next s only parts keeps = quiet_tallies setup w v ends next known (only_at s only) parts keeps t
 
-  -- where a stream of the server's may be given up, it is known no more
-  losing : (v : World) (next : Ends) (s : Side) (i : ℕ) (a : Answer) → KeepsParts w v → KeepsEnds s (λ id. (i == id) && is_done a) ends next
-      → Tallies setup v next (λ id. if is_server s && (i == id) && is_done a then false else known id)
-  losing v next s i a parts keeps =
-      quiet_tallies setup w v ends next known (λ id. if is_server s && (i == id) && is_done a then false else known id) (only_at s (λ id. (i == id) && is_done a)) parts keeps
-      (λ id is. let k = weaker (is_server s && (i == id) && is_done a) (known id) is in (k.0, off s id k.1)) t
-    where
-      off : (s : Side) (id : ℕ) → (is_server s && (i == id) && is_done a) ≡ false → only_at s (λ id. (i == id) && is_done a) Server id ≡ false
-      off Client id e = refl
-      off Server id e = e
+  quiet : (v : World) (next : Ends) (s : Side) → KeepsParts w v → KeepsEnds s no_stream ends next → Tallies setup v next known
+  quiet v next s parts keeps = losing v next s no_stream parts keeps
 
   -- **A request is opened.**
   fresh : (e : EndpointHistory) (id : ℕ) → stream_at (plainly e).incoming id ≡ None → incoming_at e id ≡ nothing_came
@@ -196,27 +175,20 @@ module _ (setup : Setup) (w : World) (ends : Ends) (known : ℕ → Bool) (h : S
       (does_keeps no_stream (sender.goaway_refusal (end_at ends s) i) (end_at ends s) _ (λ none. streams_keep no_stream (end_at ends s) _ (record { incoming = refl; outgoing = refl; announced = refl })))))
 
   -- **What is received is given up.**
-  done_or : (s : Side) (r : Option Refusal) (e new : EndpointHistory) (i : ℕ) → e ≡ end_at ends s → (r ≡ None → KeepsBut (λ id. (i == id) && true) e new) → KeepsEnds s (λ id. (i == id) && is_done (done ends s answer.Done (does r e new)).0) ends (done ends s answer.Done (does r e new)).1
-  done_or s None e new i is keeps = keeps_one s (λ id. (i == id) && true) ends new (subst (λ (x : EndpointHistory). KeepsBut (λ id. (i == id) && true) x new) is (keeps refl))
-  done_or s (Some r) e new i is keeps = keeps_one s (λ id. (i == id) && false) ends e (subst (λ (x : EndpointHistory). KeepsBut (λ id. (i == id) && false) x e) is (keeps_self e (λ id. (i == id) && false)))
-
-  and_true : (b c : Bool) → (b && true) ≡ c → b ≡ c
-  and_true true c e = e
-  and_true false c e = e
-
   pub cancel_event : (s : Side) (i : ℕ) (v : World) (a : Answer) (next : Ends) → (a, next) ≡ done ends s answer.Done (sender.cancel (end_at ends s) i) → Does (cancel_refusal w s i) w answer.Done (given_up w s i Canceled) a v
-      → Tallies setup v next (λ id. if is_server s && (i == id) && is_done a then false else known id)
+      → Tallies setup v next known
   cancel_event s i v a next is step =
-      losing v next s i a (world_keeps (cancel_refusal w s i) w (given_up w s i Canceled) v answer.Done a
+      losing v next s (that i) (world_keeps (cancel_refusal w s i) w (given_up w s i Canceled) v answer.Done a
       (λ none. keeps_given_up w s i Canceled (open_there w s i (not_refused (is_critical i) (is_open w s i) ((is_over (flow w (other s) i) || is_some (flow w (other s) i).fault, refusal.Ended) ∷ []) none))) step)
-      (subst (λ (x : Answer × Ends). KeepsEnds s (λ id. (i == id) && is_done x.0) ends x.1) (sym is)
-      (done_or s (sender.cancel_refusal (end_at ends s) i) (end_at ends s) (give_up (end_at ends s) i (incoming_at (end_at ends s) i) Canceled) i refl (λ none. gives_up (end_at ends s))))
+      (subst (λ (x : Answer × Ends). KeepsEnds s (that i) ends x.1) (sym is)
+      (done_keeps s (that i) ends answer.Done (sender.cancel (end_at ends s) i)
+      (does_keeps (that i) (sender.cancel_refusal (end_at ends s) i) (end_at ends s) (give_up (end_at ends s) i (incoming_at (end_at ends s) i) Canceled) (λ none. gives_up (end_at ends s)))))
     where
-      gives_up : (e : EndpointHistory) → KeepsBut (λ id. (i == id) && true) e (give_up e i (incoming_at e i) Canceled)
+      gives_up : (e : EndpointHistory) → KeepsBut (that i) e (give_up e i (incoming_at e i) Canceled)
       gives_up e = record {
         out = λ j. sends_same (outgoing_at e j);
         same = λ j off. set_in e (give_up e i (incoming_at e i) Canceled) i (given_up_once (incoming_at e i) Canceled) refl j (λ n k. (i == n) ≡ false → SameCounts (incoming_at e n) k)
-            (λ never. absurd (not_itself i never)) (λ apart off. same_counts (incoming_at e j)) (and_true (i == j) false off);
+            (λ never. absurd (not_itself i never)) (λ apart off. same_counts (incoming_at e j)) off;
         kept = λ j on. set_in e (give_up e i (incoming_at e i) Canceled) i (given_up_once (incoming_at e i) Canceled) refl j (λ n k. KeepsAt (incoming_at e n) k) (inr (once_lost (incoming_at e i) Canceled refl)) (λ apart. inl (same_counts (incoming_at e j)));
         announced = refl;
       }
@@ -249,33 +221,11 @@ module _ (setup : Setup) (w : World) (ends : Ends) (known : ℕ → Bool) (h : S
       (done_keeps (other s) no_stream ends answer.Done (arrives (end_at ends (other s)) (EndCame i)) (arrives_keep (end_at ends (other s)) (EndCame i) (nothing_kept (other s)))))))
 
   -- a reset that came
-  if_done : (s : Side) (b : Bool) (i : ℕ) (x y : Answer × Ends) → KeepsEnds s (λ id. (i == id) && is_done x.0) ends x.1 → KeepsEnds s (λ id. (i == id) && is_done y.0) ends y.1
-      → KeepsEnds s (λ id. (i == id) && is_done (if b then x else y).0) ends (if b then x else y).1
-  if_done s true i x y p q = p
-  if_done s false i x y p q = q
-
-  reset_done : (s : Side) (i : ℕ) (x : Option Refusal × EndpointHistory) → KeepsBut (λ id. i == id) (end_at ends s) x.1 → ((r : Refusal) → x.0 ≡ Some r → KeepsBut no_stream (end_at ends s) x.1)
-      → KeepsEnds s (λ id. (i == id) && is_done (done ends s answer.Done x).0) ends (done ends s answer.Done x).1
-  reset_done s i (None, e) p q = keeps_one s (λ id. (i == id) && true) ends e (record {
-    out = p.out;
-    same = λ id off. p.same id (and_true (i == id) false off);
-    kept = λ id on. p.kept id (and_true (i == id) true on);
-    announced = p.announced;
-  })
-  reset_done s i (Some r, e) p q = keeps_one s (λ id. (i == id) && false) ends e (keeps_none (end_at ends s) e (λ id. (i == id) && false) (q r refl))
-
-  pub lost_event : (s : Side) (i : ℕ) (v : World) (a : Answer) (next : Ends) → (a, next) ≡ reset_delivery ends s i → (a, v) ≡ deliveries.reset_delivery w s i
-      → Tallies setup v next (λ id. if is_client s && (i == id) && is_done a then false else known id)
+  pub lost_event : (s : Side) (i : ℕ) (v : World) (a : Answer) (next : Ends) → (a, next) ≡ reset_delivery ends s i → (a, v) ≡ deliveries.reset_delivery w s i → Tallies setup v next known
   lost_event s i v a next is step =
-      subst (λ b. Tallies setup v next (λ id. if b && (i == id) && is_done a then false else known id)) (server_is s)
-      (losing v next (other s) i a (subst (λ (x : Answer × World). KeepsParts w x.1) (sym step) (keeps_reset w s i))
-      (subst (λ (x : Answer × Ends). KeepsEnds (other s) (λ id. (i == id) && is_done x.0) ends x.1) (sym is)
+      losing v next (other s) (that i) (subst (λ (x : Answer × World). KeepsParts w x.1) (sym step) (keeps_reset w s i))
+      (subst (λ (x : Answer × Ends). KeepsEnds (other s) (that i) ends x.1) (sym is)
       (let e = end_at ends s in
-      if_done (other s) (not (has_outgoing e i)) i (answer.NoStream, ends) _ (ends_same (other s) (λ id. (i == id) && false) ends)
-      (if_done (other s) (not (is_reset e i)) i (answer.Early, ends) _ (ends_same (other s) (λ id. (i == id) && false) ends)
-      (reset_done (other s) i (arrives (end_at ends (other s)) (ResetCame i reset_code)) (arrives_keep (end_at ends (other s)) (ResetCame i reset_code) (nothing_kept (other s)))
-      (λ r refused. reset_refused (end_at ends (other s)) i reset_code r (nothing_kept (other s)) refused))))))
-    where
-      server_is : (s : Side) → is_server (other s) ≡ is_client s
-      server_is Client = refl
-      server_is Server = refl
+      if_keeps (other s) (that i) (not (has_outgoing e i)) (answer.NoStream, ends) _ (ends_same (other s) (that i) ends)
+      (if_keeps (other s) (that i) (not (is_reset e i)) (answer.Early, ends) _ (ends_same (other s) (that i) ends)
+      (done_keeps (other s) (that i) ends answer.Done (arrives (end_at ends (other s)) (ResetCame i reset_code)) (arrives_keep (end_at ends (other s)) (ResetCame i reset_code) (nothing_kept (other s)))))))

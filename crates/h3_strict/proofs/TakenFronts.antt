@@ -10,6 +10,7 @@ use Rattle.h3_proto.specs.Config.{is_limit}
 use Rattle.h3_wire.specs.Encoded.{frame_encoding, head_encoding}
 use Rattle.h3_wire.specs.EncodedLaws.{written_headers}
 use Rattle.h3_wire.specs.ExcessiveFrames.{is_excessive, is_kept_whole, is_too_long, says_too_much}
+use Rattle.h3_wire.specs.ExcessiveLaws.{none_excessive}
 use Rattle.h3_wire.specs.Frames.{frame_at}
 use Rattle.h3_wire.specs.declared.proto.frame.Frame.TheVariants as frame
 use Rattle.h3_connection.specs.Incoming.{Incoming, is_body}
@@ -25,9 +26,9 @@ use Rattle.h3_strict.proofs.LimitPulls.{LooksWithin}
 
 -- the part's section is no longer than its reader takes
 abbrev pub PartTaken : ℕ → Part → Type 0
-PartTaken most (Interim s) = length s.encoded ≤ most
-PartTaken most (Head s) = length s.encoded ≤ most
-PartTaken most (Trailer s) = length s.encoded ≤ most
+PartTaken most (Interim s) = is_limit most ≡ true → length s.encoded ≤ most
+PartTaken most (Head s) = is_limit most ≡ true → length s.encoded ≤ most
+PartTaken most (Trailer s) = is_limit most ≡ true → length s.encoded ≤ most
 PartTaken most (Body bytes own) = Unit {0}
 PartTaken most End = Unit {0}
 
@@ -79,9 +80,8 @@ module _ (most : ℕ) (in_body : Bool) where
   abbrev IsWithin : List ℕ → Type 0
   IsWithin bytes = is_excessive most (skipped in_body bytes) ≡ false
 
-  section_within : (section behind bytes more : List ℕ) → length section ≤ most → length section < 2 ^ 62 → bytes ++ more ≡ frame_encoding 1 section ++ behind → IsWithin bytes
-  section_within section behind bytes more taken small e =
-      ap (is_excessive most) all ∙ head_within most 1 (length section) bytes more (section ++ behind) (lit< tt) small (e ∙ append_assoc (head_encoding 1 (length section)) section behind) (le-ltb most (length section) taken)
+  section_within : (section behind bytes more : List ℕ) → (is_limit most ≡ true → length section ≤ most) → length section < 2 ^ 62 → bytes ++ more ≡ frame_encoding 1 section ++ behind → IsWithin bytes
+  section_within section behind bytes more taken small e = by_limit (is_limit most) refl
     where
       all : skipped in_body bytes ≡ bytes
       all = elim (cases_lt (length bytes) (length (frame_encoding 1 section))) [
@@ -93,6 +93,12 @@ module _ (most : ℕ) (in_body : Bool) where
             let rest = drop (length (frame_encoding 1 section)) bytes in
             skipped_whole in_body bytes (frame.Headers section) rest (ap frame_at longer.front_is ∙ written_headers section rest small) refl
       ]
+
+      by_limit : (b : Bool) → is_limit most ≡ b → IsWithin bytes
+      by_limit false none = none_excessive most (skipped in_body bytes) none
+      by_limit true limited =
+          ap (is_excessive most) all
+          ∙ head_within most 1 (length section) bytes more (section ++ behind) (lit< tt) small (e ∙ append_assoc (head_encoding 1 (length section)) section behind) (le-ltb most (length section) (taken limited))
 
   body_within : (body behind bytes more : List ℕ) → 0 < length body → length body < 2 ^ 62 → bytes ++ more ≡ frame_encoding 0 body ++ behind → IsWithin bytes
   body_within body behind bytes more some small e =

@@ -3,6 +3,7 @@ use Rattle.std.proofs.Common.{◌≡◌, ℕ, ◌+◌, ◌≤◌, Bool, true, fa
 use Rattle.std.specs.Prelude.{not, ◌||◌, is_some}
 use Rattle.h3_field.specs.Field.{Field, section_size}
 use Rattle.h3_header.specs.Head.{Head as Fields, has_pseudo, head_fields}
+use Rattle.h3_proto.specs.Config.{is_limit}
 use Rattle.h3_proto.specs.StreamIds.{is_request_stream}
 use Rattle.h3_proto.specs.declared.stream.Side.{Side}
 use Rattle.h3_proto.specs.declared.stream.Side.TheVariants.{Client, Server}
@@ -101,10 +102,10 @@ module _ (setup : Setup) where
       part_sent w (with_party w s p) s i part (there-with_party w s p i there) (λ x j. flow-with_party w s x p j) taken t
 
   module _ (short : SectionsAreShort) (world : Setup) where
-    section_taken : (most : ℕ) (p : Party) (id : ℕ) (fields : List Field) (f : Flow) → most_encoded fields ≤ most → length (section_sent p id fields f).encoded ≤ most
-    section_taken most p id fields f within = omega (arith, short (writing_on p.encoder id) fields, within)
+    section_taken : (most : ℕ) (p : Party) (id : ℕ) (fields : List Field) (f : Flow) → (is_limit most ≡ true → most_encoded fields ≤ most) → is_limit most ≡ true → length (section_sent p id fields f).encoded ≤ most
+    section_taken most p id fields f within limited = omega (arith, short (writing_on p.encoder id) fields, within limited)
 
-    head_taken : (interim : Bool) (most : ℕ) (s : Section) → length s.encoded ≤ most → PartTaken most ((if interim then Interim else Head) s)
+    head_taken : (interim : Bool) (most : ℕ) (s : Section) → (is_limit most ≡ true → length s.encoded ≤ most) → PartTaken most ((if interim then Interim else Head) s)
     head_taken true most s h = h
     head_taken false most s h = h
 

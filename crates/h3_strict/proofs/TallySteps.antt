@@ -62,8 +62,12 @@ flow_keeps reader peer awaited other_awaited f g o p i j parts same out kept h =
         (h.receives (sym k.fault ∙ alive) (sym (over_same f g parts) ∙ more))
     by_kept (inr k) alive more = absurd (k.lost alive)
 
-knows_keeps : (request more : List Part) (i j : Incoming) → more ≡ request → SameCounts i j → KnowsResponse request i → KnowsResponse more j
-knows_keeps request more i j same k h = subst (λ r. KnowsResponse r j) (sym same) (record { has = h.has; no_fault = k.fault ∙ h.no_fault; response = k.response ∙ h.response })
+knows_keeps : (request more : List Part) (i j : Incoming) → more ≡ request → KeepsAt i j → KnowsResponse request i → KnowsResponse more j
+knows_keeps request more i j same kept h = subst (λ r. KnowsResponse r j) (sym same) (record { has = h.has; response = responds kept ∙ h.response })
+  where
+    responds : KeepsAt i j → j.response ≡ i.response
+    responds (inl k) = k.response
+    responds (inr k) = k.response
 
 by_bool : {X : Type 0} (b : Bool) → (b ≡ true → X) → (b ≡ false → X) → X
 by_bool true on off = on refl
@@ -73,15 +77,16 @@ kept_at : (only : ℕ → Bool) (e f : EndpointHistory) (id : ℕ) → KeepsBut 
 kept_at only e f id h = by_bool (only id) (h.kept id) (λ off. inl (h.same id off))
 
 -- **An event that sends and hands out nothing.**
-pub quiet_tallies : (setup : Setup) (w v : World) (ends next : Ends) (known later : ℕ → Bool) (only : Side → ℕ → Bool) → KeepsParts w v → ((side : Side) → KeepsBut (only side) (end_at ends side) (end_at next side))
-    → ((id : ℕ) → later id ≡ true → (known id ≡ true) × (only Server id ≡ false)) → Tallies setup w ends known → Tallies setup v next later
-quiet_tallies setup w v ends next known later only parts keeps knows h = record {
+pub quiet_tallies : (setup : Setup) (w v : World) (ends next : Ends) (known : ℕ → Bool) (only : Side → ℕ → Bool) → KeepsParts w v → ((side : Side) → KeepsBut (only side) (end_at ends side) (end_at next side))
+    → Tallies setup w ends known → Tallies setup v next known
+quiet_tallies setup w v ends next known only parts keeps h = record {
   flows = λ writer id. flow_keeps (other writer) (announced_at setup (other writer)) (awaited_of writer (flow w Client id).sent) (awaited_of writer (flow v Client id).sent) (flow w writer id) (flow v writer id)
       (outgoing_at (end_at ends writer) id) (outgoing_at (end_at next writer) id) (incoming_at (end_at ends (other writer)) id) (incoming_at (end_at next (other writer)) id) (parts writer id) (ap (awaited_of writer) (parts Client id).sent)
       ((keeps writer).out id) (kept_at (only (other writer)) (end_at ends (other writer)) (end_at next (other writer)) id (keeps (other writer))) (h.flows writer id);
   asked = λ id has. ap has_head (parts Client id).sent ∙ h.asked id (sym (ap has_head (parts Server id).sent) ∙ has);
   announced = λ side. (keeps side).announced ∙ h.announced side;
-  knows = λ id is. knows_keeps (flow w Client id).sent (flow v Client id).sent (incoming_at ends.server id) (incoming_at next.server id) (parts Client id).sent ((keeps Server).same id (knows id is).1) (h.knows id (knows id is).0);
+  knows = λ id is. knows_keeps (flow w Client id).sent (flow v Client id).sent (incoming_at ends.server id) (incoming_at next.server id) (parts Client id).sent
+      (kept_at (only Server) ends.server next.server id (keeps Server)) (h.knows id is);
 }
 
 -- A flow on which a part is sent.
@@ -197,7 +202,7 @@ sends_tally setup w v ends next known s i part p m within asked_same has_same as
   knows = λ id is.
       let k = h.knows id is in
       let c = server_same w v ends next s i part p m id in
-      record { has = has_same id ∙ k.has; no_fault = c.fault ∙ k.no_fault; response = c.response ∙ k.response ∙ ap Some (sym (asked_same id)) };
+      record { has = has_same id ∙ k.has; response = c.response ∙ k.response ∙ ap Some (sym (asked_same id)) };
 }
   where
     awaited_same : (writer : Side) (id : ℕ) → awaited_of writer (flow v Client id).sent ≡ awaited_of writer (flow w Client id).sent

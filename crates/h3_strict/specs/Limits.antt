@@ -1,12 +1,14 @@
 -- Two endpoints that limit what is unfinished, the same endpoints without limits, and schedules in which each limit takes what is sent to it.
-use Rattle.std.specs.Prelude.{◌≡◌, ◌==◌, ◌&&◌, ℕ, ◌*◌, ◌-◌, ◌^◌, ◌≤◌, Bool, true, false, List, [], ◌∷◌, is_none, length, max}
+use Rattle.std.specs.Prelude.{◌≡◌, ℕ, ◌*◌, ◌-◌, ◌^◌, ◌≤◌, Bool, true, false, List, [], ◌∷◌, is_none, length, max}
+use Rattle.h3_field.specs.Field.{Field}
 use Rattle.h3_header.specs.Head.{head_fields}
+use Rattle.h3_proto.specs.Config.{is_limit}
 use Rattle.h3_proto.specs.Pairs.{payload_of}
 use Rattle.h3_proto.specs.declared.stream.Side.{Side}
 use Rattle.h3_proto.specs.declared.stream.Side.TheVariants.{Client, Server}
 use Rattle.h3_connection.specs.Announcing.{section_of}
 use Rattle.h3_connection.specs.Endpoint.{EndpointHistory}
-use Rattle.h3_connection.specs.OwnIds.{decoder_id, other}
+use Rattle.h3_connection.specs.OwnIds.{other}
 use Rattle.h3_connection.specs.declared.setup.Announced.{Announced}
 use Rattle.h3_world.specs.Ends.{Ends, answered, answers_of_ends, end_at, ends_after}
 use Rattle.h3_world.specs.Setup.{announced_at}
@@ -44,11 +46,14 @@ unlimited_ends ends = limited_ends (λ side. 2 ^ 62 - 1) ends
 abbrev pub limit_at : Setup → Side → ℕ
 limit_at setup side = (announced_at setup side).choices.unfinished_limit
 
--- A head or a trailer that was accepted is one whose encoding its reader takes, whatever its encoder did before. No delivery is answered by the
--- fault of what is too long.
+-- the side takes an encoding of the list, whatever the encoder did before
+abbrev pub TakesSection : Setup → Side → List Field → Type 0
+TakesSection setup side fields = is_limit (limit_at setup side) ≡ true → most_encoded fields ≤ limit_at setup side
+
+-- A head or a trailer that was accepted is one whose encoding its reader takes. No delivery is answered by the fault of what is too long.
 abbrev pub IsTaken : Setup → Event → Answer → Type 0
-IsTaken setup (event.Head side id head) a = is_done a ≡ true → most_encoded (head_fields head) ≤ limit_at setup (other side)
-IsTaken setup (event.Trailer side id trailer) a = is_done a ≡ true → most_encoded (head_fields trailer) ≤ limit_at setup (other side)
+IsTaken setup (event.Head side id head) a = is_done a ≡ true → TakesSection setup (other side) (head_fields head)
+IsTaken setup (event.Trailer side id trailer) a = is_done a ≡ true → TakesSection setup (other side) (head_fields trailer)
 IsTaken setup (event.Deliver side id count) a = is_excess (refused_by a) ≡ false
 IsTaken setup (event.DeliverEnd side id) a = is_excess (refused_by a) ≡ false
 IsTaken setup (event.DeliverReset side id) a = is_excess (refused_by a) ≡ false
@@ -79,17 +84,16 @@ AsksForStrict setup = (side : Side) → (announced_at setup side).choices.strict
 -- (RFC 9204, section 4.1.1). The id of a GOAWAY takes at most eight (RFC 9000, section 16), and an empty section two.
 abbrev pub LimitsTakeWhatIsSent : Setup → Type 0
 LimitsTakeWhatIsSent setup = (side : Side) →
-    max (most_instruction (announced_at setup side).limits.table) (max (4 * section_of (announced_at setup side)) (length (payload_of (announced_at setup (other side)).settings))) ≤ limit_at setup side
+    (max (most_instruction (announced_at setup side).limits.table) (length (payload_of (announced_at setup (other side)).settings)) ≤ limit_at setup side)
+    × (is_limit (limit_at setup side) ≡ true → 4 * section_of (announced_at setup side) ≤ limit_at setup side)
 
--- A side that knows the other's settings sends no more than these allow. Before they came it sends any list. What its decoder wrote and comes before
--- its own settings waits for these, all of it: it may cancel as many streams as it likes (RFC 9204, section 4.4.2).
+-- A side that knows the other's settings sends no more than these allow. Before they came it sends any list: one that is too long ends its own stream.
 abbrev pub is_early : Ends → Event → Bool
 is_early ends (event.Head side id head) = is_none (end_at ends side).peer.settings
 is_early ends (event.Trailer side id trailer) = is_none (end_at ends side).peer.settings
-is_early ends (event.Deliver side id count) = (id == decoder_id side) && is_none (end_at ends (other side)).peer.settings
 is_early ends _ = false
 
--- what is sent, or comes, so early is taken too
+-- what is sent so early is taken too
 abbrev pub EarlyAreTaken : Setup → Ends → List Event → Type 0
 EarlyAreTaken setup ends [] = Unit {0}
 EarlyAreTaken setup ends (e ∷ events) = (is_early ends e ≡ true → IsTaken setup e (answered ends e).0) × EarlyAreTaken setup (answered ends e).1 events

@@ -3,7 +3,7 @@
 use Rattle.std.specs.Prelude.{◌≡◌, ℕ, Bool, true, false, ◌&&◌, List, ◌∷◌, ◌==◌, if◌then◌else◌}
 use Rattle.h3_proto.specs.declared.stream.Side.{Side}
 use Rattle.h3_proto.specs.declared.stream.Side.TheVariants.{Client, Server}
-use Rattle.h3_connection.specs.Pulling.{is_client, is_interim}
+use Rattle.h3_connection.specs.Pulling.{is_interim}
 use Rattle.h3_connection.specs.declared.event.Item.{Item}
 use Rattle.h3_connection.specs.declared.event.Item.TheVariants as item
 use Rattle.h3_connection.specs.declared.event.Pull.{Pull}
@@ -31,12 +31,9 @@ abbrev pub is_server : Side → Bool
 is_server Client = false
 is_server Server = true
 
--- Whether the server knows what the request on a stream asks, behind an event and its answer: it was handed the request's head, and has not
--- given the request up since, by a cancellation of its own or by a reset that came.
+-- Whether the server knows what the request on a stream asks, behind an event and its answer: it was handed the request's head.
 abbrev pub knows_behind : ℕ → Bool → Event → Answer → Bool
 knows_behind id known (event.Pull side i) a = if is_server side && (i == id) && tells_head a then true else known
-knows_behind id known (event.Cancel side i) a = if is_server side && (i == id) && is_done a then false else known
-knows_behind id known (event.DeliverReset side i) a = if is_client side && (i == id) && is_done a then false else known
 knows_behind id known _ a = known
 
 -- a final head of a response that was accepted is sent where the server knows

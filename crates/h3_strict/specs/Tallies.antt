@@ -56,7 +56,6 @@ pub record TalliesFlow (reader : Side) (peer : Announced) (awaited : Content) (f
 -- what the server has of a request's response
 pub record KnowsResponse (request : List Part) (i : Incoming) : Type 0 where
   pub has : has_head request ≡ true
-  pub no_fault : i.fault ≡ None
   pub response : i.response ≡ Some (asked_in request)
 
 -- Both ends do, on all streams. A response has its final head only behind that of its request, and where the server knows what was asked, it

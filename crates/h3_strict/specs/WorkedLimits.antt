@@ -1,4 +1,4 @@
--- Worked schedules of limits: one that takes what is sent meets what came before the settings, and one that is too low an insertion.
+-- Worked schedules of limits: one that takes what is sent, before the settings too, and one that is too low for an insertion.
 use Rattle.std.specs.Prelude.{ℕ, List, [], ◌∷◌, ◌++◌, codes, flat_map}
 use Rattle.h3_header.specs.Head.{Head as Fields}
 use Rattle.h3_proto.specs.Config.{no_choices}
@@ -28,12 +28,12 @@ abbrev pub canceling_answers : List Answer
 canceling_answers = flat_map (λ id. answer.Opened id ∷ answer.Done ∷ []) canceled_ids
 
 -- Each of the first sixteen ids takes a byte of the decoder stream (RFC 9204, section 4.4.2), and each of the others two, behind the byte of the
--- stream's type. Before the client's settings come twenty of these 22 bytes may wait, and not all
+-- stream's type. Before the client's settings come all of these 22 bytes wait, above the limit
 abbrev pub waiting_run : List Event
 waiting_run = canceling_run ++ event.Deliver Client 10 21 ∷ event.Deliver Client 10 2 ∷ []
 
 abbrev pub waiting_answers : List Answer
-waiting_answers = canceling_answers ++ answer.Delivered 21 ∷ answer.Refused (refusal.Connection excessive_load) ∷ []
+waiting_answers = canceling_answers ++ answer.Delivered 21 ∷ answer.Delivered 2 ∷ []
 
 -- behind the settings, a frame of 23 bytes behind the type of the control stream, all of them come
 abbrev pub settled_run : List Event

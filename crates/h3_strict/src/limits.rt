@@ -33,14 +33,15 @@ pub fn limits_that_take_what_is_sent_change_nothing()
 }
 
 /// A side that knows the other side's settings sends no list above the size that these announce, and no instruction for a larger table than they
-/// announce. On its control stream it sends its settings and GOAWAY frames, and its decoder writes numbers. So where each limit takes every list
-/// of the size, and every instruction for the table, that its side announces, whatever their encoding, and those frames and numbers, each limit
-/// takes what is sent to it, once the lists that were sent before the settings came are taken too, and what comes of a decoder before the settings
-/// of its side: no delivery is answered by the fault of what is too long.
+/// announce. On its control stream it sends its settings and GOAWAY frames, and its decoder writes numbers. Each limit of a setup that was made
+/// takes every list of the size, and every instruction for the table, that its side announces, whatever their encoding, and those frames and
+/// numbers (`made`). So each limit takes what is sent to it, once the lists that were sent before the settings came are taken too: no delivery is
+/// answered by the fault of what is too long.
 pub fn limits_above_what_is_announced_take_what_is_sent()
-    ensures plain { (setup : Setup) (events : List Event) → IsMadeSetup setup → AsksForNone setup → LimitsTakeWhatIsSent setup → AllByRecursion IsSendable events →
+    ensures made { (setup : Setup) → IsMadeSetup setup → LimitsTakeWhatIsSent setup }
+    ensures plain { (setup : Setup) (events : List Event) → IsMadeSetup setup → AsksForNone setup → AllByRecursion IsSendable events →
         EarlyAreTaken setup (new_ends setup) events → AreTaken setup events (answers_of_ends (new_ends setup) events) }
-    ensures strict { (setup : Setup) (events : List Event) → IsMadeSetup setup → AsksForStrict setup → LimitsTakeWhatIsSent setup → AllByRecursion IsSendable events →
+    ensures strict { (setup : Setup) (events : List Event) → IsMadeSetup setup → AsksForStrict setup → AllByRecursion IsSendable events →
         ServerKnows events (answers_of_ends (new_ends setup) events) → EarlyAreTaken setup (new_ends setup) events → AreTaken setup events (answers_of_ends (new_ends setup) events) }
 {
     h3_qpack::laws::encoded_sections_are_short();

@@ -19,8 +19,8 @@ ghost use Rattle.h3_strict.specs.ServerKnows.{ServerKnows};
 ghost use Rattle.h3_strict.specs.Tallies.{JudgesStrictly};
 
 /// Between two endpoints that both ask for strict messages, and do not limit what is unfinished, no pull finds a message malformed, nor a
-/// trailer in a tunnel (RFC 9114, sections 4.1.2, 4.2 to 4.5): what either sends, the other takes. The schedule's server sends the final head of a response only where it was handed
-/// the head of that request, and has not given the request up since.
+/// trailer in a tunnel (RFC 9114, sections 4.1.2, 4.2 to 4.5): what either sends, the other takes. The schedule's server sends the final head of
+/// a response only where it was handed the head of that request.
 pub fn strict_endpoints_take_what_they_send()
     ensures { (setup : Setup) (events : List Event) → IsMadeSetup setup → JudgesStrictly setup → AllByRecursion IsSendable events →
         ServerKnows events (answers_of_ends (new_ends setup) events) → NoneJudges (new_ends setup) events }

@@ -26,7 +26,7 @@ ghost use Rattle.h3_strict.specs.Limits.{LimitsTakeWhatIsSent};
 ghost use Rattle.h3_strict.specs.WorkedLimits.{close_client, inserting_answers, inserting_run, settled_answers, settled_run, small_server, waiting_answers, waiting_run};
 
 /// A client cancels nineteen requests, and what its decoder says of them comes to a server whose limit takes what is sent (`limits`). Before the
-/// client's settings it is too long once it passes the limit (`waits`), and behind them it is read (`settled`).
+/// client's settings it waits, and may pass the limit (`waits`), and behind them it is read (`settled`).
 pub fn worked_cancellations()
     ensures limits { LimitsTakeWhatIsSent small_server }
     ensures waits { answers_of_ends (new_ends small_server) waiting_run ≡ waiting_answers }

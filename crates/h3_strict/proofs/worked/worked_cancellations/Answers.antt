@@ -5,7 +5,7 @@ use Rattle.h3_wire.specs.Frames.{frame_at, frame_of}
 use Rattle.h3_wire.specs.Known.{known}
 use Rattle.h3_connection.specs.ExcessiveInstructions.{hear_up_to, listen_up_to}
 use Rattle.h3_connection.specs.PeerReading.{read_peer}
-use Rattle.std.proofs.Common.{arith, refl}
+use Rattle.std.proofs.Common.{◌≡◌, true, false, arith, refl}
 use Rattle.h3_proto.specs.declared.stream.Side.TheVariants.{Client, Server}
 use Rattle.h3_strict.specs.Limits.{LimitsTakeWhatIsSent}
 use Rattle.h3_strict.specs.WorkedLimits.{small_server}
@@ -13,8 +13,8 @@ use Rattle.h3_strict.proofs.worked.worked_cancellations.Goals as goal
 
 limits : LimitsTakeWhatIsSent small_server
 unfolding encoding
-limits Client = omega arith
-limits Server = omega arith
+limits Client = (omega arith, λ limited. absurd (let never : false ≡ true = limited in cc))
+limits Server = (omega arith, λ limited. omega arith)
 
 pub returns-clause-limits : goal.returns-clause-limits
 returns-clause-limits c = limits
