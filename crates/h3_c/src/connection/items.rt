@@ -45,7 +45,14 @@ impl Connection {
         match &self.last {
             Last::Listed(answer) => {
                 return match block_told(answer) {
-                    Some(fields) => field_at(&fields.fields(), index, name, name_len, value, value_len),
+                    Some(fields) => field_at(
+                        &fields.fields(),
+                        index,
+                        name,
+                        name_len,
+                        value,
+                        value_len,
+                    ),
                     None => NONE,
                 };
             }

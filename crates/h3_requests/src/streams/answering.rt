@@ -34,7 +34,11 @@ fn content_behind(known: Option<Content>, said: ResponseSaid) -> Content
     ensures { (fields : List Field) → said ≡ response_said fields → result ≡ content_of_response_to known fields }
 {
     let Some(awaited) = known else {
-        return if said.opens_tunnel { Content::Tunnel } else { Content::Unsaid };
+        return if said.opens_tunnel {
+            Content::Tunnel
+        } else {
+            Content::Unsaid
+        };
     };
     said.behind(awaited)
 }
