@@ -1,10 +1,12 @@
 //! Capsules on the data of a stream (RFC 9297, section 3.2): read in any pieces, and written.
-ghost use Rattle.std.specs.Prelude.{◌≡◌, ◌<◌, [], length, IfNone};
-ghost use Rattle.h3_capsule.specs.Capsule.{head_of, is_between, read_on, value_on, IsInValue};
+ghost use Rattle.std.specs.Prelude.{◌≡◌, ◌<◌, ◌^◌, ◌++◌, [], length, IfNone, OnOk, OnErr};
+ghost use Rattle.h3_coding.specs.Writing.{AppendsFront};
+ghost use Rattle.h3_capsule.specs.Capsule.{capsule_head, head_of, is_between, read_on, value_on, IsInValue};
 ghost use Rattle.h3_capsule.specs.Capsule.Place.{InHead};
 
 use crate::head_bytes::HeadBytes;
-use h3_coding::coding::BufExt;
+use bytes::BufMut;
+use h3_coding::coding::{BufExt, BufMutExt, WriteRefused};
 use std::marker::Model;
 
 /// What a reader tells of the bytes that it took.
@@ -53,6 +55,17 @@ fn head_of(bytes: &[u8]) -> Option<(u64, u64)>
         return None;
     };
     Some((kind, length))
+}
+
+/// Appends what stands in front of a capsule's value: its type, and the value's length. An `Err` leaves a beginning of it.
+pub fn write_head<B: BufMut>(buf: &mut B, kind: u64, length: u64) -> Result<(), WriteRefused>
+    requires kind { kind < 2 ^ 62 }
+    requires length { length < 2 ^ 62 }
+    ensures ok { OnOk result (B.written buf.new ≡ B.written buf.old ++ capsule_head kind length) }
+    ensures err { OnErr result (AppendsFront (capsule_head kind length) (B.written buf.old) (B.written buf.new)) }
+{
+    buf.write_var(kind)?;
+    buf.write_var(length)
 }
 
 impl CapsuleReader {
