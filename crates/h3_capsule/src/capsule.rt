@@ -1,6 +1,6 @@
 //! Capsules on the data of a stream (RFC 9297, section 3.2): read in any pieces, and written.
 ghost use Rattle.std.specs.Prelude.{◌≡◌, ◌<◌, ◌^◌, ◌++◌, [], length, IfNone, OnOk, OnErr};
-ghost use Rattle.h3_coding.specs.Writing.{AppendsFront};
+ghost use Rattle.h3_coding.specs.Writing.{AppendsFront, UsesRoom};
 ghost use Rattle.h3_capsule.specs.Capsule.{capsule_head, head_of, is_between, read_on, value_on, IsInValue};
 ghost use Rattle.h3_capsule.specs.Capsule.Place.{InHead};
 
@@ -58,14 +58,15 @@ fn head_of(bytes: &[u8]) -> Option<(u64, u64)>
 }
 
 /// Appends what stands in front of a capsule's value: its type, and the value's length. An `Err` leaves a beginning of it.
-pub fn write_head<B: BufMut>(buf: &mut B, kind: u64, length: u64) -> Result<(), WriteRefused>
+pub fn write_head<B: BufMut>(buf: &mut B, kind: u64, value_length: u64) -> Result<(), WriteRefused>
     requires kind { kind < 2 ^ 62 }
-    requires length { length < 2 ^ 62 }
-    ensures ok { OnOk result (B.written buf.new ≡ B.written buf.old ++ capsule_head kind length) }
-    ensures err { OnErr result (AppendsFront (capsule_head kind length) (B.written buf.old) (B.written buf.new)) }
+    requires value_length { value_length < 2 ^ 62 }
+    ensures ok { OnOk result (B.written buf.new ≡ B.written buf.old ++ capsule_head kind value_length) }
+    ensures err { OnErr result (AppendsFront (capsule_head kind value_length) (B.written buf.old) (B.written buf.new)) }
+    ensures room { UsesRoom result (B.spare buf.old) (B.spare buf.new) (length (capsule_head kind value_length)) }
 {
     buf.write_var(kind)?;
-    buf.write_var(length)
+    buf.write_var(value_length)
 }
 
 impl CapsuleReader {
@@ -95,6 +96,7 @@ impl CapsuleReader {
         if self.left > 0 {
             return self.read_value(bytes.len());
         }
+        // (the label names the loop in its proof)
         'head: for (index, byte) in bytes.iter().enumerate() {
             self.head.push(*byte);
             if let Some((kind, length)) = head_of(self.head.as_slice()) {
