@@ -1,10 +1,10 @@
 -- Heads: how long the bytes of one are that is not whole, and a round of the loop over them.
-use Rattle.std.proofs.Common.{◌≡◌, ℕ, suc, ◌+◌, ◌-◌, ◌<◌, ◌≤◌, List, [], ◌∷◌, ◌++◌, length, drop, get_or, Some, None, Option, refl, ap, ◌∙◌, sym, arith, lit≤, length-append, add_comm, zero-add}
+use Rattle.std.proofs.Common.{◌≡◌, ℕ, ◌+◌, ◌<◌, ◌≤◌, List, [], ◌∷◌, ◌++◌, length, drop, get_or, Some, None, ap, ◌∙◌, sym, arith, lit≤, length-append, add_comm, zero-add}
 use Rattle.std.proofs.lemmas.List.{drop_more, drop_all}
 use Rattle.h3_coding.specs.Encodings.{IsEncoding, one, two, four, eight}
 use Rattle.h3_coding.specs.Reading.{Takes}
 use Rattle.h3_capsule.specs.declared.capsule.Capsule.TheVariants.{Head, Pending}
-use Rattle.h3_capsule.specs.Capsule.{Place, Answer, head_of, in_value, in_head, one_more}
+use Rattle.h3_capsule.specs.Capsule.{Answer, head_of, in_value, in_head, one_more}
 use Rattle.h3_capsule.specs.Capsule.Place.{InHead}
 
 most : (v : ℕ) (octets : List ℕ) → IsEncoding v octets → length octets ≤ 8

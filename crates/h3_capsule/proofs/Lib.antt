@@ -1,1 +1,4 @@
 pub mod Heads
+pub mod Telling
+pub mod ReadsBack
+pub mod RowsHold

@@ -1,5 +1,5 @@
 -- Capsules (RFC 9297, section 3.2): a type and a length, and so many bytes of a value.
-use Rattle.std.specs.Prelude.{ℕ, ◌+◌, ◌-◌, Bool, true, false, not, ◌==◌, nat_lt, List, [], ◌∷◌, ◌++◌, length, min, Option, Some, None, is_some, if◌then◌else◌}
+use Rattle.std.specs.Prelude.{ℕ, ◌+◌, ◌-◌, Bool, false, ◌==◌, List, [], ◌∷◌, ◌++◌, length, min, Option, Some, None, if◌then◌else◌}
 use Rattle.h3_coding.specs.Varint.{varint_at}
 use Rattle.h3_coding.specs.Encodings.{encoding}
 use Rattle.h3_capsule.specs.declared.capsule.Capsule.{Capsule}
@@ -16,6 +16,10 @@ head_behind (Some p) = length_of p.0 (varint_at p.1)
 
 unfoldable pub head_of : List ℕ → Option (ℕ × ℕ)
 head_of bytes = head_behind (varint_at bytes)
+
+-- what stands in front of a value
+abbrev pub capsule_head : ℕ → ℕ → List ℕ
+capsule_head kind len = encoding kind ++ encoding len
 
 -- where a reader stands: in a head, of which these bytes came; in a value, of which so many bytes are to come, one at least; at the end of
 -- a capsule, of which its caller does not know yet

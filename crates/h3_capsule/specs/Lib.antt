@@ -1,2 +1,4 @@
 pub mod Capsule
 pub mod Told
+pub mod Datagram
+pub mod Rows

@@ -1,9 +1,8 @@
 -- What is told of the bytes of capsules, byte by byte, in whatever pieces they come.
-use Rattle.std.specs.Prelude.{ℕ, ◌-◌, ◌==◌, List, [], ◌∷◌, ◌++◌, length, take, map, Option, Some, None, if◌then◌else◌}
-use Rattle.h3_coding.specs.Encodings.{encoding}
+use Rattle.std.specs.Prelude.{◌≡◌, ℕ, ◌-◌, ◌==◌, List, [], ◌∷◌, ◌++◌, length, take, map, Option, Some, None, if◌then◌else◌}
 use Rattle.h3_capsule.specs.declared.capsule.Capsule.{Capsule}
 use Rattle.h3_capsule.specs.declared.capsule.Capsule.TheVariants.{Head, Value, End, Pending}
-use Rattle.h3_capsule.specs.Capsule.{Place, head_of, Answer}
+use Rattle.h3_capsule.specs.Capsule.{Place, head_of, read_on}
 use Rattle.h3_capsule.specs.Capsule.Place.{InHead, InValue, AtEnd}
 
 -- a capsule begins, a byte of its value comes, it ends
@@ -56,9 +55,22 @@ abbrev pub settled : Place → Place
 settled AtEnd = InHead []
 settled place = place
 
--- a capsule as it is written, and what is told of it
-abbrev pub capsule_bytes : ℕ → List ℕ → List ℕ
-capsule_bytes kind value = encoding kind ++ encoding (length value) ++ value
+-- what is told of a capsule
+abbrev pub parts_of_capsule : ℕ → List ℕ → List Part
+parts_of_capsule kind value = (Begins kind (length value) ∷ map Byte value) ++ Ends ∷ []
 
-abbrev pub capsule_parts : ℕ → List ℕ → List Part
-capsule_parts kind value = (Begins kind (length value) ∷ map Byte value) ++ Ends ∷ []
+-- a call tells what the bytes that it took tell, but for an end that it leaves to the next call
+pub record TellsItsBytes (place : Place) (taken : List ℕ) (capsule : Capsule) (next : Place) : Type 0 where
+  pub parts : untold place ++ (told (settled place) taken).0 ≡ parts_of capsule taken ++ untold next
+  pub next_is : (told (settled place) taken).1 ≡ settled next
+
+-- calls one after another, each with any bytes that follow: the bytes that they took, what they told, and where they left the reader
+pub data Calls : Place → List ℕ → List Part → Place → Type 0 where
+  no_call : (place : Place) → Calls place [] [] place
+  one_call : (place : Place) (bytes rest : List ℕ) (parts : List Part) (last : Place) → Calls (read_on place bytes).2 rest parts last
+      → Calls place (take (read_on place bytes).0 bytes ++ rest) (parts_of (read_on place bytes).1 (take (read_on place bytes).0 bytes) ++ parts) last
+
+-- calls one after another tell what all bytes tell that they took
+pub record TellsAll (place : Place) (bytes : List ℕ) (parts : List Part) (last : Place) : Type 0 where
+  pub parts_are : untold place ++ (told (settled place) bytes).0 ≡ parts ++ untold last
+  pub last_is : (told (settled place) bytes).1 ≡ settled last

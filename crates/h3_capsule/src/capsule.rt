@@ -1,10 +1,12 @@
 //! Capsules on the data of a stream (RFC 9297, section 3.2): read in any pieces, and written.
-ghost use Rattle.std.specs.Prelude.{◌≡◌, ◌<◌, [], length, IfNone};
-ghost use Rattle.h3_capsule.specs.Capsule.{head_of, is_between, read_on, value_on, IsInValue};
+ghost use Rattle.std.specs.Prelude.{◌≡◌, ◌<◌, ◌^◌, ◌++◌, [], length, IfNone, OnOk, OnErr};
+ghost use Rattle.h3_coding.specs.Writing.{AppendsFront, UsesRoom};
+ghost use Rattle.h3_capsule.specs.Capsule.{capsule_head, head_of, is_between, read_on, value_on, IsInValue};
 ghost use Rattle.h3_capsule.specs.Capsule.Place.{InHead};
 
 use crate::head_bytes::HeadBytes;
-use h3_coding::coding::BufExt;
+use bytes::BufMut;
+use h3_coding::coding::{BufExt, BufMutExt, WriteRefused};
 use std::marker::Model;
 
 /// What a reader tells of the bytes that it took.
@@ -55,6 +57,18 @@ fn head_of(bytes: &[u8]) -> Option<(u64, u64)>
     Some((kind, length))
 }
 
+/// Appends what stands in front of a capsule's value: its type, and the value's length. An `Err` leaves a beginning of it.
+pub fn write_head<B: BufMut>(buf: &mut B, kind: u64, value_length: u64) -> Result<(), WriteRefused>
+    requires kind { kind < 2 ^ 62 }
+    requires value_length { value_length < 2 ^ 62 }
+    ensures ok { OnOk result (B.written buf.new ≡ B.written buf.old ++ capsule_head kind value_length) }
+    ensures err { OnErr result (AppendsFront (capsule_head kind value_length) (B.written buf.old) (B.written buf.new)) }
+    ensures room { UsesRoom result (B.spare buf.old) (B.spare buf.new) (length (capsule_head kind value_length)) }
+{
+    buf.write_var(kind)?;
+    buf.write_var(value_length)
+}
+
 impl CapsuleReader {
     /// A reader at the beginning of the data.
     pub fn new() -> Self
@@ -82,6 +96,7 @@ impl CapsuleReader {
         if self.left > 0 {
             return self.read_value(bytes.len());
         }
+        // (the label names the loop in its proof)
         'head: for (index, byte) in bytes.iter().enumerate() {
             self.head.push(*byte);
             if let Some((kind, length)) = head_of(self.head.as_slice()) {

@@ -2,4 +2,6 @@
 #![tactic(auto)]
 
 pub mod capsule;
+pub mod datagram;
 mod head_bytes;
+pub mod laws;
