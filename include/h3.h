@@ -665,6 +665,15 @@ static inline uint32_t h3_item_field(h3_endpoint *endpoint, size_t index, void *
  * says how many were copied. H3_NONE if `from` is past their end or the item has no bytes. */
 static inline uint32_t h3_item_bytes(h3_endpoint *endpoint, size_t from, void *buffer, size_t room, size_t *n);
 
+/* ---- priorities ---- */
+
+/* Reads the value of a `priority` field (RFC 9218, section 4): *urgency from 0, the most urgent, to
+ * 7, and *incremental, 1 or 0. What the value leaves out has its default, 3 and 0. If the message
+ * has several such fields, join their values by ", ". Refused, and nothing is written: H3_ARGUMENT,
+ * or H3_FIELD_VALUE if the value is no dictionary (RFC 8941, section 3.2); the field is then to be
+ * ignored. It needs no endpoint, and takes no memory. */
+static inline uint32_t h3_priority_read(const void *value, size_t len, uint32_t *urgency, uint32_t *incremental);
+
 /* ---- what can be read ---- */
 
 typedef struct {
@@ -721,6 +730,7 @@ static inline uint64_t h3_decoder_id(int server) { return server ? 11 : 10; }
  * of 0: these do not test for it. A configuration is its numbers and how many they are; the first
  * is their size in bytes. h3_raw_new writes *out on H3_OK only. */
 uint32_t h3_raw_version(void);
+uint32_t h3_raw_priority_read(const uint8_t *value, size_t len, uint32_t *urgency, uint32_t *incremental);
 void h3_raw_config_default(uint64_t *numbers, size_t count);
 uint32_t h3_raw_new(const uint64_t *numbers, size_t count, uint64_t *detail, h3_endpoint *out);
 void h3_raw_free(h3_endpoint endpoint);
@@ -765,6 +775,10 @@ uint32_t h3_raw_peer_setting(h3_endpoint endpoint, uint64_t setting, uint64_t *v
 static inline const uint8_t *h3_in_(const void *bytes) { return bytes ? (const uint8_t *)bytes : (const uint8_t *)""; }
 
 static inline uint32_t h3_version(void) { return h3_raw_version(); }
+static inline uint32_t h3_priority_read(const void *value, size_t len, uint32_t *urgency, uint32_t *incremental) {
+  if (!urgency || !incremental || (!value && len)) return H3_ARGUMENT;
+  return h3_raw_priority_read(h3_in_(value), len, urgency, incremental);
+}
 
 static inline void h3_config_default(h3_config *config) {
   if (config) h3_raw_config_default((uint64_t *)config, sizeof *config / sizeof(uint64_t));

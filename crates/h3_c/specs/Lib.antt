@@ -8,5 +8,6 @@ pub mod Items
 pub mod Lending
 pub mod Rows
 pub mod Numbers
+pub mod Priorities
 pub mod Seen
 pub mod Showing

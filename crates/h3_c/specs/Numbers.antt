@@ -28,6 +28,10 @@ number n detail = record { number = n; detail = detail }
 abbrev pub ok : Told
 ok = number 0 0
 
+-- `H3_FIELD_VALUE`
+abbrev pub field_value : Told
+field_value = number 23 0
+
 -- the refusals, in the order of the core's but for that of a list that breaks a rule of strict messages
 abbrev pub refusal_told : Refusal → Told
 refusal_told (refusal.Closed code) = number 1 code

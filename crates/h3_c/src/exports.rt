@@ -7,6 +7,7 @@ mod lending;
 mod lists;
 mod making;
 mod outgoing;
+mod priority;
 mod receiving;
 mod sending;
 mod showing;

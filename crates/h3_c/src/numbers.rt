@@ -30,6 +30,12 @@ pub(crate) const MEMORY: Told = Told {
     detail: 0,
 };
 
+/// `H3_FIELD_VALUE`.
+pub(crate) const FIELD_VALUE: Told = Told {
+    number: 23,
+    detail: 0,
+};
+
 /// `H3_NONE`.
 pub(crate) const NONE: Told = Told {
     number: 25,
