@@ -63,7 +63,13 @@ impl IncomingStream {
             Err(_) => fail(out, Fault::Memory),
             Ok(Found::Unfinished) => self.pull_end(alloc, id, replies, out),
             Ok(Found::Refused(e)) => fail(out, Fault::Connection(refused_code(e))),
-            Ok(Found::LongSection) => self.refuse_message(alloc, id, Malformation::TooLong, replies, out),
+            Ok(Found::LongSection) => self.refuse_message(
+                alloc,
+                id,
+                Malformation::TooLong,
+                replies,
+                out,
+            ),
             Ok(Found::Excessive) => self.refuse_excess(alloc, out),
             Ok(Found::Begun(begun)) => match begun {
                 Begun::Section(section) => {
