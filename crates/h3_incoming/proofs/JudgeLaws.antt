@@ -14,13 +14,14 @@ use Rattle.h3_header.specs.declared.headers.kind.FieldKind.{FieldKind}
 use Rattle.h3_proto.specs.declared.stream.Side.{Side}
 use Rattle.h3_connection.specs.declared.event.Item.{Item}
 use Rattle.h3_connection.specs.declared.event.Item.TheVariants as item
+use Rattle.h3_connection.specs.declared.event.Malformation.{Malformation}
 use Rattle.h3_connection.specs.declared.event.Pull.{Pull}
 use Rattle.h3_connection.specs.declared.event.Pull.TheVariants as pull
 use Rattle.h3_connection.specs.declared.place.Place.{Place}
 use Rattle.h3_connection.specs.declared.setup.Announced.{Announced}
 use Rattle.h3_connection.specs.Announcing.{section_of}
 use Rattle.h3_messages.specs.declared.content.Content.{Content}
-use Rattle.h3_connection.specs.StrictMessages.{broken_rule, if_whole, large_content_at}
+use Rattle.h3_connection.specs.StrictMessages.{broken_rule, if_whole, large_content_at, response_at}
 use Rattle.h3_qpack.specs.DecodedSection.{DecodedSection, decode_section}
 use Rattle.h3_connection.specs.Incoming.{Incoming}
 use Rattle.h3_incoming.specs.Gives.{Gives}
@@ -36,7 +37,7 @@ use Rattle.h3_incoming.specs.Outline.{outline_of, is_read_outline, list_read}
 use Rattle.h3_incoming.specs.declared.outline.Outline.{Outline}
 use Rattle.h3_incoming.specs.declared.outline.ListRead.{ListRead}
 use Rattle.h3_incoming.specs.declared.outline.ListRead.TheVariants as read
-use Rattle.h3_connection.specs.Pulling.{Pulled, is_for, is_memory, malformation_of, next_place, head_or_trailer, judged, with_content, read_section, decoded, at_section}
+use Rattle.h3_connection.specs.Pulling.{Pulled, is_for, is_memory, malformation_of, malformed, next_place, head_or_trailer, judged, with_content, read_section, decoded, at_section}
 
 -- a refusal that tells no malformation is for want of memory
 memory_at : (at : FieldKind) (h : Head) (f : Field) (e : HeaderError) → RefusesAt at h f e → told e ≡ None → RefusesAt at h f error.OutOfMemory
@@ -94,16 +95,16 @@ listed_within (Ok j) limit listed block d w is h = λ dyn_ref fields k.
 -- what is made of it overwrites the content
 pub judged_behind : (id : ℕ) (i : Incoming) (content : Content) (known : Option Content) (replies : List DecoderInstruction) (answer : Pull) (j : Judged) → judged_as id (record i { content = content; response = known }) replies answer j ≡ judged_as id i replies answer j
 judged_behind id i before known replies answer (judge.HandsOut place left told) = refl
-judged_behind id i before known replies answer (judge.Malformed why) = refl
+judged_behind id i before known replies answer (judge.Malformed why told) = refl
 
 -- an item is no want of memory
 pub has_item : (j : Judged) (answer : Pull) (i : Item) → answer ≡ pull.Item i → HasItem j answer
 has_item (judge.HandsOut place left told) answer i is = ap is_memory is
-has_item (judge.Malformed why) answer i is = tt
+has_item (judge.Malformed why told) answer i is = tt
 
 pub has_list : (j : Judged) (listed : Option (List Field)) (fields : List Field) → IfSome listed (λ l. l ≡ fields) → HasList j listed fields
 has_list (judge.HandsOut place left told) listed fields h = h
-has_list (judge.Malformed why) listed fields h = tt
+has_list (judge.Malformed why told) listed fields h = tt
 
 -- an outline tells as much of a head as its place asks
 pub is_read : (side : Side) (h : Head) → is_read_outline side (outline_of h) ≡ is_for side h
@@ -114,6 +115,10 @@ is_read Server h = refl
 pub reads_head : (r : HeadRead) (o : Outline) → read.Head o ≡ list_read r → (P : Type 0) → ((h : Head) → r ≡ IsHead h → o ≡ outline_of h → P) → P
 reads_head (IsHead h) o is P given = given h refl (cc)
 reads_head (IsNone why) o is P given = absurd (cc)
+
+pub reads_none : (r : HeadRead) (m : Malformation) → read.Malformed m ≡ list_read r → (P : Type 0) → ((why : HeadRefusal) → r ≡ IsNone why → m ≡ malformation_of why → P) → P
+reads_none (IsNone why) m is P given = given why refl (cc)
+reads_none (IsHead h) m is P given = absurd (cc)
 
 module _ (side : Side) (own : Announced) (id : ℕ) (r : DecoderState) where
   -- a section that is too large
@@ -139,6 +144,18 @@ module _ (side : Side) (own : Announced) (id : ℕ) (r : DecoderState) where
       rw (le-ltb (section_of own) (told_size fields) few)
       (ap (judged side id (with_content side own i fields) replies (if_whole i.content (broken_rule side own i.place fields))) e
       ∙ ap (λ q. head_or_trailer side id (with_content side own i fields) replies (if_whole i.content (broken_rule side own q fields)) q h) at)
+
+  -- and one that is no head
+  pub read_none : (i : Incoming) (replies : List DecoderInstruction) (fields : List Field) (place : Place) (known response : Option Content) (m : Malformation) (why : HeadRefusal) → told_size fields ≤ section_of own
+      → head_of fields ≡ IsNone why → m ≡ malformation_of why → i.place ≡ place → i.response ≡ known → response ≡ response_at side own place known fields
+      → read_section side own id r i replies fields ≡ malformed id m (record i { response = response }) replies
+  read_none i replies fields place known response m why few e is at told says =
+      let kept : (with_content side own i fields).response ≡ response =
+      ap (λ q. response_at side own q i.response fields) at ∙ ap (λ k. response_at side own place k fields) told ∙ sym says in
+      rw (le-ltb (section_of own) (told_size fields) few)
+      (ap (judged side id (with_content side own i fields) replies (if_whole i.content (broken_rule side own i.place fields))) e
+      ∙ ap (λ n. malformed id n (with_content side own i fields) replies) (sym is)
+      ∙ ap (λ k. malformed id m (record i { response = k }) replies) kept)
 
   pub tried_section : (i : Incoming) (bytes : List ℕ) (section : DecodedSection) → nat_lt r.table.inserted i.waits_for ≡ false → decode_section r bytes ≡ section
       → at_section side own id r i bytes ≡ decoded side own id r i section

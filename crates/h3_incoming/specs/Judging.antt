@@ -14,17 +14,17 @@ use Rattle.h3_incoming.specs.declared.judge.Judged.TheVariants as judged
 abbrev pub judged_as : ℕ → Incoming → List DecoderInstruction → Pull → Judged → Pulled
 judged_as id i replies answer (judged.HandsOut place expected known) =
     record { answer = answer; incoming = record i { place = place; content = expected; response = known }; replies = replies }
-judged_as id i replies answer (judged.Malformed why) = malformed id why i replies
+judged_as id i replies answer (judged.Malformed why known) = malformed id why (record i { response = known }) replies
 
 -- What was written is an item, unless the section is malformed.
 abbrev pub HasItem : Judged → Pull → Type 0
 HasItem (judged.HandsOut place expected known) answer = is_memory answer ≡ false
-HasItem (judged.Malformed why) answer = Unit {0}
+HasItem (judged.Malformed why known) answer = Unit {0}
 
 -- What is kept of it as a list is this one.
 abbrev pub HasList : Judged → Option (List Field) → List Field → Type 0
 HasList (judged.HandsOut place expected known) listed fields = IfSome listed (λ l. l ≡ fields)
-HasList (judged.Malformed why) listed fields = Unit {0}
+HasList (judged.Malformed why known) listed fields = Unit {0}
 
 -- The list is no head for this, as its reading told, or as the list says itself.
 abbrev pub Tells : List Field → HeaderError → HeadRefusal → Type 0

@@ -32,7 +32,8 @@ use std::alloc::{AllocError, Global};
 pub(crate) enum Judged {
     /// It is handed out, and this is the place behind it, the content that is left to come, and what is known of that of a response.
     HandsOut(Place, Content, Option<Content>),
-    Malformed(Malformation),
+    /// Why it is malformed, and what is known of the content of a response.
+    Malformed(Malformation, Option<Content>),
 }
 
 /// Whether a section named an entry of the table: then it has to be acknowledged (RFC 9204, section 4.4.1).
@@ -135,7 +136,7 @@ fn judge_fields<O: Answer>(
             broken,
             &outline,
         )),
-        Ok(ListRead::Malformed(why)) => Ok(Judged::Malformed(why)),
+        Ok(ListRead::Malformed(why)) => Ok(Judged::Malformed(why, strict.response)),
         Err(e) => Err(e),
     }
 }
@@ -172,10 +173,10 @@ fn judge_head(
         → whole_head side id i replies broken h ≡ judged_as id i replies (pull.Item (message_at side Place.BeforeHead h)) result }
 {
     if !outline.is_read_by(side) {
-        return Judged::Malformed(Malformation::WrongSide);
+        return Judged::Malformed(Malformation::WrongSide, known);
     }
     if let Some(why) = broken {
-        return Judged::Malformed(why);
+        return Judged::Malformed(why, known);
     }
     if is_client(side) && outline.is_interim() {
         return Judged::HandsOut(Place::BeforeHead, behind, known);
@@ -203,10 +204,10 @@ fn judge_trailer(
         → whole_trailer id i replies broken h ≡ judged_as id i replies (pull.Item (item.Trailer h)) result }
 {
     if outline.has_pseudo() {
-        return Judged::Malformed(Malformation::PseudoInTrailer);
+        return Judged::Malformed(Malformation::PseudoInTrailer, known);
     }
     if let Some(why) = broken {
-        return Judged::Malformed(why);
+        return Judged::Malformed(why, known);
     }
     Judged::HandsOut(Place::AfterTrailer, behind, known)
 }

@@ -1,8 +1,7 @@
 //! Which rule of well-formed messages a field list breaks, and how much content follows it, where the endpoint asks for them (RFC 9114, sections
 //! 4.1.2 and 4.2 to 4.5).
 ghost use Rattle.std.specs.Prelude.{◌≡◌, ◌≤◌, option_map, length, true, IfSome};
-ghost use Rattle.h3_header.specs.Head.{Head};
-ghost use Rattle.h3_header.specs.HeadRead.{IsHead, head_of};
+ghost use Rattle.h3_header.specs.HeadRead.{head_of};
 ghost use Rattle.h3_connection.specs.StrictMessages.{broken_rule, malformation_by, violation_at, violation_of_head, content_of_head, content_behind, content_behind_large, content_at, large_content_at, response_of_head, response_behind, response_at, if_whole};
 ghost use Rattle.h3_incoming.specs.Outline.{list_read};
 
@@ -36,7 +35,7 @@ pub(crate) struct OneRead {
 }
 
 /// What a field list says at its place, in front of which such content was left, and this was known of the content of a response. Where a
-/// strict endpoint keeps it as a list, one walk tells what the list is too. A list that is no head's says nothing.
+/// strict endpoint keeps it as a list, one walk tells what the list is too, and of one that is no head's a second what it says.
 #[inline(always)]
 pub(crate) fn read_at(
     keeps_lists: bool,
@@ -48,9 +47,9 @@ pub(crate) fn read_at(
     fields: &Fields<'_>,
 ) -> OneRead
     ensures list { IfSome result.list (λ r. r ≡ list_read (head_of fields.now)) }
-    ensures broken { (h : Head) → head_of fields.now ≡ IsHead h → result.strict.broken ≡ broken_rule side announced.now place fields.now }
-    ensures content { (h : Head) → head_of fields.now ≡ IsHead h → result.strict.content ≡ content_at side announced.now place content fields.now }
-    ensures response { (h : Head) → head_of fields.now ≡ IsHead h → result.strict.response ≡ response_at side announced.now place known fields.now }
+    ensures broken { result.strict.broken ≡ broken_rule side announced.now place fields.now }
+    ensures content { result.strict.content ≡ content_at side announced.now place content fields.now }
+    ensures response { result.strict.response ≡ response_at side announced.now place known fields.now }
 {
     if keeps_lists && announced.choices.strict_messages && fields.len() <= MOST_NAMES {
         return read_once(side, announced, place, content, known, fields);
@@ -73,9 +72,9 @@ fn read_once(
     requires strict { announced.now.choices.strict_messages ≡ true }
     requires few { length fields.now ≤ 24576 }
     ensures list { IfSome result.list (λ r. r ≡ list_read (head_of fields.now)) }
-    ensures broken { (h : Head) → head_of fields.now ≡ IsHead h → result.strict.broken ≡ broken_rule side announced.now place fields.now }
-    ensures content { (h : Head) → head_of fields.now ≡ IsHead h → result.strict.content ≡ content_at side announced.now place content fields.now }
-    ensures response { (h : Head) → head_of fields.now ≡ IsHead h → result.strict.response ≡ response_at side announced.now place known fields.now }
+    ensures broken { result.strict.broken ≡ broken_rule side announced.now place fields.now }
+    ensures content { result.strict.content ≡ content_at side announced.now place content fields.now }
+    ensures response { result.strict.response ≡ response_at side announced.now place known fields.now }
 {
     let mut seen = Seen::new();
     match seen.take_good(fields) {
@@ -88,11 +87,7 @@ fn read_once(
         }
         Err(part) => OneRead {
             list: Some(ListRead::Malformed(malformation_by(part))),
-            strict: StrictRead {
-                broken: None,
-                content,
-                response: known,
-            },
+            strict: read_strictly(side, announced, place, content, known, fields),
         },
     }
 }

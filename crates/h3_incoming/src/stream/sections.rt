@@ -137,11 +137,12 @@ impl IncomingStream {
                 self.response = response;
                 self.pass_section();
             }
-            Judged::Malformed(why) => {
+            Judged::Malformed(why, response) => {
                 if reply(alloc, id, acknowledges, true, replies).is_err() {
                     fail(out, Fault::Memory);
                     return;
                 }
+                self.response = response;
                 self.pass_section();
                 self.fail_message(alloc, why, out)
             }

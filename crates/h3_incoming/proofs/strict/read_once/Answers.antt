@@ -1,6 +1,5 @@
-use Rattle.std.proofs.Common.{◌≡◌, ap, sym, subst, ◌∙◌}
-use Rattle.h3_header.specs.HeadRead.{IsHead, IsNone}
-use Rattle.h3_header.specs.BadPart.{refusal_of, AreGood}
+use Rattle.std.proofs.Common.{ap, sym, subst, ◌∙◌}
+use Rattle.h3_header.specs.BadPart.{AreGood}
 use Rattle.h3_incoming.specs.Outline.{list_read}
 use Rattle.h3_incoming.specs.declared.outline.ListRead.TheVariants as read
 use Rattle.h3_incoming.proofs.strict.read_once.Goals as goal
@@ -10,12 +9,3 @@ read_survey-requires-clause-good c = subst AreGood (sym c.of-survey.ensures) c.i
 
 pub returns-in-Err-clause-list : goal.returns-in-Err-clause-list
 returns-in-Err-clause-list c = ap read.Malformed c.malformation_by.ensures ∙ sym (ap list_read c.in-Err.ensures.err)
-
-pub returns-in-Err-clause-broken : goal.returns-in-Err-clause-broken
-returns-in-Err-clause-broken c = λ h is. let wrong : IsHead h ≡ IsNone (refusal_of c.in-Err.part) = sym is ∙ c.in-Err.ensures.err in absurd (cc)
-
-pub returns-in-Err-clause-content : goal.returns-in-Err-clause-content
-returns-in-Err-clause-content c = λ h is. let wrong : IsHead h ≡ IsNone (refusal_of c.in-Err.part) = sym is ∙ c.in-Err.ensures.err in absurd (cc)
-
-pub returns-in-Err-clause-response : goal.returns-in-Err-clause-response
-returns-in-Err-clause-response c = λ h is. let wrong : IsHead h ≡ IsNone (refusal_of c.in-Err.part) = sym is ∙ c.in-Err.ensures.err in absurd (cc)

@@ -18,6 +18,9 @@ returns-in-Err c = record {
 pub returns-then-is_excessive-clause-rest : goal.returns-then-is_excessive-clause-rest
 returns-then-is_excessive-clause-rest c = rest_same _ _ refl
 
+pub returns-then-begins_section-clause-rest : goal.returns-then-begins_section-clause-rest
+returns-then-begins_section-clause-rest c = rest_same _ _ refl
+
 -- a frame without a payload, in a body
 pub returns-then-is_empty-clause-on : goal.returns-then-is_empty-clause-on
 returns-then-is_empty-clause-on c =
