@@ -13,7 +13,7 @@ use Rattle.h3_connection.specs.Pulling.{is_for, is_interim}
 use Rattle.h3_connection.specs.Outgoing.{takes_head, takes_body}
 use Rattle.h3_connection.specs.Refusals.{first_of, is_too_large, wrong_side}
 use Rattle.h3_connection.specs.Sending.{does, closed_or, is_open, outgoing_at}
-use Rattle.h3_connection.specs.SendingContracts.{MayLackMemory, SendsSection}
+use Rattle.h3_connection.specs.SendingContracts.{MayLackMemory}
 use Rattle.h3_connection.specs.State.{EndpointState, RequestState, StandsFor, kept_at}
 use Rattle.h3_connection.specs.StrictSending.{broken_head, broken_trailer, early_trailer, unless_malformed}
 use Rattle.h3_connection.specs.declared.event.Malformation.{Malformation}
@@ -24,7 +24,7 @@ use Rattle.h3_connection.specs.declared.place.SendPlace.TheVariants.{NothingSent
 use Rattle.h3_requests.specs.Refused.{head_refused_at, body_refused_at, seen_in}
 use Rattle.h3_session.specs.JudgedLists.{head_list_error, trailer_list_error, IsHeadAt, IsTrailer}
 use Rattle.h3_session.specs.Refused.{side_refused, pseudo_refused}
-use Rattle.h3_session.specs.SendingLists.{SendsList, SendsFieldList, SendsTrailerList, SendsListedHead, SendsListedTrailer, IsReadable, MayLackSize, MayLackMap, as_error, error_after, error_of, list_told, malformed, no_memory, order_refusal, place_refusal, send_fields, send_trailer_fields, send_read_head, send_read_trailer, send_listed_head, send_listed_trailer, listed_head_refusal, listed_trailer_refusal, after_head, after_trailer}
+use Rattle.h3_session.specs.SendingLists.{SendsList, SendsFieldList, SendsTrailerList, SendsJudged, SendsJudgedHead, SendsJudgedTrailer, NotMalformed, IsReadable, MayLackSize, MayLackMap, as_error, error_after, error_of, list_told, malformed, no_memory, order_refusal, place_refusal, send_fields, send_trailer_fields, send_read_head, send_read_trailer, send_listed_head, send_listed_trailer, listed_head_refusal, listed_trailer_refusal, after_head, after_trailer}
 use Rattle.h3_session.specs.declared.endpoint.lists.FieldsError.{FieldsError}
 use Rattle.h3_session.specs.declared.endpoint.lists.FieldsError.TheVariants as error
 use Rattle.h3_session.proofs.SendingCalls.{same_itself}
@@ -40,10 +40,10 @@ memory_back : (o : Option Refusal) → option_map error_of o ≡ Some no_memory 
 memory_back None is = absurd (cc)
 memory_back (Some r) is = let same : error_of r ≡ no_memory = cc in ap Some (only_memory r same)
 
-may_size : (o : Option Refusal) → MayLackMemory o → MayLackSize (option_map error_of o)
-may_size None m = tt
-may_size (Some (refusal.Malformed why)) m = tt
-may_size (Some _) m = m
+may_size : (o : Option Refusal) → MayLackMemory o → NotMalformed o → MayLackSize (option_map error_of o)
+may_size None m rules = tt
+may_size (Some (refusal.Malformed why)) m rules = absurd rules
+may_size (Some _) m rules = m
 
 may_map : (o : Option Refusal) → MayLackMemory o → MayLackMap (option_map error_of o)
 may_map None m = tt
@@ -53,15 +53,16 @@ may_map (Some (refusal.Malformed why)) m = tt
 may_map (Some _) m = m
 
 listed : (act : EndpointHistory → Option Refusal × EndpointHistory) (old new : EndpointState) (id : ℕ) (fields : List Field) (refused : Option Refusal) → IsReadable (head_of fields)
-    → SendsSection act old new id fields refused → SendsList (λ e. as_error (act e)) old new id fields (option_map error_of refused)
-listed act old new id fields refused read h =
+    → SendsJudged act old new id fields refused → SendsList (λ e. as_error (act e)) old new id fields (option_map error_of refused)
+listed act old new id fields refused read judged =
+    let h = judged.sends in
     record {
       done = λ e stands told.
           let d = h.done e stands (λ is. told (ap (option_map error_of) is)) in
           (ap (option_map error_of) d.0, d.1);
       same = λ some told. h.same (λ none. some (ap (option_map error_of) none)) (λ is. told (ap (option_map error_of) is));
       memory = λ e stands told. let m = h.memory e stands (memory_back refused told) in (may_map (act e).0 m.0, m.1);
-      short = λ e stands told few. may_size (act e).0 (h.memory e stands (memory_back refused told)).0;
+      short = λ e stands told few. let want = memory_back refused told in may_size (act e).0 (h.memory e stands want).0 (judged.judged e stands want);
       readable = λ told few. read;
       refused = λ e stands told some. h.too_large e stands (memory_back refused told) (λ none. some (ap (option_map error_of) none));
     }
@@ -252,7 +253,7 @@ module _ (s : EndpointState) (id : ℕ) (fields : List Field) where
       (λ e stands. sym (place_refusal_is s e id stands) ∙ ap (λ c. closed_or c (head_refused_at (kept_at s.requests id))) closed) (head_not_memory (kept_at s.requests id)))
 
   pub head_list_sent : (new : EndpointState) (place : SendPlace) (answer : Result Unit Refusal) (result : Result Unit FieldsError) → IsHeadAt s.side (head_of fields) place
-      → ((head : Head) → side_refused s.side head ≡ None → place ≡ (if is_interim head.status then NothingSent else HeadSent) → SendsListedHead s new id head fields answer)
+      → ((head : Head) → side_refused s.side head ≡ None → place ≡ (if is_interim head.status then NothingSent else HeadSent) → SendsJudgedHead s new id head fields answer)
       → list_told result ≡ option_map error_of (call_refused answer) → SendsFieldList s new id fields result
   head_list_sent new place answer result at sends is = by (head_of fields) at
     where
@@ -313,7 +314,7 @@ module _ (s : EndpointState) (id : ℕ) (fields : List Field) where
       (λ e stands. sym (order_refusal_is s e id stands) ∙ ap (λ c. closed_or c (body_refused_at (kept_at s.requests id))) closed) (body_not_memory (kept_at s.requests id)))
 
   pub trailer_list_sent : (new : EndpointState) (answer : Result Unit Refusal) (result : Result Unit FieldsError) → IsTrailer (head_of fields)
-      → ((trailer : Head) → pseudo_refused trailer ≡ None → SendsListedTrailer s new id trailer fields answer) → list_told result ≡ option_map error_of (call_refused answer) → SendsTrailerList s new id fields result
+      → ((trailer : Head) → pseudo_refused trailer ≡ None → SendsJudgedTrailer s new id trailer fields answer) → list_told result ≡ option_map error_of (call_refused answer) → SendsTrailerList s new id fields result
   trailer_list_sent new answer result at sends is = by (head_of fields) at
     where
       by : (r : HeadRead) → IsTrailer r → SendsList (λ e. send_read_trailer e id fields r) s new id fields (list_told result)

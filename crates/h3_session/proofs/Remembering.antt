@@ -142,6 +142,7 @@ head_goes old mid new id fields place said h says remembers =
       same = λ some. absurd (some refl);
       memory = λ some. absurd (cc);
       too_large = λ some. absurd (cc);
+      unbroken = λ some. absurd (cc);
     }
 
 -- or it was refused
@@ -153,6 +154,7 @@ head_stays old new id fields place r h =
       same = h.same;
       memory = h.memory;
       too_large = h.too_large;
+      unbroken = h.unbroken;
     }
 
 -- A head is in front of every trailer.

@@ -24,7 +24,7 @@ use Rattle.h3_connection.specs.declared.place.SendPlace.{SendPlace}
 use Rattle.h3_connection.specs.declared.place.SendPlace.TheVariants.{NothingSent, HeadSent, TrailerSent}
 use Rattle.h3_requests.specs.Refused.{head_refused_at, body_refused_at, early_trailer_at}
 use Rattle.h3_session.proofs.Opened.{stands_same}
-use Rattle.h3_session.specs.SendingLists.{SendsListedHead, SendsListedTrailer, after_head, after_trailer, listed_head_refusal, listed_trailer_refusal, send_listed_head, send_listed_trailer}
+use Rattle.h3_session.specs.SendingLists.{IsJudgedOr, NotMalformed, SendsJudged, SendsJudgedHead, SendsJudgedTrailer, SendsListedHead, SendsListedTrailer, after_head, after_trailer, listed_head_refusal, listed_trailer_refusal, send_listed_head, send_listed_trailer}
 use Rattle.h3_session.specs.Refused.{list_refused, refused_behind, broken_behind, side_refused, pseudo_refused, head_refused, trailer_refused}
 use Rattle.h3_session.proofs.ReceivingCancel.{requests_same}
 use Rattle.h3_session.specs.SendingFields.{IsPart, SendsFields, asking}
@@ -40,7 +40,17 @@ lacks_by e f (Some why) b size = tt
 lacks_by e f None true size = tt
 lacks_by e f None false size = tt
 
+sized_only : (e f : EndpointHistory) (b : Bool) (size : ℕ) → NotMalformed (does (first_of ((b, refusal.TooLarge size) ∷ [])) e f).0
+sized_only e f true size = tt
+sized_only e f false size = tt
+
 module _ (rule : EndpointHistory → Option Refusal) (after : EndpointHistory → EndpointHistory) (old : EndpointState) (id : ℕ) (fields : List Field) (broken : Option Malformation) where
+  -- a list that breaks no rule
+  unbroken_told : ((e : EndpointHistory) → StandsFor old e → rule e ≡ list_refused broken old.peer.settings fields) → broken ≡ None → (e : EndpointHistory) → StandsFor old e → NotMalformed (does (rule e) e (after e)).0
+  unbroken_told is none e h =
+      subst (λ o. NotMalformed (does o e (after e)).0) (sym (is e h))
+      (subst (λ b. NotMalformed (does (list_refused b old.peer.settings fields) e (after e)).0) (sym none) (sized_only e (after e) (is_too_large old.peer.settings fields) (section_size fields)))
+
   may_lack : ((e : EndpointHistory) → StandsFor old e → rule e ≡ list_refused broken old.peer.settings fields) → (e : EndpointHistory) → StandsFor old e → MayLackMemory (does (rule e) e (after e)).0
   may_lack is e h =
       subst (λ o. MayLackMemory (does o e (after e)).0) (sym (is e h)) (lacks_by e (after e) broken (is_too_large old.peer.settings fields) (section_size fields))
@@ -129,6 +139,44 @@ module _ (act : EndpointHistory → Option Refusal × EndpointHistory) (s : Endp
         memory = λ e stands memory. h.memory e (stands_same s e mid stands same) memory;
         too_large = λ e stands memory refused. begun_same new (h.too_large e (stands_same s e mid stands same) memory refused);
       }
+
+-- No room was made for a section whose list is at hand: it is refused by the list, or memory is told of one that breaks no rule.
+abbrev is_want : Refusal → Bool
+is_want refusal.OutOfMemory = true
+is_want _ = false
+
+want_is : (r : Refusal) → is_want r ≡ true → r ≡ refusal.OutOfMemory
+want_is refusal.OutOfMemory is = refl
+want_is _ is = cc
+
+same_told : (r q : Refusal) → ◌≡◌ {A = Option Refusal} (Some r) (Some q) → r ≡ q
+same_told r q is = cc
+
+module _ (rule : EndpointHistory → Option Refusal) (after : EndpointHistory → EndpointHistory) (s : EndpointState) (id : ℕ) (fields : List Field) (broken : Option Malformation) (mid : Streams RequestState) (same : AllSame s.requests mid) where
+  section_judged : (r : Refusal) → ((e : EndpointHistory) → StandsFor s e → rule e ≡ list_refused broken s.peer.settings fields) → (r ≢ refusal.OutOfMemory → list_refused broken s.peer.settings fields ≡ Some r)
+      → (r ≡ refusal.OutOfMemory → broken ≡ None) → SendsJudged (λ e. does (rule e) e (after e)) s (record s { requests = mid }) id fields (Some r)
+  section_judged r is told none = by (is_want r) refl
+    where
+      by : (b : Bool) → is_want r ≡ b → SendsJudged (λ e. does (rule e) e (after e)) s (record s { requests = mid }) id fields (Some r)
+      by true memory =
+          let want = want_is r memory in
+          record {
+            sends = subst (λ q. SendsSection (λ e. does (rule e) e (after e)) s (record s { requests = mid }) id fields (Some q)) (sym want)
+                (section_alike (λ e. does (rule e) e (after e)) s id fields mid same refusal.OutOfMemory (section_lacks rule after s id fields broken is));
+            judged = λ e h lacks. unbroken_told rule after s id fields broken is (none want) e h;
+          }
+      by false other_one =
+          let differs : r ≢ refusal.OutOfMemory = λ want. let wrong : true ≡ false = sym (ap is_want want) ∙ other_one in cc in
+          record {
+            sends = section_alike (λ e. does (rule e) e (after e)) s id fields mid same r (section_refused rule after s id fields broken r (λ e h. is e h ∙ told differs) differs);
+            judged = λ e h memory. absurd (differs (same_told r refusal.OutOfMemory memory));
+          }
+
+-- the rules of a list are those of its place, whatever is stored of the streams
+behind_alike : (place : SendPlace) (s : EndpointState) (requests : Streams RequestState) (fields : List Field) → broken_behind place s fields ≡ broken_behind place (record s { requests = requests }) fields
+behind_alike NothingSent s requests fields = refl
+behind_alike HeadSent s requests fields = refl
+behind_alike TrailerSent s requests fields = refl
 
 -- `send_head`
 abbrev place_behind : Bool → SendPlace
@@ -228,6 +276,52 @@ head_sent s m n id head later given fields place result closed is rest same none
     section_begun (λ e. send_listed_head e id head fields) s id fields m.requests same n (call_refused result)
     (head_sends mid n id head given fields place result taken are at (subst (λ v. SendsFields (asking id given) v n id given place (call_refused result)) rest h))
 
+-- The same where its list is at hand: no room was made for it,
+rules_at : (s n : EndpointState) (head : Head) (fields : List Field) (place : SendPlace) → place ≡ (if is_interim head.status then NothingSent else HeadSent) → n ≡ record s { requests = n.requests }
+    → broken_head s.side s.announced s.peer.settings fields ≡ broken_behind place n fields
+rules_at s n head fields place at rest =
+    behind_head (is_interim head.status) s fields ∙ ap (λ p. broken_behind p s fields) (sym at) ∙ behind_alike place s n.requests fields ∙ ap (λ v. broken_behind place v fields) (sym rest)
+
+pub head_judged : (s n : EndpointState) (id : ℕ) (head : Head) (fields : List Field) (place : SendPlace) (refused r : Refusal) → s.closed ≡ None → side_refused s.side head ≡ None
+    → place ≡ (if is_interim head.status then NothingSent else HeadSent) → n ≡ record s { requests = n.requests } → AllSame s.requests n.requests
+    → refused ≡ unwrap_or (or_later (head_refused_at (kept_at s.requests id)) None) refusal.OutOfMemory → IsJudgedOr n place fields refused r → SendsJudgedHead s n id head fields (Err r)
+head_judged s n id head fields place refused r closed sent at rest same why judged = by (or_later (head_refused_at (kept_at s.requests id)) None) refl
+  where
+    open_rule : head_refused s id head ≡ or_later (head_refused_at (kept_at s.requests id)) None
+    open_rule = head_open s id head closed ∙ ap (or_later (head_refused_at (kept_at s.requests id))) sent
+
+    by : (rule : Option Refusal) → or_later (head_refused_at (kept_at s.requests id)) None ≡ rule → SendsJudgedHead s n id head fields (Err r)
+    by (Some q) is =
+        let here : refused ≡ q = why ∙ ap (λ o. unwrap_or o refusal.OutOfMemory) is in
+        let differs : q ≢ refusal.OutOfMemory = λ want. head_takes_none s id head (open_rule ∙ is ∙ ap Some want) in
+        let told : r ≡ refused = judged.other (λ want. differs (sym here ∙ want)) in
+        record {
+          sends = subst (λ x. SendsListedHead s n id head fields (Err x)) (sym told) (head_unreserved s n id head fields None refused closed (sym sent) rest same why);
+          judged = λ e h memory. absurd (differs (sym here ∙ sym told ∙ same_told r refusal.OutOfMemory memory));
+        }
+    by None is =
+        let want : refused ≡ refusal.OutOfMemory = why ∙ ap (λ o. unwrap_or o refusal.OutOfMemory) is in
+        let rules = rules_at s n head fields place at rest in
+        subst (λ v. SendsJudgedHead s v id head fields (Err r)) (sym rest)
+        (section_judged (λ e. listed_head_refusal e id head fields) (λ e. after_head e id head fields) s id fields (broken_head s.side s.announced s.peer.settings fields) n.requests same r
+        (head_rule s id head fields (open_rule ∙ is))
+        (λ differs. ap (λ b. list_refused b s.peer.settings fields) rules
+        ∙ ap (λ settings. list_refused (broken_behind place n fields) settings fields) (ap (λ (v : EndpointState). v.peer.settings) (sym rest)) ∙ judged.list want differs)
+        (λ memory. rules ∙ judged.unbroken want memory))
+
+-- or it was sent
+pub head_sent_judged : (s m n : EndpointState) (id : ℕ) (head : Head) (later : Option Refusal) (given fields : List Field) (place : SendPlace) (result : Result Unit Refusal) → s.closed ≡ None → later ≡ side_refused s.side head
+    → m ≡ record s { requests = m.requests } → AllSame s.requests m.requests → or_later (head_refused_at (kept_at s.requests id)) later ≡ None → given ≡ fields
+    → place ≡ (if is_interim head.status then NothingSent else HeadSent) → SendsFields (asking id given) m n id given place (call_refused result) → SendsJudgedHead s n id head fields result
+head_sent_judged s m n id head later given fields place result closed is rest same none are at h =
+    record {
+      sends = head_sent s m n id head later given fields place result closed is rest same none are at h;
+      judged = λ e stands memory.
+          unbroken_told (λ e. listed_head_refusal e id head fields) (λ e. after_head e id head fields) s id fields (broken_head s.side s.announced s.peer.settings fields)
+          (head_rule s id head fields (head_open s id head closed ∙ ap (or_later (head_refused_at (kept_at s.requests id))) (sym is) ∙ none))
+          (rules_at s m head fields place at rest ∙ ap (broken_behind place m) (sym are) ∙ h.unbroken memory) e stands;
+    }
+
 -- `send_trailer`
 trailer_allowed : (later : Option Refusal) (closed : Option ℕ) (there : Option RequestState) → closed_or closed (or_later (body_refused_at there) later) ≡ None → TakesBody there
 trailer_allowed later (Some code) there h = absurd (cc)
@@ -304,3 +398,44 @@ trailer_sent s m n id trailer later given fields result closed is rest same none
     ∙ ap (λ o. or_later (body_refused_at o) (or_later (pseudo_refused trailer) (early_trailer_at o))) (same.each id) ∙ ap (λ l. or_later (body_refused_at (kept_at s.requests id)) (behind_order s id l)) (sym is) ∙ none in
     section_begun (λ e. send_listed_trailer e id trailer fields) s id fields m.requests same n (call_refused result)
     (trailer_sends mid n id trailer given fields result taken are (subst (λ v. SendsFields (λ e. e) v n id given TrailerSent (call_refused result)) rest h))
+
+-- The same where its list is at hand: no room was made for it,
+pub trailer_judged : (s n : EndpointState) (id : ℕ) (trailer : Head) (fields : List Field) (refused r : Refusal) → s.closed ≡ None → pseudo_refused trailer ≡ None → n ≡ record s { requests = n.requests } → AllSame s.requests n.requests
+    → refused ≡ unwrap_or (or_later (body_refused_at (kept_at s.requests id)) (or_later None (early_trailer_at (kept_at s.requests id)))) refusal.OutOfMemory → IsJudgedOr n TrailerSent fields refused r
+    → SendsJudgedTrailer s n id trailer fields (Err r)
+trailer_judged s n id trailer fields refused r closed sent rest same why judged = by (or_later (body_refused_at (kept_at s.requests id)) (behind_order s id None)) refl
+  where
+    open_rule : trailer_refused s id trailer ≡ or_later (body_refused_at (kept_at s.requests id)) (behind_order s id None)
+    open_rule = trailer_open s id trailer closed ∙ ap (λ l. or_later (body_refused_at (kept_at s.requests id)) (behind_order s id l)) sent
+
+    by : (rule : Option Refusal) → or_later (body_refused_at (kept_at s.requests id)) (behind_order s id None) ≡ rule → SendsJudgedTrailer s n id trailer fields (Err r)
+    by (Some q) is =
+        let here : refused ≡ q = why ∙ ap (λ o. unwrap_or o refusal.OutOfMemory) is in
+        let differs : q ≢ refusal.OutOfMemory = λ want. trailer_takes_none s id trailer (open_rule ∙ is ∙ ap Some want) in
+        let told : r ≡ refused = judged.other (λ want. differs (sym here ∙ want)) in
+        record {
+          sends = subst (λ x. SendsListedTrailer s n id trailer fields (Err x)) (sym told) (trailer_unreserved s n id trailer fields None refused closed (sym sent) rest same why);
+          judged = λ e h memory. absurd (differs (sym here ∙ sym told ∙ same_told r refusal.OutOfMemory memory));
+        }
+    by None is =
+        let want : refused ≡ refusal.OutOfMemory = why ∙ ap (λ o. unwrap_or o refusal.OutOfMemory) is in
+        let rules : broken_trailer s.announced fields ≡ broken_behind TrailerSent n fields = ap (λ v. broken_behind TrailerSent v fields) (sym rest) in
+        subst (λ v. SendsJudgedTrailer s v id trailer fields (Err r)) (sym rest)
+        (section_judged (λ e. listed_trailer_refusal e id trailer fields) (λ e. after_trailer e id fields) s id fields (broken_trailer s.announced fields) n.requests same r
+        (trailer_rule s id trailer fields (open_rule ∙ is))
+        (λ differs. ap (λ b. list_refused b s.peer.settings fields) rules
+        ∙ ap (λ settings. list_refused (broken_behind TrailerSent n fields) settings fields) (ap (λ (v : EndpointState). v.peer.settings) (sym rest)) ∙ judged.list want differs)
+        (λ memory. rules ∙ judged.unbroken want memory))
+
+-- or it was sent
+pub trailer_sent_judged : (s m n : EndpointState) (id : ℕ) (trailer : Head) (later : Option Refusal) (given fields : List Field) (result : Result Unit Refusal) → s.closed ≡ None → later ≡ pseudo_refused trailer
+    → m ≡ record s { requests = m.requests } → AllSame s.requests m.requests → or_later (body_refused_at (kept_at s.requests id)) (or_later later (early_trailer_at (kept_at s.requests id))) ≡ None → given ≡ fields
+    → SendsFields (λ e. e) m n id given TrailerSent (call_refused result) → SendsJudgedTrailer s n id trailer fields result
+trailer_sent_judged s m n id trailer later given fields result closed is rest same none are h =
+    record {
+      sends = trailer_sent s m n id trailer later given fields result closed is rest same none are h;
+      judged = λ e stands memory.
+          unbroken_told (λ e. listed_trailer_refusal e id trailer fields) (λ e. after_trailer e id fields) s id fields (broken_trailer s.announced fields)
+          (trailer_rule s id trailer fields (trailer_open s id trailer closed ∙ ap (λ l. or_later (body_refused_at (kept_at s.requests id)) (behind_order s id l)) (sym is) ∙ none))
+          (ap (λ v. broken_behind TrailerSent v fields) (sym rest) ∙ ap (broken_behind TrailerSent m) (sym are) ∙ h.unbroken memory) e stands;
+    }

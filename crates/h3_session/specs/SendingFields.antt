@@ -16,7 +16,7 @@ use Rattle.h3_connection.specs.WaitingPieces.{piece_of, frame_piece}
 use Rattle.h3_connection.specs.declared.event.Refusal.{Refusal}
 use Rattle.h3_connection.specs.declared.event.Refusal.TheVariants as refusal
 use Rattle.h3_connection.specs.declared.place.SendPlace.{SendPlace}
-use Rattle.h3_session.specs.Refused.{size_refused, refused_behind}
+use Rattle.h3_session.specs.Refused.{broken_behind, size_refused, refused_behind}
 
 -- nothing but the encoder and the own encoder stream has changed
 abbrev pub SameStreams : StreamsState → StreamsState → Type 0
@@ -66,6 +66,7 @@ pub record SendsFields (behind : EndpointHistory → EndpointHistory) (old new :
   pub same : refused ≢ None → refused ≢ Some refusal.OutOfMemory → new ≡ old
   pub memory : refused ≡ Some refusal.OutOfMemory → (e : EndpointHistory) → StandsFor old e → CutsOff e id fields new
   pub too_large : refused ≡ Some refusal.OutOfMemory → refused_behind old place fields ≢ None → new ≡ old
+  pub unbroken : refused ≡ Some refusal.OutOfMemory → broken_behind place old fields ≡ None
 
 -- The sum of what was sent, with the section.
 pub record IsJudged (s : EndpointState) (fields : List Field) (sum : ℕ) : Type 0 where

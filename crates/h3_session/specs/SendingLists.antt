@@ -17,6 +17,8 @@ use Rattle.h3_connection.specs.State.{EndpointState, StandsFor}
 use Rattle.h3_connection.specs.StrictSending.{broken_head, broken_trailer, early_trailer}
 use Rattle.h3_connection.specs.declared.event.Refusal.{Refusal}
 use Rattle.h3_connection.specs.declared.event.Refusal.TheVariants as refusal
+use Rattle.h3_connection.specs.declared.place.SendPlace.{SendPlace}
+use Rattle.h3_session.specs.Refused.{broken_behind, refused_behind}
 use Rattle.h3_session.specs.declared.endpoint.lists.FieldsError.{FieldsError}
 use Rattle.h3_session.specs.declared.endpoint.lists.FieldsError.TheVariants as error
 
@@ -41,11 +43,33 @@ after_trailer e id fields = counted (appended (encoded e id fields) id (OwnTrail
 abbrev pub send_listed_trailer : EndpointHistory → ℕ → Head → List Field → Option Refusal × EndpointHistory
 send_listed_trailer e id trailer fields = does (listed_trailer_refusal e id trailer fields) e (after_trailer e id fields)
 
+-- The list is at hand: it is judged by the rules of strict messages before memory is told of.
+abbrev pub NotMalformed : Option Refusal → Type 0
+NotMalformed None = Unit {0}
+NotMalformed (Some (refusal.Malformed why)) = ⊥
+NotMalformed (Some _) = Unit {0}
+
+pub record SendsJudged (act : EndpointHistory → Option Refusal × EndpointHistory) (old new : EndpointState) (id : ℕ) (fields : List Field) (refused : Option Refusal) : Type 0 where
+  pub sends : SendsSection act old new id fields refused
+  pub judged : (e : EndpointHistory) → StandsFor old e → refused ≡ Some refusal.OutOfMemory → NotMalformed (act e).0
+
 abbrev pub SendsListedHead : EndpointState → EndpointState → ℕ → Head → List Field → Result Unit Refusal → Type 0
 SendsListedHead old new id head fields result = SendsSection (λ e. send_listed_head e id head fields) old new id fields (call_refused result)
 
 abbrev pub SendsListedTrailer : EndpointState → EndpointState → ℕ → Head → List Field → Result Unit Refusal → Type 0
 SendsListedTrailer old new id trailer fields result = SendsSection (λ e. send_listed_trailer e id trailer fields) old new id fields (call_refused result)
+
+abbrev pub SendsJudgedHead : EndpointState → EndpointState → ℕ → Head → List Field → Result Unit Refusal → Type 0
+SendsJudgedHead old new id head fields result = SendsJudged (λ e. send_listed_head e id head fields) old new id fields (call_refused result)
+
+abbrev pub SendsJudgedTrailer : EndpointState → EndpointState → ℕ → Head → List Field → Result Unit Refusal → Type 0
+SendsJudgedTrailer old new id trailer fields result = SendsJudged (λ e. send_listed_trailer e id trailer fields) old new id fields (call_refused result)
+
+-- What a list is refused by for which no room was made: by the stream's refusal, or else by its own before want of memory
+pub record IsJudgedOr (s : EndpointState) (place : SendPlace) (fields : List Field) (refused told : Refusal) : Type 0 where
+  pub other : refused ≢ refusal.OutOfMemory → told ≡ refused
+  pub list : refused ≡ refusal.OutOfMemory → told ≢ refusal.OutOfMemory → refused_behind s place fields ≡ Some told
+  pub unbroken : refused ≡ refusal.OutOfMemory → told ≡ refusal.OutOfMemory → broken_behind place s fields ≡ None
 
 -- Why a stream takes no head now, whatever is in it.
 abbrev pub place_refusal : EndpointHistory → ℕ → Option Refusal
@@ -90,13 +114,13 @@ send_trailer_fields e id fields = send_read_trailer e id fields (head_of fields)
 abbrev pub no_memory : FieldsError
 no_memory = error.Refused refusal.OutOfMemory
 
--- Want of memory comes last: it may be told of a list that breaks a rule of strict messages, or is too large.
+-- Want of memory comes last: it may be told of a list that is too large, and of none that breaks a rule of strict messages,
 abbrev pub MayLackSize : Option FieldsError → Type 0
 MayLackSize None = Unit {0}
 MayLackSize (Some (error.Refused r)) = MayLackMemory (Some r)
-MayLackSize (Some (error.Malformed why)) = Unit {0}
+MayLackSize (Some (error.Malformed why)) = ⊥
 
--- but of none that is no list of a header
+-- or is no list of a header
 abbrev pub IsReadable : HeadRead → Type 0
 IsReadable (IsHead head) = Unit {0}
 IsReadable (IsNone why) = ⊥

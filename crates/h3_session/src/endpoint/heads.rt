@@ -16,7 +16,7 @@ ghost use Rattle.h3_connection.specs.State.{StandsFor, kept_at};
 ghost use Rattle.h3_connection.specs.declared.event.Refusal.TheVariants.{OutOfMemory};
 ghost use Rattle.h3_connection.specs.declared.place.SendPlace.TheVariants.{TrailerSent};
 ghost use Rattle.h3_requests.specs.Refused.{head_refused_at, body_refused_at, early_trailer_at};
-ghost use Rattle.h3_session.specs.Refused.{side_refused, pseudo_refused, size_refused, refused_behind};
+ghost use Rattle.h3_session.specs.Refused.{broken_behind, side_refused, pseudo_refused, size_refused, refused_behind};
 ghost use Rattle.h3_session.specs.SendingFields.{Encodes, StopsEncoding, Queues, Remembers, SendsFields, IsJudged, asking};
 ghost use Rattle.h3_session.specs.SentHeads.{IsReadOf, IsSaid};
 
@@ -191,7 +191,7 @@ impl Endpoint {
     }
 
     // What was sent, with these fields, and what they say, where they break no rule that is asked and the peer allows their size.
-    fn judge_list(
+    pub(super) fn judge_list(
         &self,
         fields: &[HeaderField],
         place: SendPlace,
@@ -201,6 +201,8 @@ impl Endpoint {
         ensures ok { IfOk result (λ judged. IsJudged self.now fields.now judged.0) }
         ensures said { IfOk result (λ judged. place ≢ TrailerSent → IsSaid self.now.side self.now.announced fields.now judged.1) }
         ensures fits { OnOk result (refused_behind self.now place fields.now ≡ None) }
+        ensures kept { OnOk result (broken_behind place self.now fields.now ≡ None) }
+        ensures unbroken { IfErr result (λ refusal. refusal ≡ Refusal.OutOfMemory → broken_behind place self.now fields.now ≡ None) }
         ensures err { IfErr result (λ refusal. refusal ≢ Refusal.OutOfMemory → refused_behind self.now place fields.now ≡ Some refusal) }
         ensures memory { IfErr result (λ refusal. refusal ≡ Refusal.OutOfMemory → 2 ^ 56 ≤ self.now.sent + fields_cost fields.now + 64) }
     {

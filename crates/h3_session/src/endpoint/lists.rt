@@ -8,7 +8,7 @@ ghost use Rattle.h3_connection.specs.State.{kept_at};
 ghost use Rattle.h3_connection.specs.declared.event.Refusal.TheVariants as refusal;
 ghost use Rattle.h3_requests.specs.Refused.{head_refused_at, body_refused_at};
 ghost use Rattle.h3_session.specs.Refused.{side_refused, pseudo_refused};
-ghost use Rattle.h3_session.specs.SendingLists.{SendsFieldList, SendsTrailerList, SendsListedHead, SendsListedTrailer, error_after, error_of, no_memory, list_told};
+ghost use Rattle.h3_session.specs.SendingLists.{IsJudgedOr, SendsFieldList, SendsTrailerList, SendsJudgedHead, SendsJudgedTrailer, error_after, error_of, no_memory, list_told};
 ghost use Rattle.h3_incoming.specs.Outline.{is_sent_outline, list_read};
 ghost use Rattle.h3_session.specs.declared.endpoint.lists.FieldsError.TheVariants as error;
 ghost use Rattle.h3_session.specs.SentHeads.{IsReadOf};
@@ -155,11 +155,11 @@ impl Endpoint {
     ) -> Result<(), Refusal>
         requires open { self.old.closed ≡ None }
         requires read { IfSome read (IsReadOf self.old.side self.old.peer.settings fields.now) }
-        ensures { (head : Head) → side_refused self.old.side head ≡ None → place ≡ (if is_interim head.status then SendPlace.NothingSent else SendPlace.HeadSent) → SendsListedHead self.old self.new id head fields.now result }
+        ensures { (head : Head) → side_refused self.old.side head ≡ None → place ≡ (if is_interim head.status then SendPlace.NothingSent else SendPlace.HeadSent) → SendsJudgedHead self.old self.new id head fields.now result }
     {
         let room = match self.reserve_head(id, None) {
             Ok(room) => room,
-            Err(refusal) => return Err(refusal),
+            Err(refusal) => return Err(self.judged_or(refusal, fields, place, read)),
         };
         self.send_head_section(room, fields, place, read)
     }
@@ -167,13 +167,35 @@ impl Endpoint {
     // A list that reads as a trailer goes out.
     fn send_trailer_list(&mut self, id: StreamId, fields: &[HeaderField]) -> Result<(), Refusal>
         requires { self.old.closed ≡ None }
-        ensures { (trailer : Head) → pseudo_refused trailer ≡ None → SendsListedTrailer self.old self.new id trailer fields.now result }
+        ensures { (trailer : Head) → pseudo_refused trailer ≡ None → SendsJudgedTrailer self.old self.new id trailer fields.now result }
     {
         let room = match self.reserve_trailer(id, None) {
             Ok(room) => room,
-            Err(refusal) => return Err(refusal),
+            Err(refusal) => {
+                return Err(self.judged_or(refusal, fields, SendPlace::TrailerSent, None));
+            }
         };
         self.send_trailer_section(room, fields)
+    }
+
+    // Why a list is not sent for which no room was made: it is at hand, so its own refusal comes before want of memory.
+    fn judged_or(
+        &self,
+        refusal: Refusal,
+        fields: &[HeaderField],
+        place: SendPlace,
+        known: Option<SentRead>,
+    ) -> Refusal
+        requires { IfSome known (IsReadOf self.now.side self.now.peer.settings fields.now) }
+        ensures { IsJudgedOr self.now place fields.now refusal result }
+    {
+        if refusal != Refusal::OutOfMemory {
+            return refusal;
+        }
+        match self.judge_list(fields, place, known) {
+            Ok(_) => Refusal::OutOfMemory,
+            Err(why) => why,
+        }
     }
 }
 
