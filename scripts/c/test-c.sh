@@ -1,9 +1,11 @@
 #!/usr/bin/env bash
 # C programs over build/c (scripts/c/lib.sh), by the machine's C compiler alone: the calls of crates/h3_cases and hostile lists of calls through the header,
-# each allocation refused in turn, large input with none refused, two endpoints under random schedules, what is held of a stream and of small pieces, unknown frames, long instructions, wrong arguments, bytes that are lent, pulled lists, and the program of docs/TUTORIAL.md. Once as
-# they are, and once with the sanitizers of addresses, leaks and undefined behaviour where the compiler has them (large input, memory: once). Then how programs find the
-# library (scripts/c/test-install.sh), and the packages for Go and Rust (scripts/c/test-bindings.sh). One line 'ok NAME' or 'failed NAME' for each; the last is the sum. With LIB=FOLDER the library in that folder is
-# taken, as that of `make lib-unproved`, and none is built.
+# each allocation refused in turn, large input with none refused, two endpoints under random schedules, what is held of a stream and of small pieces, unknown
+# frames, long instructions, wrong arguments, bytes that are lent, pulled lists, lists between two endpoints with the defaults, frames above the limit, floods,
+# random programs in C++ (COUNT=40000), and the program of docs/TUTORIAL.md. Once as they are, and once with the sanitizers of addresses, leaks and undefined
+# behaviour where the compiler has them (large input, memory: once). Then a short run of the fuzzers (scripts/c/fuzz.sh), how programs find the library
+# (scripts/c/test-install.sh), and the packages for Go and Rust (scripts/c/test-bindings.sh). One line 'ok NAME' or 'failed NAME' for each; the last is the sum.
+# With LIB=FOLDER the library in that folder is taken, as that of `make lib-unproved`, and none is built.
 set -uo pipefail
 cd "$(dirname "$0")/../.."
 
@@ -24,11 +26,23 @@ mark=""
 [ ! -e "$lib/UNPROVED" ] || mark=unproved # what h3_version is to say
 libs=("-I$lib/beanwhile" "-L$lib" -lbeanwhile_h3 -lbeanwhile_h3_shim)
 
+wrapped=(-Wl,--wrap=malloc,--wrap=realloc,--wrap=free)
+
 compile() { # NAME OUT FLAGS..
   local name=$1 to=$2
   shift 2
   if ! "$cc" -std=c11 -O1 -g -Wall -Wextra -Werror "$@" -o "$out/$to" "tests/c/$name.c" "${libs[@]}"; then
     echo "failed $to: it was not compiled"
+    bad=1
+  fi
+}
+
+# random programs of two endpoints, in C++; COUNT=40000 of them
+programs() {
+  if "${CXX:-c++}" -std=c++17 -O1 -g -Wall -Wextra -Werror -Wl,--wrap=malloc,--wrap=realloc -o "$out/programs" tests/c/programs.cc "${libs[@]}"; then
+    run programs "$out/programs" 1 "${COUNT:-40000}"
+  else
+    echo "failed programs: it was not compiled"
     bad=1
   fi
 }
@@ -67,16 +81,19 @@ run() { # NAME PROGRAM ARGUMENTS..
 
 checks() {
   compile calls calls
-  compile memory memory -Wl,--wrap=malloc,--wrap=realloc,--wrap=free
+  compile memory memory "${wrapped[@]}"
   compile sizes sizes -Wl,--wrap=malloc,--wrap=realloc
   compile schedules schedules
   compile unread unread
-  compile small_pieces small_pieces -Wl,--wrap=malloc,--wrap=realloc,--wrap=free
-  compile unknown unknown -Wl,--wrap=malloc,--wrap=realloc,--wrap=free
+  compile small_pieces small_pieces "${wrapped[@]}"
+  compile unknown unknown "${wrapped[@]}"
   compile instructions instructions
   compile arguments arguments
   compile lent lent
   compile lists lists
+  compile defaults defaults
+  compile excess excess "${wrapped[@]}"
+  compile floods floods "${wrapped[@]}"
   compile in_memory in_memory
   if [ "$bad" -eq 0 ]; then
     rows "$out/calls" "rows"
@@ -91,6 +108,10 @@ checks() {
     run arguments "$out/arguments" $mark
     run lent "$out/lent"
     run lists "$out/lists"
+    run defaults "$out/defaults"
+    run excess "$out/excess"
+    run floods "$out/floods"
+    programs
     tutorial "$out/in_memory" "in_memory: the lines of docs/TUTORIAL.md"
   fi
   if [ "$bad" -eq 0 ] && echo 'int main(void){return 0;}' | "$cc" -x c -fsanitize=address,undefined -o "$out/probe" - 2> "$out/probe.log"; then
@@ -112,6 +133,7 @@ checks() {
       tutorial "$out/in_memory_checked" "in_memory with sanitizers"
     fi
   fi
+  bash scripts/c/fuzz.sh 5 "$lib" || bad=1
   bash scripts/c/test-install.sh "$lib" || bad=1
   bash scripts/c/test-bindings.sh "$lib" || bad=1
   return "$bad"

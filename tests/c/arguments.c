@@ -8,6 +8,12 @@
 
 static const uint64_t FAR = UINT64_C(1) << 62;
 
+/* what is expected of the header */
+enum {
+  MALFORMATIONS = 20, /* how many there are */
+  DETAIL_OF_NULL = 0, /* `detail` of H3_ARGUMENT for a NULL: it is written on each refusal but H3_NO_ENDPOINT */
+};
+
 /* the defaults, but that messages are not judged: the lists of most rows here are no whole messages */
 static void plain_config(h3_config *c) {
   h3_config_default(c);
@@ -57,6 +63,37 @@ static void of_none(h3_endpoint *e) {
   h3_free(e);
 }
 
+/* nothing is done: the endpoint that is there stays (the caller frees it), and the numbers are as the header says */
+static void of_null_configuration(h3_endpoint *e) {
+  h3_state state;
+  void *at = e->at;
+  uint64_t detail = 777;
+  IS(h3_new(e, NULL, &detail), H3_ARGUMENT);
+  HOLDS(e->at == at && detail == DETAIL_OF_NULL);
+  IS(h3_connection(e, &state), H3_OK);
+  e->at = at; /* so that it is freed where that failed */
+}
+
+/* `detail` of each call that has one, where a pointer that may not be NULL is */
+static void of_details(h3_endpoint *e, uint64_t id) {
+  h3_field_size f = {7, 3};
+  uint64_t details[12], *detail = details;
+  for (size_t i = 0; i < 12; i++) details[i] = 777;
+  IS(h3_open_request(e, NULL, detail++), H3_ARGUMENT);
+  IS(h3_next_request_id(e, NULL, detail++), H3_ARGUMENT);
+  IS(h3_send_head(e, id, NULL, 1, ":methodGET", 10, detail++), H3_ARGUMENT);
+  IS(h3_send_head(e, id, &f, 1, NULL, 10, detail++), H3_ARGUMENT);
+  IS(h3_send_trailer(e, id, NULL, 1, ":methodGET", 10, detail++), H3_ARGUMENT);
+  IS(h3_send_fields(e, id, NULL, 1, ":methodGET", 10, detail++), H3_ARGUMENT);
+  IS(h3_send_fields(e, id, &f, 1, NULL, 10, detail++), H3_ARGUMENT);
+  IS(h3_send_trailer_fields(e, id, NULL, 1, ":methodGET", 10, detail++), H3_ARGUMENT);
+  IS(h3_send_body(e, id, NULL, 64, detail++), H3_ARGUMENT);
+  IS(h3_send_body_lent(e, id, NULL, 64, detail++), H3_ARGUMENT);
+  IS(h3_deliver(e, id, NULL, 64, detail++), H3_ARGUMENT);
+  IS(h3_deliver_lent(e, id, NULL, 64, detail++), H3_ARGUMENT);
+  for (size_t i = 0; i < 12; i++) HOLDS(details[i] == DETAIL_OF_NULL);
+}
+
 /* what may not be NULL is tested, and what may be is taken */
 static void of_pointers(h3_endpoint *e, uint64_t id) {
   uint8_t b[4];
@@ -70,6 +107,7 @@ static void of_pointers(h3_endpoint *e, uint64_t id) {
   IS(h3_new(&none, NULL, NULL), H3_ARGUMENT);
   HOLDS(!none.at);
   h3_free(NULL);
+  of_null_configuration(e);
   IS(h3_pull(NULL, id, NULL), H3_NO_ENDPOINT);
   IS(h3_finish(NULL, id, NULL), H3_NO_ENDPOINT);
   IS(h3_open_request(e, NULL, NULL), H3_ARGUMENT);
@@ -104,7 +142,7 @@ static void of_pointers(h3_endpoint *e, uint64_t id) {
   HOLDS(!strcmp(h3_kind_text(H3_INTERIM), "H3_INTERIM") && !strcmp(h3_kind_text(H3_FAULT_MEMORY), "H3_FAULT_MEMORY"));
   HOLDS(!strcmp(h3_malformation_text(H3_BAD_NAME), "H3_BAD_NAME") && !strcmp(h3_malformation_text(H3_NO_TRAILER_FIELD), "H3_NO_TRAILER_FIELD"));
   HOLDS(!strcmp(h3_answer_text(99), "an unknown answer") && !strcmp(h3_kind_text(0), "an unknown kind"));
-  HOLDS(!strcmp(h3_malformation_text(H3_NO_TRAILER_FIELD + 1), "an unknown malformation"));
+  HOLDS(!strcmp(h3_malformation_text(MALFORMATIONS), "an unknown malformation"));
 }
 
 static void of_new(void) {
@@ -131,9 +169,10 @@ static void of_new(void) {
   IS(h3_new(&e, &c, &detail), H3_SETTING);
   HOLDS(!e.at && detail == 6);
   c.max_field_section_size--;
+  c.unfinished_limit = c.max_field_section_size - 1;
   IS(h3_new(&e, &c, &detail), H3_UNFINISHED_LIMIT);
   HOLDS(!e.at && detail == 0);
-  c.unfinished_limit = c.max_field_section_size;
+  c.unfinished_limit = c.max_field_section_size; /* 2^62 - 1: no limit */
   c.max_webtransport_sessions = FAR;
   IS(h3_new(&e, &c, &detail), H3_SETTING);
   HOLDS(detail == UINT64_C(0x2b603743));
@@ -708,52 +747,6 @@ static void of_encoder_tables(void) {
   }
 }
 
-/* A frame that says more than `unfinished_limit` closes the connection as soon as its head came, on a request stream when it is pulled, and one
- * that says as much does not; DATA is never too long. Without a limit such a frame is waited for. */
-static void of_unfinished_limits(void) {
-  static const struct {
-    uint64_t most;
-    const char *bytes;
-    size_t len;
-    uint32_t kind;
-  } of[] = {
-      {65536, "\1\xc0\0\0\0\x40\0\0\0", 9, H3_FAULT_CONNECTION}, /* HEADERS of 2^30 bytes */
-      {65536, "\1\x80\1\0\1", 5, H3_FAULT_CONNECTION},             /* of 65,537, */
-      {65536, "\1\x80\1\0\0", 5, H3_PENDING},                      /* and of 65,536 */
-      {65536, "\1\x80\1\0", 4, H3_PENDING},                        /* no head yet */
-      {65536, "\5\xc0\0\0\0\x40\0\0\0", 9, H3_FAULT_CONNECTION}, /* PUSH_PROMISE, */
-      {65536, "\x21\xc0\0\0\0\x40\0\0\0", 9, H3_PENDING},        /* and a type that is unknown */
-      {0, "\x21\1\0\1\1\0", 6, H3_FAULT_CONNECTION},               /* HEADERS behind an unknown frame that is whole, and whole itself */
-      {UINT64_MAX, "\1\xc0\0\0\0\x40\0\0\0", 9, H3_PENDING},
-      {(UINT64_C(1) << 62) - 1, "\1\xff\xff\xff\xff\xff\xff\xff\xff", 9, H3_PENDING},
-      {(UINT64_C(1) << 62) - 2, "\1\xff\xff\xff\xff\xff\xff\xff\xff", 9, H3_FAULT_CONNECTION},
-  };
-  for (size_t i = 0; i < sizeof of / sizeof *of; i++) {
-    h3_endpoint e = H3_NONE_YET;
-    h3_config c;
-    h3_item item;
-    uint64_t detail = 9;
-    plain_config(&c);
-    HOLDS(c.unfinished_limit == 65536);
-    c.server = 1;
-    c.unfinished_limit = of[i].most;
-    if (of[i].most < c.max_field_section_size) {
-      IS(h3_new(&e, &c, NULL), H3_UNFINISHED_LIMIT);
-      c.max_field_section_size = of[i].most;
-    }
-    IS(h3_new(&e, &c, NULL), H3_OK);
-    IS(h3_deliver(&e, 0, of[i].bytes, of[i].len, NULL), H3_OK);
-    IS(h3_pull(&e, 0, &item), H3_OK);
-    HOLDS(item.kind == of[i].kind);
-    if (item.kind == H3_FAULT_CONNECTION) {
-      HOLDS(item.number == 0x107);
-      IS(h3_deliver(&e, 0, "\0", 1, &detail), H3_CONNECTION);
-      HOLDS(detail == 0x107);
-    }
-    h3_free(&e);
-  }
-}
-
 /* On the control stream the delivery that brings the head closes the connection, however it is cut, and what came of the frame is let go. */
 static void of_long_control_frames(void) {
   static const char settings[] = "\0\4\0", goaway[] = "\7\xc0\0\0\0\x40\0\0\0"; /* GOAWAY of 2^30 bytes */
@@ -786,7 +779,6 @@ int main(int argc, char **argv) {
   of_new();
   of_sizes();
   of_shorter_tables();
-  of_unfinished_limits();
   of_long_control_frames();
   of_next_ids();
   plain_config(&c);
@@ -799,6 +791,7 @@ int main(int argc, char **argv) {
   of_strict_content();
   of_counts(&e, id);
   of_pointers(&e, id);
+  of_details(&e, id);
   h3_free(&e);
   of_none(&e);
   of_default();
