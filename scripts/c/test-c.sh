@@ -2,7 +2,7 @@
 # C programs over build/c (scripts/c/lib.sh), by the machine's C compiler alone: the calls of crates/h3_cases and hostile lists of calls through the header,
 # each allocation refused in turn, large input with none refused, two endpoints under random schedules, what is held of a stream and of small pieces, unknown
 # frames, long instructions, wrong arguments, bytes that are lent, pulled lists, lists between two endpoints with the defaults, frames above the limit, floods,
-# random programs in C++ (COUNT=40000), and the program of docs/TUTORIAL.md. Once as they are, and once with the sanitizers of addresses, leaks and undefined
+# random programs in C++ (COUNT=60000), and the program of docs/TUTORIAL.md. Once as they are, and once with the sanitizers of addresses, leaks and undefined
 # behaviour where the compiler has them (large input, memory: once). Then a short run of the fuzzers (scripts/c/fuzz.sh), how programs find the library
 # (scripts/c/test-install.sh), and the packages for Go and Rust (scripts/c/test-bindings.sh). One line 'ok NAME' or 'failed NAME' for each; the last is the sum.
 # With LIB=FOLDER the library in that folder is taken, as that of `make lib-unproved`, and none is built.
@@ -37,10 +37,10 @@ compile() { # NAME OUT FLAGS..
   fi
 }
 
-# random programs of two endpoints, in C++; COUNT=40000 of them
+# random programs of two endpoints, in C++; COUNT=60000 of them
 programs() {
   if "${CXX:-c++}" -std=c++17 -O1 -g -Wall -Wextra -Werror -Wl,--wrap=malloc,--wrap=realloc -o "$out/programs" tests/c/programs.cc "${libs[@]}"; then
-    run programs "$out/programs" 1 "${COUNT:-40000}"
+    run programs "$out/programs" 1 "${COUNT:-60000}"
   else
     echo "failed programs: it was not compiled"
     bad=1

@@ -747,27 +747,6 @@ static void of_encoder_tables(void) {
   }
 }
 
-/* On the control stream the delivery that brings the head closes the connection, however it is cut, and what came of the frame is let go. */
-static void of_long_control_frames(void) {
-  static const char settings[] = "\0\4\0", goaway[] = "\7\xc0\0\0\0\x40\0\0\0"; /* GOAWAY of 2^30 bytes */
-  for (size_t cut = 0; cut <= sizeof goaway - 1; cut++) {
-    h3_endpoint e = H3_NONE_YET;
-    h3_config c;
-    h3_stream_state state;
-    uint64_t detail = 0;
-    plain_config(&c);
-    IS(h3_new(&e, &c, NULL), H3_OK);
-    IS(h3_deliver(&e, 3, settings, sizeof settings - 1, NULL), H3_OK);
-    IS(h3_deliver(&e, 3, goaway, cut, &detail), cut < sizeof goaway - 1 ? H3_OK : H3_CONNECTION);
-    if (cut < sizeof goaway - 1) IS(h3_deliver(&e, 3, goaway + cut, sizeof goaway - 1 - cut, &detail), H3_CONNECTION);
-    HOLDS(detail == 0x107);
-    HOLDS(h3_stream(&e, 3, &state) == H3_OK && state.unread == 0);
-    IS(h3_deliver(&e, 3, settings, 1, &detail), H3_CONNECTION);
-    HOLDS(detail == 0x107 && h3_stream(&e, 3, &state) == H3_OK && state.unread == 0);
-    h3_free(&e);
-  }
-}
-
 /* with a word: the library is to say that it was built without proofs */
 int main(int argc, char **argv) {
   h3_endpoint e = H3_NONE_YET;
@@ -779,7 +758,6 @@ int main(int argc, char **argv) {
   of_new();
   of_sizes();
   of_shorter_tables();
-  of_long_control_frames();
   of_next_ids();
   plain_config(&c);
   IS(h3_new(&e, &c, NULL), H3_OK);

@@ -1,6 +1,7 @@
-/* Two endpoints as h3_config_default makes them: lists of every size up to the announced one, of each byte that a value may have, of text in UTF-8, of
- * JSON and of random bytes, as requests and as responses, before the settings and behind them. Each is sent, and comes out as it was sent, beside a
- * message with content on another stream, which comes out whole. A fault of any kind is counted. One line 'ok NAME' or 'failed NAME'. */
+/* Two endpoints as h3_config_default makes them: lists of every size up to the announced one, of each byte that a value may have, of text
+ * in UTF-8, of JSON and of random bytes, as requests and as responses, before the settings and behind them. Each is sent, and comes out as
+ * it was sent, beside a message with content on another stream, which comes out whole. A fault of any kind is counted. One line 'ok NAME'
+ * or 'failed NAME'. */
 #define TEST "defaults"
 #include "field_list.h"
 
@@ -12,8 +13,8 @@ enum { CHINESE = 256, CYRILLIC, EMOJI, JSON, RANDOM, MADE_OF }; /* below 256 the
 typedef struct {
   unsigned number, made_of;
   size_t size;
-  int from;  /* CLIENT: it is a request; SERVER: a response */
-  int early; /* no settings were delivered yet */
+  int from;       /* CLIENT: it is a request; SERVER: a response */
+  int early;      /* no settings were delivered yet */
   int as_headers; /* h3_send_head and h3_pull, which read the list as a header */
   int own_first;  /* behind the settings: whether the encoder stream goes over ahead of the list */
   size_t value;   /* its values are so long, but for the last */
@@ -69,10 +70,14 @@ static void fill(uint8_t *to, size_t len, unsigned made_of) {
   static const char text[] = "{\"id\":4711,\"name\":\"Beanwhile\",\"tags\":[\"a\",\"b\"],\"ok\":true,\"at\":\"2026-01-31T12:00:00Z\"},";
   for (size_t at = 0; at < len;) {
     size_t count = 1;
-    if (made_of == JSON) to[at] = (uint8_t)text[at % (sizeof text - 1)];
-    else if (made_of == RANDOM) to[at] = any_byte();
-    else if (made_of < 256) to[at] = (uint8_t)made_of;
-    else count = utf8(to + at, len - at, character(made_of));
+    if (made_of == JSON)
+      to[at] = (uint8_t)text[at % (sizeof text - 1)];
+    else if (made_of == RANDOM)
+      to[at] = any_byte();
+    else if (made_of < 256)
+      to[at] = (uint8_t)made_of;
+    else
+      count = utf8(to + at, len - at, character(made_of));
     if (!count) {
       memset(to + at, 'a', len - at);
       break;
@@ -88,8 +93,10 @@ static void make_list(field_list *list, const plan *p) {
   static uint8_t value[MOST_BYTES];
   static const char name[] = "x-list";
   const size_t least = sizeof name - 1 + 32;
-  if (p->from == CLIENT) begin_request(list, "GET");
-  else begin_response(list, "200");
+  if (p->from == CLIENT)
+    begin_request(list, "GET");
+  else
+    begin_response(list, "200");
   while (size_of(list) < p->size) {
     size_t left = p->size - size_of(list);
     size_t len = left < p->value + 2 * least ? left - least : p->value;
@@ -100,7 +107,8 @@ static void make_list(field_list *list, const plan *p) {
 
 static void send_section(int side, uint64_t id, const field_list *list, int as_header) {
   if (broken) return;
-  uint32_t answer = as_header ? h3_send_head(&ends[side], id, list->sizes, list->count, list->bytes, list->len, NULL) : send_list(&ends[side], id, list);
+  uint32_t answer =
+      as_header ? h3_send_head(&ends[side], id, list->sizes, list->count, list->bytes, list->len, NULL) : send_list(&ends[side], id, list);
   need(answer == H3_OK, "a list is not sent: answer", answer);
 }
 
@@ -120,10 +128,12 @@ static void carry(int from, uint64_t id, size_t step) {
   uint64_t code = 0;
   do {
     if (broken) return;
-    need(h3_outgoing(&ends[from], id, bytes, step, &n, &fin) == H3_OK && h3_advance(&ends[from], id, n) == H3_OK, "nothing is taken: stream", id);
+    need(h3_outgoing(&ends[from], id, bytes, step, &n, &fin) == H3_OK && h3_advance(&ends[from], id, n) == H3_OK,
+        "nothing is taken: stream", id);
     if (n) need(h3_deliver(&ends[!from], id, bytes, n, &code) == H3_OK, "a delivery is refused: code", code);
   } while (n && !fin);
-  if (fin) need(h3_deliver_end(&ends[!from], id, &code) == H3_OK && h3_end_taken(&ends[from], id) == H3_OK, "an end is refused: code", code);
+  if (fin)
+    need(h3_deliver_end(&ends[!from], id, &code) == H3_OK && h3_end_taken(&ends[from], id) == H3_OK, "an end is refused: code", code);
 }
 
 static void carry_own(int from) {
@@ -156,7 +166,8 @@ static void take_content(int side, uint64_t id, size_t from) {
   size_t n = 0;
   h3_item item = pull(side, id, 0);
   need(item.kind == H3_BODY && item.len == HALF, "no content of the other message: kind", item.kind);
-  if (!broken) need(!h3_item_bytes(&ends[side], 0, came, HALF, &n) && n == HALF && !memcmp(came, content + from, n), "other content: bytes", n);
+  if (!broken)
+    need(!h3_item_bytes(&ends[side], 0, came, HALF, &n) && n == HALF && !memcmp(came, content + from, n), "other content: bytes", n);
 }
 
 static void make_pair(void) {
@@ -210,11 +221,14 @@ static void exchange(const plan *p) {
   static field_list list, plain;
   uint64_t id = 0, other = 0;
   if (p->early || !ends[CLIENT].at || on_connection == ON_ONE_CONNECTION) make_pair();
-  if (!p->early && !on_connection) for (int side = 0; side < 2; side++) carry_own(side);
+  if (!p->early && !on_connection)
+    for (int side = 0; side < 2; side++) carry_own(side);
   on_connection++;
   make_list(&list, p);
-  if (p->from == CLIENT) begin_request(&plain, "POST");
-  else begin_response(&plain, "200");
+  if (p->from == CLIENT)
+    begin_request(&plain, "POST");
+  else
+    begin_response(&plain, "200");
   add_field(&plain, "content-length", "600");
   need(!h3_open_request(&ends[CLIENT], &id, NULL) && !h3_open_request(&ends[CLIENT], &other, NULL), "no request is opened: stream", id);
   if (p->from == SERVER) ask(id, other, p->early);
@@ -242,9 +256,12 @@ static void tell(const plan *p) {
   if (faults++ >= TOLD) return;
   printf("failed defaults: list %u of %zu bytes, made of ", p->number, p->size);
   static const char *const names[] = {"Chinese", "Cyrillic", "emoji", "JSON", "random bytes"};
-  if (p->made_of < CHINESE) printf("byte 0x%02x", p->made_of);
-  else printf("%s", names[p->made_of - CHINESE]);
-  printf(", a %s %s the settings: %s 0x%llx\n", p->from ? "response" : "request", p->early ? "before" : "behind", broken, (unsigned long long)broken_by);
+  if (p->made_of < CHINESE)
+    printf("byte 0x%02x", p->made_of);
+  else
+    printf("%s", names[p->made_of - CHINESE]);
+  printf(", a %s %s the settings: %s 0x%llx\n", p->from ? "response" : "request", p->early ? "before" : "behind", broken,
+      (unsigned long long)broken_by);
 }
 
 int main(void) {
@@ -261,7 +278,10 @@ int main(void) {
     make_pair();
   }
   for (int side = 0; side < 2; side++) h3_free(&ends[side]);
-  if (faults) printf("failed defaults: %u of %d lists\n", faults, LISTS);
-  else printf("ok defaults: %d lists of up to %d bytes, of %u kinds, between two endpoints with the defaults: 0 faults\n", LISTS, ANNOUNCED, count);
+  if (faults)
+    printf("failed defaults: %u of %d lists\n", faults, LISTS);
+  else
+    printf("ok defaults: %d lists of up to %d bytes, of %u kinds, between two endpoints with the defaults: 0 faults\n", LISTS, ANNOUNCED,
+        count);
   return faults != 0;
 }

@@ -1,6 +1,6 @@
-/* What a peer may send without end, and what it may then cost: requests that are opened and canceled before the settings, GOAWAYs, and cancellations of
- * streams that were never seen. None is a fault, none costs more memory than a bound, and what counts as canceled is still answered. Linked with --wrap for
- * malloc, realloc and free. One line 'ok NAME' or 'failed NAME'. */
+/* What a peer may send without end, and what it may then cost: requests that are opened and canceled before the settings, GOAWAYs, and
+ * cancellations of streams that were never seen. None is a fault, none costs more memory than a bound, and what counts as canceled is
+ * still answered. Linked with --wrap for malloc, realloc and free. One line 'ok NAME' or 'failed NAME'. */
 #include "counted.h"
 #define TEST "floods"
 #include "expect.h"
@@ -8,9 +8,9 @@
 
 /* what is expected of the library */
 enum {
-  CANCELED_IDS = 1000,                              /* so many canceled ids are kept that were not seen */
-  CANCELED_BYTES = 16 * CANCELED_IDS + 64 + 512,    /* and so many bytes (blocks of malloc are rounded up) */
-  GOAWAY_BYTES = 512,                               /* the last id alone is kept */
+  CANCELED_IDS = 1000,                           /* so many canceled ids are kept that were not seen */
+  CANCELED_BYTES = 16 * CANCELED_IDS + 64 + 512, /* and so many bytes (blocks of malloc are rounded up) */
+  GOAWAY_BYTES = 512,                            /* the last id alone is kept */
 };
 
 enum { EARLY = 40000, BEFORE_THEIR_BYTES = 1500, GOAWAY_FLOOD = 48000000, FAR_IDS = 4475000, PIECE = 64 * 1024 };
@@ -71,8 +71,8 @@ static void ask(uint64_t id) {
   HOLDS(pull(SERVER, id).kind == H3_HEAD);
 }
 
-/* The server answers, and the client reads it. Answers whether the section names the table: its required insert count is not 0 (RFC 9204, section 4.5.1),
- * the first byte behind a frame's type and a length of one byte. */
+/* The server answers, and the client reads it. Answers whether the section names the table: its required insert count is not 0 (RFC 9204,
+ * section 4.5.1), the first byte behind a frame's type and a length of one byte. */
 static int answers_by_table(uint64_t id) {
   uint8_t head[3];
   size_t n = 0;
@@ -135,6 +135,13 @@ static void of_cancellations_ahead(void) {
   drop();
 }
 
+/* so much more is allocated than before, and never more than that and two deliveries: one is copied while it is read */
+static void bounded(const char *what, size_t before, size_t most) {
+  if (live <= before + most && most_live <= before + most + 2 * PIECE) return;
+  printf("failed floods: %s: %zu bytes are kept, and there were %zu, above the bound of %zu\n", what, live - before, most_live - before, most);
+  bad = 1;
+}
+
 /* the piece comes as often as it takes for so many bytes */
 static void flood(int side, uint64_t id, size_t n, size_t all) {
   uint32_t answer = H3_OK;
@@ -142,11 +149,11 @@ static void flood(int side, uint64_t id, size_t n, size_t all) {
   IS(answer, H3_OK);
 }
 
-/* GOAWAYs of one id, 48 MB of them in frames of three bytes; the last id alone is kept, and a higher one is a fault (RFC 9114, section 5.2) */
+/* GOAWAYs of one id, 48 MB of them in frames of three bytes; the last id alone is kept, and a higher one is a fault (RFC 9114,
+ * section 5.2) */
 static void of_goaways(int side) {
   h3_state state;
   uint64_t control = h3_control_id(!side), code = 0, id;
-  size_t most = 0;
   make();
   carry_own();
   IS(h3_deliver(&ends[side], control, "\7\x02\x40\x64", 4, NULL), H3_OK); /* 100 */
@@ -154,10 +161,9 @@ static void of_goaways(int side) {
   size_t before = live;
   most_live = live;
   flood(side, control, PIECE / 3 * 3, GOAWAY_FLOOD);
-  most = live - before;
   IS(h3_connection(&ends[side], &state), H3_OK);
   HOLDS(state.has_goaway && state.goaway == 8);
-  HOLDS(most <= GOAWAY_BYTES && most_live <= before + 2 * PIECE); /* a delivery is copied while it is read */
+  bounded("GOAWAYs", before, GOAWAY_BYTES);
   IS(h3_deliver(&ends[side], control, "\7\1\0", 3, NULL), H3_OK);
   IS(h3_connection(&ends[side], &state), H3_OK);
   HOLDS(state.goaway == 0);
@@ -193,8 +199,8 @@ static void cancel_far(uint64_t from, uint64_t count, uint64_t distance) {
   IS(answer, H3_OK);
 }
 
-/* A stream that was seen is answered by the table. So is an unseen one while few were canceled; behind too many each one up to the greatest of them is
- * answered without it, and those above it by it. */
+/* A stream that was seen is answered by the table. So is an unseen one while few were canceled; behind too many each one up to the
+ * greatest of them is answered without it, and those above it by it. */
 static void of_far_cancellations(void) {
   const uint64_t distance = 1024, seen = 0, between = 4 * 102, above = distance * (FAR_IDS + 1);
   make();
@@ -202,11 +208,10 @@ static void of_far_cancellations(void) {
   ask(seen);
   ask(4);
   HOLDS(answers_by_table(4));
-  size_t before = live, kept;
+  size_t before = live;
   most_live = live;
   cancel_far(distance, FAR_IDS, distance);
-  kept = live - before;
-  HOLDS(kept <= CANCELED_BYTES && most_live <= before + CANCELED_BYTES + 2 * PIECE);
+  bounded("cancellations far apart", before, CANCELED_BYTES);
   HOLDS(answers_by_table(seen));
   ask(between);
   HOLDS(!answers_by_table(between));
@@ -245,8 +250,10 @@ int main(void) {
   of_far_cancellations();
   of_few_cancellations();
   if (!bad) {
-    printf("ok floods: %d requests canceled before the settings, %d MB of GOAWAYs, %d cancellations far apart: no fault, and no memory above its bound\n", EARLY,
-        GOAWAY_FLOOD / 1000000, FAR_IDS);
+    printf(
+        "ok floods: %d requests canceled before the settings, %d MB of GOAWAYs, %d cancellations far apart: no fault, and no memory above "
+        "its bound\n",
+        EARLY, GOAWAY_FLOOD / 1000000, FAR_IDS);
   }
   return bad;
 }

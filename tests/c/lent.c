@@ -1,5 +1,5 @@
-/* Bytes that are lent to calls of include/h3.h: each is overwritten or freed as soon as the header lets it go, or its page can be read no longer, and what
- * comes out stays right. One line 'ok NAME' or 'failed NAME'. */
+/* Bytes that are lent to calls of include/h3.h: each is overwritten or freed as soon as the header lets it go, or its page can be read no
+ * longer, and what comes out stays right. One line 'ok NAME' or 'failed NAME'. */
 #define _GNU_SOURCE
 #include <h3.h>
 #include <signal.h>
@@ -7,6 +7,7 @@
 #include <stdlib.h>
 #include <string.h>
 #include <sys/mman.h>
+#include <sys/wait.h>
 #include <unistd.h>
 #define TEST "lent"
 #include "expect.h"
@@ -290,6 +291,26 @@ static void ask_all(h3_endpoint *e, uint64_t unread) {
   }
 }
 
+static void of_lent_and_let_go(const char *name, const char *bytes, size_t len, void (*lets_go)(h3_endpoint *)) {
+  struct sigaction reads = {.sa_handler = told_of_a_read};
+  h3_endpoint server = H3_NONE_YET;
+  h3_config c;
+  h3_stream_state stream = {0};
+  sigaction(SIGSEGV, &reads, NULL);
+  snprintf(reading, sizeof reading, "failed lent: bytes that were let go are read: %s\n", name);
+  plain_config(&c, 1);
+  IS(h3_new(&server, &c, NULL), H3_OK);
+  const uint8_t *lent = lend(bytes, len);
+  IS(h3_deliver_lent(&server, 0, lent, len, NULL), H3_OK);
+  lets_go(&server);
+  IS(h3_stream(&server, 0, &stream), H3_OK);
+  HOLDS(stream.unread <= len);
+  let_go(lent);
+  ask_all(&server, stream.unread);
+  h3_free(&server);
+  unmap(lent);
+}
+
 /* bytes that are lent on stream 0 of a server, a way in which h3.h lets them go, and then each call: it answers from what is the library's */
 static void of_lent_behind_faults(void) {
 #define HEAD "\x01\x07\0\0\xd1\xd7\x50\x01" "a" /* :method GET, :scheme https, :authority "a" (RFC 9204, appendix A) */
@@ -322,26 +343,16 @@ static void of_lent_behind_faults(void) {
       {"a frame in part, and h3_cancel", "\1\5\0", 3, by_a_cancellation},
       {"a head, and the end", HEAD, 9, by_the_end},
   };
-  struct sigaction reads = {.sa_handler = told_of_a_read};
-  sigaction(SIGSEGV, &reads, NULL);
+  fflush(stdout);
   for (size_t i = 0; i < sizeof of / sizeof *of; i++) {
-    h3_endpoint server = H3_NONE_YET;
-    h3_config c;
-    h3_stream_state stream = {0};
-    snprintf(reading, sizeof reading, "failed lent: bytes that were let go are read: %s\n", of[i].name);
-    plain_config(&c, 1);
-    IS(h3_new(&server, &c, NULL), H3_OK);
-    const uint8_t *bytes = lend(of[i].bytes, of[i].len);
-    IS(h3_deliver_lent(&server, 0, bytes, of[i].len, NULL), H3_OK);
-    of[i].lets_go(&server);
-    IS(h3_stream(&server, 0, &stream), H3_OK);
-    HOLDS(stream.unread <= of[i].len);
-    let_go(bytes);
-    ask_all(&server, stream.unread);
-    h3_free(&server);
-    unmap(bytes);
+    int status = 0;
+    pid_t child = fork(); /* a read ends it */
+    if (child == 0) {
+      of_lent_and_let_go(of[i].name, of[i].bytes, of[i].len, of[i].lets_go);
+      exit(bad);
+    }
+    if (child < 0 || waitpid(child, &status, 0) != child || status) bad = 1;
   }
-  signal(SIGSEGV, SIG_DFL);
 #undef HEAD
 }
 

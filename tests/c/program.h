@@ -1,12 +1,14 @@
-// Two programs, of a client and of a server, through include/h3.h: lists and headers mixed, each side strict or not, tables of every size, bytes in flight
-// across resets, and every twelfth call with an allocation refused. Which calls they make is chosen by `below`. At each call the clauses of what the library
-// promises of a whole connection are checked:
-//   begins               what a side is handed of a stream is the beginning of what the other side sent on it, field by field and byte by byte
-//   ends                 the end comes behind all of it
-//   accepts              what is in order and within the other side's announced size is sent; or memory was refused, or a strict side names a broken rule
-//   comes_out            with nothing left to deliver, all that was sent has come out of each stream that was not given up
-//   no_connection_fault  where both sides are strict, or neither is, the connection has no fault
-//   shows                what h3_stream says is held is at most what came, and on what h3_next_to_send names something waits
+// Two programs, of a client and of a server, through include/h3.h: lists and headers mixed, each side strict or not, tables of every size,
+// bytes in flight across resets, and every twelfth call with an allocation refused. Which calls they make is chosen by `below`. At each
+// call the clauses of what the library promises of a whole connection are checked:
+//
+// - begins: what a side is handed of a stream is the beginning of what the other side sent on it, field by field and byte by byte;
+// - ends: the end comes behind all of it;
+// - accepts: what is in order and within the other side's announced size is sent; or memory was refused, or a strict side names a rule;
+// - comes_out: with nothing left to deliver, all that was sent has come out of each stream that was not given up;
+// - no_connection_fault: where both sides are strict, or neither is, the connection has no fault;
+// - shows: what h3_stream says is held is at most what came, and on what h3_next_to_send names something waits.
+//
 // Linked with --wrap for malloc and realloc.
 #ifndef PROGRAM_H
 #define PROGRAM_H
@@ -23,7 +25,7 @@
 namespace {
 
 // what is expected of the library
-constexpr uint64_t TOO_LONG = 19;           // the h3_malformation of a HEADERS frame above the limit
+constexpr uint64_t TOO_LONG = 19;            // the h3_malformation of a HEADERS frame above the limit
 constexpr uint64_t FRAME_UNEXPECTED = 0x105; // a trailer in a tunnel, which a side that is not strict may send (RFC 9114, section 4.4)
 
 constexpr uint64_t REQUESTS = 6, ALL = 1 << 20;
@@ -51,7 +53,7 @@ bool refuses() {
   return true;
 }
 
-}  // namespace
+} // namespace
 
 extern "C" {
 void *__real_malloc(size_t size);
@@ -92,7 +94,8 @@ std::string last_value(const FieldList &list, const std::string &name) {
   return value;
 }
 
-// the list that a header reads as: pseudo-header fields first, of a repeated one the last, then the others by name in the order of their first coming
+// the list that a header reads as: pseudo-header fields first, of a repeated one the last, then the others by name in the order of their
+// first coming
 FieldList as_header(const FieldList &list) {
   FieldList header;
   for (const char *name : {":method", ":scheme", ":authority", ":path", ":status", ":protocol"})
@@ -178,10 +181,10 @@ struct Flow {
   bool head_sent = false, trailer_sent = false, finished = false, reset = false;
   std::deque<uint8_t> flight; // taken by QUIC, and not delivered
   bool end_in_flight = false, reset_in_flight = false;
-  uint64_t code = 0; // of the reset
+  uint64_t code = 0;                 // of the reset
   uint64_t came = 0;                 // so many bytes were delivered
   bool seen = false, closed = false; // at the other side: something came; its end or reset came
-  size_t out = 0; // so many parts came out there
+  size_t out = 0;                    // so many parts came out there
   bool ended = false, given_up = false;
 };
 
@@ -193,8 +196,8 @@ struct Side {
 };
 
 struct Counts {
-  unsigned long programs = 0, calls = 0, memory_answers = 0, sends = 0, bytes = 0, lists = 0, too_large = 0, ends = 0, came_out = 0, malformed = 0,
-                too_long = 0, tunnel_faults = 0, violations = 0;
+  unsigned long programs = 0, calls = 0, memory_answers = 0, sends = 0, bytes = 0, lists = 0, too_large = 0, ends = 0, came_out = 0,
+                malformed = 0, too_long = 0, tunnel_faults = 0, violations = 0;
 } counts;
 
 class Program {
@@ -258,7 +261,8 @@ class Program {
 
 constexpr uint64_t OWN[2][3] = {{2, 6, 10}, {3, 7, 11}};
 
-// Every second program has both sides strict or neither, every fourth is aimed at early answers, and in the others each side is as it likes.
+// Every second program has both sides strict or neither, every fourth is aimed at early answers, and in the others each side is as it
+// likes.
 Program::Program(uint64_t seed) : seed_(seed), is_aimed_(seed % 4 == 1) {
   for (int side = 0; side < 2; side++) {
     static const uint64_t tables[] = {0, 100, 220, 4096};
@@ -283,7 +287,8 @@ Program::Program(uint64_t seed) : seed_(seed), is_aimed_(seed % 4 == 1) {
 
 void Program::violated(const char *clause, uint64_t id, const char *more) {
   if (++counts.violations > TOLD) return;
-  printf("failed programs: seed %llu, stream %llu: %s: %s\n", static_cast<unsigned long long>(seed_), static_cast<unsigned long long>(id), clause, more);
+  printf("failed programs: seed %llu, stream %llu: %s: %s\n", static_cast<unsigned long long>(seed_), static_cast<unsigned long long>(id),
+      clause, more);
 }
 
 // ---- the clauses ----
@@ -293,7 +298,8 @@ void Program::begins_with_list(int reader, uint64_t id, const h3_item &item, con
   counts.lists++;
   if (item.kind == H3_TOO_LARGE_HEAD) {
     counts.too_large++;
-    if (part.kind == H3_BODY || item.number != size_of(part.list) || item.number <= most) violated("begins", id, "too large, and not by its size");
+    if (part.kind == H3_BODY || item.number != size_of(part.list) || item.number <= most)
+      violated("begins", id, "too large, and not by its size");
     return;
   }
   if (item.kind != part.kind) return violated("begins", id, "an item of another kind");
@@ -301,7 +307,8 @@ void Program::begins_with_list(int reader, uint64_t id, const h3_item &item, con
   std::vector<h3_field_size> sizes(item.fields + 1);
   std::string bytes(size_of(part.list) + 1, 0);
   FieldList came;
-  if (h3_item_fields(&sides_[reader].end, sizes.data(), sizes.size(), &bytes[0], bytes.size()) != H3_OK) return violated("begins", id, "no fields");
+  if (h3_item_fields(&sides_[reader].end, sizes.data(), sizes.size(), &bytes[0], bytes.size()) != H3_OK)
+    return violated("begins", id, "no fields");
   for (size_t i = 0, at = 0; i < item.fields; at += sizes[i].name + sizes[i].value, i++)
     came.push_back({bytes.substr(at, sizes[i].name), bytes.substr(at + sizes[i].name, sizes[i].value)});
   if (came != (as_list ? part.list : as_header(part.list))) violated("begins", id, as_list ? "another list" : "another header");
@@ -360,7 +367,8 @@ void Program::no_connection_fault(int side, uint64_t code, const char *where) {
     return;
   }
   char told[80];
-  snprintf(told, sizeof told, "a %s, code 0x%llx, at a %s side", where, static_cast<unsigned long long>(code), sides_[side].config.strict ? "strict" : "plain");
+  snprintf(told, sizeof told, "a %s, code 0x%llx, at a %s side", where, static_cast<unsigned long long>(code),
+      sides_[side].config.strict ? "strict" : "plain");
   violated("no_connection_fault", 0, told);
 }
 
@@ -373,7 +381,8 @@ void Program::shows(int side, uint64_t id) {
   uint8_t byte;
   size_t n = 0;
   uint32_t fin = 0;
-  if (h3_outgoing(end, named, &byte, 1, &n, &fin) != H3_OK || (!n && !fin)) violated("shows", named, "nothing waits on a stream that is to be sent");
+  if (h3_outgoing(end, named, &byte, 1, &n, &fin) != H3_OK || (!n && !fin))
+    violated("shows", named, "nothing waits on a stream that is to be sent");
 }
 
 // ---- the calls ----
@@ -393,8 +402,10 @@ void Program::open_request() {
   if (opened_ == REQUESTS || sides_[0].has_fault) return;
   uint32_t answer = call([&] { return h3_open_request(&sides_[0].end, &id, nullptr); });
   if (answer == H3_OK && id != 4 * opened_) violated("accepts", id, "another id than the next");
-  if (answer == H3_OK) opened_++;
-  else if (answer != H3_MEMORY) violated("accepts", id, "no request is opened");
+  if (answer == H3_OK)
+    opened_++;
+  else if (answer != H3_MEMORY)
+    violated("accepts", id, "no request is opened");
 }
 
 uint32_t Program::give(int side, uint64_t id, const FieldList &list, bool is_trailer, bool as_header) {
@@ -514,8 +525,10 @@ void Program::told_of_fault(int side, uint64_t id, const h3_item &item) {
     bool is_too_long = item.number == TOO_LONG;
     if (is_too_long) counts.too_long++;
     uint64_t most = sides_[side].config.max_field_section_size;
-    if (is_too_long && (sent.out == sent.sent.size() || size_of(sent.sent[sent.out].list) <= most)) violated("begins", id, "a list that is taken is too long");
-    if (!is_too_long && !sides_[side].config.strict && item.number != H3_NO_HEAD) violated("begins", id, "malformed at a side that is not strict");
+    if (is_too_long && (sent.out == sent.sent.size() || size_of(sent.sent[sent.out].list) <= most))
+      violated("begins", id, "a list that is taken is too long");
+    if (!is_too_long && !sides_[side].config.strict && item.number != H3_NO_HEAD)
+      violated("begins", id, "malformed at a side that is not strict");
   }
   sent.given_up = true;
 }
@@ -526,12 +539,17 @@ bool Program::pull(int side, uint64_t id) {
   bool as_list = !one_in(3);
   h3_endpoint *end = &sides_[side].end;
   if (sides_[side].has_fault) return true;
-  if (call([&] { return as_list ? h3_pull_fields(end, id, &item) : h3_pull(end, id, &item); }) != H3_OK) violated("begins", id, "a pull is refused");
+  if (call([&] { return as_list ? h3_pull_fields(end, id, &item) : h3_pull(end, id, &item); }) != H3_OK)
+    violated("begins", id, "a pull is refused");
   switch (item.kind) {
     case H3_FAULT_MEMORY: counts.memory_answers++; return false;
     case H3_FAULT_CONNECTION: no_connection_fault(side, item.number, "pull"); return true;
-    case H3_FAULT_MALFORMED: case H3_FAULT_RESET: case H3_FAULT_CANCELED: told_of_fault(side, id, item); return false;
-    case H3_PENDING: case H3_WAITING: case H3_NO_MESSAGES: return true;
+    case H3_FAULT_MALFORMED:
+    case H3_FAULT_RESET:
+    case H3_FAULT_CANCELED: told_of_fault(side, id, item); return false;
+    case H3_PENDING:
+    case H3_WAITING:
+    case H3_NO_MESSAGES: return true;
     case H3_END: ends(id, flow(!side, id)); return false;
     default: begins(side, id, item, as_list); return false;
   }
@@ -542,15 +560,19 @@ bool Program::pull(int side, uint64_t id) {
 void Program::step_on(int side, uint64_t id, uint32_t choice) {
   size_t piece = 1 + below(below(2) ? 8 : 400);
   switch (choice) {
-    case 0: case 1: return send_head(side, id);
-    case 2: case 3: return send_content(side, id);
+    case 0:
+    case 1: return send_head(side, id);
+    case 2:
+    case 3: return send_content(side, id);
     case 4: return send_trailer(side, id);
     case 5: return finish(side, id);
     case 6: return one_in(5) ? reset(side, id) : void();
     case 7: return one_in(5) ? cancel(side, id) : void();
     case 8: return deliver_end(side, id);
-    case 9: case 10: return take(side, below(2) ? OWN[side][below(3)] : id, piece);
-    case 11: case 12: return deliver(side, below(2) ? OWN[side][below(3)] : id, piece);
+    case 9:
+    case 10: return take(side, below(2) ? OWN[side][below(3)] : id, piece);
+    case 11:
+    case 12: return deliver(side, below(2) ? OWN[side][below(3)] : id, piece);
     default: pull(side, id);
   }
 }
@@ -590,5 +612,5 @@ void Program::run() {
   if (!sides_[0].has_fault && !sides_[1].has_fault) comes_out();
 }
 
-}  // namespace
+} // namespace
 #endif

@@ -23,7 +23,7 @@ void begin(uint64_t seed) {
   steps_left = 60 + below(one_in(8) ? 1500 : 160);
 }
 
-}  // namespace
+} // namespace
 
 int main(int count, char **arguments) {
   if (count != 3) return 2;
@@ -32,9 +32,11 @@ int main(int count, char **arguments) {
     begin(seed);
     Program(seed).run();
   }
-  printf("%s programs: %lu pairs, %lu calls, %lu allocations refused: %lu sends in order, %lu bytes, %lu lists and headers (%lu too large), %lu ends, "
-         "%lu messages that had to come out; %lu malformed (%lu too long); %lu trailers in a tunnel from a plain side; %lu violations\n",
-      counts.violations ? "failed" : "ok", counts.programs, counts.calls, allocations_refused, counts.sends, counts.bytes, counts.lists, counts.too_large,
-      counts.ends, counts.came_out, counts.malformed, counts.too_long, counts.tunnel_faults, counts.violations);
+  printf(
+      "%s programs: %lu pairs, %lu calls, %lu allocations refused: %lu sends in order, %lu bytes, %lu lists and headers (%lu too large), "
+      "%lu ends, "
+      "%lu messages that had to come out; %lu malformed (%lu too long); %lu trailers in a tunnel from a plain side; %lu violations\n",
+      counts.violations ? "failed" : "ok", counts.programs, counts.calls, allocations_refused, counts.sends, counts.bytes, counts.lists,
+      counts.too_large, counts.ends, counts.came_out, counts.malformed, counts.too_long, counts.tunnel_faults, counts.violations);
   return counts.violations != 0;
 }

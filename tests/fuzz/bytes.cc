@@ -1,9 +1,10 @@
-// A fuzzer (libFuzzer) over the bytes of a peer: each record of the input names a stream and what comes on it. The records go to two endpoints, to one whole
-// and to the other byte by byte, each pulled behind every delivery. At each step:
+// A fuzzer (libFuzzer) over the bytes of a peer: each record of the input names a stream and what comes on it. The records go to two
+// endpoints, to one whole and to the other byte by byte, each pulled behind every delivery. At each step:
 //   what h3_stream says is held is at most what came, and on what h3_next_to_send names something waits
 //   behind a fault of the connection each pull and each delivery tells its code
-// and at the end both were handed the same of each stream, up to a fault of the connection: then the endpoint that got pieces was handed no less. (With a
-// dynamic table a faulty peer may drop entries that a section waits for, and what comes of it depends on the pieces: then they are not compared.)
+// and at the end both were handed the same of each stream, up to a fault of the connection: then the endpoint that got pieces was handed
+// no less. (With a dynamic table a faulty peer may drop entries that a section waits for, and what comes of it depends on the pieces: then
+// they are not compared.)
 #include <h3.h>
 
 #include <cstdio>
@@ -118,14 +119,16 @@ class Reader {
     need(!has_fault_ || item.kind == H3_FAULT_CONNECTION, "a pull behind a fault of the connection does not tell it");
     need(item.kind != H3_FAULT_MEMORY, "memory was refused");
     if (item.kind == H3_FAULT_CONNECTION) fault(item.number);
-    if (item.kind == H3_PENDING || item.kind == H3_WAITING || item.kind == H3_NO_MESSAGES || item.kind == H3_FAULT_CONNECTION) return false;
+    if (item.kind == H3_PENDING || item.kind == H3_WAITING || item.kind == H3_NO_MESSAGES || item.kind == H3_FAULT_CONNECTION)
+      return false;
     Handed &of_stream = handed[id];
     if (item.kind == H3_BODY || item.kind == H3_RAW) {
       of_stream.text += (of_stream.in_content ? "" : "\ncontent ") + content(item.len);
       of_stream.in_content = true;
       return true;
     }
-    std::string line = "\n" + std::to_string(item.kind) + " " + std::to_string(item.number) + " " + std::to_string(item.status) + " " + fields(item);
+    std::string line =
+        "\n" + std::to_string(item.kind) + " " + std::to_string(item.number) + " " + std::to_string(item.status) + " " + fields(item);
     bool is_last = item.kind == H3_END || item.kind > H3_FAULT_CONNECTION;
     if (!is_last || last_[id] != line) of_stream.text += line;
     if (is_last) last_[id] = line; // it is told again by each pull
@@ -176,7 +179,7 @@ void compare(Reader &whole, Reader &pieces) {
   }
 }
 
-}  // namespace
+} // namespace
 
 // records: a byte for the stream (and in its upper bits whether its end or reset comes instead), one for how many bytes follow, and these
 extern "C" int LLVMFuzzerTestOneInput(const uint8_t *data, size_t size) {
@@ -189,9 +192,12 @@ extern "C" int LLVMFuzzerTestOneInput(const uint8_t *data, size_t size) {
     size_t count = at + 1 < size ? data[at + 1] : 0;
     if (count > size - at - 2 || at + 2 > size) count = at + 2 < size ? size - at - 2 : 0;
     for (Reader *reader : {&whole, &pieces}) {
-      if (what == 7) reader->deliver_end(id);
-      else if (what == 6) reader->deliver_reset(id);
-      else reader->deliver(id, data + at + 2, count);
+      if (what == 7)
+        reader->deliver_end(id);
+      else if (what == 6)
+        reader->deliver_reset(id);
+      else
+        reader->deliver(id, data + at + 2, count);
     }
     at += what >= 6 ? 1 : 2 + count;
   }

@@ -1,4 +1,5 @@
-// A fuzzer (libFuzzer) over a list of calls: each byte chooses how two programs (../c/program.h) go on, and the clauses are checked at each call.
+// A fuzzer (libFuzzer) over a list of calls: each byte chooses how two programs (../c/program.h) go on, and the clauses are checked at
+// each call.
 #include "../c/program.h"
 
 namespace {
@@ -18,7 +19,7 @@ uint32_t below(uint32_t count) {
 
 bool is_chosen_out() { return choices_left == 0; }
 
-}  // namespace
+} // namespace
 
 extern "C" int LLVMFuzzerTestOneInput(const uint8_t *data, size_t size) {
   if (size == 0) return 0;
