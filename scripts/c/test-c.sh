@@ -1,11 +1,11 @@
 #!/usr/bin/env bash
 # C programs over build/c (scripts/c/lib.sh), by the machine's C compiler alone: the calls of crates/h3_cases and hostile lists of calls through the header,
-# each allocation refused in turn, large input with none refused, two endpoints under random schedules, what is held of a stream and of small pieces, unknown
-# frames, long instructions, wrong arguments, bytes that are lent, pulled lists, lists between two endpoints with the defaults, frames above the limit, floods,
-# random programs in C++ (COUNT=60000), and the program of docs/TUTORIAL.md. Once as they are, and once with the sanitizers of addresses, leaks and undefined
-# behaviour where the compiler has them (large input, memory: once). Then a short run of the fuzzers (scripts/c/fuzz.sh), how programs find the library
-# (scripts/c/test-install.sh), and the packages for Go and Rust (scripts/c/test-bindings.sh). One line 'ok NAME' or 'failed NAME' for each; the last is the sum.
-# With LIB=FOLDER the library in that folder is taken, as that of `make lib-unproved`, and none is built.
+# each allocation refused in turn, large input with none refused, two endpoints under random schedules, what is held of a stream and of small pieces, unknown frames, long instructions, wrong arguments, bytes that are lent, pulled lists, and the program of docs/TUTORIAL.md. Once as
+# they are, and once with the sanitizers of addresses, leaks and undefined behaviour where the compiler has them (large input, memory: once). Then how programs find the
+# library (scripts/c/test-install.sh), and the packages for Go and Rust (scripts/c/test-bindings.sh). One line 'ok NAME' or 'failed NAME' for each; the last is the sum. With LIB=FOLDER the library in that folder is
+# taken, as that of `make lib-unproved`, and none is built.
+# Beside these: lists between two endpoints with the defaults, frames above the limit, floods, what `detail` says, COUNT=60000 pairs of random programs (in
+# C++), and a short run of the fuzzers (scripts/c/fuzz.sh).
 set -uo pipefail
 cd "$(dirname "$0")/../.."
 
@@ -73,10 +73,10 @@ tutorial() { # PROGRAM, NAME
 run() { # NAME PROGRAM ARGUMENTS..
   local name=$1
   shift
-  if ! "$@"; then
+  "$@" || {
     echo "failed $name: status $?"
     bad=1
-  fi
+  }
 }
 
 checks() {
@@ -90,10 +90,11 @@ checks() {
   compile instructions instructions
   compile arguments arguments
   compile lent lent
-  compile lists lists
+  compile details details
   compile defaults defaults
   compile excess excess "${wrapped[@]}"
   compile floods floods "${wrapped[@]}"
+  compile lists lists
   compile in_memory in_memory
   if [ "$bad" -eq 0 ]; then
     rows "$out/calls" "rows"
@@ -107,11 +108,12 @@ checks() {
     run instructions "$out/instructions"
     run arguments "$out/arguments" $mark
     run lent "$out/lent"
-    run lists "$out/lists"
+    run details "$out/details"
     run defaults "$out/defaults"
     run excess "$out/excess"
     run floods "$out/floods"
     programs
+    run lists "$out/lists"
     tutorial "$out/in_memory" "in_memory: the lines of docs/TUTORIAL.md"
   fi
   if [ "$bad" -eq 0 ] && echo 'int main(void){return 0;}' | "$cc" -x c -fsanitize=address,undefined -o "$out/probe" - 2> "$out/probe.log"; then
@@ -121,6 +123,7 @@ checks() {
     compile instructions instructions_checked "${flags[@]}"
     compile arguments arguments_checked "${flags[@]}"
     compile lent lent_checked "${flags[@]}"
+    compile details details_checked "${flags[@]}"
     compile lists lists_checked "${flags[@]}"
     compile in_memory in_memory_checked "${flags[@]}"
     if [ "$bad" -eq 0 ]; then
@@ -129,6 +132,7 @@ checks() {
       run "instructions with sanitizers" "$out/instructions_checked"
       run "arguments with sanitizers" "$out/arguments_checked" $mark
       run "lent with sanitizers" "$out/lent_checked"
+      run "details with sanitizers" "$out/details_checked"
       run "lists with sanitizers" "$out/lists_checked"
       tutorial "$out/in_memory_checked" "in_memory with sanitizers"
     fi

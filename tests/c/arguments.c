@@ -8,12 +8,6 @@
 
 static const uint64_t FAR = UINT64_C(1) << 62;
 
-/* what is expected of the header */
-enum {
-  MALFORMATIONS = 20, /* how many there are */
-  DETAIL_OF_NULL = 0, /* `detail` of H3_ARGUMENT for a NULL: it is written on each refusal but H3_NO_ENDPOINT */
-};
-
 /* the defaults, but that messages are not judged: the lists of most rows here are no whole messages */
 static void plain_config(h3_config *c) {
   h3_config_default(c);
@@ -63,37 +57,6 @@ static void of_none(h3_endpoint *e) {
   h3_free(e);
 }
 
-/* nothing is done: the endpoint that is there stays (the caller frees it), and the numbers are as the header says */
-static void of_null_configuration(h3_endpoint *e) {
-  h3_state state;
-  void *at = e->at;
-  uint64_t detail = 777;
-  IS(h3_new(e, NULL, &detail), H3_ARGUMENT);
-  HOLDS(e->at == at && detail == DETAIL_OF_NULL);
-  IS(h3_connection(e, &state), H3_OK);
-  e->at = at; /* so that it is freed where that failed */
-}
-
-/* `detail` of each call that has one, where a pointer that may not be NULL is */
-static void of_details(h3_endpoint *e, uint64_t id) {
-  h3_field_size f = {7, 3};
-  uint64_t details[12], *detail = details;
-  for (size_t i = 0; i < 12; i++) details[i] = 777;
-  IS(h3_open_request(e, NULL, detail++), H3_ARGUMENT);
-  IS(h3_next_request_id(e, NULL, detail++), H3_ARGUMENT);
-  IS(h3_send_head(e, id, NULL, 1, ":methodGET", 10, detail++), H3_ARGUMENT);
-  IS(h3_send_head(e, id, &f, 1, NULL, 10, detail++), H3_ARGUMENT);
-  IS(h3_send_trailer(e, id, NULL, 1, ":methodGET", 10, detail++), H3_ARGUMENT);
-  IS(h3_send_fields(e, id, NULL, 1, ":methodGET", 10, detail++), H3_ARGUMENT);
-  IS(h3_send_fields(e, id, &f, 1, NULL, 10, detail++), H3_ARGUMENT);
-  IS(h3_send_trailer_fields(e, id, NULL, 1, ":methodGET", 10, detail++), H3_ARGUMENT);
-  IS(h3_send_body(e, id, NULL, 64, detail++), H3_ARGUMENT);
-  IS(h3_send_body_lent(e, id, NULL, 64, detail++), H3_ARGUMENT);
-  IS(h3_deliver(e, id, NULL, 64, detail++), H3_ARGUMENT);
-  IS(h3_deliver_lent(e, id, NULL, 64, detail++), H3_ARGUMENT);
-  for (size_t i = 0; i < 12; i++) HOLDS(details[i] == DETAIL_OF_NULL);
-}
-
 /* what may not be NULL is tested, and what may be is taken */
 static void of_pointers(h3_endpoint *e, uint64_t id) {
   uint8_t b[4];
@@ -107,7 +70,6 @@ static void of_pointers(h3_endpoint *e, uint64_t id) {
   IS(h3_new(&none, NULL, NULL), H3_ARGUMENT);
   HOLDS(!none.at);
   h3_free(NULL);
-  of_null_configuration(e);
   IS(h3_pull(NULL, id, NULL), H3_NO_ENDPOINT);
   IS(h3_finish(NULL, id, NULL), H3_NO_ENDPOINT);
   IS(h3_open_request(e, NULL, NULL), H3_ARGUMENT);
@@ -140,9 +102,9 @@ static void of_pointers(h3_endpoint *e, uint64_t id) {
   HOLDS(n == 0 && m == 8);
   HOLDS(!strcmp(h3_answer_text(H3_OK), "H3_OK") && !strcmp(h3_answer_text(H3_NO_ENDPOINT), "H3_NO_ENDPOINT"));
   HOLDS(!strcmp(h3_kind_text(H3_INTERIM), "H3_INTERIM") && !strcmp(h3_kind_text(H3_FAULT_MEMORY), "H3_FAULT_MEMORY"));
-  HOLDS(!strcmp(h3_malformation_text(H3_BAD_NAME), "H3_BAD_NAME") && !strcmp(h3_malformation_text(H3_NO_TRAILER_FIELD), "H3_NO_TRAILER_FIELD"));
+  HOLDS(!strcmp(h3_malformation_text(H3_BAD_NAME), "H3_BAD_NAME") && !strcmp(h3_malformation_text(H3_TOO_LONG), "H3_TOO_LONG"));
   HOLDS(!strcmp(h3_answer_text(99), "an unknown answer") && !strcmp(h3_kind_text(0), "an unknown kind"));
-  HOLDS(!strcmp(h3_malformation_text(MALFORMATIONS), "an unknown malformation"));
+  HOLDS(!strcmp(h3_malformation_text(H3_TOO_LONG + 1), "an unknown malformation"));
 }
 
 static void of_new(void) {
@@ -169,10 +131,18 @@ static void of_new(void) {
   IS(h3_new(&e, &c, &detail), H3_SETTING);
   HOLDS(!e.at && detail == 6);
   c.max_field_section_size--;
-  c.unfinished_limit = c.max_field_section_size - 1;
-  IS(h3_new(&e, &c, &detail), H3_UNFINISHED_LIMIT);
+  c.unfinished_limit = (UINT64_C(1) << 62) - 2;
+  IS(h3_new(&e, &c, &detail), H3_UNFINISHED_LIMIT); /* below four times the section size, */
   HOLDS(!e.at && detail == 0);
-  c.unfinished_limit = c.max_field_section_size; /* 2^62 - 1: no limit */
+  c.max_field_section_size = 10;
+  c.table = 10000;
+  c.unfinished_limit = 39999;
+  IS(h3_new(&e, &c, &detail), H3_UNFINISHED_LIMIT); /* or four times the table, */
+  c.table = 0;
+  c.unfinished_limit = 255;
+  IS(h3_new(&e, &c, &detail), H3_UNFINISHED_LIMIT); /* or 256 */
+  c.max_field_section_size = FAR - 1;
+  c.unfinished_limit = 0;
   c.max_webtransport_sessions = FAR;
   IS(h3_new(&e, &c, &detail), H3_SETTING);
   HOLDS(detail == UINT64_C(0x2b603743));
@@ -747,6 +717,85 @@ static void of_encoder_tables(void) {
   }
 }
 
+/* A frame that says more than `unfinished_limit` is a fault as soon as its head came, when it is pulled: HEADERS of their stream, any other of the
+ * connection. One that says as much is none; DATA is never too long. Without a limit such a frame is waited for. 0 is four times what is announced. */
+static void of_unfinished_limits(void) {
+  static const struct {
+    uint64_t most;
+    uint64_t section;
+    const char *bytes;
+    size_t len;
+    uint32_t kind;
+  } of[] = {
+      {0, 65536, "\1\xc0\0\0\0\x40\0\0\0", 9, H3_FAULT_MALFORMED},      /* HEADERS of 2^30 bytes */
+      {0, 65536, "\1\x80\4\0\1", 5, H3_FAULT_MALFORMED},                  /* of 262,145, */
+      {0, 65536, "\1\x80\4\0\0", 5, H3_PENDING},                          /* and of 262,144 */
+      {0, 65536, "\1\x80\4\0", 4, H3_PENDING},                            /* no head yet */
+      {300000, 65536, "\1\x80\4\0\1", 5, H3_PENDING},                     /* a greater limit */
+      {262144, 65536, "\1\x80\4\0\1", 5, H3_FAULT_MALFORMED},
+      {0, 131072, "\1\x80\4\0\1", 5, H3_PENDING},                         /* the limit follows what is announced */
+      {0, 131072, "\1\x80\x8\0\1", 5, H3_FAULT_MALFORMED},
+      {0, 65536, "\5\xc0\0\0\0\x40\0\0\0", 9, H3_FAULT_CONNECTION},     /* PUSH_PROMISE, */
+      {0, 65536, "\4\x80\4\0\1", 5, H3_FAULT_CONNECTION},                 /* SETTINGS, */
+      {0, 65536, "\x21\xc0\0\0\0\x40\0\0\0", 9, H3_PENDING},            /* and a type that is unknown */
+      {0, 65536, "\x21\1\0\1\x80\4\0\1", 8, H3_FAULT_MALFORMED},         /* HEADERS behind an unknown frame that is whole */
+      {UINT64_MAX, 65536, "\1\xc0\0\0\0\x40\0\0\0", 9, H3_PENDING},
+      {0, (UINT64_C(1) << 62) - 1, "\1\xff\xff\xff\xff\xff\xff\xff\xff", 9, H3_PENDING}, /* any size is announced: no limit */
+      {0, UINT64_C(1) << 60, "\1\xff\xff\xff\xff\xff\xff\xff\xff", 9, H3_PENDING},
+      {0, (UINT64_C(1) << 60) - 1, "\1\xff\xff\xff\xff\xff\xff\xff\xff", 9, H3_FAULT_MALFORMED},
+      {(UINT64_C(1) << 62) - 1, 65536, "\1\xff\xff\xff\xff\xff\xff\xff\xff", 9, H3_PENDING},
+      {(UINT64_C(1) << 62) - 2, 65536, "\1\xff\xff\xff\xff\xff\xff\xff\xff", 9, H3_FAULT_MALFORMED},
+  };
+  for (size_t i = 0; i < sizeof of / sizeof *of; i++) {
+    h3_endpoint e = H3_NONE_YET;
+    h3_config c;
+    h3_item item;
+    uint64_t detail = 9;
+    plain_config(&c);
+    HOLDS(c.unfinished_limit == 0);
+    c.server = 1;
+    c.unfinished_limit = of[i].most;
+    c.max_field_section_size = of[i].section;
+    IS(h3_new(&e, &c, NULL), H3_OK);
+    IS(h3_deliver(&e, 0, of[i].bytes, of[i].len, NULL), H3_OK);
+    IS(h3_pull(&e, 0, &item), H3_OK);
+    HOLDS(item.kind == of[i].kind);
+    if (item.kind == H3_FAULT_CONNECTION) {
+      HOLDS(item.number == H3_CODE_EXCESSIVE_LOAD);
+      IS(h3_deliver(&e, 0, "\0", 1, &detail), H3_CONNECTION);
+      HOLDS(detail == H3_CODE_EXCESSIVE_LOAD);
+    }
+    if (item.kind == H3_FAULT_MALFORMED) {
+      HOLDS(item.number == H3_TOO_LONG);
+      IS(h3_deliver(&e, 0, "\0", 1, &detail), H3_OK);
+      IS(h3_pull(&e, 4, &item), H3_OK);
+      HOLDS(item.kind == H3_PENDING);
+    }
+    h3_free(&e);
+  }
+}
+
+/* On the control stream the delivery that brings the head closes the connection, however it is cut, and what came of the frame is let go. */
+static void of_long_control_frames(void) {
+  static const char settings[] = "\0\4\0", goaway[] = "\7\xc0\0\0\0\x40\0\0\0"; /* GOAWAY of 2^30 bytes */
+  for (size_t cut = 0; cut <= sizeof goaway - 1; cut++) {
+    h3_endpoint e = H3_NONE_YET;
+    h3_config c;
+    h3_stream_state state;
+    uint64_t detail = 0;
+    plain_config(&c);
+    IS(h3_new(&e, &c, NULL), H3_OK);
+    IS(h3_deliver(&e, 3, settings, sizeof settings - 1, NULL), H3_OK);
+    IS(h3_deliver(&e, 3, goaway, cut, &detail), cut < sizeof goaway - 1 ? H3_OK : H3_CONNECTION);
+    if (cut < sizeof goaway - 1) IS(h3_deliver(&e, 3, goaway + cut, sizeof goaway - 1 - cut, &detail), H3_CONNECTION);
+    HOLDS(detail == 0x107);
+    HOLDS(h3_stream(&e, 3, &state) == H3_OK && state.unread == 0);
+    IS(h3_deliver(&e, 3, settings, 1, &detail), H3_CONNECTION);
+    HOLDS(detail == 0x107 && h3_stream(&e, 3, &state) == H3_OK && state.unread == 0);
+    h3_free(&e);
+  }
+}
+
 /* with a word: the library is to say that it was built without proofs */
 int main(int argc, char **argv) {
   h3_endpoint e = H3_NONE_YET;
@@ -758,6 +807,8 @@ int main(int argc, char **argv) {
   of_new();
   of_sizes();
   of_shorter_tables();
+  of_unfinished_limits();
+  of_long_control_frames();
   of_next_ids();
   plain_config(&c);
   IS(h3_new(&e, &c, NULL), H3_OK);
@@ -769,7 +820,6 @@ int main(int argc, char **argv) {
   of_strict_content();
   of_counts(&e, id);
   of_pointers(&e, id);
-  of_details(&e, id);
   h3_free(&e);
   of_none(&e);
   of_default();

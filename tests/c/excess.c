@@ -281,118 +281,6 @@ static void of_early_lists(void) {
   }
 }
 
-/* frames of so many bytes, as their first bytes tell, on a request stream of a server and on the client's control stream */
-static void of_each_frame(void) {
-  static const struct {
-    uint64_t limit;
-    const char *bytes;
-    size_t len;
-    uint32_t kind;
-    uint64_t number;
-  } on_request[] = {
-      {LIMIT, "\1\xc0\0\0\0\x40\0\0\0", 9, H3_FAULT_MALFORMED, TOO_LONG}, /* HEADERS of 2^30 bytes */
-      {LIMIT, "\1\x80\1\0\1", 5, H3_FAULT_MALFORMED, TOO_LONG},           /* of a byte above the limit, */
-      {LIMIT, "\1\x80\1\0\0", 5, H3_PENDING, 0},                          /* and of the limit */
-      {LIMIT, "\1\x80\1\0", 4, H3_PENDING, 0},                            /* no length yet */
-      {LIMIT, "\x21\1\0\1\x80\1\0\1", 8, H3_FAULT_MALFORMED, TOO_LONG},   /* behind an unknown frame that is whole */
-      {LIMIT, "\x21\xc0\0\0\0\x40\0\0\0", 9, H3_PENDING, 0},              /* a type that is unknown */
-      {LIMIT, "\4\xc0\0\0\0\x40\0\0\0", 9, H3_FAULT_CONNECTION, 0},       /* SETTINGS */
-      {UINT64_MAX, "\1\xc0\0\0\0\x40\0\0\0", 9, H3_PENDING, 0},           /* no limit */
-      {(UINT64_C(1) << 62) - 1, "\1\xff\xff\xff\xff\xff\xff\xff\xff", 9, H3_PENDING, 0},
-      {(UINT64_C(1) << 62) - 2, "\1\xff\xff\xff\xff\xff\xff\xff\xff", 9, H3_FAULT_MALFORMED, TOO_LONG},
-  };
-  for (size_t i = 0; i < sizeof on_request / sizeof *on_request; i++) {
-    make(on_request[i].limit);
-    deliver(SERVER, 0, on_request[i].bytes, on_request[i].len);
-    h3_item item = pull(SERVER, 0);
-    HOLDS(item.kind == on_request[i].kind && (item.kind == H3_FAULT_CONNECTION || item.number == on_request[i].number));
-    uint64_t code = 0;
-    int is_connection = on_request[i].kind == H3_FAULT_CONNECTION;
-    IS(h3_deliver(&ends[SERVER], 2, "\0\4\0", 3, &code), is_connection ? H3_CONNECTION : H3_OK);
-    drop();
-  }
-}
-
-/* On the control stream the delivery that brings type and length closes the connection, wherever they are cut, and what came of the frame is
- * let go. */
-static void of_control_frames(void) {
-  static const struct {
-    const char *bytes;
-    size_t len;
-  } of[] = {{"\0\4\x80\1\0\1", 6}, {"\0\4\0\7\x80\1\0\1", 8}, {"\0\4\0\7\xc0\0\0\0\x40\0\0\0", 12}}; /* SETTINGS, GOAWAY, of 2^30 */
-  for (size_t i = 0; i < sizeof of / sizeof *of; i++)
-    for (size_t cut = 0; cut < of[i].len; cut++) {
-      uint64_t code = 0;
-      make(LIMIT);
-      deliver(SERVER, 2, of[i].bytes, cut);
-      IS(h3_deliver(&ends[SERVER], 2, of[i].bytes + cut, of[i].len - cut, &code), H3_CONNECTION);
-      HOLDS(code == EXCESSIVE_LOAD && unread(SERVER, 2) == 0);
-      IS(h3_deliver(&ends[SERVER], 2, "\0", 1, &code), H3_CONNECTION);
-      HOLDS(code == EXCESSIVE_LOAD && unread(SERVER, 2) == 0);
-      h3_item item = pull(SERVER, 0);
-      HOLDS(item.kind == H3_FAULT_CONNECTION && item.number == EXCESSIVE_LOAD);
-      drop();
-    }
-}
-
-/* a limit below four times what is announced, of a section and of the table, is refused, and so is one below 256 */
-static void of_limits(void) {
-  static const struct {
-    uint64_t section, table, limit;
-    uint32_t answer;
-  } of[] = {
-      {65536, 4096, 262143, H3_UNFINISHED_LIMIT},
-      {65536, 4096, 262144, H3_OK},
-      {1000, 4096, 16383, H3_UNFINISHED_LIMIT},
-      {1000, 4096, 16384, H3_OK},
-      {10, 0, 255, H3_UNFINISHED_LIMIT},
-      {10, 0, 256, H3_OK},
-      {65536, 4096, 0, H3_OK},
-      {131072, 4096, 0, H3_OK},
-      {(UINT64_C(1) << 62) - 1, 4096, 0, H3_OK},
-      {UINT64_C(1) << 61, 4096, (UINT64_C(1) << 62) - 1, H3_OK},
-      {UINT64_C(1) << 61, 4096, (UINT64_C(1) << 62) - 2, H3_UNFINISHED_LIMIT},
-  };
-  for (size_t i = 0; i < sizeof of / sizeof *of; i++) {
-    h3_config config;
-    h3_endpoint end = H3_NONE_YET;
-    h3_config_default(&config);
-    HOLDS(config.unfinished_limit == 0);
-    config.max_field_section_size = of[i].section;
-    config.table = of[i].table;
-    config.unfinished_limit = of[i].limit;
-    IS(h3_new(&end, &config, NULL), of[i].answer);
-    h3_free(&end);
-  }
-}
-
-/* with the default of 0 the limit is four times the greater of both */
-static void of_default_limits(void) {
-  static const struct {
-    uint64_t section, table;
-    const char *taken, *refused; /* a HEADERS frame of the limit, and of a byte more: both begin with a length of four bytes */
-  } of[] = {
-      {65536, 4096, "\1\x80\4\0\0", "\1\x80\4\0\1"},
-      {131072, 4096, "\1\x80\x08\0\0", "\1\x80\x08\0\1"},
-      {100, 16384, "\1\x80\1\0\0", "\1\x80\1\0\1"},
-      {10, 0, "\1\x80\0\1\0", "\1\x80\0\1\1"},
-  };
-  for (size_t i = 0; i < sizeof of / sizeof *of; i++) {
-    h3_config config;
-    h3_config_default(&config);
-    config.server = 1;
-    config.max_field_section_size = of[i].section;
-    config.table = of[i].table;
-    config.unfinished_limit = 0;
-    IS(h3_new(&ends[SERVER], &config, NULL), H3_OK);
-    deliver(SERVER, 0, of[i].taken, 5);
-    HOLDS(pull(SERVER, 0).kind == H3_PENDING);
-    deliver(SERVER, 4, of[i].refused, 5);
-    is_given_up(SERVER, 4);
-    drop();
-  }
-}
-
 int main(void) {
   static const size_t steps[] = {FRAME + BEHIND, 100, 1};
   memcpy(frame, "\1\x80\1\0\1", 5);
@@ -405,11 +293,6 @@ int main(void) {
   begin_request(&request, "POST");
   begin_response(&response, "200");
   add_field(&response, "x-name", "a value that is inserted");
-  HOLDS(strcmp(h3_malformation_text(TOO_LONG), h3_malformation_text(1000)));
-  of_limits();
-  of_default_limits();
-  of_each_frame();
-  of_control_frames();
   of_the_limit();
   of_early_lists();
   for (size_t i = 0; i < 3 && !bad; i++) {

@@ -5,7 +5,7 @@
 #define TEST "instructions"
 #include "expect.h"
 
-enum { TABLE = 4096, MOST = 4 * TABLE, LONG = 20000, SMALL = 1000 }; /* MOST: the least limit beside a table of that capacity */
+#define MOST 20000 /* with a table of 4,096 bytes, whose instructions have at most 16,384 */
 static const uint64_t CONTROL = 3, ENCODER = 7, DECODER = 11; /* of the peer, a server */
 static const size_t STEPS[] = {100000, 100, 1};
 static const uint64_t NEVER = 0;
@@ -15,8 +15,7 @@ static h3_endpoint client = H3_NONE_YET;
 static void make(uint64_t most) {
   h3_config config;
   h3_config_default(&config);
-  config.max_field_section_size = TABLE;
-  config.table = TABLE;
+  config.max_field_section_size = 5000;
   config.unfinished_limit = most;
   IS(h3_new(&client, &config, NULL), H3_OK);
 }
@@ -56,7 +55,7 @@ static void of_long_strings(void) {
       {"\x41n\x7f\x81\xff\xff\xff\x03", 8}, /* a literal value, behind a name of one byte */
       {"\xc0\x7f\x81\xff\xff\xff\x03", 7},  /* and behind a name of the static table */
   };
-  static char bytes[LONG];
+  static char bytes[5000];
   for (size_t i = 0; i < sizeof of / sizeof *of; i++)
     for (size_t k = 0; k < 3; k++) {
       memset(bytes, 'a', sizeof bytes);
@@ -71,9 +70,9 @@ static void of_long_strings(void) {
     }
 }
 
-/* an integer that never ends is told once as much as the limit came */
+/* An integer that never ends is told once as much as the limit came. A decoder stream is not read before the settings: what comes of it is kept, and is no fault. */
 static void of_endless_integers(void) {
-  static char bytes[LONG];
+  static char bytes[3 * MOST];
   memset(bytes, 0x80, sizeof bytes);
   bytes[0] = 0x3f;
   for (size_t k = 0; k < 3; k++)
@@ -84,76 +83,75 @@ static void of_endless_integers(void) {
         if (known) IS(h3_deliver(&client, CONTROL, "\0\4\0", 3, NULL), H3_OK);
         IS(h3_deliver(&client, id, decoder ? "\3" : "\2", 1, NULL), H3_OK);
         uint64_t at = closed_at(id, bytes, sizeof bytes, STEPS[k], 0x107);
-        int waits = decoder && !known; /* a decoder stream is not read before the settings: its stream's credit bounds it */
-        HOLDS(at == (waits ? NEVER : rounded(MOST, STEPS[k], sizeof bytes)));
-        HOLDS(unread(id) == (waits ? sizeof bytes : at));
-        if (waits) HOLDS(closed_at(CONTROL, "\0\4\0", 3, 3, 0x107) == 3);
+        HOLDS(at == (decoder && !known ? NEVER : rounded(MOST, STEPS[k], sizeof bytes)));
+        HOLDS(unread(id) == (decoder && !known ? sizeof bytes : at));
         h3_free(&client);
       }
 }
 
-/* what its decoder said before the settings is read behind them: an integer that is not whole up to the limit, and whole instructions however many */
+/* what its decoder said before the settings is read after them: an instruction that is longer than the limit is told then, however much came */
 static void of_early_replies(void) {
-  static char bytes[MOST];
+  static char bytes[3 * MOST];
   memset(bytes, 0x80, sizeof bytes);
   bytes[0] = 0x3f;
-  for (size_t len = MOST - 1; len <= MOST; len++) {
+  static const size_t lens[] = {MOST - 1, MOST, 3 * MOST};
+  for (size_t i = 0; i < 3; i++) {
+    size_t len = lens[i];
     make(MOST);
     IS(h3_deliver(&client, DECODER, "\3", 1, NULL), H3_OK);
     HOLDS(closed_at(DECODER, bytes, len, 100, 0) == NEVER && unread(DECODER) == len);
     HOLDS(closed_at(CONTROL, "\0\4\0", 3, 3, 0x107) == (len < MOST ? NEVER : 3));
     h3_free(&client);
   }
-  static char cancellations[3 * MOST];
-  memset(cancellations, 0x40, sizeof cancellations);
+}
+
+/* cancellations of so many streams before the settings are no fault, and are read after them */
+static void of_early_cancellations(void) {
+  static char bytes[3 * MOST];
+  memset(bytes, 0x44, sizeof bytes); /* stream 4 */
   make(MOST);
   IS(h3_deliver(&client, DECODER, "\3", 1, NULL), H3_OK);
-  HOLDS(closed_at(DECODER, cancellations, sizeof cancellations, 100, 0) == NEVER && unread(DECODER) == sizeof cancellations);
+  HOLDS(closed_at(DECODER, bytes, sizeof bytes, 1200, 0) == NEVER && unread(DECODER) == sizeof bytes);
   HOLDS(closed_at(CONTROL, "\0\4\0", 3, 3, 0) == NEVER && unread(DECODER) == 0);
   h3_free(&client);
 }
 
-/* an insertion of so many bytes, above 500: a name of one byte, and a value */
+/* an insertion of so many bytes, 500 or more: a name of one byte, and a value whose length takes two or three bytes behind its first */
 static size_t insertion(char *to, size_t len) {
-  size_t value = len - 5;
+  size_t behind = len < 16000 ? 2 : 3, rest = len - 3 - behind - 127;
   memset(to, 'v', len);
   memcpy(to, "\x41n\x7f", 3);
-  to[3] = (char)(0x80 | ((value - 127) & 0x7f));
-  to[4] = (char)((value - 127) >> 7);
+  for (size_t i = 3; i < 3 + behind; i++, rest >>= 7) to[i] = (char)((i < 2 + behind ? 0x80 : 0) | (rest & 0x7f));
   return len;
 }
 
-/* what the decoder stream says of three insertions: one increment counts those of a delivery (RFC 9204, section 4.4.3) */
-static void counts_three(int at_once) {
-  uint8_t replies[16];
-  size_t n = 0;
-  IS(h3_outgoing(&client, h3_decoder_id(0), replies, sizeof replies, &n, NULL), H3_OK);
-  HOLDS(at_once ? n == 2 && !memcmp(replies, "\3\3", 2) : n == 4 && !memcmp(replies, "\3\1\1\1", 4));
-}
-
-/* Insertions are read, and one of exactly the limit is read when it is whole: the table has no room for it (section 3.2.2). One of a byte more is told by its
- * length. */
+/* Insertions are read, also where more of them come at once than the limit, and one increment counts those of a delivery. One of the limit's length that comes
+ * after them is waited for, and is bad once it is whole, since the table has no room for it. One of a byte more is told by its length. */
 static void of_the_limit(void) {
-  static char bytes[3 * SMALL + 2 * MOST];
+  static char bytes[26 * 1000 + 2 * MOST];
   for (size_t k = 0; k < 3; k++)
     for (size_t more = 0; more < 2; more++) {
       size_t len = 3;
       memcpy(bytes, "\x3f\xe1\x1f", len); /* a capacity of 4,096 */
-      for (size_t i = 0; i < 3; i++) len += insertion(bytes + len, SMALL);
+      for (size_t i = 0; i < 25; i++) len += insertion(bytes + len, 1000);
+      size_t begins = len;
       make(MOST);
       IS(h3_deliver(&client, ENCODER, "\2", 1, NULL), H3_OK);
-      HOLDS(closed_at(ENCODER, bytes, len, STEPS[k], 0) == NEVER && unread(ENCODER) == 0);
-      counts_three(STEPS[k] > len);
+      HOLDS(closed_at(ENCODER, bytes, begins, STEPS[k], 0) == NEVER && unread(ENCODER) == 0);
+      uint8_t replies[64];
+      size_t n = 0;
+      uint32_t fin;
+      IS(h3_outgoing(&client, h3_decoder_id(0), replies, sizeof replies, &n, &fin), H3_OK);
+      HOLDS(STEPS[k] > begins ? n == 2 && !memcmp(replies, "\3\x19", 2) : n == 26 && replies[0] == 3 && replies[1] == 1 && replies[25] == 1);
       len = insertion(bytes, MOST + more);
-      uint64_t at = closed_at(ENCODER, bytes, len, STEPS[k], more ? 0x107 : 0x201);
-      HOLDS(at == rounded(more ? 5 : MOST, STEPS[k], len));
+      HOLDS(closed_at(ENCODER, bytes, len, STEPS[k], more ? 0x107 : 0x201) == rounded(more ? 6 : MOST, STEPS[k], len));
       h3_free(&client);
     }
 }
 
 /* without a limit the same is waited for */
 static void of_no_limit(void) {
-  static char bytes[LONG];
+  static char bytes[5000];
   memset(bytes, 0x80, sizeof bytes);
   bytes[0] = 0x3f;
   for (size_t k = 0; k < 3; k++) {
@@ -171,11 +169,11 @@ static void of_no_limit(void) {
 static void of_bad_instructions(void) {
   static char bytes[2 * MOST];
   for (size_t k = 0; k < 3; k++) {
-    size_t len = insertion(bytes, SMALL); /* no capacity was set, so it has no room */
+    size_t len = insertion(bytes, MOST); /* no capacity was set, so it has no room */
     memcpy(bytes + len, "\x5f\xe1\xff\xff\xff\x03", 6);
     make(MOST);
     IS(h3_deliver(&client, ENCODER, "\2", 1, NULL), H3_OK);
-    HOLDS(closed_at(ENCODER, bytes, len + 6, STEPS[k], 0x201) == rounded(SMALL, STEPS[k], len + 6));
+    HOLDS(closed_at(ENCODER, bytes, len + 6, STEPS[k], 0x201) == rounded(MOST, STEPS[k], len + 6));
     h3_free(&client);
   }
 }
@@ -184,6 +182,7 @@ int main(void) {
   of_long_strings();
   of_endless_integers();
   of_early_replies();
+  of_early_cancellations();
   of_the_limit();
   of_no_limit();
   of_bad_instructions();
