@@ -71,21 +71,33 @@ static void ask(uint64_t id) {
   HOLDS(pull(SERVER, id).kind == H3_HEAD);
 }
 
-/* The server answers, and the client reads it. Answers whether the section names the table: its required insert count is not 0 (RFC 9204,
- * section 4.5.1), the first byte behind a frame's type and a length of one byte. */
-static int answers_by_table(uint64_t id) {
+/* The server answers. Tells whether the section names the table: its required insert count is not 0 (RFC 9204, section 4.5.1), the first byte
+ * behind a frame's type and a length of one byte. */
+static int names_table(uint64_t id) {
   uint8_t head[3];
   size_t n = 0;
   IS(send_list(&ends[SERVER], id, &response), H3_OK);
   IS(h3_outgoing(&ends[SERVER], id, head, sizeof head, &n, NULL), H3_OK);
   HOLDS(n == 3 && head[0] == 1 && head[1] < 64);
+  return head[2] != 0;
+}
+
+/* the same, and the client reads it */
+static int answers_by_table(uint64_t id) {
+  int by_table = names_table(id);
   IS(h3_finish(&ends[SERVER], id, NULL), H3_OK);
   carry_own();
   carry(SERVER, id);
   h3_item item = pull(CLIENT, id);
   HOLDS(item.kind == H3_HEAD && is_list(&ends[CLIENT], &item, &response));
   HOLDS(pull(CLIENT, id).kind == H3_END);
-  return head[2] != 0;
+  return by_table;
+}
+
+/* The bytes of a request come, of no client here: one opens its requests in turn, and that many take long. */
+static void see(uint64_t id) {
+  IS(h3_deliver(&ends[SERVER], id, "\1\x08\0\0\xd1\xd7\xc1\x50\1\x61", 10, NULL), H3_OK);
+  HOLDS(pull(SERVER, id).kind == H3_HEAD);
 }
 
 /* requests that are opened and canceled before any settings, whose cancellations come ahead of them */
@@ -215,14 +227,8 @@ static void of_far_cancellations(void) {
   HOLDS(answers_by_table(seen));
   ask(between);
   HOLDS(!answers_by_table(between));
-  /* a client opens its requests in turn, and that many take long: the bytes of this one are those of the last */
-  IS(h3_deliver(&ends[SERVER], above, "\1\x08\0\0\xd1\xd7\xc1\x50\1\x61", 10, NULL), H3_OK);
-  HOLDS(pull(SERVER, above).kind == H3_HEAD);
-  uint8_t head[3];
-  size_t n = 0;
-  IS(send_list(&ends[SERVER], above, &response), H3_OK);
-  IS(h3_outgoing(&ends[SERVER], above, head, sizeof head, &n, NULL), H3_OK);
-  HOLDS(n == 3 && head[2] != 0);
+  see(above);
+  HOLDS(names_table(above));
   drop();
 }
 
@@ -240,6 +246,23 @@ static void of_few_cancellations(void) {
   drop();
 }
 
+/* an id leaves when its stream is seen, so that others find room, and still counts as canceled */
+static void of_seen_cancellations(void) {
+  const uint64_t half = CANCELED_IDS / 2;
+  make();
+  carry_own();
+  cancel_far(8, CANCELED_IDS - 1, 8);
+  for (uint64_t i = 1; i <= half; i++) see(8 * i);
+  cancel_far(8 * CANCELED_IDS, half, 8);
+  ask(4);
+  HOLDS(answers_by_table(4));
+  HOLDS(!names_table(8));
+  HOLDS(!names_table(8 * half));
+  see(8 * (CANCELED_IDS + 1));
+  HOLDS(!names_table(8 * (CANCELED_IDS + 1)));
+  drop();
+}
+
 int main(void) {
   begin_request(&request, "GET");
   begin_response(&response, "200");
@@ -249,6 +272,7 @@ int main(void) {
   for (int side = 0; side < 2; side++) of_goaways(side);
   of_far_cancellations();
   of_few_cancellations();
+  of_seen_cancellations();
   if (!bad) {
     printf(
         "ok floods: %d requests canceled before the settings, %d MB of GOAWAYs, %d cancellations far apart: no fault, and no memory above "
