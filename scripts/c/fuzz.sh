@@ -1,8 +1,9 @@
 #!/usr/bin/env bash
-# fuzz.sh SECONDS [FOLDER]: the fuzzers of tests/fuzz (libFuzzer, with the sanitizers of addresses and undefined behaviour) over the library in that folder, build/c where
-# none is named, each for so many seconds, from the stored inputs and those that earlier runs found (in FOLDER/fuzz). One line 'ok fuzz NAME' or 'failed fuzz
-# NAME' for each; an input that fails stays in FOLDER/fuzz and is named. Where clang or its runtime is not there, one line 'skipped'.
-# `make lib-unproved COVERAGE=1` builds a library that tells which of its branches an input takes, so that far more is found: FOLDER is build/c-coverage then.
+# fuzz.sh SECONDS [FOLDER]: runs each fuzzer of tests/fuzz (libFuzzer, with the sanitizers of addresses and undefined behaviour) for so many
+# seconds over the library in that folder, build/c where none is named. A run begins with the stored inputs and those that earlier runs found
+# (in FOLDER/fuzz). One line 'ok fuzz NAME' or 'failed fuzz NAME' for each; an input that fails stays in FOLDER/fuzz and is named. Where clang
+# or its runtime is missing, one line 'skipped'. `make lib-unproved COVERAGE=1` builds a library that tells which of its branches an input
+# takes, so that far more is found: FOLDER is build/c-coverage then.
 set -uo pipefail
 cd "$(dirname "$0")/../.."
 
@@ -22,13 +23,14 @@ fuzz() { # NAME LONGEST FLAGS..
   local name=$1 longest=$2
   shift 2
   mkdir -p "$out/$name.found"
+  local log=$out/$name.log limits=(-max_total_time="$seconds" -max_len="$longest" -artifact_prefix="$out/$name.")
   if ! "$cxx" "${flags[@]}" "$@" "-I$lib/beanwhile" -o "$out/$name" "tests/fuzz/$name.cc" "-L$lib" -lbeanwhile_h3 -lbeanwhile_h3_shim; then
     echo "failed fuzz $name: it was not compiled"
-  elif "$out/$name" -max_total_time="$seconds" -max_len="$longest" -artifact_prefix="$out/$name." "$out/$name.found" "tests/fuzz/$name" > "$out/$name.log" 2>&1; then
-    echo "ok fuzz $name: $(sed -nE 's/^Done ([0-9]+) runs in ([0-9]+) second.*/\1 inputs in \2 seconds/p' "$out/$name.log")"
+  elif "$out/$name" "${limits[@]}" "$out/$name.found" "tests/fuzz/$name" > "$log" 2>&1; then
+    echo "ok fuzz $name: $(sed -nE 's/^Done ([0-9]+) runs in ([0-9]+) second.*/\1 inputs in \2 seconds/p' "$log")"
     return
   else
-    echo "failed fuzz $name: $(grep -aE '^failed|ERROR|runtime error|Test unit written' "$out/$name.log" | head -n 4 | tr '\n' ' ')(all of it: $out/$name.log)"
+    echo "failed fuzz $name: $(grep -aE '^failed|ERROR|runtime error|Test unit written' "$log" | head -n 4 | tr '\n' ' ')(all of it: $log)"
   fi
   bad=1
 }

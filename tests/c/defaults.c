@@ -1,5 +1,5 @@
 /* Two endpoints as h3_config_default makes them: lists of every size up to the announced one, of each byte that a value may have, of text
- * in UTF-8, of JSON and of random bytes, as requests and as responses, before the settings and behind them. Each is sent, and comes out as
+ * in UTF-8, of JSON and of random bytes, as requests and as responses, before the settings and after them. Each is sent, and comes out as
  * it was sent, beside a message with content on another stream, which comes out whole. A fault of any kind is counted. One line 'ok NAME'
  * or 'failed NAME'. */
 #define TEST "defaults"
@@ -16,7 +16,7 @@ typedef struct {
   int from;       /* CLIENT: it is a request; SERVER: a response */
   int early;      /* no settings were delivered yet */
   int as_headers; /* h3_send_head and h3_pull, which read the list as a header */
-  int own_first;  /* behind the settings: whether the encoder stream goes over ahead of the list */
+  int own_first;  /* after the settings: whether the encoder stream goes over ahead of the list */
   size_t value;   /* its values are so long, but for the last */
   size_t step;    /* the pieces in which it is delivered */
 } plan;
@@ -65,7 +65,7 @@ static uint8_t any_byte(void) {
   }
 }
 
-/* a value of so many bytes; white space at its ends, and what is left behind the last whole character, is an 'a' */
+/* a value of so many bytes; white space at its ends, and what is left after the last whole character, is an 'a' */
 static void fill(uint8_t *to, size_t len, unsigned made_of) {
   static const char text[] = "{\"id\":4711,\"name\":\"Beanwhile\",\"tags\":[\"a\",\"b\"],\"ok\":true,\"at\":\"2026-01-31T12:00:00Z\"},";
   for (size_t at = 0; at < len;) {
@@ -152,12 +152,12 @@ static h3_item pull(int side, uint64_t id, int as_header) {
   return item;
 }
 
-/* the list comes out, and the end behind it */
+/* the list comes out, and the end after it */
 static void take_list(int side, uint64_t id, const field_list *list, int as_header) {
   h3_item item = pull(side, id, as_header);
   need(item.kind == H3_HEAD, "no head comes out: kind", item.kind);
   if (!broken) need(is_list(&ends[side], &item, list), "another list comes out: fields", item.fields);
-  need(pull(side, id, as_header).kind == H3_END, "no end behind the list: stream", id);
+  need(pull(side, id, as_header).kind == H3_END, "no end after the list: stream", id);
 }
 
 /* the other message comes out, so many bytes of its content from there on */
@@ -181,7 +181,7 @@ static void make_pair(void) {
   on_connection = 0;
 }
 
-/* a message of the sender's with this list, beside another one: whose first half went before it, and whose second half goes behind it */
+/* a message of the sender's with this list, beside another one: whose first half went before it, and whose second half goes after it */
 static void send_beside(const plan *p, uint64_t id, uint64_t other, const field_list *list, const field_list *plain) {
   int to = !p->from;
   send_section(p->from, other, plain, 0);
@@ -260,7 +260,7 @@ static void tell(const plan *p) {
     printf("byte 0x%02x", p->made_of);
   else
     printf("%s", names[p->made_of - CHINESE]);
-  printf(", a %s %s the settings: %s 0x%llx\n", p->from ? "response" : "request", p->early ? "before" : "behind", broken,
+  printf(", a %s %s the settings: %s 0x%llx\n", p->from ? "response" : "request", p->early ? "before" : "after", broken,
       (unsigned long long)broken_by);
 }
 

@@ -1,5 +1,5 @@
-/* What `detail` says behind each answer, and that a NULL does nothing: also that h3_new keeps the endpoint that is there. One line 'ok NAME' or
- * 'failed NAME'. */
+/* What `detail` says after each answer, and that a NULL does nothing: also that h3_new keeps the endpoint that is there. One line
+ * 'ok NAME' or 'failed NAME'. */
 #define TEST "details"
 #include "field_list.h"
 #include "expect.h"

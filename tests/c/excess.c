@@ -1,6 +1,6 @@
 /* A HEADERS frame that is longer than `unfinished_limit` is the fault of its request stream alone: the stream is given up with one
  * cancellation, nothing of it is kept, the credit of all that comes later is free at once, a server may still answer, and the other
- * streams and the connection go on: in one delivery, in pieces of 100 and byte by byte, pulled behind each or at the end. A frame of the
+ * streams and the connection go on: in one delivery, in pieces of 100 and byte by byte, pulled after each or at the end. A frame of the
  * control stream is the connection's. Linked with --wrap for malloc, realloc and free. One line 'ok NAME' or 'failed NAME'. */
 #include "counted.h"
 #define TEST "excess"
@@ -17,10 +17,10 @@ enum {
 };
 
 enum { CLIENT, SERVER };
-enum { PIECE = 512, PIECES = 40, FRAME = 5 + LIMIT + 1, BEHIND = 10 };
+enum { PIECE = 512, PIECES = 40, FRAME = 5 + LIMIT + 1, AFTER = 10 };
 
 static h3_endpoint ends[2];
-static uint8_t frame[FRAME + BEHIND];
+static uint8_t frame[FRAME + AFTER];
 static uint8_t content[PIECE];
 static field_list request, response, came_last;
 
@@ -129,7 +129,7 @@ static void is_given_up(int side, uint64_t id) {
   HOLDS(unread(side, id) == 0);
 }
 
-/* Delivers the frame and what stands behind it in pieces of `step`; pulled behind each, or when all came. `owed` is what a caller grants
+/* Delivers the frame and what stands after it in pieces of `step`; pulled after each, or when all came. `owed` is what a caller grants
  * credit by: of the bytes that came all are free but those that are held. Answers how many came with the piece whose pull told the fault.
  */
 static size_t deliver_frame(int side, uint64_t id, size_t step, int pulls, transfer *beside, size_t *most) {
@@ -190,7 +190,7 @@ static void of_a_request(size_t step, int pulls) {
 }
 
 /* A client gets it in the place of a response's head, or of its trailer, beside a download. What it sends goes on. */
-static void of_a_response(size_t step, int behind_content) {
+static void of_a_response(size_t step, int after_content) {
   transfer download;
   uint64_t id[2];
   size_t most = 0;
@@ -204,7 +204,7 @@ static void of_a_response(size_t step, int behind_content) {
     HOLDS(pull(SERVER, id[i]).kind == H3_HEAD);
   }
   begin_transfer(&download, SERVER, id[0]);
-  if (behind_content) {
+  if (after_content) {
     IS(send_list(&ends[SERVER], id[1], &response), H3_OK);
     IS(h3_send_body(&ends[SERVER], id[1], content, PIECE, NULL), H3_OK);
     carry_own();
@@ -282,13 +282,13 @@ static void of_early_lists(void) {
 }
 
 int main(void) {
-  static const size_t steps[] = {FRAME + BEHIND, 100, 1};
+  static const size_t steps[] = {FRAME + AFTER, 100, 1};
   memcpy(frame, "\1\x80\1\0\1", 5);
   literal_section(frame + 5, LIMIT + 1);
   memcpy(frame + FRAME,
       "\0\x08"
       "is later",
-      BEHIND); /* DATA */
+      AFTER); /* DATA */
   memset(content, 'c', sizeof content);
   begin_request(&request, "POST");
   begin_response(&response, "200");

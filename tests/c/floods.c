@@ -71,8 +71,8 @@ static void ask(uint64_t id) {
   HOLDS(pull(SERVER, id).kind == H3_HEAD);
 }
 
-/* The server answers. Tells whether the section names the table: its required insert count is not 0 (RFC 9204, section 4.5.1), the first byte
- * behind a frame's type and a length of one byte. */
+/* The server answers. Tells whether the section names the table: its required insert count is not 0 (RFC 9204, section 4.5.1), the first
+ * byte after a frame's type and a length of one byte. */
 static int names_table(uint64_t id) {
   uint8_t head[3];
   size_t n = 0;
@@ -150,7 +150,8 @@ static void of_cancellations_ahead(void) {
 /* so much more is allocated than before, and never more than that and two deliveries: one is copied while it is read */
 static void bounded(const char *what, size_t before, size_t most) {
   if (live <= before + most && most_live <= before + most + 2 * PIECE) return;
-  printf("failed floods: %s: %zu bytes are kept, and there were %zu, above the bound of %zu\n", what, live - before, most_live - before, most);
+  printf("failed floods: %s: %zu bytes are kept, and there were %zu, above the bound of %zu\n", what, live - before, most_live - before,
+      most);
   bad = 1;
 }
 
@@ -211,7 +212,7 @@ static void cancel_far(uint64_t from, uint64_t count, uint64_t distance) {
   IS(answer, H3_OK);
 }
 
-/* A stream that was seen is answered by the table. So is an unseen one while few were canceled; behind too many each one up to the
+/* A stream that was seen is answered by the table. So is an unseen one while few were canceled; after too many each one up to the
  * greatest of them is answered without it, and those above it by it. */
 static void of_far_cancellations(void) {
   const uint64_t distance = 1024, seen = 0, between = 4 * 102, above = distance * (FAR_IDS + 1);

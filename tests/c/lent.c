@@ -173,10 +173,10 @@ static void of_lent_fields(void) {
   h3_free(&server);
 }
 
-/* ---- behind faults: the bytes stand in a page that no one can read once they were let go ---- */
+/* ---- after faults: the bytes stand in a page that nobody can read once the caller may free them ---- */
 
 enum { PAGE = 4096 };
-static char reading[200]; /* what is told where a page is read that was let go */
+static char reading[200]; /* what is told if a page is read that the caller may free */
 
 static void told_of_a_read(int signal_number) {
   (void)signal_number;
@@ -208,7 +208,7 @@ static void by_another_stream(h3_endpoint *e) {
   HOLDS(code == 0x10a);
 }
 
-/* what lets the bytes go on stream 0, by h3.h */
+/* after what the caller may free the bytes of stream 0, by h3.h */
 static void then_pulled(h3_endpoint *e) {
   by_another_stream(e);
   HOLDS(pulled(e) == H3_FAULT_CONNECTION);
@@ -217,11 +217,11 @@ static void then_kept(h3_endpoint *e) {
   by_another_stream(e);
   IS(h3_keep(e, 0), H3_OK);
 }
-static void behind_an_item(h3_endpoint *e) {
+static void after_an_item(h3_endpoint *e) {
   HOLDS(pulled(e) < H3_PENDING);
   then_pulled(e);
 }
-static void behind_an_item_kept(h3_endpoint *e) {
+static void after_an_item_kept(h3_endpoint *e) {
   HOLDS(pulled(e) < H3_PENDING);
   then_kept(e);
 }
@@ -254,6 +254,33 @@ static void by_a_reset(h3_endpoint *e) {
 static void by_a_cancellation(h3_endpoint *e) {
   IS(h3_cancel(e, 0, NULL), H3_OK);
   HOLDS(pulled(e) == H3_FAULT_CANCELED);
+}
+/* a pull of any stream does, since the item that was pulled last is gone */
+static void pulled_elsewhere(h3_endpoint *e) {
+  h3_item item = {0};
+  IS(h3_pull_fields(e, 4, &item), H3_OK);
+  HOLDS(item.kind >= H3_PENDING);
+}
+static void then_pulled_elsewhere(h3_endpoint *e) {
+  by_another_stream(e);
+  pulled_elsewhere(e);
+}
+static void content_and_a_cancellation(h3_endpoint *e) {
+  HOLDS(pulled(e) == H3_HEAD);
+  HOLDS(pulled(e) == H3_BODY);
+  IS(h3_cancel(e, 0, NULL), H3_OK);
+  pulled_elsewhere(e);
+}
+static void content_and_a_reset(h3_endpoint *e) {
+  HOLDS(pulled(e) == H3_HEAD);
+  HOLDS(pulled(e) == H3_BODY);
+  IS(h3_deliver_reset(e, 0, 0x10c, NULL), H3_OK);
+  pulled_elsewhere(e);
+}
+static void content_and_then_pulled_elsewhere(h3_endpoint *e) {
+  HOLDS(pulled(e) == H3_HEAD);
+  HOLDS(pulled(e) == H3_BODY);
+  then_pulled_elsewhere(e);
 }
 static void by_the_end(h3_endpoint *e) {
   IS(h3_deliver_end(e, 0, NULL), H3_OK);
@@ -297,7 +324,7 @@ static void of_lent_and_let_go(const char *name, const char *bytes, size_t len, 
   h3_config c;
   h3_stream_state stream = {0};
   sigaction(SIGSEGV, &reads, NULL);
-  snprintf(reading, sizeof reading, "failed lent: bytes that were let go are read: %s\n", name);
+  snprintf(reading, sizeof reading, "failed lent: bytes that the caller may free are read: %s\n", name);
   plain_config(&c, 1);
   IS(h3_new(&server, &c, NULL), H3_OK);
   const uint8_t *lent = lend(bytes, len);
@@ -311,56 +338,62 @@ static void of_lent_and_let_go(const char *name, const char *bytes, size_t len, 
   unmap(lent);
 }
 
-/* bytes that are lent on stream 0 of a server, a way in which h3.h lets them go, and then each call: it answers from what is the library's */
-static void of_lent_behind_faults(void) {
+/* bytes that are lent on stream 0 of a server, and a way in which h3.h allows the caller to free them */
 #define HEAD "\x01\x07\0\0\xd1\xd7\x50\x01" "a" /* :method GET, :scheme https, :authority "a" (RFC 9204, appendix A) */
-  static const struct {
-    const char *name, *bytes;
-    size_t len;
-    void (*lets_go)(h3_endpoint *);
-  } of[] = {
-      {"a frame in part, and a pull", "\1\5\0", 3, then_pulled},
-      {"a frame in part, and h3_keep", "\1\5\0", 3, then_kept},
-      {"a frame's type in part, and a pull", "\x40", 1, then_pulled},
-      {"a whole head, and a pull", HEAD, 9, then_pulled},
-      {"a whole head, and h3_keep", HEAD, 9, then_kept},
-      {"what stands behind a head, and a pull", HEAD "\0\5he", 13, behind_an_item},
-      {"what stands behind a head, and h3_keep", HEAD "\0\5he", 13, behind_an_item_kept},
-      {"an unknown frame in part, and a pull", "\x21\x09" "abc", 5, then_pulled},
-      {"an unknown frame in part, and h3_keep", "\x21\x09" "abc", 5, then_kept},
-      {"a head that waits, and a pull", "\1\6\3\x81\xd1\xd7\x10\x11\0\1z", 11, waiting_and_pulled},
-      {"a head that waits, and h3_keep", "\1\6\3\x81\xd1\xd7\x10\x11\0\1z", 11, waiting_and_kept},
-      {"DATA before a head", "\0\3\1\2\3", 5, by_the_pull},
-      {"DATA before a head, and h3_keep", "\0\3\1\2\3", 5, by_the_pull_kept},
-      {"a bad section", "\1\4\0\0\xff\x7f\0\1z", 9, by_the_pull},
-      {"a bad section, and h3_keep", "\1\4\0\0\xff\x7f\0\1z", 9, by_the_pull_kept},
-      {"PUSH_PROMISE", "\5\2\0\0\0\1z", 7, by_the_pull},
-      {"PUSH_PROMISE, and h3_keep", "\5\2\0\0\0\1z", 7, by_the_pull_kept},
-      {"a frame above the limit", "\1\xc0\0\0\0\x40\0\0\0" "abc", 12, by_a_fault},
-      {"a malformed head", "\1\3\0\0\xd9\0\1z", 8, malformed},
-      {"a malformed head, and a fault of the connection", "\1\3\0\0\xd9\0\1z", 8, malformed_and_closed},
-      {"a frame in part, and a reset", "\1\5\0", 3, by_a_reset},
-      {"a frame in part, and h3_cancel", "\1\5\0", 3, by_a_cancellation},
-      {"a head, and the end", HEAD, 9, by_the_end},
-  };
+static const struct {
+  const char *name, *bytes;
+  size_t len;
+  void (*lets_go)(h3_endpoint *);
+} faults[] = {
+    {"a frame in part, and a pull", "\1\5\0", 3, then_pulled},
+    {"a frame in part, and h3_keep", "\1\5\0", 3, then_kept},
+    {"a frame's type in part, and a pull", "\x40", 1, then_pulled},
+    {"a whole head, and a pull", HEAD, 9, then_pulled},
+    {"a whole head, and h3_keep", HEAD, 9, then_kept},
+    {"what stands after a head, and a pull", HEAD "\0\5he", 13, after_an_item},
+    {"what stands after a head, and h3_keep", HEAD "\0\5he", 13, after_an_item_kept},
+    {"an unknown frame in part, and a pull", "\x21\x09" "abc", 5, then_pulled},
+    {"an unknown frame in part, and h3_keep", "\x21\x09" "abc", 5, then_kept},
+    {"a head that waits, and a pull", "\1\6\3\x81\xd1\xd7\x10\x11\0\1z", 11, waiting_and_pulled},
+    {"a head that waits, and h3_keep", "\1\6\3\x81\xd1\xd7\x10\x11\0\1z", 11, waiting_and_kept},
+    {"DATA before a head", "\0\3\1\2\3", 5, by_the_pull},
+    {"DATA before a head, and h3_keep", "\0\3\1\2\3", 5, by_the_pull_kept},
+    {"a bad section", "\1\4\0\0\xff\x7f\0\1z", 9, by_the_pull},
+    {"a bad section, and h3_keep", "\1\4\0\0\xff\x7f\0\1z", 9, by_the_pull_kept},
+    {"PUSH_PROMISE", "\5\2\0\0\0\1z", 7, by_the_pull},
+    {"PUSH_PROMISE, and h3_keep", "\5\2\0\0\0\1z", 7, by_the_pull_kept},
+    {"a frame above the limit", "\1\xc0\0\0\0\x40\0\0\0" "abc", 12, by_a_fault},
+    {"a malformed head", "\1\3\0\0\xd9\0\1z", 8, malformed},
+    {"a malformed head, and a fault of the connection", "\1\3\0\0\xd9\0\1z", 8, malformed_and_closed},
+    {"a frame in part, and a reset", "\1\5\0", 3, by_a_reset},
+    {"a frame in part, and h3_cancel", "\1\5\0", 3, by_a_cancellation},
+    {"a frame in part, and a pull of another stream", "\1\5\0", 3, then_pulled_elsewhere},
+    {"content, and h3_cancel", HEAD "\0\2hi\0\5he", 17, content_and_a_cancellation},
+    {"content, and a reset", HEAD "\0\2hi\0\5he", 17, content_and_a_reset},
+    {"content, and a fault of the connection", HEAD "\0\2hi\0\5he", 17, content_and_then_pulled_elsewhere},
+    {"a head, and the end", HEAD, 9, by_the_end},
+};
+#undef HEAD
+
+/* after each of these every call answers from memory of the library */
+static void of_lent_after_faults(void) {
   fflush(stdout);
-  for (size_t i = 0; i < sizeof of / sizeof *of; i++) {
+  for (size_t i = 0; i < sizeof faults / sizeof *faults; i++) {
     int status = 0;
     pid_t child = fork(); /* a read ends it */
     if (child == 0) {
-      of_lent_and_let_go(of[i].name, of[i].bytes, of[i].len, of[i].lets_go);
+      of_lent_and_let_go(faults[i].name, faults[i].bytes, faults[i].len, faults[i].lets_go);
       exit(bad);
     }
     if (child < 0 || waitpid(child, &status, 0) != child || status) bad = 1;
   }
-#undef HEAD
 }
 
 int main(void) {
   of_lent();
   of_lent_deliveries();
   of_lent_fields();
-  of_lent_behind_faults();
+  of_lent_after_faults();
   if (!bad) printf("ok lent: bytes that were lent are read no more once they were let go\n");
   return bad;
 }

@@ -2,8 +2,8 @@
 // bytes in flight across resets, and every twelfth call with an allocation refused. Which calls they make is chosen by `below`. At each
 // call the clauses of what the library promises of a whole connection are checked:
 //
-// - begins: what a side is handed of a stream is the beginning of what the other side sent on it, field by field and byte by byte;
-// - ends: the end comes behind all of it;
+// - begins: what a side receives of a stream is the beginning of what the other side sent on it, field by field and byte by byte;
+// - ends: the end comes after all of it;
 // - accepts: what is in order and within the other side's announced size is sent; or memory was refused, or a strict side names a rule;
 // - comes_out: with nothing left to deliver, all that was sent has come out of each stream that was not given up;
 // - no_connection_fault: where both sides are strict, or neither is, the connection has no fault;
@@ -148,7 +148,7 @@ void add_others(FieldList &list, bool is_trailer) {
   if (list.size() > 1 && one_in(12)) std::swap(list[below(list.size())], list[below(list.size())]);
 }
 
-// early answers to CONNECT and HEAD, and trailers behind them
+// early answers to CONNECT and HEAD, and trailers after them
 FieldList aimed_list(bool is_server, bool is_trailer) {
   if (is_trailer) return {{"x-t", "1"}};
   if (is_server) return {{":status", one_in(4) ? "404" : "200"}};
@@ -326,10 +326,10 @@ void Program::begins_with_content(int reader, uint64_t id, const h3_item &item) 
   }
 }
 
-// an item is what was sent next, and none comes behind the end or behind a fault of the stream
+// an item is what was sent next, and none comes after the end or after a fault of the stream
 void Program::begins(int reader, uint64_t id, const h3_item &item, bool as_list) {
   Flow &sent = flow(!reader, id);
-  if (sent.given_up || sent.ended) return violated("begins", id, "an item behind a fault or the end");
+  if (sent.given_up || sent.ended) return violated("begins", id, "an item after a fault or the end");
   if (item.kind == H3_BODY) return begins_with_content(reader, id, item);
   if (sent.out == sent.sent.size()) return violated("begins", id, "more than was sent");
   begins_with_list(reader, id, item, sent.sent[sent.out++], as_list);
@@ -474,7 +474,7 @@ void Program::cancel(int side, uint64_t id) {
   if (call([&] { return h3_cancel(&sides_[side].end, id, nullptr); }) == H3_OK) flow(!side, id).given_up = true;
 }
 
-// QUIC takes so many bytes, and the end behind the last
+// QUIC takes so many bytes, and the end after the last
 void Program::take(int side, uint64_t id, size_t most) {
   Flow &own = flow(side, id);
   h3_stream_state stream = {};

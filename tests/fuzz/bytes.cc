@@ -1,8 +1,8 @@
 // A fuzzer (libFuzzer) over the bytes of a peer: each record of the input names a stream and what comes on it. The records go to two
-// endpoints, to one whole and to the other byte by byte, each pulled behind every delivery. At each step:
+// endpoints, to one whole and to the other byte by byte, each pulled after every delivery. At each step:
 //   what h3_stream says is held is at most what came, and on what h3_next_to_send names something waits
-//   behind a fault of the connection each pull and each delivery tells its code
-// and at the end both were handed the same of each stream, up to a fault of the connection: then the endpoint that got pieces was handed
+//   after a fault of the connection each pull and each delivery tells its code
+// and at the end both received the same of each stream, up to a fault of the connection: then the endpoint that got pieces received
 // no less. (With a dynamic table a faulty peer may drop entries that a section waits for, and what comes of it depends on the pieces: then
 // they are not compared.)
 #include <h3.h>
@@ -29,8 +29,8 @@ uint64_t stream_of(uint8_t byte, bool is_server) {
   return is_server ? of_client[byte % 8] : of_server[byte % 8];
 }
 
-// what an endpoint handed out of a stream: a line for each item, and the bytes of content as they came
-struct Handed {
+// what an endpoint delivered of a stream: a line for each item, and the bytes of content as they came
+struct Received {
   std::string text;
   bool in_content = false;
 };
@@ -61,7 +61,7 @@ class Reader {
 
   bool has_fault() const { return has_fault_; }
   uint64_t code() const { return code_; }
-  std::map<uint64_t, Handed> handed;
+  std::map<uint64_t, Received> received;
 
  private:
   void ask() {
@@ -72,7 +72,7 @@ class Reader {
   }
 
   void told(uint32_t answer, uint64_t code) {
-    need(!has_fault_ || answer == H3_CONNECTION, "a delivery behind a fault of the connection does not tell it");
+    need(!has_fault_ || answer == H3_CONNECTION, "a delivery after a fault of the connection does not tell it");
     if (answer == H3_CONNECTION) fault(code);
     need(answer != H3_MEMORY && answer != H3_KEPT, "memory was refused");
   }
@@ -105,7 +105,7 @@ class Reader {
     need(h3_outgoing(&end_, named, &byte, 1, &n, &fin) == H3_OK && (n || fin), "nothing waits on a stream that is to be sent");
   }
 
-  // every stream: an insertion on one lets go what waits on another
+  // every stream: what waits on one goes on with an insertion on another
   void pull_all() {
     static const uint64_t streams[] = {0, 4, 8, 14, 15, 18, 19};
     for (uint64_t id : streams)
@@ -116,12 +116,12 @@ class Reader {
   bool pull(uint64_t id) {
     h3_item item = {};
     need(h3_pull_fields(&end_, id, &item) == H3_OK, "a pull is refused");
-    need(!has_fault_ || item.kind == H3_FAULT_CONNECTION, "a pull behind a fault of the connection does not tell it");
+    need(!has_fault_ || item.kind == H3_FAULT_CONNECTION, "a pull after a fault of the connection does not tell it");
     need(item.kind != H3_FAULT_MEMORY, "memory was refused");
     if (item.kind == H3_FAULT_CONNECTION) fault(item.number);
     if (item.kind == H3_PENDING || item.kind == H3_WAITING || item.kind == H3_NO_MESSAGES || item.kind == H3_FAULT_CONNECTION)
       return false;
-    Handed &of_stream = handed[id];
+    Received &of_stream = received[id];
     if (item.kind == H3_BODY || item.kind == H3_RAW) {
       of_stream.text += (of_stream.in_content ? "" : "\ncontent ") + content(item.len);
       of_stream.in_content = true;
@@ -173,8 +173,8 @@ h3_config config_of(uint8_t byte) {
 
 void compare(Reader &whole, Reader &pieces) {
   need(whole.has_fault() == pieces.has_fault() && whole.code() == pieces.code(), "another fault of the connection in pieces");
-  for (auto &[id, of_stream] : whole.handed) {
-    const std::string &text = of_stream.text, &other = pieces.handed[id].text;
+  for (auto &[id, of_stream] : whole.received) {
+    const std::string &text = of_stream.text, &other = pieces.received[id].text;
     need(whole.has_fault() ? other.compare(0, text.size(), text) == 0 : other == text, "other items in pieces");
   }
 }

@@ -6,15 +6,15 @@ namespace {
 
 const uint8_t *choices;
 size_t choices_left;
-uint64_t behind; // what is chosen by when no byte is left, in the last rounds
+uint64_t after; // what is chosen by when no byte is left, in the last rounds
 
 uint32_t below(uint32_t count) {
   if (choices_left) {
     choices_left--;
     return *choices++ % count;
   }
-  behind = behind * 6364136223846793005u + 1442695040888963407u;
-  return static_cast<uint32_t>(behind >> 33) % count;
+  after = after * 6364136223846793005u + 1442695040888963407u;
+  return static_cast<uint32_t>(after >> 33) % count;
 }
 
 bool is_chosen_out() { return choices_left == 0; }
@@ -25,8 +25,11 @@ extern "C" int LLVMFuzzerTestOneInput(const uint8_t *data, size_t size) {
   if (size == 0) return 0;
   choices = data + 1;
   choices_left = size - 1;
-  behind = size;
+  after = size;
   Program(*data).run();
-  if (counts.violations) abort();
+  if (counts.violations) {
+    fflush(stdout); // what they are
+    abort();
+  }
   return 0;
 }
