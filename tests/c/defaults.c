@@ -1,7 +1,7 @@
 /* Two endpoints as h3_config_default makes them: lists of every size up to the announced one, of each byte that a value may have, of text
- * in UTF-8, of JSON and of random bytes, as requests and as responses, before the settings and after them. Each is sent, and comes out as
- * it was sent, beside a message with content on another stream, which comes out whole. A fault of any kind is counted. One line 'ok NAME'
- * or 'failed NAME'. */
+ * in UTF-8, of JSON and of random bytes, as requests, responses and trailers, before the settings and after them. Each is sent, and comes
+ * out as it was sent, beside a message with content on another stream, which comes out whole. A fault of any kind is counted. One line 'ok
+ * NAME' or 'failed NAME'. */
 #define TEST "defaults"
 #include "field_list.h"
 
@@ -15,6 +15,7 @@ typedef struct {
   size_t size;
   int from;       /* CLIENT: it is a request; SERVER: a response */
   int early;      /* no settings were delivered yet */
+  int is_trailer; /* it stands after a head */
   int as_headers; /* h3_send_head and h3_pull, which read the list as a header */
   int own_first;  /* after the settings: whether the encoder stream goes over ahead of the list */
   size_t value;   /* its values are so long, but for the last */
@@ -88,15 +89,20 @@ static void fill(uint8_t *to, size_t len, unsigned made_of) {
   if (len && (to[len - 1] == ' ' || to[len - 1] == '\t')) to[len - 1] = 'a';
 }
 
+static void begin_list(field_list *list, int from, const char *method) {
+  if (from == CLIENT)
+    begin_request(list, method);
+  else
+    begin_response(list, "200");
+}
+
 /* fields of one name until the list has its size */
 static void make_list(field_list *list, const plan *p) {
   static uint8_t value[MOST_BYTES];
   static const char name[] = "x-list";
   const size_t least = sizeof name - 1 + 32;
-  if (p->from == CLIENT)
-    begin_request(list, "GET");
-  else
-    begin_response(list, "200");
+  begin_list(list, p->from, "GET");
+  if (p->is_trailer) list->count = list->len = 0;
   while (size_of(list) < p->size) {
     size_t left = p->size - size_of(list);
     size_t len = left < p->value + 2 * least ? left - least : p->value;
@@ -105,10 +111,11 @@ static void make_list(field_list *list, const plan *p) {
   }
 }
 
-static void send_section(int side, uint64_t id, const field_list *list, int as_header) {
+typedef uint32_t send_call(h3_endpoint *, uint64_t, const h3_field_size *, size_t, const void *, size_t, uint64_t *);
+
+static void send_section(int side, uint64_t id, const field_list *list, send_call *send) {
   if (broken) return;
-  uint32_t answer =
-      as_header ? h3_send_head(&ends[side], id, list->sizes, list->count, list->bytes, list->len, NULL) : send_list(&ends[side], id, list);
+  uint32_t answer = send(&ends[side], id, list->sizes, list->count, list->bytes, list->len, NULL);
   need(answer == H3_OK, "a list is not sent: answer", answer);
 }
 
@@ -152,12 +159,11 @@ static h3_item pull(int side, uint64_t id, int as_header) {
   return item;
 }
 
-/* the list comes out, and the end after it */
-static void take_list(int side, uint64_t id, const field_list *list, int as_header) {
+/* the list comes out as this kind */
+static void take_list(int side, uint64_t id, uint32_t kind, const field_list *list, int as_header) {
   h3_item item = pull(side, id, as_header);
-  need(item.kind == H3_HEAD, "no head comes out: kind", item.kind);
+  need(item.kind == kind, "no head or trailer comes out: kind", item.kind);
   if (!broken) need(is_list(&ends[side], &item, list), "another list comes out: fields", item.fields);
-  need(pull(side, id, as_header).kind == H3_END, "no end after the list: stream", id);
 }
 
 /* the other message comes out, so many bytes of its content from there on */
@@ -183,14 +189,18 @@ static void make_pair(void) {
 
 /* a message of the sender's with this list, beside another one: whose first half went before it, and whose second half goes after it */
 static void send_beside(const plan *p, uint64_t id, uint64_t other, const field_list *list, const field_list *plain) {
+  static field_list head; /* in front of a trailer */
+  send_call *const sends[2][2] = {{h3_send_fields, h3_send_head}, {h3_send_trailer_fields, h3_send_trailer}};
   int to = !p->from;
-  send_section(p->from, other, plain, 0);
+  begin_list(&head, p->from, "GET");
+  send_section(p->from, other, plain, h3_send_fields);
   send_content(p->from, other, 0);
   if (!p->early) carry_own(p->from); /* what the plain head inserts */
   carry(p->from, other, ANNOUNCED);
   need(pull(to, other, 0).kind == H3_HEAD, "no head of the other message: stream", other);
   take_content(to, other, 0);
-  send_section(p->from, id, list, p->as_headers);
+  if (p->is_trailer) send_section(p->from, id, &head, h3_send_fields);
+  send_section(p->from, id, list, sends[p->is_trailer][p->as_headers]);
   finish(p->from, id);
   if (!p->early && p->own_first) carry_own(p->from);
   carry(p->from, id, p->step);
@@ -198,7 +208,9 @@ static void send_beside(const plan *p, uint64_t id, uint64_t other, const field_
   send_content(p->from, other, HALF);
   finish(p->from, other);
   carry(p->from, other, ANNOUNCED);
-  take_list(to, id, list, p->as_headers);
+  if (p->is_trailer) take_list(to, id, H3_HEAD, &head, 0);
+  take_list(to, id, p->is_trailer ? H3_TRAILER : H3_HEAD, list, p->as_headers);
+  need(pull(to, id, 0).kind == H3_END, "no end after the list: stream", id);
   take_content(to, other, HALF);
   need(pull(to, other, 0).kind == H3_END, "no end of the other message: stream", other);
 }
@@ -209,11 +221,12 @@ static void ask(uint64_t id, uint64_t other, int early) {
   begin_request(&request, "GET");
   for (int i = 0; i < 2; i++) {
     uint64_t to = i ? other : id;
-    send_section(CLIENT, to, &request, 0);
+    send_section(CLIENT, to, &request, h3_send_fields);
     finish(CLIENT, to);
     if (!early) carry_own(CLIENT);
     carry(CLIENT, to, ANNOUNCED);
-    take_list(SERVER, to, &request, 0);
+    take_list(SERVER, to, H3_HEAD, &request, 0);
+    need(pull(SERVER, to, 0).kind == H3_END, "no end of a request: stream", to);
   }
 }
 
@@ -225,10 +238,7 @@ static void exchange(const plan *p) {
     for (int side = 0; side < 2; side++) carry_own(side);
   on_connection++;
   make_list(&list, p);
-  if (p->from == CLIENT)
-    begin_request(&plain, "POST");
-  else
-    begin_response(&plain, "200");
+  begin_list(&plain, p->from, "POST");
   add_field(&plain, "content-length", "600");
   need(!h3_open_request(&ends[CLIENT], &id, NULL) && !h3_open_request(&ends[CLIENT], &other, NULL), "no request is opened: stream", id);
   if (p->from == SERVER) ask(id, other, p->early);
@@ -247,6 +257,7 @@ static plan plan_of(unsigned number, const unsigned *kinds, unsigned count) {
   p.early = number / 2 % 2;
   p.as_headers = number / 4 % 2;
   p.own_first = number / 8 % 2;
+  p.is_trailer = number / 16 % 4 == 0;
   p.value = values[number % 3];
   p.step = p.size < 1000 ? 1 : steps[number / 3 % 3];
   return p;
@@ -260,8 +271,8 @@ static void tell(const plan *p) {
     printf("byte 0x%02x", p->made_of);
   else
     printf("%s", names[p->made_of - CHINESE]);
-  printf(", a %s %s the settings: %s 0x%llx\n", p->from ? "response" : "request", p->early ? "before" : "after", broken,
-      (unsigned long long)broken_by);
+  printf(", a %s%s %s the settings: %s 0x%llx\n", p->from ? "response" : "request", p->is_trailer ? "'s trailer" : "",
+      p->early ? "before" : "after", broken, (unsigned long long)broken_by);
 }
 
 int main(void) {
