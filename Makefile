@@ -5,8 +5,10 @@ LIB ?= build/c
 # of `make bench-long`: how many exchanges go over the one connection
 EXCHANGES ?= 1000000
 PREFIX ?= /usr/local
+# of `make fuzz`: how long each fuzzer runs
+SECONDS ?= 60
 
-.PHONY: help run draw build lib lib-unproved install examples compat test test-c test-compat refused bench bench-build bench-page bench-exchange bench-instructions bench-long interop upstream-root load need-rt
+.PHONY: help run draw build lib lib-unproved install examples compat test test-c test-compat fuzz refused bench bench-build bench-page bench-exchange bench-instructions bench-long interop upstream-root load need-rt
 
 help: ## list the commands
 	@grep -hE '^[a-z-]+:.*## ' $(MAKEFILE_LIST) | sed -E 's/^([a-z-]+):.*## /make \1: /'
@@ -46,6 +48,10 @@ compat: ## build the drop-in for nghttp3 over the folder that `make lib` leaves,
 test-compat: ## test the drop-in for nghttp3 beside Debian's own, over the folder that `make lib` leaves, or LIB=build/c-unproved: a minute or two
 	@bash scripts/dev/need.sh library "$(LIB)"
 	@bash scripts/compat/test.sh "$(LIB)"
+
+fuzz: ## fuzz the library for SECONDS=60 by each program of tests/fuzz (libFuzzer), over the folder that `make lib` leaves, or LIB=build/c-coverage, which `make lib-unproved COVERAGE=1` leaves
+	@bash scripts/dev/need.sh library "$(LIB)"
+	@bash scripts/c/fuzz.sh "$(SECONDS)" "$(LIB)"
 
 test-c: need-rt ## build the library, and run the C programs of tests/c over it, and the tests of the packages for Go and Rust
 	@bash scripts/c/test-c.sh

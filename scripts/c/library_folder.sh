@@ -13,7 +13,9 @@ mkdir -p "$folder/beanwhile"
 cp "$archive" "$folder/libbeanwhile_h3.a"
 cp "$(dirname "$(rt doc)")/c/liblibc_c.a" "$folder/libbeanwhile_h3_shim.a"
 cp include/h3.h "$folder/beanwhile/h3.h"
-bash scripts/c/shared.sh "$folder"
+if [ -z "${COVERAGE:-}" ]; then # what that adds is libFuzzer's
+  bash scripts/c/shared.sh "$folder"
+fi
 for kind in pc cmake; do
   bash scripts/c/package_file.sh "$kind" "$folder" . . $proved
 done

@@ -4,6 +4,8 @@
 # they are, and once with the sanitizers of addresses, leaks and undefined behaviour where the compiler has them (large input, memory: once). Then how programs find the
 # library (scripts/c/test-install.sh), and the packages for Go and Rust (scripts/c/test-bindings.sh). One line 'ok NAME' or 'failed NAME' for each; the last is the sum. With LIB=FOLDER the library in that folder is
 # taken, as that of `make lib-unproved`, and none is built.
+# Beside these: lists between two endpoints with the defaults, frames above the limit, floods, what `detail` says, COUNT=60000 pairs of random programs (in
+# C++), and a short run of the fuzzers (scripts/c/fuzz.sh).
 set -uo pipefail
 cd "$(dirname "$0")/../.."
 
@@ -24,11 +26,23 @@ mark=""
 [ ! -e "$lib/UNPROVED" ] || mark=unproved # what h3_version is to say
 libs=("-I$lib/beanwhile" "-L$lib" -lbeanwhile_h3 -lbeanwhile_h3_shim)
 
+wrapped=(-Wl,--wrap=malloc,--wrap=realloc,--wrap=free)
+
 compile() { # NAME OUT FLAGS..
   local name=$1 to=$2
   shift 2
   if ! "$cc" -std=c11 -O1 -g -Wall -Wextra -Werror "$@" -o "$out/$to" "tests/c/$name.c" "${libs[@]}"; then
     echo "failed $to: it was not compiled"
+    bad=1
+  fi
+}
+
+# random programs of two endpoints, in C++; COUNT=60000 of them
+programs() {
+  if "${CXX:-c++}" -std=c++17 -O1 -g -Wall -Wextra -Werror -Wl,--wrap=malloc,--wrap=realloc -o "$out/programs" tests/c/programs.cc "${libs[@]}"; then
+    run programs "$out/programs" 1 "${COUNT:-60000}"
+  else
+    echo "failed programs: it was not compiled"
     bad=1
   fi
 }
@@ -59,23 +73,27 @@ printed() { # PROGRAM, LINES, NAME
 run() { # NAME PROGRAM ARGUMENTS..
   local name=$1
   shift
-  if ! "$@"; then
+  "$@" || {
     echo "failed $name: status $?"
     bad=1
-  fi
+  }
 }
 
 checks() {
   compile calls calls
-  compile memory memory -Wl,--wrap=malloc,--wrap=realloc,--wrap=free
+  compile memory memory "${wrapped[@]}"
   compile sizes sizes -Wl,--wrap=malloc,--wrap=realloc
   compile schedules schedules
   compile unread unread
-  compile small_pieces small_pieces -Wl,--wrap=malloc,--wrap=realloc,--wrap=free
-  compile unknown unknown -Wl,--wrap=malloc,--wrap=realloc,--wrap=free
+  compile small_pieces small_pieces "${wrapped[@]}"
+  compile unknown unknown "${wrapped[@]}"
   compile instructions instructions
   compile arguments arguments
   compile lent lent
+  compile details details
+  compile defaults defaults
+  compile excess excess "${wrapped[@]}"
+  compile floods floods "${wrapped[@]}"
   compile lists lists
   compile in_memory in_memory
   compile ../../examples/quickstart quickstart "-I$lib" # includes <beanwhile/h3.h>, as its page says
@@ -91,6 +109,11 @@ checks() {
     run instructions "$out/instructions"
     run arguments "$out/arguments" $mark
     run lent "$out/lent"
+    run details "$out/details"
+    run defaults "$out/defaults"
+    run excess "$out/excess"
+    run floods "$out/floods"
+    programs
     run lists "$out/lists"
     printed "$out/in_memory" tests/c/in_memory.stdout "in_memory: the lines of docs/TUTORIAL.md"
     printed "$out/quickstart" examples/quickstart.stdout "quickstart: the lines of docs/QUICKSTART.md"
@@ -102,6 +125,7 @@ checks() {
     compile instructions instructions_checked "${flags[@]}"
     compile arguments arguments_checked "${flags[@]}"
     compile lent lent_checked "${flags[@]}"
+    compile details details_checked "${flags[@]}"
     compile lists lists_checked "${flags[@]}"
     compile in_memory in_memory_checked "${flags[@]}"
     compile ../../examples/quickstart quickstart_checked "-I$lib" "${flags[@]}"
@@ -111,11 +135,13 @@ checks() {
       run "instructions with sanitizers" "$out/instructions_checked"
       run "arguments with sanitizers" "$out/arguments_checked" $mark
       run "lent with sanitizers" "$out/lent_checked"
+      run "details with sanitizers" "$out/details_checked"
       run "lists with sanitizers" "$out/lists_checked"
       printed "$out/in_memory_checked" tests/c/in_memory.stdout "in_memory with sanitizers"
     printed "$out/quickstart_checked" examples/quickstart.stdout "quickstart with sanitizers"
     fi
   fi
+  bash scripts/c/fuzz.sh 5 "$lib" || bad=1
   bash scripts/c/test-install.sh "$lib" || bad=1
   bash scripts/c/test-bindings.sh "$lib" || bad=1
   return "$bad"

@@ -28,6 +28,7 @@ for set in ${sets// examples / examples-c examples-go examples-rust }; do
       ;;
     c)
       need gcc "${CC:-cc}"
+      need g++ "${CXX:-c++}"
       need python3 python3
       ;;
     examples-*)

@@ -1,9 +1,14 @@
-/* Bytes that are lent to calls of include/h3.h: each is overwritten or freed as soon as the header lets it go, and what comes out stays right. One line
- * 'ok NAME' or 'failed NAME'. */
+/* Bytes that are lent to calls of include/h3.h: each is overwritten or freed as soon as the header lets it go, or its page can be read no
+ * longer, and what comes out stays right. One line 'ok NAME' or 'failed NAME'. */
+#define _GNU_SOURCE
 #include <h3.h>
+#include <signal.h>
 #include <stdio.h>
 #include <stdlib.h>
 #include <string.h>
+#include <sys/mman.h>
+#include <sys/wait.h>
+#include <unistd.h>
 #define TEST "lent"
 #include "expect.h"
 
@@ -168,10 +173,227 @@ static void of_lent_fields(void) {
   h3_free(&server);
 }
 
+/* ---- after faults: the bytes stand in a page that nobody can read once the caller may free them ---- */
+
+enum { PAGE = 4096 };
+static char reading[200]; /* what is told if a page is read that the caller may free */
+
+static void told_of_a_read(int signal_number) {
+  (void)signal_number;
+  ssize_t n = write(STDOUT_FILENO, reading, strlen(reading));
+  _exit(n < 0 ? 2 : 1);
+}
+
+static uint8_t *lend(const char *bytes, size_t len) {
+  uint8_t *page = mmap(NULL, PAGE, PROT_READ | PROT_WRITE, MAP_PRIVATE | MAP_ANONYMOUS, -1, 0);
+  if (page == MAP_FAILED) exit(1);
+  memcpy(page + PAGE - len, bytes, len);
+  return page + PAGE - len;
+}
+
+static void let_go(const uint8_t *lent) { mprotect((void *)((uintptr_t)lent & ~(uintptr_t)(PAGE - 1)), PAGE, PROT_NONE); }
+
+static void unmap(const uint8_t *lent) { munmap((void *)((uintptr_t)lent & ~(uintptr_t)(PAGE - 1)), PAGE); }
+
+static uint32_t pulled(h3_endpoint *e) {
+  h3_item item = {0};
+  IS(h3_pull_fields(e, 0, &item), H3_OK);
+  return item.kind;
+}
+
+/* the connection gets its fault on the control stream: DATA is its first frame */
+static void by_another_stream(h3_endpoint *e) {
+  uint64_t code = 0;
+  IS(h3_deliver(e, 2, "\0\0\0", 3, &code), H3_CONNECTION);
+  HOLDS(code == 0x10a);
+}
+
+/* after what the caller may free the bytes of stream 0, by h3.h */
+static void then_pulled(h3_endpoint *e) {
+  by_another_stream(e);
+  HOLDS(pulled(e) == H3_FAULT_CONNECTION);
+}
+static void then_kept(h3_endpoint *e) {
+  by_another_stream(e);
+  IS(h3_keep(e, 0), H3_OK);
+}
+static void after_an_item(h3_endpoint *e) {
+  HOLDS(pulled(e) < H3_PENDING);
+  then_pulled(e);
+}
+static void after_an_item_kept(h3_endpoint *e) {
+  HOLDS(pulled(e) < H3_PENDING);
+  then_kept(e);
+}
+static void waiting_and_pulled(h3_endpoint *e) {
+  HOLDS(pulled(e) == H3_WAITING);
+  then_pulled(e);
+}
+static void waiting_and_kept(h3_endpoint *e) {
+  HOLDS(pulled(e) == H3_WAITING);
+  then_kept(e);
+}
+static void by_the_pull(h3_endpoint *e) { HOLDS(pulled(e) == H3_FAULT_CONNECTION); }
+static void by_the_pull_kept(h3_endpoint *e) {
+  HOLDS(pulled(e) == H3_FAULT_CONNECTION);
+  IS(h3_keep(e, 0), H3_OK);
+}
+static void by_a_fault(h3_endpoint *e) {
+  uint32_t kind = pulled(e);
+  HOLDS(kind == H3_FAULT_MALFORMED || kind == H3_FAULT_CONNECTION);
+}
+static void malformed(h3_endpoint *e) { HOLDS(pulled(e) == H3_FAULT_MALFORMED); }
+static void malformed_and_closed(h3_endpoint *e) {
+  malformed(e);
+  by_another_stream(e);
+}
+static void by_a_reset(h3_endpoint *e) {
+  IS(h3_deliver_reset(e, 0, 0x10c, NULL), H3_OK);
+  HOLDS(pulled(e) == H3_FAULT_RESET);
+}
+static void by_a_cancellation(h3_endpoint *e) {
+  IS(h3_cancel(e, 0, NULL), H3_OK);
+  HOLDS(pulled(e) == H3_FAULT_CANCELED);
+}
+/* a pull of any stream does, since the item that was pulled last is gone */
+static void pulled_elsewhere(h3_endpoint *e) {
+  h3_item item = {0};
+  IS(h3_pull_fields(e, 4, &item), H3_OK);
+  HOLDS(item.kind >= H3_PENDING);
+}
+static void then_pulled_elsewhere(h3_endpoint *e) {
+  by_another_stream(e);
+  pulled_elsewhere(e);
+}
+static void content_and_a_cancellation(h3_endpoint *e) {
+  HOLDS(pulled(e) == H3_HEAD);
+  HOLDS(pulled(e) == H3_BODY);
+  IS(h3_cancel(e, 0, NULL), H3_OK);
+  pulled_elsewhere(e);
+}
+static void content_and_a_reset(h3_endpoint *e) {
+  HOLDS(pulled(e) == H3_HEAD);
+  HOLDS(pulled(e) == H3_BODY);
+  IS(h3_deliver_reset(e, 0, 0x10c, NULL), H3_OK);
+  pulled_elsewhere(e);
+}
+static void content_and_then_pulled_elsewhere(h3_endpoint *e) {
+  HOLDS(pulled(e) == H3_HEAD);
+  HOLDS(pulled(e) == H3_BODY);
+  then_pulled_elsewhere(e);
+}
+static void by_the_end(h3_endpoint *e) {
+  IS(h3_deliver_end(e, 0, NULL), H3_OK);
+  HOLDS(pulled(e) == H3_HEAD);
+  HOLDS(pulled(e) == H3_END);
+}
+
+/* every call that may look at what is held of the stream; `unread` is as it was while the bytes were there */
+static void ask_all(h3_endpoint *e, uint64_t unread) {
+  h3_stream_state stream;
+  h3_state state;
+  h3_field_size size;
+  uint8_t bytes[16];
+  uint64_t id;
+  size_t n, m;
+  IS(h3_stream(e, 0, &stream), H3_OK);
+  HOLDS(stream.unread == unread);
+  for (int i = 0; i < 2; i++) {
+    IS(h3_connection(e, &state), H3_OK);
+    h3_item_bytes(e, 0, bytes, sizeof bytes, &n);
+    h3_item_field(e, 0, bytes, 8, &n, bytes + 8, 8, &m);
+    h3_item_fields(e, &size, 1, bytes, sizeof bytes);
+    h3_next_waiting(e, 0, &id);
+    h3_next_to_send(e, 0, &id);
+    h3_outgoing(e, 0, bytes, sizeof bytes, &n, NULL);
+    uint32_t kind = pulled(e);
+    HOLDS(kind == H3_END || kind >= H3_FAULT_CONNECTION);
+    IS(h3_keep(e, 0), H3_OK);
+    h3_deliver(e, 0, "more", 4, NULL);
+    h3_deliver_end(e, 0, NULL);
+    h3_reset(e, 0, NULL);
+    h3_cancel(e, 0, NULL);
+    IS(h3_stream(e, 0, &stream), H3_OK);
+    HOLDS(stream.unread <= unread);
+  }
+}
+
+static void of_lent_and_let_go(const char *name, const char *bytes, size_t len, void (*lets_go)(h3_endpoint *)) {
+  struct sigaction reads = {.sa_handler = told_of_a_read};
+  h3_endpoint server = H3_NONE_YET;
+  h3_config c;
+  h3_stream_state stream = {0};
+  sigaction(SIGSEGV, &reads, NULL);
+  snprintf(reading, sizeof reading, "failed lent: bytes that the caller may free are read: %s\n", name);
+  plain_config(&c, 1);
+  IS(h3_new(&server, &c, NULL), H3_OK);
+  const uint8_t *lent = lend(bytes, len);
+  IS(h3_deliver_lent(&server, 0, lent, len, NULL), H3_OK);
+  lets_go(&server);
+  IS(h3_stream(&server, 0, &stream), H3_OK);
+  HOLDS(stream.unread <= len);
+  let_go(lent);
+  ask_all(&server, stream.unread);
+  h3_free(&server);
+  unmap(lent);
+}
+
+/* bytes that are lent on stream 0 of a server, and a way in which h3.h allows the caller to free them */
+#define HEAD "\x01\x07\0\0\xd1\xd7\x50\x01" "a" /* :method GET, :scheme https, :authority "a" (RFC 9204, appendix A) */
+static const struct {
+  const char *name, *bytes;
+  size_t len;
+  void (*lets_go)(h3_endpoint *);
+} faults[] = {
+    {"a frame in part, and a pull", "\1\5\0", 3, then_pulled},
+    {"a frame in part, and h3_keep", "\1\5\0", 3, then_kept},
+    {"a frame's type in part, and a pull", "\x40", 1, then_pulled},
+    {"a whole head, and a pull", HEAD, 9, then_pulled},
+    {"a whole head, and h3_keep", HEAD, 9, then_kept},
+    {"what stands after a head, and a pull", HEAD "\0\5he", 13, after_an_item},
+    {"what stands after a head, and h3_keep", HEAD "\0\5he", 13, after_an_item_kept},
+    {"an unknown frame in part, and a pull", "\x21\x09" "abc", 5, then_pulled},
+    {"an unknown frame in part, and h3_keep", "\x21\x09" "abc", 5, then_kept},
+    {"a head that waits, and a pull", "\1\6\3\x81\xd1\xd7\x10\x11\0\1z", 11, waiting_and_pulled},
+    {"a head that waits, and h3_keep", "\1\6\3\x81\xd1\xd7\x10\x11\0\1z", 11, waiting_and_kept},
+    {"DATA before a head", "\0\3\1\2\3", 5, by_the_pull},
+    {"DATA before a head, and h3_keep", "\0\3\1\2\3", 5, by_the_pull_kept},
+    {"a bad section", "\1\4\0\0\xff\x7f\0\1z", 9, by_the_pull},
+    {"a bad section, and h3_keep", "\1\4\0\0\xff\x7f\0\1z", 9, by_the_pull_kept},
+    {"PUSH_PROMISE", "\5\2\0\0\0\1z", 7, by_the_pull},
+    {"PUSH_PROMISE, and h3_keep", "\5\2\0\0\0\1z", 7, by_the_pull_kept},
+    {"a frame above the limit", "\1\xc0\0\0\0\x40\0\0\0" "abc", 12, by_a_fault},
+    {"a malformed head", "\1\3\0\0\xd9\0\1z", 8, malformed},
+    {"a malformed head, and a fault of the connection", "\1\3\0\0\xd9\0\1z", 8, malformed_and_closed},
+    {"a frame in part, and a reset", "\1\5\0", 3, by_a_reset},
+    {"a frame in part, and h3_cancel", "\1\5\0", 3, by_a_cancellation},
+    {"a frame in part, and a pull of another stream", "\1\5\0", 3, then_pulled_elsewhere},
+    {"content, and h3_cancel", HEAD "\0\2hi\0\5he", 17, content_and_a_cancellation},
+    {"content, and a reset", HEAD "\0\2hi\0\5he", 17, content_and_a_reset},
+    {"content, and a fault of the connection", HEAD "\0\2hi\0\5he", 17, content_and_then_pulled_elsewhere},
+    {"a head, and the end", HEAD, 9, by_the_end},
+};
+#undef HEAD
+
+/* after each of these every call answers from memory of the library */
+static void of_lent_after_faults(void) {
+  fflush(stdout);
+  for (size_t i = 0; i < sizeof faults / sizeof *faults; i++) {
+    int status = 0;
+    pid_t child = fork(); /* a read ends it */
+    if (child == 0) {
+      of_lent_and_let_go(faults[i].name, faults[i].bytes, faults[i].len, faults[i].lets_go);
+      exit(bad);
+    }
+    if (child < 0 || waitpid(child, &status, 0) != child || status) bad = 1;
+  }
+}
+
 int main(void) {
   of_lent();
   of_lent_deliveries();
   of_lent_fields();
+  of_lent_after_faults();
   if (!bad) printf("ok lent: bytes that were lent are read no more once they were let go\n");
   return bad;
 }

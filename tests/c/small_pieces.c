@@ -1,42 +1,16 @@
 /* What is held of a body, and of a WebTransport stream, that comes in small pieces and is not pulled: for each size of a piece the bytes of memory for a
  * byte, which may not pass a bound. The pieces then come out as they came in, and with the last all of it is let go. Linked with --wrap for malloc, realloc and free.
  * One line 'ok NAME' or 'failed NAME'; with an argument a line for each size. */
+#include "counted.h"
 #include <h3.h>
-#include <malloc.h>
 #include <stdio.h>
 #include <stdlib.h>
 #include <string.h>
 
 enum { WINDOW = 1 << 20, LARGEST = 4096 };
 
-static double held;
 static h3_endpoint server;
 static unsigned char sent[WINDOW];
-
-void *__real_malloc(size_t size);
-void *__real_realloc(void *block, size_t size);
-void __real_free(void *block);
-void *__wrap_malloc(size_t size);
-void *__wrap_realloc(void *block, size_t size);
-void __wrap_free(void *block);
-
-void *__wrap_malloc(size_t size) {
-  void *block = __real_malloc(size);
-  held += (double)malloc_usable_size(block);
-  return block;
-}
-
-void *__wrap_realloc(void *block, size_t size) {
-  held -= (double)malloc_usable_size(block);
-  block = __real_realloc(block, size);
-  held += (double)malloc_usable_size(block);
-  return block;
-}
-
-void __wrap_free(void *block) {
-  held -= (double)malloc_usable_size(block);
-  __real_free(block);
-}
 
 static void need(int holds, const char *what, size_t size) {
   if (holds) return;
@@ -74,10 +48,10 @@ static void begin_session(uint64_t id) {
 
 /* how many bytes of memory a byte of the stream takes; what came out is what went in, piece by piece */
 static double taken(uint64_t id, uint32_t kind, size_t size) {
-  double before = held;
+  size_t before = live;
   size_t count = 0;
   for (; count + size <= WINDOW; count += size) deliver(id, sent + count, size);
-  double all = held - before;
+  double all = (double)live - (double)before;
   unsigned char came[LARGEST];
   size_t n = 0;
   for (size_t at = 0; at < count; at += size) {
@@ -86,7 +60,7 @@ static double taken(uint64_t id, uint32_t kind, size_t size) {
     need(h3_item_bytes(&server, 0, came, LARGEST, &n) == H3_OK && n == size && !memcmp(came, sent + at, size), "other bytes come out", size);
   }
   need(pull(id).kind == H3_PENDING, "more comes out", size);
-  need(held - before < 4096, "something is still held", size);
+  need(live < before + 4096, "something is still held", size);
   return all / (double)count;
 }
 

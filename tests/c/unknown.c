@@ -1,33 +1,11 @@
 /* Frames of unknown types (RFC 9114, section 9): 40 MiB of a frame of 2^30 - 1 bytes, in pieces of 64 KiB, on a request stream, pulled and not, and on
  * the control stream. None of them is held: by h3_stream, and by the bytes that are allocated. What comes behind such a frame is read as without
  * it, and an end inside is a fault. Linked with --wrap for malloc, realloc and free. */
+#include "counted.h"
 #include "h3.h"
-#include <malloc.h>
 #include <stdio.h>
 #include <stdlib.h>
 #include <string.h>
-
-void *__real_malloc(size_t);
-void *__real_realloc(void *, size_t);
-void __real_free(void *);
-
-static size_t live; /* bytes that are allocated */
-
-void *__wrap_malloc(size_t n) {
-  void *p = __real_malloc(n);
-  live += malloc_usable_size(p);
-  return p;
-}
-void *__wrap_realloc(void *p, size_t n) {
-  live -= malloc_usable_size(p);
-  p = __real_realloc(p, n);
-  live += malloc_usable_size(p);
-  return p;
-}
-void __wrap_free(void *p) {
-  live -= malloc_usable_size(p);
-  __real_free(p);
-}
 
 enum { PIECE = 64 * 1024, PIECES = 640, MOST = 4096 };
 
