@@ -143,7 +143,7 @@ def snake(name):
 
 
 NAMES = {"H3_OUT_OF_MEMORY": "H3_MEMORY"}
-WITHOUT = ("h3_version", "h3_config_default", "h3_new")  # are called where there is no endpoint
+WITHOUT = ("h3_version", "h3_config_default", "h3_new", "h3_priority_read")  # are called where there is no endpoint
 bad = 0
 
 

@@ -333,6 +333,14 @@ static void deliveries(void) {
   drop();
 }
 
+/* a `priority` field of 1 MiB: a parameter with a long key, and the urgency */
+static void priorities(void) {
+  uint32_t urgency, incremental;
+  memset(piece, 'a', MIB);
+  memcpy(piece + MIB - 4, ",u=1", 4);
+  WANT(h3_priority_read(piece, MIB, &urgency, &incremental) == H3_OK && urgency == 1 && incremental == 0, "a long priority field", 0, urgency);
+}
+
 int main(void) {
   piece = malloc(BODY + MIB);
   body = malloc(BODY);
@@ -344,6 +352,7 @@ int main(void) {
     streams();
     insertions();
     deliveries();
+    priorities();
     WANT(!refused && allocations > 100000 * (listed + 1), "allocations were refused, or not counted", listed, 0);
   }
   free(piece);

@@ -53,6 +53,7 @@ pub(crate) struct RawConnection {
 #[rustfmt::skip]
 extern "C" {
     pub(crate) fn h3_raw_version() -> u32;
+    pub(crate) fn h3_raw_priority_read(value: *const u8, len: usize, urgency: *mut u32, incremental: *mut u32) -> u32;
     pub(crate) fn h3_raw_config_default(numbers: *mut u64, count: usize);
     pub(crate) fn h3_raw_new(numbers: *const u64, count: usize, detail: *mut u64, out: *mut Handle) -> u32;
     pub(crate) fn h3_raw_free(endpoint: Handle);
