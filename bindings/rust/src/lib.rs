@@ -12,6 +12,7 @@ mod endpoint;
 mod error;
 mod fields;
 mod item;
+mod priority;
 mod raw;
 mod state;
 
@@ -20,6 +21,7 @@ pub use endpoint::{Endpoint, Items};
 pub use error::{code, Error, Fault, Malformation};
 pub use fields::{Field, Fields, FieldsIter};
 pub use item::{Head, Item, Pause, Pulled};
+pub use priority::Priority;
 pub use state::{ConnectionState, PeerLimits, StreamState, Version};
 
 /// The ids of the own control, encoder and decoder stream.
