@@ -89,6 +89,8 @@ checks() {
   compile unknown unknown "${wrapped[@]}"
   compile instructions instructions
   compile arguments arguments
+  compile limits limits
+  compile priority priority
   compile lent lent
   compile details details
   compile defaults defaults
@@ -108,6 +110,8 @@ checks() {
     run unknown "$out/unknown"
     run instructions "$out/instructions"
     run arguments "$out/arguments" $mark
+    run limits "$out/limits"
+    run priority "$out/priority"
     run lent "$out/lent"
     run details "$out/details"
     run defaults "$out/defaults"
