@@ -4,7 +4,7 @@
 # they are, and once with the sanitizers of addresses, leaks and undefined behaviour where the compiler has them (large input, memory: once). Then how programs find the
 # library (scripts/c/test-install.sh), and the packages for Go and Rust (scripts/c/test-bindings.sh). One line 'ok NAME' or 'failed NAME' for each; the last is the sum. With LIB=FOLDER the library in that folder is
 # taken, as that of `make lib-unproved`, and none is built.
-# Beside these: lists between two endpoints with the defaults, frames above the limit, floods, what `detail` says, COUNT=60000 pairs of random programs (in
+# Beside these: lists between two endpoints with the defaults, frames above the limit, early cancellations, what `detail` says, COUNT=60000 pairs of random programs (in
 # C++), and a short run of the fuzzers (scripts/c/fuzz.sh).
 set -uo pipefail
 cd "$(dirname "$0")/../.."
@@ -95,7 +95,7 @@ checks() {
   compile details details
   compile defaults defaults
   compile excess excess "${wrapped[@]}"
-  compile floods floods "${wrapped[@]}"
+  compile cancellations cancellations
   compile lists lists
   compile in_memory in_memory
   compile ../../examples/quickstart quickstart "-I$lib" # includes <beanwhile/h3.h>, as its page says
@@ -116,7 +116,7 @@ checks() {
     run details "$out/details"
     run defaults "$out/defaults"
     run excess "$out/excess"
-    run floods "$out/floods"
+    run cancellations "$out/cancellations"
     programs
     run lists "$out/lists"
     printed "$out/in_memory" tests/c/in_memory.stdout "in_memory: the lines of docs/TUTORIAL.md"
