@@ -1,9 +1,11 @@
 #!/usr/bin/env bash
-# C programs over build/c (scripts/c/lib.sh), by the machine's C compiler alone: the calls of crates/h3_cases and hostile lists of calls through the header,
-# each allocation refused in turn, large input with none refused, two endpoints under random schedules, what is held of a stream and of small pieces, unknown frames, long instructions, wrong arguments, bytes that are lent, pulled lists, and the program of docs/TUTORIAL.md. Once as
-# they are, and once with the sanitizers of addresses, leaks and undefined behaviour where the compiler has them (large input, memory: once). Then how programs find the
-# library (scripts/c/test-install.sh), and the packages for Go and Rust (scripts/c/test-bindings.sh). One line 'ok NAME' or 'failed NAME' for each; the last is the sum. With LIB=FOLDER the library in that folder is
-# taken, as that of `make lib-unproved`, and none is built.
+# C programs over build/c (scripts/c/lib.sh), by the machine's C compiler alone: the calls of crates/h3_cases and hostile lists of calls through the
+# header, each allocation refused in turn, large input with none refused, two endpoints under random schedules, what is held of a stream and of small
+# pieces, unknown frames, long instructions, wrong arguments, bytes that are lent, pulled lists, and the program of docs/TUTORIAL.md. Once as they are,
+# and once with the sanitizers of addresses, leaks and undefined behaviour where the compiler has them (large input, memory: once). Then h3.hpp, by C++17
+# and C++20; the binary interface (scripts/c/abi.py); how programs find the library (scripts/c/test-install.sh); and the packages for Go and Rust
+# (scripts/c/test-bindings.sh). One line 'ok NAME' or 'failed NAME' for each; the last is the sum. With LIB=FOLDER the library in that folder is taken, as
+# that of `make lib-unproved`, and none is built.
 set -uo pipefail
 cd "$(dirname "$0")/../.."
 
@@ -17,6 +19,7 @@ fi
 log=$(mktemp)
 trap 'rm -f "$log"' EXIT
 cc=${CC:-cc}
+cxx=${CXX:-c++}
 out=$lib/tests
 mkdir -p "$out"
 bad=0
@@ -29,6 +32,19 @@ compile() { # NAME OUT FLAGS..
   shift 2
   if ! "$cc" -std=c11 -O1 -g -Wall -Wextra -Werror "$@" -o "$out/$to" "tests/c/$name.c" "${libs[@]}"; then
     echo "failed $to: it was not compiled"
+    bad=1
+  fi
+}
+
+# h3.hpp by one version of C++, where the compiler has it
+cplusplus() { # VERSION FLAGS..
+  local version=$1
+  shift
+  if ! echo 'int main() {}' | "$cxx" "-std=c++$version" "$@" -x c++ -o "$out/probe" - 2> "$out/probe.log"; then return; fi
+  if "$cxx" "-std=c++$version" -O1 -g -Wall -Wextra -Wconversion -Werror "$@" -o "$out/endpoint" tests/c/endpoint.cpp "${libs[@]}"; then
+    run "h3.hpp by C++$version" "$out/endpoint"
+  else
+    echo "failed h3.hpp: C++$version did not compile it"
     bad=1
   fi
 }
@@ -112,6 +128,13 @@ checks() {
       tutorial "$out/in_memory_checked" "in_memory with sanitizers"
     fi
   fi
+  if command -v "$cxx" > /dev/null; then
+    for version in 17 20; do cplusplus "$version"; done
+    cplusplus 20 -fsanitize=address,undefined -fno-sanitize-recover=all
+  else
+    echo "left out: h3.hpp, which wants a C++ compiler (Debian: apt-get install g++)" >&2
+  fi
+  python3 scripts/c/abi.py check "$lib" || bad=1
   bash scripts/c/test-install.sh "$lib" || bad=1
   bash scripts/c/test-bindings.sh "$lib" || bad=1
   return "$bad"

@@ -4,7 +4,15 @@ use crate::raw;
 pub(crate) const NUMBERS: usize = 16;
 
 /// What an endpoint is and announces, as `h3_config`.
+///
+/// Later versions may add fields, so it is begun with [`Config::client`] or [`Config::server`], and its fields are set then:
+///
+/// ```
+/// let mut config = beanwhile_h3::Config::server();
+/// config.max_field_section_size = 16_384;
+/// ```
 #[derive(Debug, Clone, Copy, PartialEq, Eq)]
+#[non_exhaustive]
 pub struct Config {
     /// This side accepted the connection.
     pub server: bool,
@@ -22,14 +30,17 @@ pub struct Config {
     pub strict: bool,
     /// An acknowledgment tells the encoder of insertions (RFC 9204, section 2.1.4).
     pub count_acknowledgments: bool,
-    /// A reserved setting is sent (RFC 9114, section 7.2.4.1): the one that `grease` says, any random number below 0x210842108421083.
+    /// A reserved setting is sent (RFC 9114, section 7.2.4.1): the one that `grease` says, a random number below 0x210842108421083.
     pub send_grease: bool,
+    /// Which one, with `send_grease`.
     pub grease: u64,
-    /// RFC 9220.
+    /// Extended CONNECT (RFC 9220) is announced.
     pub extended_connect: bool,
-    /// RFC 9297.
+    /// HTTP datagrams (RFC 9297) are announced.
     pub datagram: bool,
+    /// WebTransport is announced.
     pub webtransport: bool,
+    /// How many sessions of it may be open.
     pub max_webtransport_sessions: u64,
     /// The greatest length that a frame may say which is kept until it is whole: any known one but DATA. One that says more is a fault of the
     /// connection, H3_EXCESSIVE_LOAD, and so is a longer instruction of the encoder or decoder stream. One below `max_field_section_size` is refused. 2^62 - 1 and more: there is no limit.

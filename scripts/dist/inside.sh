@@ -1,0 +1,136 @@
+#!/usr/bin/env bash
+# inside.sh: runs in a clean root of Debian, as root and with no network, in the folder that scripts/dist/test-dist.sh filled: artefacts in dist/, examples/start in
+# start/, docs/INSTALL.md. Each language's commands of that page are run as they stand there, and have to print what start/printed has. Then what else
+# the artefacts hold. Prints 'ok NAME', 'failed NAME: ..' or 'skipped NAME: ..'.
+set -uo pipefail
+cd "$(dirname "$0")"
+top=$PWD
+. /etc/os-release
+release="Debian $VERSION_ID"
+export LC_ALL=C.UTF-8 DEBIAN_FRONTEND=noninteractive CARGO_NET_OFFLINE=true GOFLAGS=-mod=mod GOPROXY=off GOTOOLCHAIN=local GOCACHE=$top/go-cache HOME=$top
+
+check() { # NAME COMMAND..
+  local name=$1
+  shift
+  if "$@" > "$top/log" 2>&1; then
+    echo "ok $release: $name"
+  else
+    echo "failed $release: $name: $(tail -n 6 "$top/log" | tr '\n' ' ' | cut -c 1-600)"
+  fi
+}
+
+# the block of commands of docs/INSTALL.md behind the line `<!-- start NAME -->`
+commands_of() {
+  awk -v mark="<!-- start $1 -->" '$0 == mark { found = 1; next } found && /^```/ { if (inside) exit; inside = 1; next } found && inside' "$top/INSTALL.md"
+}
+
+# start NAME FILE TO: the page's commands, in a folder with the program of that language as FILE and with the artefacts
+start() {
+  local name=$1 program=$2 to=$3 folder=$top/$1 lines
+  mkdir -p "$folder/$(dirname "$to")"
+  cp "$top/start/$program" "$folder/$to"
+  cp "$top"/dist/* "$folder"
+  cd "$folder" || return 1
+  case $name in
+    rust) printf '[package]\nname = "main"\nversion = "1.0.0"\nedition = "2021"\n' > Cargo.toml ;;
+    go) printf 'module main\n\ngo 1.19\n' > go.mod ;;
+  esac
+  lines=$(commands_of "$name")
+  if [ "$(grep -c . <<< "$lines")" -ne 3 ]; then
+    echo "docs/INSTALL.md has not three commands for $name"
+    return 1
+  fi
+  bash -euo pipefail -c "$lines" > "$folder/said" || return 1
+  if ! tail -n "$(wc -l < "$top/start/printed")" "$folder/said" | cmp - "$top/start/printed"; then
+    tail -n 6 "$folder/said"
+    return 1
+  fi
+}
+
+checksums() {
+  cd "$top/dist" && sha256sum --quiet -c SHA256SUMS
+}
+
+# the tarball: its own checksums, and programs by pkg-config and CMake in the folder where it was unpacked
+unpack() {
+  mkdir -p "$top/tarball" && tar xzf "$top"/dist/beanwhile-h3-*-linux-*.tar.gz -C "$top/tarball" --strip-components=1 && cd "$top/tarball" && sha256sum --quiet -c SHA256SUMS
+}
+by_pkg_config() { # PACKAGE
+  local flags libdir
+  export PKG_CONFIG_PATH=$top/tarball/lib/pkgconfig
+  flags=$(pkg-config --cflags --libs "$1") && libdir=$(pkg-config --variable=libdir "$1") || return 1
+  # shellcheck disable=SC2086
+  cc -std=c11 -o "$top/program" "$top/start/main.c" $flags "-Wl,-rpath,$libdir" && "$top/program" | cmp - "$top/start/printed"
+}
+by_cmake() { # TARGET, and where CMake looks
+  rm -rf "$top/cmake"
+  mkdir -p "$top/cmake"
+  cat > "$top/cmake/CMakeLists.txt" <<END
+cmake_minimum_required(VERSION 3.10)
+project(program C)
+find_package(beanwhile-h3 1.0 CONFIG REQUIRED)
+add_executable(program "$top/start/main.c")
+target_link_libraries(program PRIVATE beanwhile::$1)
+END
+  cmake -S "$top/cmake" -B "$top/cmake/out" ${2:+"-DCMAKE_PREFIX_PATH=$2"} && cmake --build "$top/cmake/out" && "$top/cmake/out/program" | cmp - "$top/start/printed"
+}
+
+# the Debian packages: a program over the shared library, which asks for the package that has it
+shared_of_debian() {
+  local flags
+  flags=$(pkg-config --cflags --libs beanwhile-h3-shared) || return 1
+  # shellcheck disable=SC2086
+  cc -std=c11 -o "$top/program" "$top/start/main.c" $flags && "$top/program" | cmp - "$top/start/printed" && readelf -d "$top/program" | grep -q 'NEEDED.*libbeanwhile_h3.so'
+}
+whole() {
+  [ -z "$(dpkg -V libbeanwhile-h3-1 libbeanwhile-h3-dev)" ]
+}
+
+# the tests of the packages themselves
+rust_tests() {
+  cd "$top"/rust/beanwhile-h3-*/ && cargo test --offline --quiet --target-dir "$top/rust/target"
+}
+go_tests() {
+  cd "$top"/go/beanwhile-h3-go-*/ && go vet . && go test -count=1 .
+}
+go_vendored() {
+  cd "$top/go" && go mod vendor && go run -mod=vendor . | cmp - "$top/start/printed"
+}
+relinked() { # a program is linked again when the archive inside of the crate changes
+  local archive
+  archive=$(echo "$top"/rust/beanwhile-h3-*/native/*/libbeanwhile_h3.a)
+  cd "$top/rust" && cargo build --offline && touch "$archive" && cargo build --offline -v 2>&1 | grep -q 'Compiling main\|Running.*--crate-name main'
+}
+
+server() {
+  cp -r /usr/share/doc/libbeanwhile-h3-dev/examples/c "$top/server" && make -C "$top/server" LIB=/usr/lib/x86_64-linux-gnu OUT="$top/server" "$top/server/serve"
+}
+
+check "checksums of the artefacts" checksums
+check "C by docs/INSTALL.md" start c main.c main.c
+check "C++ by docs/INSTALL.md" start cpp main.cpp main.cpp
+check "Rust by docs/INSTALL.md" start rust main.rs src/main.rs
+check "Go by docs/INSTALL.md" start go main.go main.go
+if [ -e "$top/start/main.py" ] && ls "$top"/dist/*.whl > /dev/null 2>&1; then
+  check "Python by docs/INSTALL.md" start python main.py main.py
+else
+  echo "skipped $release: Python, of which there is no wheel"
+fi
+check "the tarball and its checksums" unpack
+check "the tarball by pkg-config" by_pkg_config beanwhile-h3
+check "the tarball by pkg-config, shared" by_pkg_config beanwhile-h3-shared
+check "the tarball by CMake" by_cmake h3 "$top/tarball"
+check "the tarball by CMake, shared" by_cmake shared "$top/tarball"
+unset PKG_CONFIG_PATH
+check "Debian packages by CMake" by_cmake h3 ""
+check "Debian packages, shared" shared_of_debian
+check "Debian packages are as they were packed" whole
+check "the Rust crate's own tests" rust_tests
+check "a Rust program is linked again when the archive changes" relinked
+check "the Go module's own tests" go_tests
+check "a Go program with the module vendored" go_vendored
+if pkg-config --exists 'libngtcp2 < 1'; then
+  check "examples/c are built" server
+else
+  echo "skipped $release: examples/c are built, which stand on ngtcp2 before 1.0 (here: $(pkg-config --modversion libngtcp2 2>&1))"
+fi
