@@ -1,23 +1,28 @@
-"""The Debian packages: libbeanwhile-h3-1, the shared library, and libbeanwhile-h3-dev, what programs are built with. A further package, as of another
-shared library over the same archive, is one more function of PACKAGES."""
+"""The Debian packages: libbeanwhile-h3-1, the shared library; libbeanwhile-h3-dev, what programs are built with; and, where build/compat has it,
+libbeanwhile-h3-nghttp3, the drop-in for nghttp3. Each is a function of PACKAGES."""
+import ctypes
 import email.utils
+import glob
 import gzip
 import os
 import re
 import subprocess
+import sys
 import tempfile
 import textwrap
 from dataclasses import dataclass, field
 
-from release import ROOT, read
+from release import ROOT, read, refuse
 from tree import Tree, write_folder
 
 SOURCE = "beanwhile-h3"
 ARCHITECTURE = "amd64"
 LIBDIR = "lib/x86_64-linux-gnu"
+PURPOSE = """Beanwhile turns the stream bytes of a QUIC library into HTTP/3 messages and back (RFC 9114, with QPACK, RFC 9204), for clients, servers and
+proxies."""
 MAINTAINER = "Beanwhile maintainers <maintainers@beanwhile.example>"
 EXAMPLES = ["examples/c", "examples/start/main.c", "examples/start/main.cpp", "tests/c/in_memory.c"]
-PAGES = ["docs/INSTALL.md", "docs/TUTORIAL.md", "docs/C_API.md", "SECURITY.md"]
+PAGES = ["docs/TUTORIAL.md", "docs/C_API.md", "SECURITY.md"]
 
 
 @dataclass
@@ -46,7 +51,7 @@ def shared_library(release):
     installed = release.installed("/usr", LIBDIR)
     at = f"usr/{LIBDIR}/{release.shared}"
     tree = Tree({at: installed.entries[at]})
-    tree.entries[at] = type(tree.entries[at])(tree.entries[at].content, 0o644)  # Debian's libraries are no programs
+    tree.add(at, tree.entries[at].content)  # with no bit of a program, as Debian's libraries are
     package = Package(name, "libs", [f"libc6 (>= {release.glibc()})"], "HTTP/3 connection core, shared library", "This package has the shared library.", tree)
     exports = sorted(re.findall(r"\b(h3_raw_\w+)\(", read(f"{ROOT}/include/h3.h").split("---- the functions above", 1)[0]))
     symbols = "".join(f" {it}@Base {release.version}\n" for it in dict.fromkeys(exports))
@@ -71,7 +76,36 @@ def development(release):
     return package
 
 
-PACKAGES = [shared_library, development]
+class Nghttp3Info(ctypes.Structure):
+    _fields_ = [("age", ctypes.c_int), ("number", ctypes.c_int), ("text", ctypes.c_char_p)]
+
+
+def judge_drop_in(release, path):
+    """is it over this very library?"""
+    library = ctypes.CDLL(path)
+    library.nghttp3_version.restype = ctypes.POINTER(Nghttp3Info)
+    text = library.nghttp3_version(0).contents.text.decode()
+    is_older = os.stat(path).st_mtime < os.stat(f"{release.folder}/libbeanwhile_h3.a").st_mtime
+    if is_older or f"-beanwhile-{release.version}" not in text or ("UNPROVED" in text) == release.is_proved:
+        refuse(f"{path} ({text}) is not over the library of {release.folder}: build it again, or remove it")
+
+
+def nghttp3(release):
+    """in a folder of its own, since Debian's libnghttp3 has the same names"""
+    found = sorted(glob.glob(f"{ROOT}/build/compat/libnghttp3.so.[0-9]"))
+    if not found:
+        print("left out: the package libbeanwhile-h3-nghttp3, since build/compat has no libnghttp3.so", file=sys.stderr)
+        return None
+    folder = f"usr/{LIBDIR}/beanwhile-h3/nghttp3"
+    tree = Tree()
+    for path in found:
+        judge_drop_in(release, path)
+        tree.add(f"{folder}/{os.path.basename(path)}", release.stripped(path))
+    text = f"This package has a drop-in for nghttp3. A program that stands on nghttp3 takes it with LD_LIBRARY_PATH=/{folder}."
+    return Package("libbeanwhile-h3-nghttp3", "libs", [f"libc6 (>= {release.glibc(*found)})"], "HTTP/3 connection core, in the place of nghttp3", text, tree)
+
+
+PACKAGES = [shared_library, development, nghttp3]
 
 
 def paragraph(text):
@@ -91,8 +125,7 @@ Depends: {', '.join(package.depends)}
 Section: {package.section}
 Priority: optional
 Description: {package.summary}{'' if release.is_proved else ' (UNPROVED)'}
- Beanwhile turns the stream bytes of a QUIC library into HTTP/3 messages and back
- (RFC 9114, with QPACK, RFC 9204), for clients, servers and proxies.
+{paragraph(PURPOSE)}
  .
 {paragraph(release.state)}
  .
@@ -146,5 +179,6 @@ def make_package(release, package, to):
 
 
 def make(release, to):
-    for package in PACKAGES:
-        make_package(release, package(release), to)
+    for package in (it(release) for it in PACKAGES):
+        if package is not None:
+            make_package(release, package, to)

@@ -114,7 +114,7 @@ check "Go by docs/INSTALL.md" start go main.go main.go
 if [ -e "$top/start/main.py" ] && ls "$top"/dist/*.whl > /dev/null 2>&1; then
   check "Python by docs/INSTALL.md" start python main.py main.py
 else
-  echo "skipped $release: Python, of which there is no wheel"
+  echo "skipped $release: Python, of which there is no wheel, or no examples/start/main.py"
 fi
 check "the tarball and its checksums" unpack
 check "the tarball by pkg-config" by_pkg_config beanwhile-h3

@@ -101,17 +101,19 @@ gate     {gate}
 machine  {MACHINE}-linux, glibc {self.glibc()} or later
 """
 
-    def glibc(self):
-        """the newest version of glibc that the shared library asks for"""
-        names = re.findall(r"GLIBC_(\d+)\.(\d+)", said("objdump", "-T", f"{self.folder}/{self.shared}"))
+    def glibc(self, *others):
+        """the newest version of glibc that the shared library asks for, or others do"""
+        paths = others or [f"{self.folder}/{self.shared}"]
+        names = re.findall(r"GLIBC_(\d+)\.(\d+)", said("objdump", "-T", *paths))
         if not names:
-            refuse(f"{self.shared} asks for no version of glibc")
+            refuse(f"{' '.join(paths)}: no version of glibc is asked for")
         return ".".join(max(names, key=lambda it: tuple(map(int, it))))
 
-    def stripped(self, name):
-        """the bytes of the shared library without what no program needs"""
+    @staticmethod
+    def stripped(path):
+        """the bytes of a shared library without what no program needs"""
         with tempfile.TemporaryDirectory() as room:
-            said("strip", "--strip-unneeded", "--remove-section=.comment", "-o", f"{room}/out", f"{self.folder}/{name}")
+            said("strip", "--strip-unneeded", "--remove-section=.comment", "-o", f"{room}/out", path)
             with open(f"{room}/out", "rb") as file:
                 return file.read()
 
@@ -130,7 +132,7 @@ machine  {MACHINE}-linux, glibc {self.glibc()} or later
             tree = Tree()
             tree.take_folder(room)
         at = f"{prefix.strip('/')}/{libdir}/{self.shared}".strip("/")
-        tree.add(at, self.stripped(self.shared))
+        tree.add(at, self.stripped(f"{self.folder}/{self.shared}"))
         return tree
 
     def committed(self, *paths):

@@ -47,8 +47,19 @@ packed_again() {
   fi
 }
 
+# no error and no warning, as root too
+by_lintian() {
+  if ! command -v lintian > /dev/null; then
+    echo "skipped lintian, which is not there (Debian: apt-get install lintian)"
+  elif said=$(lintian --allow-root --fail-on error,warning "$from"/*.deb 2>&1); then
+    echo "ok lintian: $(ls "$from"/*.deb | wc -l) packages"
+  else
+    echo "failed lintian: $(tr '\n' ' ' <<< "$said")"
+  fi
+}
+
 cleaned() { # ROOT: as it was before anything was installed
-  inside "$1" dpkg --purge libbeanwhile-h3-dev libbeanwhile-h3-1 > /dev/null 2>&1
+  inside "$1" dpkg --purge libbeanwhile-h3-nghttp3 libbeanwhile-h3-dev libbeanwhile-h3-1 > /dev/null 2>&1
   rm -rf "$roots/$1/root/try"
 }
 
@@ -116,6 +127,7 @@ over_quic() {
 
 checks() {
   packed_again
+  by_lintian
   for root in bookworm trixie; do in_root "$root"; done
   over_quic
   for root in bookworm trixie; do [ ! -d "$roots/$root" ] || cleaned "$root"; done

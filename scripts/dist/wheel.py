@@ -51,7 +51,7 @@ def make(release, to):
         print(f"left out: the Python wheel, since there is no {FROM}", file=sys.stderr)
         return
     package, project = sources(release)
-    package.add(f"{PACKAGE}/{release.shared}", release.stripped(release.shared), 0o755)
+    package.add(f"{PACKAGE}/{release.shared}", release.stripped(f"{release.folder}/{release.shared}"), 0o755)
     tree = Tree(sorted(package.entries.items()))
     tag = f"py3-none-manylinux_{release.glibc().replace('.', '_')}_{MACHINE}"
     info = f"{PACKAGE}-{version(release)}.dist-info"
