@@ -53,6 +53,7 @@ def shared_library(release):
     tree = Tree({at: installed.entries[at]})
     tree.add(at, tree.entries[at].content)  # with no bit of a program, as Debian's libraries are
     package = Package(name, "libs", [f"libc6 (>= {release.glibc()})"], "HTTP/3 connection core, shared library", "This package has the shared library.", tree)
+    package.said = [("lacks-unversioned-link-to-shared-library", "the link lies in beanwhile-h3/, so that -lbeanwhile_h3 means the archive")]
     exports = sorted(re.findall(r"\b(h3_raw_\w+)\(", read(f"{ROOT}/include/h3.h").split("---- the functions above", 1)[0]))
     symbols = "".join(f" {it}@Base {release.version}\n" for it in dict.fromkeys(exports))
     package.control.add("symbols", f"{release.shared} {name} #MINVER#\n* Build-Depends-Package: libbeanwhile-h3-dev\n{symbols}")

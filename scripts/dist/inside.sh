@@ -7,7 +7,7 @@ cd "$(dirname "$0")"
 top=$PWD
 . /etc/os-release
 release="Debian $VERSION_ID"
-export LC_ALL=C.UTF-8 DEBIAN_FRONTEND=noninteractive CARGO_NET_OFFLINE=true GOFLAGS=-mod=mod GOPROXY=off GOTOOLCHAIN=local GOCACHE=$top/go-cache HOME=$top
+export LC_ALL=C.UTF-8 DEBIAN_FRONTEND=noninteractive CARGO_NET_OFFLINE=true GOFLAGS=-mod=mod GOPROXY=off GOTOOLCHAIN=local GOCACHE=$top/go-cache GOPATH=$top/go-path HOME=$top
 
 check() { # NAME COMMAND..
   local name=$1
@@ -83,7 +83,8 @@ shared_of_debian() {
   cc -std=c11 -o "$top/program" "$top/start/main.c" $flags && "$top/program" | cmp - "$top/start/printed" && readelf -d "$top/program" | grep -q 'NEEDED.*libbeanwhile_h3.so'
 }
 whole() {
-  [ -z "$(dpkg -V libbeanwhile-h3-1 libbeanwhile-h3-dev)" ]
+  local said
+  said=$(dpkg -V libbeanwhile-h3-1 libbeanwhile-h3-dev) && [ -z "$said" ] && [ "$(dpkg-query -W -f '${db:Status-Status}' libbeanwhile-h3-dev)" = installed ]
 }
 
 # the tests of the packages themselves

@@ -24,10 +24,11 @@ make_root() { # NAME
   # shellcheck disable=SC2086
   chroot "$root" env DEBIAN_FRONTEND=noninteractive LC_ALL=C apt-get install -y --no-install-recommends "${languages[@]}" ${others[$1]}
   chroot "$root" apt-get clean
+  touch "$root/.whole"
 }
 
 if [ "${1:-}" = there ]; then
-  [ -x "$roots/$2/usr/bin/gcc" ]
+  [ -e "$roots/$2/.whole" ]
   exit
 fi
 command -v debootstrap > /dev/null || { echo "missing: debootstrap (Debian: apt-get install debootstrap)" >&2; exit 1; }

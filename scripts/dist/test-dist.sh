@@ -1,8 +1,8 @@
 #!/usr/bin/env bash
 # test-dist.sh FOLDER: packs the library once more and compares the bytes; then takes what `make dist` left in FOLDER into roots of Debian 12 and 13 without the
 # kit (scripts/dist/roots.sh), and builds and runs programs there with no network (scripts/dist/inside.sh). At last the server of examples/c, built in the
-# root of Debian 12, against gtlsclient of Debian 12 and curl of Debian 13 with HTTP/3, over loopback. As root. Prints 'ok NAME', 'failed NAME: ..' and
-# 'skipped NAME: ..', and their counts.
+# root of Debian 12, against gtlsclient of Debian 12 and curl of Debian 13 with HTTP/3, over loopback. As root. ROOTS=trixie: in that root alone. Prints
+# 'ok NAME', 'failed NAME: ..' and 'skipped NAME: ..', and their counts.
 set -uo pipefail
 cd "$(dirname "$0")/../.."
 from=$1
@@ -27,10 +27,12 @@ leave() {
 }
 trap leave EXIT
 
-inside() { # ROOT COMMAND..
+inside() { # ROOT COMMAND..: with processes and a /proc of its own, which end with it. With run=exec it takes the place of the shell
   local root=$1
   shift
-  chroot "$roots/$root" env -i PATH=/usr/sbin:/usr/bin:/sbin:/bin HOME=/root "$@"
+  # shellcheck disable=SC2016
+  ${run:-} unshare --mount --pid --fork --kill-child bash -c 'mount -t proc proc "$0/proc" && exec chroot "$0" env -i PATH=/usr/sbin:/usr/bin:/sbin:/bin HOME=/root "$@"' \
+    "$roots/$root" "$@"
 }
 
 # the same bytes twice
@@ -85,7 +87,10 @@ begin_server() { # PORT
   mkdir -p "$at/folder" && echo "over HTTP/3" > "$at/folder/a.txt" && head -c 1000000 /dev/zero | tr '\0' x > "$at/folder/big.txt"
   inside bookworm openssl req -x509 -newkey ec -pkeyopt ec_paramgen_curve:P-256 -nodes -keyout /root/try/server/key.pem -out /root/try/server/cert.pem -days 13 \
     -subj /CN=localhost -addext 'subjectAltName=DNS:localhost,IP:127.0.0.1' > /dev/null 2>&1
-  inside bookworm timeout 300 /root/try/server/serve 127.0.0.1 "$1" /root/try/server/cert.pem /root/try/server/key.pem /root/try/server/folder > "$work/server" 2>&1 &
+  (
+    run=exec
+    inside bookworm timeout 300 /root/try/server/serve 127.0.0.1 "$1" /root/try/server/cert.pem /root/try/server/key.pem /root/try/server/folder
+  ) > "$work/server" 2>&1 &
   pids+=($!)
   for _ in $(seq 100); do
     if listens "$1"; then return; fi
@@ -128,7 +133,7 @@ over_quic() {
 checks() {
   packed_again
   by_lintian
-  for root in bookworm trixie; do in_root "$root"; done
+  for root in ${ROOTS:-bookworm trixie}; do in_root "$root"; done
   over_quic
   for root in bookworm trixie; do [ ! -d "$roots/$root" ] || cleaned "$root"; done
 }
