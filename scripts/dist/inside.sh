@@ -100,7 +100,30 @@ go_vendored() {
 relinked() { # a program is linked again when the archive inside of the crate changes
   local archive
   archive=$(echo "$top"/rust/beanwhile-h3-*/native/*/libbeanwhile_h3.a)
-  cd "$top/rust" && cargo build --offline && touch "$archive" && cargo build --offline -v 2>&1 | grep -q 'Compiling main\|Running.*--crate-name main'
+  cd "$top/rust" && cargo build --offline && touch "$archive" && cargo build --offline -v > "$top/relinked" 2>&1 && grep -q 'Running.*--crate-name main' "$top/relinked"
+}
+
+# examples/rust/quinn of the tarball, over Debian's crates: bodies are posted, and come back
+quinn_built() {
+  cd "$top/tarball/examples/rust/quinn" && PKG_CONFIG_PATH=$top/tarball/lib/pkgconfig cargo build --offline --quiet --jobs 2 --target-dir "$top/quinn" \
+    --config 'source.crates-io.replace-with="debian"' --config 'source.debian.directory="/usr/share/cargo/registry"'
+}
+quinn_posted() {
+  local program=$top/quinn/debug/h3_over_quinn server status=1
+  openssl req -x509 -newkey ec -pkeyopt ec_paramgen_curve:P-256 -nodes -keyout "$top/quinn.key" -out "$top/quinn.pem" -days 13 -subj /CN=localhost \
+    -addext 'subjectAltName=DNS:localhost' -addext 'basicConstraints=critical,CA:FALSE' || return 1
+  timeout 120 "$program" serve 127.0.0.1:44380 "$top/quinn.pem" "$top/quinn.key" &
+  server=$!
+  for _ in $(seq 50); do
+    sleep 0.2
+    if timeout 60 "$program" post 127.0.0.1:44380 "$top/quinn.pem" 3 1000000 > "$top/posted"; then
+      status=0
+      break
+    fi
+  done
+  kill "$server"
+  cat "$top/posted"
+  [ "$status" -eq 0 ] && [ "$(grep -c '^stream [048]: 1000000 bytes$' "$top/posted")" -eq 3 ]
 }
 
 server() {
@@ -130,6 +153,12 @@ check "the Rust crate's own tests" rust_tests
 check "a Rust program is linked again when the archive changes" relinked
 check "the Go module's own tests" go_tests
 check "a Go program with the module vendored" go_vendored
+if ls -d /usr/share/cargo/registry/quinn-0.11.* > /dev/null 2>&1; then
+  check "examples/rust/quinn is built" quinn_built
+  [ ! -x "$top/quinn/debug/h3_over_quinn" ] || check "examples/rust/quinn: three bodies of 1 MB are posted and come back" quinn_posted
+else
+  echo "skipped $release: examples/rust/quinn, whose crates are not there"
+fi
 if pkg-config --exists 'libngtcp2 < 1'; then
   check "examples/c are built" server
 else
