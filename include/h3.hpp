@@ -1,4 +1,5 @@
-/* h3.hpp: the calls of h3.h for C++17 and later. An endpoint frees itself, names, values and bytes are views, and lists of fields are containers.
+/* h3.hpp: the calls of h3.h for C++17 and later. An endpoint frees itself, names, values and bytes are views, and lists of fields are
+ * containers.
  *
  *   beanwhile::endpoint client;
  *   if (auto said = client.open(beanwhile::client_config()); !said) return fail(said.text());
@@ -7,8 +8,8 @@
  *   client.send_head(id, {{":method", "GET"}, {":scheme", "https"}, {":authority", "localhost"}, {":path", "/"}});
  *   client.finish(id);
  *
- * Each call returns a `result`: the answer of h3.h and its detail. Nothing is thrown but std::bad_alloc, where a container of this header finds no memory. What h3.h
- * says of threads, of refusals and of the order of calls holds here too. Views have to last for the call alone. */
+ * Each call returns a `result`: the answer of h3.h and its detail. Nothing is thrown but std::bad_alloc, if a container of this header finds no
+ * memory. What h3.h says of threads, of refusals and of the order of calls holds here too. Views have to last for the call alone. */
 #ifndef BEANWHILE_H3_HPP
 #define BEANWHILE_H3_HPP
 #include "h3.h"

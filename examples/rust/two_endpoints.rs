@@ -1,5 +1,5 @@
-//! Two endpoints in one program, with the bytes between them carried by hand in pieces: a request with a body is answered, and
-//! what was sent is what was pulled. The server's endpoint runs on a thread of its own for its part. The words are the lengths of the pieces.
+//! Two endpoints in one program, with the bytes between them carried by hand in pieces: a request with a body is answered, and what was
+//! sent is what was pulled. The server's endpoint runs on a thread of its own for its part. The words are the lengths of the pieces.
 
 use beanwhile_h3::{Config, Endpoint, Error, Fields, Item, Next};
 use std::process::ExitCode;

@@ -1,11 +1,11 @@
 #!/usr/bin/env python3
-"""The binary interface of the shared library, held against the description tests/c/libbeanwhile_h3.abi (Debian: apt-get install abigail-tools).
+"""The binary interface of the shared library beside its description, tests/c/libbeanwhile_h3.abi (Debian: apt-get install abigail-tools).
 
     python3 scripts/c/abi.py write           writes the description, of include/h3.h as it is (make abi)
     python3 scripts/c/abi.py check FOLDER    has FOLDER's shared library the name and the exports of the description, and h3.h its types and
                                              numbers? Lines 'ok ..' or 'failed ..'; where the tools are missing, a line on stderr
 
-The library has no debugging information, so the types are those of a library of the same exports that do nothing, compiled from the header with it.
+The library has no debugging information, so the types are those of a hollow library of the same exports, compiled from the header with it.
 That the header is the one of the exports is what scripts/gate/c_header.py checks."""
 import os
 import re
@@ -40,9 +40,8 @@ def hollow_library(room):
     with open(f"{room}/exports.c", "w", encoding="utf-8") as file:
         file.write("\n".join(made) + "\n")
     library = f"{room}/{soname()}"
-    words = [os.environ.get("CC", "cc"), "-std=c11", "-g", "-fno-eliminate-unused-debug-types", "-shared", "-fPIC", f"-Wl,-soname,{soname()}",
-             f"-I{os.path.dirname(HEADER)}", "-o", library, f"{room}/exports.c"]
-    subprocess.run(words, check=True)
+    flags = ["-std=c11", "-g", "-fno-eliminate-unused-debug-types", "-shared", "-fPIC", f"-Wl,-soname,{soname()}", f"-I{os.path.dirname(HEADER)}"]
+    subprocess.run([os.environ.get("CC", "cc"), *flags, "-o", library, f"{room}/exports.c"], check=True)
     return library
 
 
@@ -77,14 +76,16 @@ def check(folder):
             file.write(described(hollow_library(room)))
         words = ["abidiff", "--non-reachable-types", "--harmless", DESCRIPTION, f"{room}/now.abi"]
         said = subprocess.run(words, capture_output=True, text=True)
-        fine &= tell(said.returncode and f"{said.stdout}{said.stderr}(if it is meant: make abi)", "types and numbers of h3.h are those of the description")
+        wrong = said.returncode and f"{said.stdout}{said.stderr}(if it is meant: make abi)"
+        fine &= tell(wrong, "types and numbers of h3.h are those of the description")
     return fine
 
 
 def main():
     missing = [it for it in ("abidw", "abidiff", "readelf") if shutil.which(it) is None]
     if missing:
-        print(f"left out: the binary interface, which wants {' '.join(missing)} (Debian: apt-get install abigail-tools binutils)", file=sys.stderr)
+        why = f"left out: the binary interface, which wants {' '.join(missing)} (Debian: apt-get install abigail-tools binutils)"
+        print(why, file=sys.stderr)
         sys.exit(1 if sys.argv[1:] == ["write"] else 0)
     if sys.argv[1:] == ["write"]:
         with tempfile.TemporaryDirectory() as room:

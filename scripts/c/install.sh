@@ -1,8 +1,8 @@
 #!/usr/bin/env bash
-# Installs what `make lib` left in build/c (or in the folder LIB) below PREFIX (/usr/local), or below DESTDIR/PREFIX: the two archives and the shared library
-# in LIBDIR (lib), beanwhile/h3.h and h3.hpp in include, the package files of pkg-config in LIBDIR/pkgconfig, and those of CMake in
-# LIBDIR/cmake/beanwhile-h3. All have names of their own: other projects have a libh3, an h3.h and an h3.pc. A library without proofs is refused, unless
-# UNPROVED=1 asks for it: its package files say so.
+# Installs what `make lib` left in build/c (or in the folder LIB) below PREFIX (/usr/local), or below DESTDIR/PREFIX: the two archives and
+# the shared library in LIBDIR (lib), beanwhile/h3.h and h3.hpp in include, the package files of pkg-config in LIBDIR/pkgconfig, and those
+# of CMake in LIBDIR/cmake/beanwhile-h3. All have names of their own: other projects have a libh3, an h3.h and an h3.pc. A library without
+# proofs is refused, unless UNPROVED=1 asks for it: its package files say so.
 set -euo pipefail
 cd "$(dirname "$0")/../.."
 lib_folder=${LIB:-build/c}
@@ -28,4 +28,4 @@ for kind in pc:pkgconfig cmake:cmake/beanwhile-h3; do
   bash scripts/c/package_file.sh "${kind%%:*}" "$folder" "$(realpath --relative-to="$folder" "$libdir")" \
     "$(realpath --relative-to="$folder" "$to/include")" $mark
 done
-echo "installed in $to: include/beanwhile/h3.h, and in ${LIBDIR:-lib} libbeanwhile_h3.a, libbeanwhile_h3.so.1, pkgconfig/beanwhile-h3.pc, cmake/beanwhile-h3"
+echo "installed in $to: include/beanwhile/h3.h; in ${LIBDIR:-lib}: libbeanwhile_h3.a, libbeanwhile_h3.so.1, pkgconfig/beanwhile-h3.pc, cmake"

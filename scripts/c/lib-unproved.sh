@@ -1,6 +1,6 @@
 #!/usr/bin/env bash
-# Builds the library for C from the same sources without their proofs (scripts/c/unproved.py), into build/c-unproved, and marks it there: in the file UNPROVED and
-# in the package files. build/c, which `make lib` makes, is left alone.
+# Builds the library for C from the same sources without their proofs (scripts/c/unproved.py), into build/c-unproved, and marks it there:
+# in the file UNPROVED and in the package files. build/c, which `make lib` makes, is left alone.
 set -euo pipefail
 cd "$(dirname "$0")/../.."
 bash scripts/dev/need.sh rt

@@ -1,7 +1,7 @@
 #!/usr/bin/env bash
-# Proves and builds the static library for C (scripts/c/archive.py: over the libraries that rt ci left, or the proofs that earlier runs kept), and
-# leaves in build/c what a program needs (scripts/c/library_folder.sh). Sources are proved once: where the archive in build/c is of the sources as they are
-# (scripts/c/sources.sh), it stays, and only what lies beside it is made again.
+# Proves and builds the static library for C (scripts/c/archive.py: over the libraries that rt ci left, or the proofs that earlier runs
+# kept), and leaves in build/c what a program needs (scripts/c/library_folder.sh). Sources are proved once: where the archive in build/c is
+# of the sources as they are (scripts/c/sources.sh), it stays, and only what lies beside it is made again.
 set -euo pipefail
 cd "$(dirname "$0")/../.."
 bash scripts/dev/need.sh rt

@@ -1,6 +1,6 @@
 #!/usr/bin/env bash
-# made_of.sh write FOLDER CHECKSUM: writes into FOLDER/SOURCES of which sources (scripts/c/sources.sh) its archive was made, and the archive's own checksum.
-# made_of.sh is FOLDER CHECKSUM: does FOLDER/SOURCES say so, and is the archive the one that it speaks of?
+# made_of.sh write FOLDER CHECKSUM: writes into FOLDER/SOURCES of which sources (scripts/c/sources.sh) its archive was made, and the
+# archive's own checksum. made_of.sh is FOLDER CHECKSUM: does FOLDER/SOURCES say so, and is the archive the one that it speaks of?
 set -euo pipefail
 what=$1
 folder=$2

@@ -1,6 +1,7 @@
 #!/usr/bin/env bash
-# sources.sh: prints one checksum of all that the archive for C is made of: the paths and bytes of crates/ (but for what rt leaves in out/), crates.txt and
-# the scripts that build it, and the version of the kit. It says whether a library was made of the sources as they are now (scripts/c/lib.sh, scripts/dist).
+# sources.sh: prints one checksum of all that the archive for C is made of: the paths and bytes of crates/ (but for what rt leaves in
+# out/), crates.txt and the scripts that build it, and the version of the kit. It says whether a library was made of the sources as they
+# are now (scripts/c/lib.sh, scripts/dist).
 set -euo pipefail
 export LC_ALL=C
 cd "$(dirname "$0")/../.."

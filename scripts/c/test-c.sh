@@ -1,11 +1,11 @@
 #!/usr/bin/env bash
-# C programs over build/c (scripts/c/lib.sh), by the machine's C compiler alone: the calls of crates/h3_cases and hostile lists of calls through the
-# header, each allocation refused in turn, large input with none refused, two endpoints under random schedules, what is held of a stream and of small
-# pieces, unknown frames, long instructions, wrong arguments, bytes that are lent, pulled lists, and the program of docs/TUTORIAL.md. Once as they are,
-# and once with the sanitizers of addresses, leaks and undefined behaviour where the compiler has them (large input, memory: once). Then h3.hpp, by C++17
-# and C++20; the binary interface (scripts/c/abi.py); how programs find the library (scripts/c/test-install.sh); and the packages for Go and Rust
-# (scripts/c/test-bindings.sh). One line 'ok NAME' or 'failed NAME' for each; the last is the sum. With LIB=FOLDER the library in that folder is taken, as
-# that of `make lib-unproved`, and none is built.
+# C programs over build/c (scripts/c/lib.sh), by the machine's C compiler alone: the calls of crates/h3_cases and hostile lists of calls
+# through the header, each allocation refused in turn, large input with none refused, two endpoints under random schedules, what is held of
+# a stream and of small pieces, unknown frames, long instructions, wrong arguments, bytes that are lent, pulled lists, and the program of
+# docs/TUTORIAL.md. Once as they are, and once with the sanitizers of addresses, leaks and undefined behaviour where the compiler has them
+# (large input, memory: once). Then h3.hpp, by C++17 and C++20; the binary interface (scripts/c/abi.py); how programs find the library
+# (scripts/c/test-install.sh); and the packages for Go and Rust (scripts/c/test-bindings.sh). One line 'ok NAME' or 'failed NAME' for each;
+# the last is the sum. With LIB=FOLDER the library in that folder is taken, as that of `make lib-unproved`, and none is built.
 set -uo pipefail
 cd "$(dirname "$0")/../.."
 

@@ -1,7 +1,7 @@
 #!/usr/bin/env bash
-# test-install.sh FOLDER: is the library for C found as a program's build finds it? By pkg-config and by CMake, in FOLDER and where `make install`
-# puts it (a library without proofs where that is asked for), a program of tests/c is built over it and run. One line 'ok NAME' or 'failed NAME' each; what the
-# machine lacks is left out.
+# test-install.sh FOLDER: is the library for C found as a program's build finds it? By pkg-config and by CMake, in FOLDER and where `make
+# install` puts it (a library without proofs where that is asked for), a program of tests/c is built over it and run. One line 'ok NAME' or
+# 'failed NAME' each; what the machine lacks is left out.
 set -uo pipefail
 cd "$(dirname "$0")/../.."
 folder=$(realpath "$1")

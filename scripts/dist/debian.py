@@ -1,4 +1,4 @@
-"""The Debian packages: libbeanwhile-h3-1, the shared library; libbeanwhile-h3-dev, what programs are built with; and, where build/compat has it,
+"""The Debian packages: libbeanwhile-h3-1, the shared library; libbeanwhile-h3-dev, what programs are built with; and, if build/compat has it,
 libbeanwhile-h3-nghttp3, the drop-in for nghttp3. Each is a function of PACKAGES."""
 import ctypes
 import email.utils
@@ -18,8 +18,8 @@ from tree import Tree, write_folder
 SOURCE = "beanwhile-h3"
 ARCHITECTURE = "amd64"
 LIBDIR = "lib/x86_64-linux-gnu"
-PURPOSE = """Beanwhile turns the stream bytes of a QUIC library into HTTP/3 messages and back (RFC 9114, with QPACK, RFC 9204), for clients, servers and
-proxies."""
+PURPOSE = """Beanwhile turns the stream bytes of a QUIC library into HTTP/3 messages and back (RFC 9114, with QPACK, RFC 9204), for clients,
+servers and proxies."""
 MAINTAINER = "Beanwhile maintainers <maintainers@beanwhile.example>"
 EXAMPLES = ["examples/c", "examples/start/main.c", "examples/start/main.cpp", "tests/c/in_memory.c"]
 PAGES = ["docs/TUTORIAL.md", "docs/C_API.md", "SECURITY.md"]
@@ -38,6 +38,7 @@ class Package:
 
 
 NOT_OF_DEBIAN = ("initial-upload-closes-no-bugs", "this package is the project's own, and no upload to Debian")
+LINK_ELSEWHERE = ("lacks-unversioned-link-to-shared-library", "the link lies in beanwhile-h3/, so that -lbeanwhile_h3 means the archive")
 AS_PROVED = ("static-library-has-unneeded-sections", "the archives are byte for byte those that were built and checked")
 
 
@@ -52,8 +53,9 @@ def shared_library(release):
     at = f"usr/{LIBDIR}/{release.shared}"
     tree = Tree({at: installed.entries[at]})
     tree.add(at, tree.entries[at].content)  # with no bit of a program, as Debian's libraries are
-    package = Package(name, "libs", [f"libc6 (>= {release.glibc()})"], "HTTP/3 connection core, shared library", "This package has the shared library.", tree)
-    package.said = [("lacks-unversioned-link-to-shared-library", "the link lies in beanwhile-h3/, so that -lbeanwhile_h3 means the archive")]
+    text = "This package has the shared library."
+    package = Package(name, "libs", [f"libc6 (>= {release.glibc()})"], "HTTP/3 connection core, shared library", text, tree)
+    package.said = [LINK_ELSEWHERE]
     exports = sorted(re.findall(r"\b(h3_raw_\w+)\(", read(f"{ROOT}/include/h3.h").split("---- the functions above", 1)[0]))
     symbols = "".join(f" {it}@Base {release.version}\n" for it in dict.fromkeys(exports))
     package.control.add("symbols", f"{release.shared} {name} #MINVER#\n* Build-Depends-Package: libbeanwhile-h3-dev\n{symbols}")
@@ -71,8 +73,8 @@ def development(release):
     for path, entry in release.committed(*PAGES).entries.items():
         tree.entries[f"usr/share/doc/{name}/{os.path.basename(path)}"] = entry
     depends = [f"libbeanwhile-h3-{release.major} (= {version(release)})"]
-    package = Package(name, "libdevel", depends, "HTTP/3 connection core, for building programs",
-                      "This package has the static archives, the headers for C and C++, the files of pkg-config and CMake, and examples.", tree)
+    text = "This package has the static archives, the headers for C and C++, the files of pkg-config and CMake, and examples."
+    package = Package(name, "libdevel", depends, "HTTP/3 connection core, for building programs", text, tree)
     package.said = [AS_PROVED]
     return package
 
@@ -103,7 +105,8 @@ def nghttp3(release):
         judge_drop_in(release, path)
         tree.add(f"{folder}/{os.path.basename(path)}", release.stripped(path))
     text = f"This package has a drop-in for nghttp3. A program that stands on nghttp3 takes it with LD_LIBRARY_PATH=/{folder}."
-    return Package("libbeanwhile-h3-nghttp3", "libs", [f"libc6 (>= {release.glibc(*found)})"], "HTTP/3 connection core, in the place of nghttp3", text, tree)
+    depends = [f"libc6 (>= {release.glibc(*found)})"]
+    return Package("libbeanwhile-h3-nghttp3", "libs", depends, "HTTP/3 connection core, in the place of nghttp3", text, tree)
 
 
 PACKAGES = [shared_library, development, nghttp3]
@@ -175,8 +178,8 @@ def make_package(release, package, to):
         os.mkdir(folder)
         write_folder(whole, folder, release.epoch)
         path = f"{to}/{package.name}_{version(release)}_{ARCHITECTURE}.deb"
-        subprocess.run(["dpkg-deb", "--root-owner-group", "--threads-max=1", "-Zxz", "--build", folder, path], check=True, stdout=subprocess.DEVNULL,
-                       env={**os.environ, "SOURCE_DATE_EPOCH": str(release.epoch)})
+        words = ["dpkg-deb", "--root-owner-group", "--threads-max=1", "-Zxz", "--build", folder, path]
+        subprocess.run(words, check=True, stdout=subprocess.DEVNULL, env={**os.environ, "SOURCE_DATE_EPOCH": str(release.epoch)})
 
 
 def make(release, to):

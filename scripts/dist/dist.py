@@ -1,7 +1,7 @@
 #!/usr/bin/env python3
-"""dist.py FOLDER TO: packs the library of FOLDER (build/c) into TO, which is made anew: a tarball, Debian packages, the Rust crate, the Go module and
-the Python wheel, and SHA256SUMS of these. A library without proofs is refused, unless UNPROVED=1 is set: then each name and each description says so.
-The same commit and library give the same bytes."""
+"""dist.py FOLDER TO: packs the library of FOLDER (build/c) into TO, which is made anew: a tarball, Debian packages, the Rust crate, the Go
+module and the Python wheel, and SHA256SUMS of these. A library without proofs is refused, unless UNPROVED=1 is set: then each name and each
+description says so. The same commit and library give the same bytes."""
 import os
 import shutil
 import sys

@@ -1,4 +1,4 @@
-"""The Go module with the archives and the header inside: `go build` makes a program over it by cgo, with no kit, no pkg-config and no network."""
+"""The Go module with the archives and the header inside: `go build` makes a program over it by cgo, with no kit and no network."""
 from release import refuse
 from tree import Tree, write_tar
 

@@ -1,13 +1,14 @@
 #!/usr/bin/env bash
-# inside.sh: runs in a clean root of Debian, as root and with no network, in the folder that scripts/dist/test-dist.sh filled: artefacts in dist/, examples/start in
-# start/, docs/INSTALL.md. Each language's commands of that page are run as they stand there, and have to print what start/printed has. Then what else
-# the artefacts hold. Prints 'ok NAME', 'failed NAME: ..' or 'skipped NAME: ..'.
+# inside.sh: runs in a clean root of Debian, as root and with no network, in the folder that scripts/dist/test-dist.sh filled: artefacts in
+# dist/, examples/start in start/, docs/INSTALL.md. Each language's commands of that page are run as they stand there, and have to print what
+# start/printed has. Then what else the artefacts hold. Prints 'ok NAME', 'failed NAME: ..' or 'skipped NAME: ..'.
 set -uo pipefail
 cd "$(dirname "$0")"
 top=$PWD
 . /etc/os-release
 release="Debian $VERSION_ID"
-export LC_ALL=C.UTF-8 DEBIAN_FRONTEND=noninteractive CARGO_NET_OFFLINE=true GOFLAGS=-mod=mod GOPROXY=off GOTOOLCHAIN=local GOCACHE=$top/go-cache GOPATH=$top/go-path HOME=$top
+export LC_ALL=C.UTF-8 DEBIAN_FRONTEND=noninteractive HOME=$top CARGO_NET_OFFLINE=true
+export GOFLAGS=-mod=mod GOPROXY=off GOTOOLCHAIN=local GOCACHE=$top/go-cache GOPATH=$top/go-path
 
 check() { # NAME COMMAND..
   local name=$1
@@ -21,7 +22,10 @@ check() { # NAME COMMAND..
 
 # the block of commands of docs/INSTALL.md behind the line `<!-- start NAME -->`
 commands_of() {
-  awk -v mark="<!-- start $1 -->" '$0 == mark { found = 1; next } found && /^```/ { if (inside) exit; inside = 1; next } found && inside' "$top/INSTALL.md"
+  awk -v mark="<!-- start $1 -->" '
+    $0 == mark { found = 1; next }
+    found && /^```/ { if (inside) exit; inside = 1; next }
+    found && inside' "$top/INSTALL.md"
 }
 
 # start NAME FILE TO: the page's commands, in a folder with the program of that language as FILE and with the artefacts
@@ -53,7 +57,8 @@ checksums() {
 
 # the tarball: its own checksums, and programs by pkg-config and CMake in the folder where it was unpacked
 unpack() {
-  mkdir -p "$top/tarball" && tar xzf "$top"/dist/beanwhile-h3-*-linux-*.tar.gz -C "$top/tarball" --strip-components=1 && cd "$top/tarball" && sha256sum --quiet -c SHA256SUMS
+  mkdir -p "$top/tarball" && tar xzf "$top"/dist/beanwhile-h3-*-linux-*.tar.gz -C "$top/tarball" --strip-components=1 &&
+    cd "$top/tarball" && sha256sum --quiet -c SHA256SUMS
 }
 by_pkg_config() { # PACKAGE
   local flags libdir
@@ -72,7 +77,8 @@ find_package(beanwhile-h3 1.0 CONFIG REQUIRED)
 add_executable(program "$top/start/main.c")
 target_link_libraries(program PRIVATE beanwhile::$1)
 END
-  cmake -S "$top/cmake" -B "$top/cmake/out" ${2:+"-DCMAKE_PREFIX_PATH=$2"} && cmake --build "$top/cmake/out" && "$top/cmake/out/program" | cmp - "$top/start/printed"
+  cmake -S "$top/cmake" -B "$top/cmake/out" ${2:+"-DCMAKE_PREFIX_PATH=$2"} && cmake --build "$top/cmake/out" &&
+    "$top/cmake/out/program" | cmp - "$top/start/printed"
 }
 
 # the Debian packages: a program over the shared library, which asks for the package that has it
@@ -80,11 +86,20 @@ shared_of_debian() {
   local flags
   flags=$(pkg-config --cflags --libs beanwhile-h3-shared) || return 1
   # shellcheck disable=SC2086
-  cc -std=c11 -o "$top/program" "$top/start/main.c" $flags && "$top/program" | cmp - "$top/start/printed" && readelf -d "$top/program" | grep -q 'NEEDED.*libbeanwhile_h3.so'
+  cc -std=c11 -o "$top/program" "$top/start/main.c" $flags && "$top/program" | cmp - "$top/start/printed" &&
+    [ "$(readelf -d "$top/program" | grep -c 'NEEDED.*libbeanwhile_h3.so')" -eq 1 ]
 }
 whole() {
   local said
-  said=$(dpkg -V libbeanwhile-h3-1 libbeanwhile-h3-dev) && [ -z "$said" ] && [ "$(dpkg-query -W -f '${db:Status-Status}' libbeanwhile-h3-dev)" = installed ]
+  said=$(dpkg -V libbeanwhile-h3-1 libbeanwhile-h3-dev) && [ -z "$said" ] &&
+    [ "$(dpkg-query -W -f '${db:Status-Status}' libbeanwhile-h3-dev)" = installed ]
+}
+
+cpp_tests() { # VERSION
+  local flags
+  flags=$(pkg-config --cflags --libs beanwhile-h3) || return 1
+  # shellcheck disable=SC2086
+  c++ "-std=c++$1" -Wall -Wextra -Wconversion -Werror -o "$top/program" "$top/endpoint.cpp" $flags && "$top/program"
 }
 
 # the tests of the packages themselves
@@ -100,18 +115,20 @@ go_vendored() {
 relinked() { # a program is linked again when the archive inside of the crate changes
   local archive
   archive=$(echo "$top"/rust/beanwhile-h3-*/native/*/libbeanwhile_h3.a)
-  cd "$top/rust" && cargo build --offline && touch "$archive" && cargo build --offline -v > "$top/relinked" 2>&1 && grep -q 'Running.*--crate-name main' "$top/relinked"
+  cd "$top/rust" && cargo build --offline && touch "$archive" && cargo build --offline -v > "$top/relinked" 2>&1 &&
+    grep -q 'Running.*--crate-name main' "$top/relinked"
 }
 
 # examples/rust/quinn of the tarball, over Debian's crates: bodies are posted, and come back
 quinn_built() {
-  cd "$top/tarball/examples/rust/quinn" && PKG_CONFIG_PATH=$top/tarball/lib/pkgconfig cargo build --offline --quiet --jobs 2 --target-dir "$top/quinn" \
+  cd "$top/tarball/examples/rust/quinn" || return 1
+  PKG_CONFIG_PATH=$top/tarball/lib/pkgconfig cargo build --offline --quiet --jobs 2 --target-dir "$top/quinn" \
     --config 'source.crates-io.replace-with="debian"' --config 'source.debian.directory="/usr/share/cargo/registry"'
 }
 quinn_posted() {
   local program=$top/quinn/debug/h3_over_quinn server status=1
-  openssl req -x509 -newkey ec -pkeyopt ec_paramgen_curve:P-256 -nodes -keyout "$top/quinn.key" -out "$top/quinn.pem" -days 13 -subj /CN=localhost \
-    -addext 'subjectAltName=DNS:localhost' -addext 'basicConstraints=critical,CA:FALSE' || return 1
+  openssl req -x509 -newkey ec -pkeyopt ec_paramgen_curve:P-256 -nodes -keyout "$top/quinn.key" -out "$top/quinn.pem" -days 13 \
+    -subj /CN=localhost -addext 'subjectAltName=DNS:localhost' -addext 'basicConstraints=critical,CA:FALSE' || return 1
   timeout 120 "$program" serve 127.0.0.1:44380 "$top/quinn.pem" "$top/quinn.key" &
   server=$!
   for _ in $(seq 50); do
@@ -127,7 +144,8 @@ quinn_posted() {
 }
 
 server() {
-  cp -r /usr/share/doc/libbeanwhile-h3-dev/examples/c "$top/server" && make -C "$top/server" LIB=/usr/lib/x86_64-linux-gnu OUT="$top/server" "$top/server/serve"
+  cp -r /usr/share/doc/libbeanwhile-h3-dev/examples/c "$top/server" &&
+    make -C "$top/server" LIB=/usr/lib/x86_64-linux-gnu OUT="$top/server" "$top/server/serve"
 }
 
 check "checksums of the artefacts" checksums
@@ -149,6 +167,8 @@ unset PKG_CONFIG_PATH
 check "Debian packages by CMake" by_cmake h3 ""
 check "Debian packages, shared" shared_of_debian
 check "Debian packages are as they were packed" whole
+check "h3.hpp by C++17" cpp_tests 17
+check "h3.hpp by C++20" cpp_tests 20
 check "the Rust crate's own tests" rust_tests
 check "a Rust program is linked again when the archive changes" relinked
 check "the Go module's own tests" go_tests

@@ -1,4 +1,4 @@
-"""What a release is made of: the library of one folder, and the commit that it was built from. Whatever does not fit together is refused here."""
+"""What a release is made of: the library of one folder, and the commit that it was built from. What does not fit together is refused."""
 import ctypes
 import os
 import re

@@ -1,15 +1,15 @@
 #!/usr/bin/env bash
-# roots.sh: makes in build/roots, as root, clean roots of Debian 12 (bookworm) and Debian 13 (trixie) for scripts/dist/test-dist.sh: the least that Debian has, with
-# the compilers of C, C++, Rust and Go, Python, and a QUIC library and clients of HTTP/3. They have no kit and nothing of this repository. What a root
-# that is there lacks is added. The two take some 4 GB.
-# roots.sh there NAME: is the root there?
+# roots.sh: makes in build/roots, as root, clean roots of Debian 12 (bookworm) and Debian 13 (trixie) for scripts/dist/test-dist.sh: the
+# least that Debian has, with the compilers of C, C++, Rust and Go, Python, and a QUIC library and clients of HTTP/3. They have no kit and
+# nothing of this repository. What a root that is there lacks is added. The two take some 4 GB. roots.sh there NAME: is the root there?
 set -euo pipefail
 cd "$(dirname "$0")/../.."
 roots=build/roots
 languages=(gcc g++ make cmake pkg-config cargo rustc golang-go python3 python3-venv python3-pip)
 declare -A others=(
   [bookworm]="openssl libngtcp2-dev libngtcp2-crypto-gnutls-dev libgnutls28-dev ngtcp2-client"
-  [trixie]="openssl libngtcp2-dev libngtcp2-crypto-gnutls-dev libgnutls28-dev curl librust-quinn-dev librust-rustls-dev librust-rustls-pemfile-dev librust-tokio-dev librust-ring-dev"
+  [trixie]="openssl libngtcp2-dev libngtcp2-crypto-gnutls-dev libgnutls28-dev curl
+    librust-quinn-dev librust-rustls-dev librust-rustls-pemfile-dev librust-tokio-dev librust-ring-dev"
 )
 
 make_root() { # NAME

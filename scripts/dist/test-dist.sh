@@ -1,8 +1,8 @@
 #!/usr/bin/env bash
-# test-dist.sh FOLDER: packs the library once more and compares the bytes; then takes what `make dist` left in FOLDER into roots of Debian 12 and 13 without the
-# kit (scripts/dist/roots.sh), and builds and runs programs there with no network (scripts/dist/inside.sh). At last the server of examples/c, built in the
-# root of Debian 12, against gtlsclient of Debian 12 and curl of Debian 13 with HTTP/3, over loopback. As root. ROOTS=trixie: in that root alone. Prints
-# 'ok NAME', 'failed NAME: ..' and 'skipped NAME: ..', and their counts.
+# test-dist.sh FOLDER: packs the library once more and compares the bytes; then takes what `make dist` left in FOLDER into roots of Debian 12
+# and 13 without the kit (scripts/dist/roots.sh), and builds and runs programs there with no network (scripts/dist/inside.sh). At last the
+# server of examples/c, built in the root of Debian 12, against gtlsclient of Debian 12 and curl of Debian 13 with HTTP/3, over loopback. As
+# root. ROOTS=trixie: in that root alone. Prints 'ok NAME', 'failed NAME: ..' and 'skipped NAME: ..', and their counts.
 set -uo pipefail
 cd "$(dirname "$0")/../.."
 from=$1
@@ -31,18 +31,19 @@ inside() { # ROOT COMMAND..: with processes and a /proc of its own, which end wi
   local root=$1
   shift
   # shellcheck disable=SC2016
-  ${run:-} unshare --mount --pid --fork --kill-child bash -c 'mount -t proc proc "$0/proc" && exec chroot "$0" env -i PATH=/usr/sbin:/usr/bin:/sbin:/bin HOME=/root "$@"' \
-    "$roots/$root" "$@"
+  ${run:-} unshare --mount --pid --fork --kill-child bash -c 'mount -t proc proc "$0/proc" && exec chroot "$0" "$@"' "$roots/$root" \
+    env -i PATH=/usr/sbin:/usr/bin:/sbin:/bin HOME=/root "$@"
 }
 
 # the same bytes twice
 packed_again() {
-  local lib=${LIB:-build/c}
+  local lib=${LIB:-build/c} mark
+  mark=$(ls "$from" | grep -q unproved && echo 1)
   if ! [ -e "$lib/libbeanwhile_h3.a" ] || ! command -v rt > /dev/null; then
     echo "skipped the same bytes twice, since $lib or the kit is not here"
   elif [ "$(grep -c . "$from/SHA256SUMS")" -lt 5 ]; then
     echo "failed the same bytes twice: $from/SHA256SUMS has too few lines"
-  elif said=$(UNPROVED=$(ls "$from" | grep -q unproved && echo 1) python3 scripts/dist/dist.py "$lib" "$work/again" 2>&1) && diff -r "$from" "$work/again"; then
+  elif said=$(UNPROVED=$mark python3 scripts/dist/dist.py "$lib" "$work/again" 2>&1) && diff -r "$from" "$work/again"; then
     echo "ok the same bytes twice"
   else
     echo "failed the same bytes twice: ${said:-}"
@@ -75,7 +76,7 @@ in_root() { # ROOT
   mkdir -p "$try/dist"
   cp "$from"/* "$try/dist"
   cp -r examples/start "$try/start"
-  cp docs/INSTALL.md scripts/dist/inside.sh "$try"
+  cp docs/INSTALL.md scripts/dist/inside.sh tests/c/endpoint.cpp "$try"
   inside "$1" timeout -k 5 1800 bash /root/try/inside.sh
 }
 
@@ -83,13 +84,13 @@ listens() { grep -qi ":$(printf %04X "$1") " /proc/net/udp; }
 
 # the server of the root of Debian 12, on a port of 127.0.0.1
 begin_server() { # PORT
-  local at=$roots/bookworm/root/try/server
+  local at=$roots/bookworm/root/try/server there=/root/try/server
   mkdir -p "$at/folder" && echo "over HTTP/3" > "$at/folder/a.txt" && head -c 1000000 /dev/zero | tr '\0' x > "$at/folder/big.txt"
-  inside bookworm openssl req -x509 -newkey ec -pkeyopt ec_paramgen_curve:P-256 -nodes -keyout /root/try/server/key.pem -out /root/try/server/cert.pem -days 13 \
+  inside bookworm openssl req -x509 -newkey ec -pkeyopt ec_paramgen_curve:P-256 -nodes -keyout $there/key.pem -out $there/cert.pem -days 13 \
     -subj /CN=localhost -addext 'subjectAltName=DNS:localhost,IP:127.0.0.1' > /dev/null 2>&1
   (
     run=exec
-    inside bookworm timeout 300 /root/try/server/serve 127.0.0.1 "$1" /root/try/server/cert.pem /root/try/server/key.pem /root/try/server/folder
+    inside bookworm timeout 300 $there/serve 127.0.0.1 "$1" $there/cert.pem $there/key.pem $there/folder
   ) > "$work/server" 2>&1 &
   pids+=($!)
   for _ in $(seq 100); do
@@ -99,12 +100,17 @@ begin_server() { # PORT
   return 1
 }
 compared() { # NAME FILE
-  if cmp -s "$2" "$roots/bookworm/root/try/server/folder/big.txt"; then echo "ok $1"; else echo "failed $1: $(tail -n 3 "$work/client" "$work/server" | tr '\n' ' ')"; fi
+  if cmp -s "$2" "$roots/bookworm/root/try/server/folder/big.txt"; then
+    echo "ok $1"
+  else
+    echo "failed $1: $(tail -n 3 "$work/client" "$work/server" | tr '\n' ' ')"
+  fi
 }
 by_gtlsclient() { # PORT
   local down=$roots/bookworm/root/try/down
   mkdir -p "$down"
-  inside bookworm timeout 60 gtlsclient -q --exit-on-all-streams-close --download=/root/try/down 127.0.0.1 "$1" "https://localhost:$1/big.txt" > "$work/client" 2>&1
+  inside bookworm timeout 60 gtlsclient -q --exit-on-all-streams-close --download=/root/try/down 127.0.0.1 "$1" \
+    "https://localhost:$1/big.txt" > "$work/client" 2>&1
   compared "gtlsclient of Debian 12 fetches a file from examples/c" "$down/big.txt"
 }
 by_curl() { # PORT

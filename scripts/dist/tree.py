@@ -1,4 +1,4 @@
-"""Files that are to be packed, held in memory by their paths, and written the same bytes each time: sorted, of nobody, and all of one time."""
+"""Files that are to be packed, by their paths, and written as the same bytes each time: sorted, with no owner, and all of one time."""
 import gzip
 import hashlib
 import io

@@ -1,5 +1,6 @@
-/* h3.hpp: two endpoints in one program, with the bytes between them carried by hand. What one side sends is what the other receives, an endpoint is freed once, and
- * refusals keep their answers and details. Prints one line 'ok NAME', and ends with status 1 at the first thing that is otherwise. */
+/* h3.hpp: two endpoints in one program, with the bytes between them carried by hand. What one side sends is what the other receives, an
+ * endpoint is freed once, and refusals keep their answers and details. Prints one line 'ok NAME', and ends with status 1 at the first thing
+ * that is otherwise. */
 #include "h3.hpp"
 
 #include <cstdio>

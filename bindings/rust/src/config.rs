@@ -42,14 +42,16 @@ pub struct Config {
     pub webtransport: bool,
     /// How many sessions of it may be open.
     pub max_webtransport_sessions: u64,
-    /// The greatest length that a frame may say which is kept until it is whole: any known one but DATA. One that says more is a fault of the
-    /// connection, H3_EXCESSIVE_LOAD, and so is a longer instruction of the encoder or decoder stream. One below `max_field_section_size` is refused. 2^62 - 1 and more: there is no limit.
+    /// The greatest length that a frame may say which is kept until it is whole: any known one but DATA. One that says more is a fault of
+    /// the connection, H3_EXCESSIVE_LOAD, and so is a longer instruction of the encoder or decoder stream. One below
+    /// `max_field_section_size` is refused. 2^62 - 1 and more: there is no limit.
     pub unfinished_limit: u64,
 }
 
 impl Config {
     /// A client with the limits of `h3_config_default`, which are fit for a peer that is not trusted: heads and trailers of at most 65,536
-    /// bytes, a dynamic table of 4,096 bytes, for which 16 streams may wait, and one of 4,096 bytes for the own encoder. Messages are judged.
+    /// bytes, a dynamic table of 4,096 bytes, for which 16 streams may wait, and one of 4,096 bytes for the own encoder. Messages are
+    /// judged.
     pub fn client() -> Config {
         Config::of(defaults())
     }

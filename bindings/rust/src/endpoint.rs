@@ -46,8 +46,8 @@ impl Endpoint {
     ///
     /// # Errors
     ///
-    /// [`Error::Argument`] (the value of `grease`), [`Error::TableLimit`], [`Error::BlockedLimit`], [`Error::Setting`], [`Error::UnfinishedLimit`],
-    /// [`Error::Memory`].
+    /// [`Error::Argument`] (the value of `grease`), [`Error::TableLimit`], [`Error::BlockedLimit`], [`Error::Setting`],
+    /// [`Error::UnfinishedLimit`], [`Error::Memory`].
     pub fn new(config: &Config) -> Result<Endpoint, Error> {
         let (numbers, mut handle, mut detail) = (config.numbers(), Handle { at: ptr::null_mut() }, 0);
         let answer = unsafe { raw::h3_raw_new(numbers.as_ptr(), numbers.len(), &mut detail, &mut handle) };
@@ -78,7 +78,8 @@ impl Endpoint {
     ///
     /// # Errors
     ///
-    /// [`Error::Closed`], [`Error::NotClient`], [`Error::GoingAway`] (the peer takes no further request), [`Error::IdsUsedUp`], [`Error::Memory`].
+    /// [`Error::Closed`], [`Error::NotClient`], [`Error::GoingAway`] (the peer takes no further request), [`Error::IdsUsedUp`],
+    /// [`Error::Memory`].
     pub fn open_request(&mut self) -> Result<u64, Error> {
         let mut id = 0;
         self.call(|handle, detail, out| unsafe { raw::h3_raw_open_request(handle, &mut id, detail, out) })?;
@@ -101,14 +102,14 @@ impl Endpoint {
         self.call(|handle, detail, out| unsafe { call(handle, id, sizes.as_ptr(), sizes.len(), bytes.as_ptr(), bytes.len(), detail, out) })
     }
 
-    /// Sends a header section as the list that it is given as: put pseudo-header fields in front, each once. A response's with a status from 100
-    /// to 199 is an interim one, after which another goes.
+    /// Sends a header section as the list that it is given as: put pseudo-header fields in front, each once. A response's with a status
+    /// from 100 to 199 is an interim one, after which another goes.
     ///
     /// # Errors
     ///
-    /// [`Error::FieldName`], [`Error::FieldValue`] or [`Error::FieldCount`] of the list; [`Error::Closed`], [`Error::NotOpen`], [`Error::OutOfOrder`],
-    /// [`Error::WrongSide`], [`Error::Malformed`] (a strict endpoint), [`Error::TooLarge`] (for the peer), [`Error::Argument`] (the id is 2^62 or more),
-    /// [`Error::Memory`]. Nothing was sent then.
+    /// [`Error::FieldName`], [`Error::FieldValue`] or [`Error::FieldCount`] of the list; [`Error::Closed`], [`Error::NotOpen`],
+    /// [`Error::OutOfOrder`], [`Error::WrongSide`], [`Error::Malformed`] (a strict endpoint), [`Error::TooLarge`] (for the peer),
+    /// [`Error::Argument`] (the id is 2^62 or more), [`Error::Memory`]. Nothing was sent then.
     pub fn send_fields<N: AsRef<[u8]>, V: AsRef<[u8]>>(&mut self, id: u64, fields: &[(N, V)]) -> Result<(), Error> {
         self.send_list(raw::h3_raw_send_fields, id, fields)
     }
@@ -117,9 +118,9 @@ impl Endpoint {
     ///
     /// # Errors
     ///
-    /// [`Error::FieldName`], [`Error::FieldValue`] or [`Error::FieldCount`] of the list; [`Error::Closed`], [`Error::NotOpen`], [`Error::OutOfOrder`],
-    /// [`Error::PseudoInTrailer`], [`Error::Malformed`] (a strict endpoint), [`Error::TooLarge`] (for the peer), [`Error::Argument`] (the id is 2^62 or more),
-    /// [`Error::Memory`]. Nothing was sent then.
+    /// [`Error::FieldName`], [`Error::FieldValue`] or [`Error::FieldCount`] of the list; [`Error::Closed`], [`Error::NotOpen`],
+    /// [`Error::OutOfOrder`], [`Error::PseudoInTrailer`], [`Error::Malformed`] (a strict endpoint), [`Error::TooLarge`] (for the peer),
+    /// [`Error::Argument`] (the id is 2^62 or more), [`Error::Memory`]. Nothing was sent then.
     pub fn send_trailer_fields<N: AsRef<[u8]>, V: AsRef<[u8]>>(&mut self, id: u64, fields: &[(N, V)]) -> Result<(), Error> {
         self.send_list(raw::h3_raw_send_trailer_fields, id, fields)
     }
@@ -146,8 +147,8 @@ impl Endpoint {
     ///
     /// # Errors
     ///
-    /// [`Error::Closed`], [`Error::NotOpen`], [`Error::OutOfOrder`], [`Error::Malformed`] (a strict endpoint: more than content-length says),
-    /// [`Error::Argument`] (the id is 2^62 or more), [`Error::Memory`].
+    /// [`Error::Closed`], [`Error::NotOpen`], [`Error::OutOfOrder`], [`Error::Malformed`] (a strict endpoint: more than content-length
+    /// says), [`Error::Argument`] (the id is 2^62 or more), [`Error::Memory`].
     pub fn send_body(&mut self, id: u64, bytes: &[u8]) -> Result<(), Error> {
         self.call(|handle, detail, out| unsafe { raw::h3_raw_send_body(handle, id, bytes.as_ptr(), bytes.len(), detail, out) })
     }
@@ -156,8 +157,8 @@ impl Endpoint {
     ///
     /// # Errors
     ///
-    /// [`Error::Closed`], [`Error::NotOpen`], [`Error::OutOfOrder`], [`Error::Malformed`] (a strict endpoint: less than content-length says),
-    /// [`Error::Argument`] (the id is 2^62 or more).
+    /// [`Error::Closed`], [`Error::NotOpen`], [`Error::OutOfOrder`], [`Error::Malformed`] (a strict endpoint: less than content-length
+    /// says), [`Error::Argument`] (the id is 2^62 or more).
     pub fn finish(&mut self, id: u64) -> Result<(), Error> {
         self.call(|handle, detail, out| unsafe { raw::h3_raw_finish(handle, id, detail, out) })
     }
@@ -166,8 +167,8 @@ impl Endpoint {
     ///
     /// # Errors
     ///
-    /// [`Error::Closed`], [`Error::Critical`], [`Error::NotOpen`], [`Error::Ended`] (nothing is left to be sent), [`Error::Argument`] (the id is 2^62 or
-    /// more).
+    /// [`Error::Closed`], [`Error::Critical`], [`Error::NotOpen`], [`Error::Ended`] (nothing is left to be sent), [`Error::Argument`] (the
+    /// id is 2^62 or more).
     pub fn reset(&mut self, id: u64) -> Result<(), Error> {
         self.call(|handle, detail, out| unsafe { raw::h3_raw_reset(handle, id, detail, out) })
     }
@@ -176,8 +177,8 @@ impl Endpoint {
     ///
     /// # Errors
     ///
-    /// [`Error::Closed`], [`Error::Critical`], [`Error::NotOpen`], [`Error::Ended`] (its end was returned, or it was canceled), [`Error::Argument`] (the
-    /// id is 2^62 or more), [`Error::Memory`].
+    /// [`Error::Closed`], [`Error::Critical`], [`Error::NotOpen`], [`Error::Ended`] (its end was returned, or it was canceled),
+    /// [`Error::Argument`] (the id is 2^62 or more), [`Error::Memory`].
     pub fn cancel(&mut self, id: u64) -> Result<(), Error> {
         self.call(|handle, detail, out| unsafe { raw::h3_raw_cancel(handle, id, detail, out) })
     }
@@ -186,8 +187,8 @@ impl Endpoint {
     ///
     /// # Errors
     ///
-    /// [`Error::Closed`], [`Error::NotRequestId`], [`Error::Raised`] (an earlier GOAWAY had a lower id), [`Error::Argument`] (the id is 2^62 or more),
-    /// [`Error::Memory`].
+    /// [`Error::Closed`], [`Error::NotRequestId`], [`Error::Raised`] (an earlier GOAWAY had a lower id), [`Error::Argument`] (the id is
+    /// 2^62 or more), [`Error::Memory`].
     pub fn goaway(&mut self, id: u64) -> Result<(), Error> {
         self.call(|handle, detail, out| unsafe { raw::h3_raw_goaway(handle, id, detail, out) })
     }

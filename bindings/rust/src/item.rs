@@ -36,8 +36,8 @@ pub enum Item {
 }
 
 impl Item {
-    /// Whether it is the last item of its stream: the end, or a fault. A further call of [`Endpoint::next_item`](crate::Endpoint::next_item) returns the
-    /// same item.
+    /// Whether it is the last item of its stream: the end, or a fault. A further call of
+    /// [`Endpoint::next_item`](crate::Endpoint::next_item) returns the same item.
     pub fn is_last(&self) -> bool {
         matches!(self, Item::End | Item::Fault(_))
     }
@@ -49,8 +49,8 @@ impl Item {
 pub enum Pause {
     /// The next item has not come yet.
     Pending,
-    /// The next header section or trailer section needs what the peer's encoder stream brings: so many insertions in all. Ask for the next item again
-    /// after a delivery on that stream.
+    /// The next header section or trailer section needs what the peer's encoder stream brings: so many insertions in all. Ask for the next
+    /// item again after a delivery on that stream.
     Waiting(u64),
     /// The stream has no messages for this side.
     NoMessages,

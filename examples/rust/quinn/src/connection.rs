@@ -1,4 +1,5 @@
-//! An `Endpoint` over a connection of quinn. One task owns both. Each stream of the peer's has a task that reads it, and sends what came through a channel.
+//! An `Endpoint` over a connection of quinn. One task owns both. Each stream of the peer's has a task that reads it, and sends what came
+//! through a channel.
 
 use beanwhile_h3::{code, Config, Endpoint, Error, Item, Next, Pause};
 use quinn::{ReadError, RecvStream, SendStream, VarInt};
