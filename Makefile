@@ -8,7 +8,7 @@ PREFIX ?= /usr/local
 # of `make fuzz`: how long each fuzzer runs
 SECONDS ?= 60
 
-.PHONY: help run draw build lib lib-unproved install examples compat test test-c test-compat fuzz refused bench bench-build bench-page bench-exchange bench-instructions bench-long interop upstream-root load need-rt
+.PHONY: help run draw build lib lib-unproved install abi dist test-dist dist-roots examples compat test test-c test-compat fuzz refused bench bench-build bench-page bench-exchange bench-instructions bench-long interop upstream-root load need-rt
 
 help: ## list the commands
 	@grep -hE '^[a-z-]+:.*## ' $(MAKEFILE_LIST) | sed -E 's/^([a-z-]+):.*## /make \1: /'
@@ -30,11 +30,23 @@ build: need-rt ## prove and build the program, and say where it lies
 lib-unproved: need-rt ## build the library for C without the proofs, in one or two minutes, for a first hour: build/c-unproved, marked as unproved
 	@bash scripts/c/lib-unproved.sh
 
-lib: need-rt ## prove and build the library for C, C++, Go and Rust: libbeanwhile_h3.a, beanwhile/h3.h and the package files of pkg-config and CMake in build/c
+lib: need-rt ## prove and build the library for C, C++, Go and Rust, once for its sources: libbeanwhile_h3.a, beanwhile/h3.h and the package files of pkg-config and CMake in build/c
 	@bash scripts/c/lib.sh
 
-install: ## install what `make lib` left below PREFIX (/usr/local): lib/libbeanwhile_h3.a and .so.1, include/beanwhile/h3.h, beanwhile-h3.pc; DESTDIR is honoured
-	@LIB="$(LIB)" DESTDIR="$(DESTDIR)" PREFIX="$(PREFIX)" bash scripts/c/install.sh
+install: ## install what `make lib` left below PREFIX (/usr/local): lib/libbeanwhile_h3.a and .so.1, include/beanwhile/h3.h, beanwhile-h3.pc; DESTDIR is honoured, and LIBDIR (lib)
+	@LIB="$(LIB)" DESTDIR="$(DESTDIR)" PREFIX="$(PREFIX)" LIBDIR="$(LIBDIR)" UNPROVED="$(UNPROVED)" bash scripts/c/install.sh
+
+abi: ## write tests/c/libbeanwhile_h3.abi, the description of the shared library's binary interface that `make test-c` compares
+	@python3 scripts/c/abi.py write
+
+dist: need-rt ## pack the library of LIB (build/c) in dist/: a tarball, Debian packages, a Rust crate, a Go module, a Python wheel; one without proofs with UNPROVED=1 alone, and marked
+	@UNPROVED="$(UNPROVED)" python3 scripts/dist/dist.py "$(LIB)" dist
+
+dist-roots: ## make in build/roots, once and as root, roots of Debian 12 and 13 with compilers and no kit, for `make test-dist`
+	@bash scripts/dist/roots.sh
+
+test-dist: ## install what `make dist` left in roots of Debian 12 and 13, and build and run a program in each language there (as root)
+	@LIB="$(LIB)" bash scripts/dist/test-dist.sh dist
 
 examples: ## build the examples in C, Go and Rust over the folder that `make lib` leaves, or LIB=build/c-unproved (one alone: make -C examples/rust)
 	@bash scripts/dev/need.sh library "$(LIB)"
@@ -57,7 +69,7 @@ test-c: need-rt ## build the library, and run the C programs of tests/c over it,
 	@bash scripts/c/test-c.sh
 
 test: need-rt ## prove every crate from nothing, try the edits of crates/*/refused but those that a reader judged, run the tests and the programs
-	@bash scripts/gate/test.sh
+	@bash scripts/gate/logged.sh bash scripts/gate/test.sh
 
 refused: need-rt ## try all edits of crates/*/refused, or of CRATE=name, those that a reader judged too: run it before a contract changes
 	@python3 scripts/gate/refused.py $(CRATE)

@@ -1,7 +1,7 @@
-//! Two endpoints in one program, with the bytes between them carried by hand in pieces: a request with a body is answered, and
-//! what was sent is what was pulled. The server's endpoint runs on a thread of its own for its part. The words are the lengths of the pieces.
+//! Two endpoints in one program, with the bytes between them carried by hand in pieces: a request with a body is answered, and what was
+//! sent is what was pulled. The server's endpoint runs on a thread of its own for its part. The words are the lengths of the pieces.
 
-use beanwhile_h3::{Config, Endpoint, Error, Fields, Item};
+use beanwhile_h3::{Config, Endpoint, Error, Fields, Item, Next};
 use std::process::ExitCode;
 use std::{env, error, thread};
 
@@ -51,8 +51,8 @@ fn carry_stream(from: &mut Endpoint, to: &mut Endpoint, id: u64, piece: usize) -
 /// Reads a stream to its end: the head and the whole body.
 fn read(endpoint: &mut Endpoint, id: u64) -> Result<(Fields, Vec<u8>), Failure> {
     let (mut head, mut body) = (Fields::default(), Vec::new());
-    for item in endpoint.items(id) {
-        match item? {
+    while let Next::Item(item) = endpoint.next_item(id)? {
+        match item {
             Item::Head(it) => head = it.fields,
             Item::Body(bytes) => body.extend(bytes),
             Item::Trailer(_) => {}

@@ -9,9 +9,11 @@ folder=build/c-unproved
 [ -z "${COVERAGE:-}" ] || folder=build/c-coverage
 room=$(mktemp -d)
 trap 'rm -rf "$room"' EXIT
+sources=$(bash scripts/c/sources.sh)
 echo "compiling crates/h3_c and what it stands on, without their proofs: one or two minutes" >&2
 if ! bash scripts/dev/watched.sh "$room/log" python3 scripts/c/unproved.py "$room/libbeanwhile_h3.a"; then
   echo "h3_c was not built" >&2
   exit 1
 fi
 bash scripts/c/library_folder.sh "$room/libbeanwhile_h3.a" "$folder" unproved
+[ "$(bash scripts/c/sources.sh)" != "$sources" ] || bash scripts/c/made_of.sh write "$folder" "$sources"

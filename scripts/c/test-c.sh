@@ -1,11 +1,13 @@
 #!/usr/bin/env bash
-# C programs over build/c (scripts/c/lib.sh), by the machine's C compiler alone: the calls of crates/h3_cases and hostile lists of calls through the header,
-# each allocation refused in turn, large input with none refused, two endpoints under random schedules, what is held of a stream and of small pieces, unknown frames, long instructions, wrong arguments, bytes that are lent, pulled lists, and the programs of docs/TUTORIAL.md and docs/QUICKSTART.md. Once as
-# they are, and once with the sanitizers of addresses, leaks and undefined behaviour where the compiler has them (large input, memory: once). Then how programs find the
-# library (scripts/c/test-install.sh), and the packages for Go and Rust (scripts/c/test-bindings.sh). One line 'ok NAME' or 'failed NAME' for each; the last is the sum. With LIB=FOLDER the library in that folder is
-# taken, as that of `make lib-unproved`, and none is built.
-# Beside these: lists between two endpoints with the defaults, frames above the limit, early cancellations, what `detail` says, COUNT=60000 pairs of random programs (in
-# C++), and a short run of the fuzzers (scripts/c/fuzz.sh).
+# C programs over build/c (scripts/c/lib.sh), by the machine's C compiler alone: the calls of crates/h3_cases and hostile lists of calls
+# through the header, each allocation refused in turn, large input with none refused, two endpoints under random schedules, what is held of
+# a stream and of small pieces, unknown frames, long instructions, wrong arguments, bytes that are lent, pulled lists, and the program of
+# docs/TUTORIAL.md. Once as they are, and once with the sanitizers of addresses, leaks and undefined behaviour where the compiler has them
+# (large input, memory: once). Then h3.hpp, by C++17 and C++20; the binary interface (scripts/c/abi.py); how programs find the library
+# (scripts/c/test-install.sh); and the packages for Go and Rust (scripts/c/test-bindings.sh). One line 'ok NAME' or 'failed NAME' for each;
+# the last is the sum. With LIB=FOLDER the library in that folder is taken, as that of `make lib-unproved`, and none is built.
+# Beside these: lists between two endpoints with the defaults, frames above the limit, early cancellations, what `detail` says, COUNT=60000
+# pairs of random programs (in C++), and a short run of the fuzzers (scripts/c/fuzz.sh).
 set -uo pipefail
 cd "$(dirname "$0")/../.."
 
@@ -19,6 +21,7 @@ fi
 log=$(mktemp)
 trap 'rm -f "$log"' EXIT
 cc=${CC:-cc}
+cxx=${CXX:-c++}
 out=$lib/tests
 mkdir -p "$out"
 bad=0
@@ -39,10 +42,23 @@ compile() { # NAME OUT FLAGS..
 
 # random programs of two endpoints, in C++; COUNT=60000 of them
 programs() {
-  if "${CXX:-c++}" -std=c++17 -O1 -g -Wall -Wextra -Werror -Wl,--wrap=malloc,--wrap=realloc -o "$out/programs" tests/c/programs.cc "${libs[@]}"; then
+  if "$cxx" -std=c++17 -O1 -g -Wall -Wextra -Werror -Wl,--wrap=malloc,--wrap=realloc -o "$out/programs" tests/c/programs.cc "${libs[@]}"; then
     run programs "$out/programs" 1 "${COUNT:-60000}"
   else
     echo "failed programs: it was not compiled"
+    bad=1
+  fi
+}
+
+# h3.hpp by one version of C++, where the compiler has it
+cplusplus() { # VERSION FLAGS..
+  local version=$1
+  shift
+  if ! echo 'int main() {}' | "$cxx" "-std=c++$version" "$@" -x c++ -o "$out/probe" - 2> "$out/probe.log"; then return; fi
+  if "$cxx" "-std=c++$version" -O1 -g -Wall -Wextra -Wconversion -Werror "$@" -o "$out/endpoint" tests/c/endpoint.cpp "${libs[@]}"; then
+    run "h3.hpp by C++$version" "$out/endpoint"
+  else
+    echo "failed h3.hpp: C++$version did not compile it"
     bad=1
   fi
 }
@@ -146,6 +162,13 @@ checks() {
     fi
   fi
   bash scripts/c/fuzz.sh 5 "$lib" || bad=1
+  if command -v "$cxx" > /dev/null; then
+    for version in 17 20; do cplusplus "$version"; done
+    cplusplus 20 -fsanitize=address,undefined -fno-sanitize-recover=all
+  else
+    echo "left out: h3.hpp, which wants a C++ compiler (Debian: apt-get install g++)" >&2
+  fi
+  python3 scripts/c/abi.py check "$lib" || bad=1
   bash scripts/c/test-install.sh "$lib" || bad=1
   bash scripts/c/test-bindings.sh "$lib" || bad=1
   return "$bad"

@@ -1,7 +1,7 @@
 #!/usr/bin/env bash
-# test-install.sh FOLDER: is the library for C found as a program's build finds it? By pkg-config and by CMake, in FOLDER and where `make install`
-# puts it (only what `make lib` left is installed), a program of tests/c is built over it and run. One line 'ok NAME' or 'failed NAME' each; what the
-# machine lacks is left out.
+# test-install.sh FOLDER: is the library for C found as a program's build finds it? By pkg-config and by CMake, in FOLDER and where `make
+# install` puts it (a library without proofs where that is asked for), a program of tests/c is built over it and run. One line 'ok NAME' or
+# 'failed NAME' each; what the machine lacks is left out.
 set -uo pipefail
 cd "$(dirname "$0")/../.."
 folder=$(realpath "$1")
@@ -64,9 +64,14 @@ found() { # NAME, FOLDER of the package file, FOLDER that CMake looks in
 }
 
 found "library in ${folder##*/}" "$folder" "$folder"
-if [ ! -e "$folder/UNPROVED" ]; then
-  check "make install" env LIB="$folder" DESTDIR="$work/stage" PREFIX=/opt/h3 bash scripts/c/install.sh
-  mv "$work/stage/opt/h3" "$work/moved"
-  found "library installed" "$work/moved/lib/pkgconfig" "$work/moved"
+refuses_unproved() {
+  ! env -u UNPROVED LIB="$folder" DESTDIR="$work/refused" PREFIX=/opt/h3 bash scripts/c/install.sh && [ ! -e "$work/refused" ]
+}
+if [ -e "$folder/UNPROVED" ]; then
+  check "make install refuses a library without proofs" refuses_unproved
+  export UNPROVED=1
 fi
+check "make install" env LIB="$folder" DESTDIR="$work/stage" PREFIX=/opt/h3 bash scripts/c/install.sh
+mv "$work/stage/opt/h3" "$work/moved"
+found "library installed" "$work/moved/lib/pkgconfig" "$work/moved"
 exit "$bad"

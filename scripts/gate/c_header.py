@@ -98,7 +98,8 @@ def rust_numbers(header):
     wrong += sorted(set(answers) - set(told) - {"H3_OK", "H3_NONE", "H3_ROOM", "H3_NO_ENDPOINT"})
     known = re.findall(r"Malformation::(\w+),", re.search(r"const KNOWN.*?\];", error, re.S)[0])
     wrong += sorted(set(numbers(header, "h3_malformation").items()) ^ {(snake(name), at) for at, name in enumerate(known)})
-    pulled = {snake(("Fault" if of == "Fault" else "") + name): int(n) for n, of, name in re.findall(r"^            (\d+) => .*?(Item|Pause|Fault)::(\w+)", endpoint, re.M)}
+    arms = re.findall(r"^            (\d+) => .*?(?:Item::Fault\(|Next::Pause\()?(Item|Pause|Fault|Error)::(\w+)", endpoint, re.M)
+    pulled = {snake(("Fault" if of in ("Fault", "Error") else "") + name): int(n) for n, of, name in arms}
     wrong += sorted(set(kinds.items()) ^ set(pulled.items()))
     fields = [name for _, name in c_structs(header)["h3_config"]]
     read = [name for name, _ in sorted(re.findall(r"(\w+): numbers\[(\d+)\]", config), key=lambda it: int(it[1]))]

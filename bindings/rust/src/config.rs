@@ -4,7 +4,15 @@ use crate::raw;
 pub(crate) const NUMBERS: usize = 16;
 
 /// What an endpoint is and announces, as `h3_config`.
+///
+/// Later versions may add fields, so it is begun with [`Config::client`] or [`Config::server`], and its fields are set then:
+///
+/// ```
+/// let mut config = beanwhile_h3::Config::server();
+/// config.max_field_section_size = 16_384;
+/// ```
 #[derive(Debug, Clone, Copy, PartialEq, Eq)]
+#[non_exhaustive]
 pub struct Config {
     /// This side accepted the connection.
     pub server: bool,
@@ -22,14 +30,17 @@ pub struct Config {
     pub strict: bool,
     /// An acknowledgment tells the encoder of insertions (RFC 9204, section 2.1.4).
     pub count_acknowledgments: bool,
-    /// A reserved setting is sent (RFC 9114, section 7.2.4.1): the one that `grease` says, any random number below 0x210842108421083.
+    /// A reserved setting is sent (RFC 9114, section 7.2.4.1): the one that `grease` says, a random number below 0x210842108421083.
     pub send_grease: bool,
+    /// Which one, with `send_grease`.
     pub grease: u64,
-    /// RFC 9220.
+    /// Extended CONNECT (RFC 9220) is announced.
     pub extended_connect: bool,
-    /// RFC 9297.
+    /// HTTP datagrams (RFC 9297) are announced.
     pub datagram: bool,
+    /// WebTransport is announced.
     pub webtransport: bool,
+    /// How many sessions of it may be open.
     pub max_webtransport_sessions: u64,
     /// The greatest length of a frame that is kept until it is whole: any known one but DATA. A longer HEADERS frame makes its message
     /// malformed (`Malformation::TooLong`); any other longer frame, or a longer instruction of the encoder or decoder stream, is a fault of the
@@ -40,7 +51,8 @@ pub struct Config {
 
 impl Config {
     /// A client with the limits of `h3_config_default`, which are fit for a peer that is not trusted: heads and trailers of at most 65,536
-    /// bytes, a dynamic table of 4,096 bytes, for which 16 streams may wait, and one of 4,096 bytes for the own encoder. Messages are judged.
+    /// bytes, a dynamic table of 4,096 bytes, for which 16 streams may wait, and one of 4,096 bytes for the own encoder. Messages are
+    /// judged.
     pub fn client() -> Config {
         Config::of(defaults())
     }

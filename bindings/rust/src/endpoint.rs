@@ -1,7 +1,7 @@
 use crate::config::Config;
 use crate::error::{Error, Fault, Malformation};
 use crate::fields::{in_a_row, Fields};
-use crate::item::{Head, Item, Pause, Pulled};
+use crate::item::{Head, Item, Next, Pause};
 use crate::raw::{self, FieldSize, Handle, RawConnection, RawItem, RawStream};
 use crate::state::{ConnectionState, PeerLimits, StreamState};
 use std::ptr;
@@ -42,6 +42,12 @@ fn answered(answer: u32, detail: u64) -> Result<(), Error> {
 // SAFETY, of all calls below: the handle holds an endpoint, since `new` hands one out alone where it was made, and each call writes the
 // handle back through its last argument; pointers and lengths are those of slices and of local variables.
 impl Endpoint {
+    /// Makes an endpoint, whose settings wait to be sent on its control stream.
+    ///
+    /// # Errors
+    ///
+    /// [`Error::Argument`] (the value of `grease`), [`Error::TableLimit`], [`Error::BlockedLimit`], [`Error::Setting`],
+    /// [`Error::UnfinishedLimit`], [`Error::Memory`].
     pub fn new(config: &Config) -> Result<Endpoint, Error> {
         let (numbers, mut handle, mut detail) = (config.numbers(), Handle { at: ptr::null_mut() }, 0);
         let answer = unsafe { raw::h3_raw_new(numbers.as_ptr(), numbers.len(), &mut detail, &mut handle) };
@@ -65,10 +71,15 @@ impl Endpoint {
         }
     }
 
-    /// Opens a client's next request, and answers the id of its stream: 0, 4, 8, ..
+    /// Opens a client's next request, and returns the id of its stream: 0, 4, 8, ..
     ///
-    /// QUIC counts its streams by itself. Call this first, and open no stream of QUIC where it is refused. Where it gives an id and QUIC has
+    /// QUIC counts its streams by itself. Call this first, and open no stream of QUIC if it is refused. If it gives an id and QUIC has
     /// no room, keep the id for the next stream that QUIC opens.
+    ///
+    /// # Errors
+    ///
+    /// [`Error::Closed`], [`Error::NotClient`], [`Error::GoingAway`] (the peer takes no further request), [`Error::IdsUsedUp`],
+    /// [`Error::Memory`].
     pub fn open_request(&mut self) -> Result<u64, Error> {
         let mut id = 0;
         self.call(|handle, detail, out| unsafe { raw::h3_raw_open_request(handle, &mut id, detail, out) })?;
@@ -76,6 +87,10 @@ impl Endpoint {
     }
 
     /// The id that `open_request` gives next, or its refusal. It opens nothing.
+    ///
+    /// # Errors
+    ///
+    /// Those of [`open_request`](Endpoint::open_request), but for [`Error::Memory`].
     pub fn next_request_id(&mut self) -> Result<u64, Error> {
         let mut id = 0;
         self.call(|handle, detail, out| unsafe { raw::h3_raw_next_request_id(handle, &mut id, detail, out) })?;
@@ -87,48 +102,93 @@ impl Endpoint {
         self.call(|handle, detail, out| unsafe { call(handle, id, sizes.as_ptr(), sizes.len(), bytes.as_ptr(), bytes.len(), detail, out) })
     }
 
-    /// Sends a head as the list that it is given as: put pseudo-header fields in front, each once. A response's head with a status from 100
-    /// to 199 is an interim one, behind which another goes.
+    /// Sends a header section as the list that it is given as: put pseudo-header fields in front, each once. A response's with a status
+    /// from 100 to 199 is an interim one, after which another goes.
+    ///
+    /// # Errors
+    ///
+    /// [`Error::FieldName`], [`Error::FieldValue`] or [`Error::FieldCount`] of the list; [`Error::Closed`], [`Error::NotOpen`],
+    /// [`Error::OutOfOrder`], [`Error::WrongSide`], [`Error::Malformed`] (a strict endpoint), [`Error::TooLarge`] (for the peer),
+    /// [`Error::Argument`] (the id is 2^62 or more), [`Error::Memory`]. Nothing was sent then.
     pub fn send_fields<N: AsRef<[u8]>, V: AsRef<[u8]>>(&mut self, id: u64, fields: &[(N, V)]) -> Result<(), Error> {
         self.send_list(raw::h3_raw_send_fields, id, fields)
     }
 
-    /// Sends a trailer as the list that it is given as.
+    /// Sends a trailer section as the list that it is given as.
+    ///
+    /// # Errors
+    ///
+    /// [`Error::FieldName`], [`Error::FieldValue`] or [`Error::FieldCount`] of the list; [`Error::Closed`], [`Error::NotOpen`],
+    /// [`Error::OutOfOrder`], [`Error::PseudoInTrailer`], [`Error::Malformed`] (a strict endpoint), [`Error::TooLarge`] (for the peer),
+    /// [`Error::Argument`] (the id is 2^62 or more), [`Error::Memory`]. Nothing was sent then.
     pub fn send_trailer_fields<N: AsRef<[u8]>, V: AsRef<[u8]>>(&mut self, id: u64, fields: &[(N, V)]) -> Result<(), Error> {
         self.send_list(raw::h3_raw_send_trailer_fields, id, fields)
     }
 
-    /// Sends a head with its pseudo-header fields put in front, and the values of one name together. `send_fields` is faster.
+    /// Sends a header section with its pseudo-header fields put in front, and the values of one name together. `send_fields` is faster.
+    ///
+    /// # Errors
+    ///
+    /// Those of [`send_fields`](Endpoint::send_fields).
     pub fn send_head<N: AsRef<[u8]>, V: AsRef<[u8]>>(&mut self, id: u64, fields: &[(N, V)]) -> Result<(), Error> {
         self.send_list(raw::h3_raw_send_head, id, fields)
     }
 
-    /// Sends a trailer with the values of one name put together.
+    /// Sends a trailer section with the values of one name put together.
+    ///
+    /// # Errors
+    ///
+    /// Those of [`send_trailer_fields`](Endpoint::send_trailer_fields).
     pub fn send_trailer<N: AsRef<[u8]>, V: AsRef<[u8]>>(&mut self, id: u64, fields: &[(N, V)]) -> Result<(), Error> {
         self.send_list(raw::h3_raw_send_trailer, id, fields)
     }
 
     /// Sends a piece of a body. The bytes are copied.
+    ///
+    /// # Errors
+    ///
+    /// [`Error::Closed`], [`Error::NotOpen`], [`Error::OutOfOrder`], [`Error::Malformed`] (a strict endpoint: more than content-length
+    /// says), [`Error::Argument`] (the id is 2^62 or more), [`Error::Memory`].
     pub fn send_body(&mut self, id: u64, bytes: &[u8]) -> Result<(), Error> {
         self.call(|handle, detail, out| unsafe { raw::h3_raw_send_body(handle, id, bytes.as_ptr(), bytes.len(), detail, out) })
     }
 
-    /// The own message is whole: FIN goes behind what waits.
+    /// The local message is whole: FIN goes after what waits.
+    ///
+    /// # Errors
+    ///
+    /// [`Error::Closed`], [`Error::NotOpen`], [`Error::OutOfOrder`], [`Error::Malformed`] (a strict endpoint: less than content-length
+    /// says), [`Error::Argument`] (the id is 2^62 or more).
     pub fn finish(&mut self, id: u64) -> Result<(), Error> {
         self.call(|handle, detail, out| unsafe { raw::h3_raw_finish(handle, id, detail, out) })
     }
 
     /// Sending on a stream ends here, and what waits is dropped: QUIC sends RESET_STREAM.
+    ///
+    /// # Errors
+    ///
+    /// [`Error::Closed`], [`Error::Critical`], [`Error::NotOpen`], [`Error::Ended`] (nothing is left to be sent), [`Error::Argument`] (the
+    /// id is 2^62 or more).
     pub fn reset(&mut self, id: u64) -> Result<(), Error> {
         self.call(|handle, detail, out| unsafe { raw::h3_raw_reset(handle, id, detail, out) })
     }
 
     /// Nothing more is wanted of a request stream: QUIC sends STOP_SENDING.
+    ///
+    /// # Errors
+    ///
+    /// [`Error::Closed`], [`Error::Critical`], [`Error::NotOpen`], [`Error::Ended`] (its end was returned, or it was canceled),
+    /// [`Error::Argument`] (the id is 2^62 or more), [`Error::Memory`].
     pub fn cancel(&mut self, id: u64) -> Result<(), Error> {
         self.call(|handle, detail, out| unsafe { raw::h3_raw_cancel(handle, id, detail, out) })
     }
 
     /// A server takes no request from this id on, a multiple of 4, or a client no push (RFC 9114, section 5.2).
+    ///
+    /// # Errors
+    ///
+    /// [`Error::Closed`], [`Error::NotRequestId`], [`Error::Raised`] (an earlier GOAWAY had a lower id), [`Error::Argument`] (the id is
+    /// 2^62 or more), [`Error::Memory`].
     pub fn goaway(&mut self, id: u64) -> Result<(), Error> {
         self.call(|handle, detail, out| unsafe { raw::h3_raw_goaway(handle, id, detail, out) })
     }
@@ -147,8 +207,12 @@ impl Endpoint {
         Some(id)
     }
 
-    /// Copies the first bytes that wait on a stream into the buffer. Answers how many, and whether the stream ends behind them. They wait
+    /// Copies the first bytes that wait on a stream into the buffer. Returns how many, and whether the stream ends after them. They wait
     /// until `advance`.
+    ///
+    /// # Errors
+    ///
+    /// [`Error::Argument`]: the id is 2^62 or more.
     pub fn outgoing(&mut self, id: u64, buffer: &mut [u8]) -> Result<(usize, bool), Error> {
         let (mut count, mut end) = (0, 0);
         self.call(|handle, _, out| unsafe {
@@ -158,46 +222,83 @@ impl Endpoint {
     }
 
     /// QUIC has so many bytes of a stream: at most those that wait.
+    ///
+    /// # Errors
+    ///
+    /// [`Error::Argument`]: the id is 2^62 or more, or fewer bytes wait.
     pub fn advance(&mut self, id: u64, count: usize) -> Result<(), Error> {
         self.call(|handle, _, out| unsafe { raw::h3_raw_advance(handle, id, count, out) })
     }
 
-    /// QUIC has the FIN of a stream: `next_to_send` names it no longer. Answers whether an end was next.
+    /// QUIC has the FIN of a stream: `next_to_send` names it no longer. Returns whether an end was next.
     pub fn end_taken(&mut self, id: u64) -> bool {
         self.call(|handle, _, out| unsafe { raw::h3_raw_end_taken(handle, id, out) }).is_ok()
     }
 
-    /// Hands over bytes that came on a stream, behind those that came before. On `Error::Memory` nothing was taken: deliver again.
+    /// Delivers bytes that came on a stream, after those that came before.
+    ///
+    /// # Errors
+    ///
+    /// [`Error::Connection`]: close the connection with this code. [`Error::NotReceiving`], [`Error::NotOpen`], [`Error::AfterEnd`],
+    /// [`Error::Argument`] (the id is 2^62 or more). [`Error::Memory`]: nothing was taken, deliver again.
     pub fn deliver(&mut self, id: u64, bytes: &[u8]) -> Result<(), Error> {
         self.delivery(|handle, detail, out| unsafe { raw::h3_raw_deliver(handle, id, bytes.as_ptr(), bytes.len(), detail, out) })
     }
 
     /// The stream's FIN came.
+    ///
+    /// # Errors
+    ///
+    /// Those of [`deliver`](Endpoint::deliver).
     pub fn deliver_end(&mut self, id: u64) -> Result<(), Error> {
         self.delivery(|handle, detail, out| unsafe { raw::h3_raw_deliver_end(handle, id, detail, out) })
     }
 
     /// RESET_STREAM came with this code.
+    ///
+    /// # Errors
+    ///
+    /// Those of [`deliver`](Endpoint::deliver).
     pub fn deliver_reset(&mut self, id: u64, code: u64) -> Result<(), Error> {
         self.delivery(|handle, detail, out| unsafe { raw::h3_raw_deliver_reset(handle, id, code, detail, out) })
     }
 
-    /// What comes next on a stream: an item, a pause, or a fault as the error. Where memory is refused nothing is lost: pull again.
-    pub fn pull(&mut self, id: u64) -> Result<Pulled, Error> {
+    /// What is next on a stream: an item, or a pause. All that came has been read at the pause:
+    ///
+    /// ```
+    /// # use beanwhile_h3::{Endpoint, Error, Item, Next};
+    /// # fn answer(server: &mut Endpoint, id: u64) -> Result<(), Error> {
+    /// while let Next::Item(item) = server.next_item(id)? {
+    ///     let is_last = item.is_last();
+    ///     match item {
+    ///         Item::Head(_) => server.send_fields(id, &[(":status", "200")])?,
+    ///         Item::Body(bytes) => server.send_body(id, &bytes)?,
+    ///         Item::End => server.finish(id)?,
+    ///         Item::Fault(fault) => eprintln!("stream {id}: {fault}"),
+    ///         _ => {}
+    ///     }
+    ///     if is_last {
+    ///         break;
+    ///     }
+    /// }
+    /// # Ok(())
+    /// # }
+    /// ```
+    ///
+    /// # Errors
+    ///
+    /// [`Error::Connection`]: the connection has a fault, and every stream with it. [`Error::Memory`]: nothing is lost, ask again.
+    /// [`Error::Argument`]: the id is 2^62 or more. A fault of this stream alone is no error but an item, [`Item::Fault`].
+    pub fn next_item(&mut self, id: u64) -> Result<Next, Error> {
         let mut item = RawItem::default();
         self.call(|handle, _, out| unsafe { raw::h3_raw_pull_fields(handle, id, &mut item, out) })?;
         self.read(item)
     }
 
-    /// The items of a stream, up to the next pause or to its end.
-    pub fn items(&mut self, id: u64) -> Items<'_> {
-        Items { endpoint: self, id, is_over: false, pause: None }
-    }
-
     /// What the item has that was pulled last.
-    fn read(&mut self, item: RawItem) -> Result<Pulled, Error> {
+    fn read(&mut self, item: RawItem) -> Result<Next, Error> {
         let number = item.number;
-        Ok(Pulled::Item(match item.kind {
+        Ok(Next::Item(match item.kind {
             1 => Item::Interim(self.head(item)?),
             2 => Item::Head(self.head(item)?),
             3 => Item::Body(self.bytes(item.len)?),
@@ -206,14 +307,14 @@ impl Endpoint {
             6 => Item::Session(number),
             7 => Item::Raw(self.bytes(item.len)?),
             8 => Item::End,
-            9 => return Ok(Pulled::Pause(Pause::Pending)),
-            10 => return Ok(Pulled::Pause(Pause::Waiting(number))),
-            11 => return Ok(Pulled::Pause(Pause::NoMessages)),
-            12 => return Err(Fault::Connection(number).into()),
-            13 => return Err(Fault::Malformed(Malformation::of(number)).into()),
-            14 => return Err(Fault::Reset(number).into()),
-            15 => return Err(Fault::Canceled.into()),
-            16 => return Err(Fault::Memory.into()),
+            9 => return Ok(Next::Pause(Pause::Pending)),
+            10 => return Ok(Next::Pause(Pause::Waiting(number))),
+            11 => return Ok(Next::Pause(Pause::NoMessages)),
+            12 => return Err(Error::Connection(number)),
+            13 => Item::Fault(Fault::Malformed(Malformation::of(number))),
+            14 => Item::Fault(Fault::Reset(number)),
+            15 => Item::Fault(Fault::Canceled),
+            16 => return Err(Error::Memory),
             other => return Err(Error::Other(other)),
         }))
     }
@@ -239,6 +340,10 @@ impl Endpoint {
     }
 
     /// What is to be seen of a stream.
+    ///
+    /// # Errors
+    ///
+    /// [`Error::Argument`]: the id is 2^62 or more.
     pub fn stream(&mut self, id: u64) -> Result<StreamState, Error> {
         let mut state = RawStream::default();
         self.call(|handle, _, out| unsafe { raw::h3_raw_stream(handle, id, &mut state, out) })?;
@@ -253,6 +358,10 @@ impl Endpoint {
     }
 
     /// What is to be seen of the connection.
+    ///
+    /// # Errors
+    ///
+    /// None of an endpoint that this crate made; a later library may have some.
     pub fn connection(&mut self) -> Result<ConnectionState, Error> {
         let mut state = RawConnection::default();
         self.call(|handle, _, out| unsafe { raw::h3_raw_connection(handle, &mut state, out) })?;
@@ -272,45 +381,5 @@ impl Endpoint {
         let mut value = 0;
         self.call(|handle, _, out| unsafe { raw::h3_raw_peer_setting(handle, setting, &mut value, out) }).ok()?;
         Some(value)
-    }
-}
-
-/// The items of a stream, up to the next pause, to its end, or to an error.
-#[derive(Debug)]
-pub struct Items<'a> {
-    endpoint: &'a mut Endpoint,
-    id: u64,
-    is_over: bool,
-    pause: Option<Pause>,
-}
-
-impl Items<'_> {
-    /// Why the last `next` answered `None`, where the stream is not over.
-    pub fn pause(&self) -> Option<Pause> {
-        self.pause
-    }
-}
-
-impl Iterator for Items<'_> {
-    type Item = Result<Item, Error>;
-
-    fn next(&mut self) -> Option<Result<Item, Error>> {
-        if self.is_over {
-            return None;
-        }
-        match self.endpoint.pull(self.id) {
-            Ok(Pulled::Item(item)) => {
-                self.is_over = item == Item::End;
-                Some(Ok(item))
-            }
-            Ok(Pulled::Pause(pause)) => {
-                self.pause = Some(pause);
-                None
-            }
-            Err(error) => {
-                self.is_over = true;
-                Some(Err(error))
-            }
-        }
     }
 }

@@ -2,13 +2,21 @@ use std::fmt;
 
 /// Codes of RFC 9114, section 8.1, that a program names.
 pub mod code {
+    /// The connection or stream is closed with no error.
     pub const NO_ERROR: u64 = 0x100;
+    /// An internal error.
     pub const INTERNAL_ERROR: u64 = 0x102;
+    /// A stream that the connection needs was closed.
     pub const CLOSED_CRITICAL_STREAM: u64 = 0x104;
+    /// The peer causes too much load.
     pub const EXCESSIVE_LOAD: u64 = 0x107;
+    /// A server rejects a request that it has not processed.
     pub const REQUEST_REJECTED: u64 = 0x10b;
+    /// A request or its response is cancelled.
     pub const REQUEST_CANCELLED: u64 = 0x10c;
+    /// A request ended before it was whole.
     pub const REQUEST_INCOMPLETE: u64 = 0x10d;
+    /// A message is malformed.
     pub const MESSAGE_ERROR: u64 = 0x10e;
 }
 
@@ -18,7 +26,7 @@ pub mod code {
 pub enum Error {
     /// The connection had this fault before, by its code.
     Closed(u64),
-    /// What was delivered is a fault of the connection: close it with this code.
+    /// The connection has a fault: close it with this code.
     Connection(u64),
     /// The peer sends nothing on this stream.
     NotReceiving,
@@ -68,8 +76,6 @@ pub enum Error {
     Malformed(Malformation),
     /// An argument is out of range.
     Argument,
-    /// Nothing more is handed out of a stream.
-    Fault(Fault),
     /// An answer that this crate does not know, as of a later library.
     Other(u32),
 }
@@ -111,14 +117,14 @@ impl Error {
     /// The code to close the QUIC connection with, where it has a fault.
     pub fn connection_code(&self) -> Option<u64> {
         match self {
-            Error::Closed(code) | Error::Connection(code) | Error::Fault(Fault::Connection(code)) => Some(*code),
+            Error::Closed(code) | Error::Connection(code) => Some(*code),
             _ => None,
         }
     }
 
     /// Whether memory was refused: the same call may be made again.
     pub fn is_memory(&self) -> bool {
-        matches!(self, Error::Memory | Error::Fault(Fault::Memory))
+        matches!(self, Error::Memory)
     }
 }
 
@@ -133,7 +139,6 @@ impl fmt::Display for Error {
             Error::Setting(id) => return write!(f, "the setting {id:#x} cannot be announced"),
             Error::Malformed(why) => return write!(f, "a strict peer would call the message malformed: {why}"),
             Error::Other(answer) => return write!(f, "the library answered {answer}"),
-            Error::Fault(fault) => return fault.fmt(f),
             Error::NotReceiving => "the peer sends nothing on this stream",
             Error::AfterEnd => "the stream has ended before",
             Error::NotClient => "only a client opens requests",
@@ -145,12 +150,12 @@ impl fmt::Display for Error {
             Error::Critical => "the connection needs this stream",
             Error::Ended => "the stream has ended",
             Error::NotRequestId => "the id is that of no request",
-            Error::Memory => "memory was refused",
+            Error::Memory => "out of memory",
             Error::TableLimit => "the table is above its limit",
             Error::BlockedLimit => "the count of blocked streams is above its limit",
             Error::UnfinishedLimit => "the limit on what is unfinished is below four times what is announced",
-            Error::FieldName => "a field's name is none",
-            Error::FieldValue => "a field's value is none",
+            Error::FieldName => "invalid field name",
+            Error::FieldValue => "invalid field value",
             Error::FieldCount => "too many fields",
             Error::Argument => "an argument is out of range",
         };
@@ -160,31 +165,26 @@ impl fmt::Display for Error {
 
 impl std::error::Error for Error {}
 
-/// Why nothing more is handed out of a stream.
+/// Why nothing more comes on a stream. The connection goes on.
 #[derive(Debug, Clone, Copy, PartialEq, Eq)]
+#[non_exhaustive]
 pub enum Fault {
-    /// The connection has a fault: close it with this code.
-    Connection(u64),
-    /// The message is malformed. The connection goes on.
+    /// The message is malformed.
     Malformed(Malformation),
-    /// The peer reset the stream with this code. The own half goes on, or is ended by `reset`.
+    /// The peer reset the stream with this code. The local half goes on, or is ended by `reset`.
     Reset(u64),
-    /// The stream was given up by `cancel`.
+    /// The stream was canceled by `cancel`.
     Canceled,
-    /// Memory was refused. Nothing is lost: pull again.
-    Memory,
 }
 
 impl Fault {
-    /// What a server or a client ends the stream with, or the connection where the fault is its own (RFC 9114, sections 4.1.1 and 4.1.2).
+    /// The code that a server or a client ends the stream with (RFC 9114, sections 4.1.1 and 4.1.2).
     pub fn code(&self, server: bool) -> u64 {
         match self {
-            Fault::Connection(code) => *code,
             Fault::Malformed(Malformation::NoHead) if server => code::REQUEST_INCOMPLETE,
             Fault::Malformed(Malformation::TooLong) => code::EXCESSIVE_LOAD,
             Fault::Malformed(_) => code::MESSAGE_ERROR,
             Fault::Reset(_) | Fault::Canceled => code::REQUEST_CANCELLED,
-            Fault::Memory => code::INTERNAL_ERROR,
         }
     }
 }
@@ -192,46 +192,57 @@ impl Fault {
 impl fmt::Display for Fault {
     fn fmt(&self, f: &mut fmt::Formatter<'_>) -> fmt::Result {
         match self {
-            Fault::Connection(code) => write!(f, "the connection has a fault, {code:#x}"),
             Fault::Malformed(why) => write!(f, "the message is malformed: {why}"),
             Fault::Reset(code) => write!(f, "the peer reset the stream, {code:#x}"),
-            Fault::Canceled => f.write_str("the stream was given up"),
-            Fault::Memory => f.write_str("memory was refused"),
+            Fault::Canceled => f.write_str("the stream was canceled"),
         }
     }
 }
 
 impl std::error::Error for Fault {}
 
-impl From<Fault> for Error {
-    fn from(fault: Fault) -> Error {
-        Error::Fault(fault)
-    }
-}
-
 /// Why a message is malformed (RFC 9114, section 4.1.2): an `h3_malformation`, which says more of each. Those from `LatePseudoField` on are
 /// told where `strict` is set, and `TooLong` where there is an `unfinished_limit`.
 #[derive(Debug, Clone, Copy, PartialEq, Eq)]
 #[non_exhaustive]
 pub enum Malformation {
+    /// A field name is invalid.
     BadName,
+    /// A field value is invalid.
     BadValue,
+    /// There are too many fields.
     TooMany,
+    /// A request's header section from a server, or a response's from a client.
     HeadOfWrongSide,
+    /// A trailer section has a pseudo-header field.
     PseudoFieldInTrailer,
+    /// The stream ended before a header section.
     NoHead,
+    /// A pseudo-header field comes after a regular field.
     LatePseudoField,
+    /// A pseudo-header field of the other side.
     WrongPseudoField,
+    /// A pseudo-header field comes twice.
     RepeatedPseudoField,
+    /// A connection-specific field.
     ConnectionField,
+    /// The content is not as long as content-length says, or content-length is invalid.
     BadContentLength,
+    /// `:protocol` without CONNECT, or not announced.
     BadProtocol,
+    /// A CONNECT request with other pseudo-header fields than it may have.
     BadConnect,
+    /// A pseudo-header field is missing.
     MissingPseudoField,
+    /// `:scheme` is invalid.
     BadScheme,
+    /// `:authority` is missing or invalid, or `host` is unlike it.
     BadAuthority,
+    /// `:path` is invalid.
     BadPath,
+    /// `:status` is invalid.
     BadStatus,
+    /// A field that a trailer section must not have.
     NoTrailerField,
     TooLong,
     /// One that this crate does not know, as of a later library.
@@ -274,24 +285,24 @@ impl Malformation {
 impl fmt::Display for Malformation {
     fn fmt(&self, f: &mut fmt::Formatter<'_>) -> fmt::Result {
         let text = match self {
-            Malformation::BadName => "a field's name is none",
-            Malformation::BadValue => "a field's value is none",
+            Malformation::BadName => "invalid field name",
+            Malformation::BadValue => "invalid field value",
             Malformation::TooMany => "too many fields",
             Malformation::HeadOfWrongSide => "a head of the other side",
             Malformation::PseudoFieldInTrailer => "a pseudo-header field in a trailer",
             Malformation::NoHead => "no head",
-            Malformation::LatePseudoField => "a pseudo-header field behind a regular field",
+            Malformation::LatePseudoField => "a pseudo-header field after a regular field",
             Malformation::WrongPseudoField => "a pseudo-header field of the other side",
             Malformation::RepeatedPseudoField => "a pseudo-header field comes twice",
             Malformation::ConnectionField => "a connection-specific field",
-            Malformation::BadContentLength => "the content is not as long as content-length says, or that is none",
+            Malformation::BadContentLength => "the content is not as long as content-length says, or content-length is invalid",
             Malformation::BadProtocol => ":protocol is not allowed",
             Malformation::BadConnect => "a CONNECT request with other pseudo-header fields than it may have",
             Malformation::MissingPseudoField => "a pseudo-header field is missing",
-            Malformation::BadScheme => "the scheme is none",
-            Malformation::BadAuthority => "the authority is none",
-            Malformation::BadPath => "the path is none",
-            Malformation::BadStatus => "the status is none",
+            Malformation::BadScheme => "invalid :scheme",
+            Malformation::BadAuthority => "invalid or missing :authority",
+            Malformation::BadPath => "invalid :path",
+            Malformation::BadStatus => "invalid :status",
             Malformation::NoTrailerField => "a field that no trailer has",
             Malformation::TooLong => "a HEADERS frame is longer than the limit on what is unfinished",
             Malformation::Other(number) => return write!(f, "number {number}"),

@@ -4,7 +4,9 @@ use std::fmt;
 /// A name and a value.
 #[derive(Debug, Clone, Copy, PartialEq, Eq)]
 pub struct Field<'a> {
+    /// In lower case; a pseudo-header field's begins with ':'.
     pub name: &'a [u8],
+    /// As it came.
     pub value: &'a [u8],
 }
 
@@ -17,14 +19,17 @@ pub struct Fields {
 }
 
 impl Fields {
+    /// How many fields there are.
     pub fn len(&self) -> usize {
         self.ends.len()
     }
 
+    /// Whether there are none.
     pub fn is_empty(&self) -> bool {
         self.ends.is_empty()
     }
 
+    /// Goes over the fields.
     pub fn iter(&self) -> FieldsIter<'_> {
         FieldsIter { fields: self, next: 0 }
     }

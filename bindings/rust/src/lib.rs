@@ -1,11 +1,48 @@
 //! One endpoint of an HTTP/3 connection (RFC 9114, RFC 9204), for programs that have a QUIC library: the calls of `beanwhile/h3.h`.
 //!
-//! An [`Endpoint`] reads no socket and starts no thread. A program delivers what came on a stream and pulls what it is
-//! ([`Endpoint::deliver`], [`Endpoint::pull`], [`Endpoint::items`]), sends messages ([`Endpoint::open_request`],
+//! An [`Endpoint`] reads no socket and starts no thread. A program delivers what came on a stream and reads its items
+//! ([`Endpoint::deliver`], [`Endpoint::next_item`]), sends messages ([`Endpoint::open_request`],
 //! [`Endpoint::send_fields`], [`Endpoint::send_body`], [`Endpoint::finish`]), and hands to QUIC what waits
 //! ([`Endpoint::next_to_send`], [`Endpoint::outgoing`], [`Endpoint::advance`], [`Endpoint::end_taken`]).
 //!
+//! A request goes from a client to a server, with the bytes carried by hand in place of QUIC:
+//!
+//! ```
+//! use beanwhile_h3::{Config, Endpoint, Error, Item, Next};
+//!
+//! fn carry(from: &mut Endpoint, to: &mut Endpoint) -> Result<(), Error> {
+//!     let (mut next, mut buffer) = (0, [0; 4096]);
+//!     while let Some(id) = from.next_to_send(next) {
+//!         let (count, is_last) = from.outgoing(id, &mut buffer)?;
+//!         to.deliver(id, &buffer[..count])?;
+//!         from.advance(id, count)?;
+//!         if is_last {
+//!             to.deliver_end(id)?;
+//!             from.end_taken(id);
+//!         }
+//!         next = id + 1;
+//!     }
+//!     Ok(())
+//! }
+//!
+//! # fn main() -> Result<(), Error> {
+//! let (mut client, mut server) = (Endpoint::new(&Config::client())?, Endpoint::new(&Config::server())?);
+//! let id = client.open_request()?;
+//! client.send_fields(id, &[(":method", "GET"), (":scheme", "https"), (":authority", "localhost"), (":path", "/a")])?;
+//! client.finish(id)?;
+//! carry(&mut client, &mut server)?;
+//! match server.next_item(id)? {
+//!     Next::Item(Item::Head(head)) => assert_eq!(head.fields.get(":path"), Some(&b"/a"[..])),
+//!     other => panic!("{other:?}"),
+//! }
+//! assert_eq!(server.next_item(id)?, Next::Item(Item::End));
+//! # Ok(())
+//! # }
+//! ```
+//!
 //! All that is `unsafe` is in `raw`, whose declarations are those of the header, and in the calls of `endpoint`.
+
+#![warn(missing_docs)]
 
 mod config;
 mod endpoint;
@@ -17,14 +54,14 @@ mod raw;
 mod state;
 
 pub use config::Config;
-pub use endpoint::{Endpoint, Items};
+pub use endpoint::Endpoint;
 pub use error::{code, Error, Fault, Malformation};
 pub use fields::{Field, Fields, FieldsIter};
-pub use item::{Head, Item, Pause, Pulled};
+pub use item::{Head, Item, Next, Pause};
 pub use priority::Priority;
 pub use state::{ConnectionState, PeerLimits, StreamState, Version};
 
-/// The ids of the own control, encoder and decoder stream.
+/// The ids of the local control, encoder and decoder stream.
 pub fn own_ids(server: bool) -> [u64; 3] {
     if server {
         [3, 7, 11]

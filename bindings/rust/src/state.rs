@@ -2,6 +2,7 @@ use crate::raw;
 
 /// What is to be seen of a stream, as `h3_stream_state`.
 #[derive(Debug, Default, Clone, Copy, PartialEq, Eq)]
+#[non_exhaustive]
 pub struct StreamState {
     /// Bytes that wait to be sent.
     pub waiting: u64,
@@ -19,6 +20,7 @@ pub struct StreamState {
 
 /// What the peer's settings allow.
 #[derive(Debug, Clone, Copy, PartialEq, Eq)]
+#[non_exhaustive]
 pub struct PeerLimits {
     /// The capacity of its dynamic table in bytes.
     pub table: u64,
@@ -30,9 +32,11 @@ pub struct PeerLimits {
 
 /// What is to be seen of the connection, as `h3_state`.
 #[derive(Debug, Clone, Copy, PartialEq, Eq)]
+#[non_exhaustive]
 pub struct ConnectionState {
-    /// The sizes of the dynamic tables that this side and the peer write, in bytes.
+    /// The size of the dynamic table that this side writes, in bytes.
     pub sending_table: u64,
+    /// The same of the table that the peer writes.
     pub receiving_table: u64,
     /// How many streams wait for insertions.
     pub waiting_heads: u64,
@@ -46,15 +50,20 @@ pub struct ConnectionState {
 
 /// Which version of the library this is.
 #[derive(Debug, Clone, Copy, PartialEq, Eq)]
+#[non_exhaustive]
 pub struct Version {
+    /// Within a major version calls, numbers and structs stay.
     pub major: u8,
+    /// It rises with what is new.
     pub minor: u8,
+    /// It rises with what is mended.
     pub patch: u8,
     /// Whether it was built with its proofs.
     pub is_proved: bool,
 }
 
 impl Version {
+    /// The version of the library that this program is linked with.
     pub fn of_library() -> Version {
         // SAFETY: it takes nothing.
         let version = unsafe { raw::h3_raw_version() };

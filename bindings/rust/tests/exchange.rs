@@ -1,6 +1,6 @@
 //! Two endpoints in one program, with the bytes between them carried by hand: what was sent is what is handed out, once.
 
-use beanwhile_h3::{own_ids, Config, Endpoint, Error, Fields, Head, Item, Pause, PeerLimits, Pulled, StreamState, Version};
+use beanwhile_h3::{own_ids, Config, Endpoint, Error, Fields, Head, Item, Next, Pause, Version};
 
 /// Carries all that waits, in pieces, and each end once. Answers how many ends went over.
 fn carry(from: &mut Endpoint, to: &mut Endpoint, piece: usize) -> usize {
@@ -47,11 +47,24 @@ fn post() -> Vec<(&'static str, String)> {
         .to_vec()
 }
 
-/// The request is pulled to its end: its head, body and trailer.
+/// The items of a stream up to a pause, or to the last one.
+fn items(endpoint: &mut Endpoint, id: u64) -> Vec<Item> {
+    let mut found = Vec::new();
+    while let Next::Item(item) = endpoint.next_item(id).unwrap() {
+        let is_last = item.is_last();
+        found.push(item);
+        if is_last {
+            break;
+        }
+    }
+    found
+}
+
+/// The request is read to its end: its head, body and trailer.
 fn read(endpoint: &mut Endpoint, id: u64) -> (Head, Vec<u8>, Option<Fields>) {
     let (mut head, mut body, mut trailer, mut is_whole) = (None, Vec::new(), None, false);
-    for item in endpoint.items(id) {
-        match item.unwrap() {
+    for item in items(endpoint, id) {
+        match item {
             Item::Head(it) => head = Some(it),
             Item::Body(bytes) => body.extend(bytes),
             Item::Trailer(fields) => trailer = Some(fields),
@@ -91,16 +104,16 @@ fn an_exchange_goes_over_whole() {
         server.send_trailer(id, &[("x-a", "b")]).unwrap();
         server.finish(id).unwrap();
         assert_eq!(carry(&mut server, &mut client, piece), 1);
-        let items: Vec<Item> = client.items(id).map(Result::unwrap).collect();
-        let (early, head, trailer) = match &items[..] {
-            [Item::Interim(early), Item::Head(head), Item::Trailer(trailer), Item::End] => (early, head, trailer),
+        let (early, head, trailer) = match &items(&mut client, id)[..] {
+            [Item::Interim(early), Item::Head(head), Item::Trailer(trailer), Item::End] => (early.clone(), head.clone(), trailer.clone()),
             other => panic!("{other:?}"),
         };
         assert_eq!((early.status, head.status), (Some(103), Some(200)));
         assert_eq!(list(&head.fields), owned(&[(":status", "200".into()), ("x-a", "b".into())]));
-        assert_eq!(list(trailer), owned(&[("x-a", "b".into())]));
-        let state = StreamState { has_outgoing: true, is_finished: true, tries: 1, ..StreamState::default() };
-        assert_eq!(client.stream(id), Ok(state));
+        assert_eq!(list(&trailer), owned(&[("x-a", "b".into())]));
+        let state = client.stream(id).unwrap();
+        assert_eq!((state.has_outgoing, state.is_finished, state.is_reset), (true, true, false));
+        assert_eq!((state.waiting, state.unread, state.tries), (0, 0, 1));
     }
 }
 
@@ -118,16 +131,15 @@ fn an_endpoint_moves_between_threads() {
 }
 
 #[test]
-fn items_end_at_a_pause() {
+fn a_pause_says_why_there_is_no_item() {
     let (mut client, mut server) = pair();
     let id = client.open_request().unwrap();
-    assert_eq!(client.pull(id), Ok(Pulled::Pause(Pause::Pending)));
-    assert_eq!(client.pull(3), Ok(Pulled::Pause(Pause::NoMessages)));
+    assert_eq!(client.next_item(id), Ok(Next::Pause(Pause::Pending)));
+    assert_eq!(client.next_item(3), Ok(Next::Pause(Pause::NoMessages)));
     client.send_fields(id, &post()).unwrap();
     carry(&mut client, &mut server, 100);
-    let mut items = server.items(id);
-    assert!(matches!(items.next(), Some(Ok(Item::Head(_)))));
-    assert_eq!((items.next(), items.pause()), (None, Some(Pause::Pending)));
+    assert!(matches!(server.next_item(id), Ok(Next::Item(Item::Head(_)))));
+    assert_eq!(server.next_item(id), Ok(Next::Pause(Pause::Pending)));
 }
 
 #[test]
@@ -138,7 +150,8 @@ fn states_and_settings_are_shown() {
     client.send_body(id, &[0; 5000]).unwrap();
     assert!(client.stream(id).unwrap().waiting > 5000);
     let state = client.connection().unwrap();
-    assert_eq!(state.peer, Some(PeerLimits { table: 4096, blocked: 16, section: 65536 }));
+    let peer = state.peer.unwrap();
+    assert_eq!((peer.table, peer.blocked, peer.section), (4096, 16, 65536));
     assert_eq!((state.goaway, client.peer_setting(6), client.peer_setting(0x21)), (None, Some(65536), None));
     assert_eq!(Endpoint::new(&Config::client()).unwrap().connection().unwrap().peer, None);
     server.goaway(4).unwrap();
@@ -146,5 +159,15 @@ fn states_and_settings_are_shown() {
     assert_eq!(client.connection().unwrap().goaway, Some(4));
     assert_eq!(client.next_request_id(), Err(Error::GoingAway(4)));
     assert_eq!((own_ids(false), own_ids(true)), ([2, 6, 10], [3, 7, 11]));
-    assert_eq!(Version::of_library().major, 1);
+}
+
+/// The crate and the library that it is linked with are of one version, which is what the crate says of its proofs too.
+#[test]
+fn the_library_is_of_the_version_of_the_crate() {
+    let version = Version::of_library();
+    let text = format!("{}.{}.{}", version.major, version.minor, version.patch);
+    assert_eq!(text, env!("CARGO_PKG_VERSION").split('-').next().unwrap());
+    if env!("CARGO_PKG_VERSION_PRE") == "unproved" {
+        assert!(!version.is_proved);
+    }
 }

@@ -1,0 +1,294 @@
+/* h3.hpp: the calls of h3.h for C++17 and later. An endpoint frees itself, names, values and bytes are views, and lists of fields are
+ * containers.
+ *
+ *   beanwhile::endpoint client;
+ *   if (auto said = client.open(beanwhile::client_config()); !said) return fail(said.text());
+ *   std::uint64_t id;
+ *   client.open_request(id);
+ *   client.send_head(id, {{":method", "GET"}, {":scheme", "https"}, {":authority", "localhost"}, {":path", "/"}});
+ *   client.finish(id);
+ *
+ * Each call returns a `result`: the answer of h3.h and its detail. Nothing is thrown but std::bad_alloc, if a container of this header finds no
+ * memory. What h3.h says of threads, of refusals and of the order of calls holds here too. Views have to last for the call alone. */
+#ifndef BEANWHILE_H3_HPP
+#define BEANWHILE_H3_HPP
+#include "h3.h"
+
+#include <cstddef>
+#include <cstdint>
+#include <initializer_list>
+#include <iterator>
+#include <optional>
+#include <string>
+#include <string_view>
+#include <utility>
+#include <vector>
+#if __has_include(<version>)
+#include <version>
+#endif
+#ifdef __cpp_lib_span
+#include <span>
+#endif
+
+namespace beanwhile {
+
+#ifdef __cpp_lib_span
+using std::span;
+#else
+/* What this header needs of std::span, which C++17 lacks. */
+template <class Element>
+class span {
+ public:
+  constexpr span() noexcept = default;
+  constexpr span(Element *data, std::size_t size) noexcept : data_(data), size_(size) {}
+  template <class Container, class = decltype(std::data(std::declval<Container &>()))>
+  constexpr span(Container &&from) noexcept : data_(std::data(from)), size_(std::size(from)) {}
+  constexpr Element *data() const noexcept { return data_; }
+  constexpr std::size_t size() const noexcept { return size_; }
+  constexpr Element *begin() const noexcept { return data_; }
+  constexpr Element *end() const noexcept { return data_ + size_; }
+
+ private:
+  Element *data_ = nullptr;
+  std::size_t size_ = 0;
+};
+#endif
+
+using bytes = span<const std::uint8_t>;
+
+/* What a call returned: an h3_answer, and the number that it names. True: H3_OK. */
+struct [[nodiscard]] result {
+  std::uint32_t answer = H3_OK;
+  std::uint64_t detail = 0;
+
+  explicit operator bool() const noexcept { return answer == H3_OK; }
+  const char *text() const noexcept { return h3_answer_text(answer); }
+};
+
+struct field {
+  std::string_view name, value;
+
+  friend bool operator==(const field &a, const field &b) noexcept { return a.name == b.name && a.value == b.value; }
+};
+
+/* The fields of a header section: their sizes, and all their bytes in one array, as h3.h takes and gives them. */
+class field_list {
+ public:
+  /* Goes over the fields. It holds while the list is not changed. */
+  class iterator {
+   public:
+    using iterator_category = std::input_iterator_tag;
+    using value_type = field;
+    using difference_type = std::ptrdiff_t;
+    using pointer = void;
+    using reference = field;
+
+    iterator(const h3_field_size *size, const char *bytes) noexcept : size_(size), bytes_(bytes) {}
+    field operator*() const noexcept { return {{bytes_, size_->name}, {bytes_ + size_->name, size_->value}}; }
+    iterator &operator++() noexcept {
+      bytes_ += std::size_t{size_->name} + size_->value;
+      ++size_;
+      return *this;
+    }
+    iterator operator++(int) noexcept {
+      iterator before = *this;
+      ++*this;
+      return before;
+    }
+    friend bool operator==(const iterator &a, const iterator &b) noexcept { return a.size_ == b.size_; }
+    friend bool operator!=(const iterator &a, const iterator &b) noexcept { return a.size_ != b.size_; }
+
+   private:
+    const h3_field_size *size_;
+    const char *bytes_;
+  };
+
+  field_list() = default;
+  field_list(std::initializer_list<field> fields) {
+    for (const field &it : fields) add(it.name, it.value);
+  }
+
+  /* A name or value has fewer than 2^32 bytes. */
+  void add(std::string_view name, std::string_view value) {
+    sizes_.push_back({static_cast<std::uint32_t>(name.size()), static_cast<std::uint32_t>(value.size())});
+    bytes_.append(name).append(value);
+  }
+  void clear() noexcept {
+    sizes_.clear();
+    bytes_.clear();
+  }
+
+  std::size_t size() const noexcept { return sizes_.size(); }
+  bool empty() const noexcept { return sizes_.empty(); }
+  iterator begin() const noexcept { return {sizes_.data(), bytes_.data()}; }
+  iterator end() const noexcept { return {sizes_.data() + sizes_.size(), nullptr}; }
+
+  /* The first value of a name. */
+  std::optional<std::string_view> find(std::string_view name) const noexcept {
+    for (field it : *this)
+      if (it.name == name) return it.value;
+    return std::nullopt;
+  }
+
+ private:
+  friend class endpoint;
+  std::vector<h3_field_size> sizes_;
+  std::string bytes_;
+};
+
+/* What a pull returned. The same item may serve for many pulls: its memory is used again. */
+struct item {
+  h3_kind kind = H3_PENDING;
+  std::uint32_t status = 0; /* of a response's header section */
+  std::uint64_t number = 0; /* what the kind says */
+  field_list fields;        /* of a header section or trailer section */
+  std::string body;         /* of a piece of a body, or of a session */
+
+  const char *text() const noexcept { return h3_kind_text(kind); }
+  /* Nothing more can be pulled now, and nothing is wrong. */
+  bool is_pause() const noexcept { return kind == H3_PENDING || kind == H3_WAITING || kind == H3_NO_MESSAGES; }
+  bool is_fault() const noexcept { return kind >= H3_FAULT_CONNECTION; }
+};
+
+/* Bytes that wait on a stream, and whether the stream ends after them. */
+struct outgoing {
+  std::size_t count = 0;
+  bool is_last = false;
+};
+
+inline h3_config client_config() noexcept {
+  h3_config config;
+  h3_config_default(&config);
+  return config;
+}
+
+inline h3_config server_config() noexcept {
+  h3_config config = client_config();
+  config.server = 1;
+  return config;
+}
+
+/* One endpoint of a connection. It moves, and is not copied. */
+class endpoint {
+ public:
+  endpoint() noexcept = default;
+  endpoint(endpoint &&other) noexcept : raw_(std::exchange(other.raw_, h3_endpoint{nullptr})) {}
+  endpoint &operator=(endpoint &&other) noexcept {
+    std::swap(raw_, other.raw_);
+    return *this;
+  }
+  ~endpoint() { h3_free(&raw_); }
+
+  /* For calls of h3.h that this header has not. */
+  h3_endpoint *get() noexcept { return &raw_; }
+  explicit operator bool() const noexcept { return raw_.at != nullptr; }
+
+  /* Makes the endpoint; the one that it held is freed. */
+  result open(const h3_config &config) noexcept {
+    h3_free(&raw_);
+    return call(h3_new, &config);
+  }
+
+  /* ---- sending ---- */
+
+  result open_request(std::uint64_t &id) noexcept { return call(h3_open_request, &id); }
+  result next_request_id(std::uint64_t &id) noexcept { return call(h3_next_request_id, &id); }
+  /* Pseudo-header fields stand in front. */
+  result send_head(std::uint64_t id, const field_list &list) noexcept { return send(h3_send_fields, id, list); }
+  result send_trailer(std::uint64_t id, const field_list &list) noexcept { return send(h3_send_trailer_fields, id, list); }
+  /* The bytes are copied. */
+  result send_body(std::uint64_t id, bytes piece) noexcept { return call(h3_send_body, id, piece.data(), piece.size()); }
+  result send_body(std::uint64_t id, std::string_view piece) noexcept { return call(h3_send_body, id, piece.data(), piece.size()); }
+  result finish(std::uint64_t id) noexcept { return call(h3_finish, id); }
+  result reset(std::uint64_t id) noexcept { return call(h3_reset, id); }
+  result cancel(std::uint64_t id) noexcept { return call(h3_cancel, id); }
+  result goaway(std::uint64_t id) noexcept { return call(h3_goaway, id); }
+
+  /* ---- what waits to be sent ---- */
+
+  /* The lowest stream from `from` on that has bytes or an end to send. */
+  std::optional<std::uint64_t> next_to_send(std::uint64_t from) noexcept {
+    std::uint64_t id;
+    if (h3_next_to_send(&raw_, from, &id) != H3_OK) return std::nullopt;
+    return id;
+  }
+  /* Copies the first bytes that wait into the room. They wait until `advance`. */
+  outgoing peek(std::uint64_t id, span<std::uint8_t> room) noexcept {
+    std::size_t count = 0;
+    std::uint32_t fin = 0;
+    if (h3_outgoing(&raw_, id, room.data(), room.size(), &count, &fin) != H3_OK) return {};
+    return {count, fin == 1};
+  }
+  result advance(std::uint64_t id, std::size_t count) noexcept { return {h3_advance(&raw_, id, count), 0}; }
+  /* QUIC has the FIN of a stream. False: no end was next. */
+  bool end_taken(std::uint64_t id) noexcept { return h3_end_taken(&raw_, id) == H3_OK; }
+
+  /* ---- what came ---- */
+
+  result deliver(std::uint64_t id, bytes piece) noexcept { return delivered(h3_deliver, id, piece.data(), piece.size()); }
+  result deliver_end(std::uint64_t id) noexcept { return delivered(h3_deliver_end, id); }
+  result deliver_reset(std::uint64_t id, std::uint64_t code) noexcept { return delivered(h3_deliver_reset, id, code); }
+
+  /* Puts what comes next on a stream into `into`. */
+  result pull(std::uint64_t id, item &into) {
+    h3_item raw;
+    into.fields.clear();
+    into.body.clear();
+    if (std::uint32_t answer = h3_pull_fields(&raw_, id, &raw); answer != H3_OK) return {answer, 0};
+    into.kind = static_cast<h3_kind>(raw.kind);
+    into.status = raw.status;
+    into.number = raw.number;
+    if (raw.fields != 0) return read_fields(raw, into.fields);
+    into.body.resize(raw.len);
+    if (raw.len == 0) return {};
+    std::size_t count;
+    return {h3_item_bytes(&raw_, 0, into.body.data(), into.body.size(), &count), 0};
+  }
+
+  /* ---- what can be read ---- */
+
+  h3_stream_state stream(std::uint64_t id) noexcept {
+    h3_stream_state state{};
+    h3_stream(&raw_, id, &state);
+    return state;
+  }
+  h3_state connection() noexcept {
+    h3_state state{};
+    h3_connection(&raw_, &state);
+    return state;
+  }
+  std::optional<std::uint64_t> peer_setting(std::uint64_t setting) noexcept {
+    std::uint64_t value;
+    if (h3_peer_setting(&raw_, setting, &value) != H3_OK) return std::nullopt;
+    return value;
+  }
+
+ private:
+  template <class Call, class... Given>
+  result call(Call made, Given... given) noexcept {
+    result said;
+    said.answer = made(&raw_, given..., &said.detail);
+    return said;
+  }
+  /* A delivery that was taken while memory was refused for reading it must not be made again: it counts as one that succeeded. */
+  template <class Call, class... Given>
+  result delivered(Call made, Given... given) noexcept {
+    result said = call(made, given...);
+    if (said.answer == H3_KEPT) said.answer = H3_OK;
+    return said;
+  }
+  template <class Call>
+  result send(Call made, std::uint64_t id, const field_list &list) noexcept {
+    return call(made, id, list.sizes_.data(), list.sizes_.size(), list.bytes_.data(), list.bytes_.size());
+  }
+  result read_fields(const h3_item &raw, field_list &into) {
+    into.sizes_.resize(raw.fields);
+    into.bytes_.resize(raw.len);
+    return {h3_item_fields(&raw_, into.sizes_.data(), into.sizes_.size(), into.bytes_.data(), into.bytes_.size()), 0};
+  }
+
+  h3_endpoint raw_ = H3_NONE_YET;
+};
+
+}  // namespace beanwhile
+#endif

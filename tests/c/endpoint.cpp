@@ -1,0 +1,154 @@
+/* h3.hpp: two endpoints in one program, with the bytes between them carried by hand. What one side sends is what the other receives, an
+ * endpoint is freed once, and refusals keep their answers and details. Prints one line 'ok NAME', and ends with status 1 at the first thing
+ * that is otherwise. */
+#include "h3.hpp"
+
+#include <cstdio>
+#include <cstdlib>
+#include <type_traits>
+
+using namespace beanwhile;
+
+namespace {
+
+void want(bool is_so, const char *what, int line) {
+  if (is_so) return;
+  std::printf("failed h3.hpp: line %d: %s\n", line, what);
+  std::exit(1);
+}
+#define WANT(condition) want(static_cast<bool>(condition), #condition, __LINE__)
+
+/* Carries all that waits, in pieces, and each end once. Returns how many ends went over. */
+int carry(endpoint &from, endpoint &to, std::size_t piece) {
+  int ends = 0;
+  std::vector<std::uint8_t> room(piece);
+  for (auto id = from.next_to_send(0); id; id = from.next_to_send(*id + 1)) {
+    for (;;) {
+      outgoing next = from.peek(*id, room);
+      if (next.count == 0 && !next.is_last) break;
+      WANT(to.deliver(*id, bytes(room.data(), next.count)));
+      WANT(from.advance(*id, next.count));
+      if (!next.is_last) continue;
+      WANT(to.deliver_end(*id));
+      WANT(from.end_taken(*id));
+      ends++;
+      break;
+    }
+  }
+  return ends;
+}
+
+struct message {
+  item head;
+  std::string body;
+  field_list trailer;
+};
+
+/* All that comes on a stream, to its end. */
+message read(endpoint &at, std::uint64_t id) {
+  message whole;
+  item next;
+  for (;;) {
+    WANT(at.pull(id, next));
+    WANT(!next.is_pause() && !next.is_fault());
+    switch (next.kind) {
+      case H3_HEAD: whole.head = next; break;
+      case H3_BODY: whole.body += next.body; break;
+      case H3_TRAILER: whole.trailer = next.fields; break;
+      case H3_END: return whole;
+      default: WANT(!"another kind");
+    }
+  }
+}
+
+bool is_list(const field_list &got, std::initializer_list<field> wanted) {
+  auto at = got.begin();
+  for (const field &it : wanted) {
+    if (at == got.end() || !(*at == it)) return false;
+    ++at;
+  }
+  return at == got.end();
+}
+
+void open_pair(endpoint &client, endpoint &server) {
+  WANT(client.open(client_config()));
+  WANT(server.open(server_config()));
+  carry(client, server, 1000);
+  carry(server, client, 1000);
+}
+
+void exchange(std::size_t piece) {
+  endpoint client, server;
+  open_pair(client, server);
+  std::uint64_t id = 1;
+  WANT(client.next_request_id(id) && id == 0);
+  WANT(client.open_request(id) && id == 0);
+  const std::initializer_list<field> asked = {
+      {":method", "POST"}, {":scheme", "https"}, {":authority", "localhost"}, {":path", "/"}, {"x-none", ""}};
+  WANT(client.send_head(id, asked));
+  WANT(client.send_body(id, std::string_view("some text")));
+  const std::uint8_t more[] = {0, 255, 1};
+  WANT(client.send_body(id, more));
+  WANT(client.send_trailer(id, {{"x-count", "1"}, {"x-count", "2"}}));
+  WANT(client.finish(id));
+  WANT(carry(client, server, piece) == 1);
+  WANT(carry(client, server, piece) == 0);
+  message request = read(server, id);
+  WANT(is_list(request.head.fields, asked) && request.head.status == 0);
+  WANT(request.head.fields.find(":path") == "/" && !request.head.fields.find("x-absent"));
+  WANT(request.body == std::string_view("some text\0\xff\1", 12));
+  WANT(is_list(request.trailer, {{"x-count", "1"}, {"x-count", "2"}}));
+
+  WANT(server.send_head(id, {{":status", "200"}}));
+  WANT(server.finish(id));
+  carry(server, client, piece);
+  message response = read(client, id);
+  WANT(response.head.status == 200 && response.body.empty() && response.trailer.empty());
+  WANT(client.stream(id).is_finished == 1 && client.connection().has_settings == 1);
+  WANT(client.peer_setting(6) == client_config().max_field_section_size && !client.peer_setting(0x21));
+}
+
+void ownership() {
+  static_assert(!std::is_copy_constructible_v<endpoint> && std::is_nothrow_move_constructible_v<endpoint>);
+  endpoint empty, first;
+  WANT(!empty && empty.finish(0).answer == H3_NO_ENDPOINT);
+  WANT(first.open(client_config()) && first);
+  endpoint second = std::move(first);
+  WANT(second && !first);
+  WANT(second.open(server_config()));
+  empty = std::move(second);
+  WANT(empty && !second);
+}
+
+void refusals() {
+  endpoint client, server;
+  open_pair(client, server);
+  std::uint64_t id;
+  WANT(server.open_request(id).answer == H3_NOT_CLIENT);
+  WANT(client.open_request(id));
+  result refused = client.send_head(id, {{"Upper", "a"}});
+  WANT(refused.answer == H3_FIELD_NAME && std::string_view(refused.text()) == "H3_FIELD_NAME");
+  WANT(client.send_body(id, std::string_view("a")).answer == H3_OUT_OF_ORDER);
+  item next;
+  WANT(client.pull(id, next) && next.is_pause());
+  WANT(server.goaway(8));
+  refused = server.goaway(12);
+  WANT(refused.answer == H3_RAISED && refused.detail == 8);
+  /* RFC 9114, section 7.2.4: a second SETTINGS frame is H3_FRAME_UNEXPECTED, 0x105 */
+  const std::uint8_t settings[] = {4, 0};
+  refused = server.deliver(2, settings);
+  WANT(refused.answer == H3_CONNECTION && refused.detail == 0x105);
+  WANT(server.pull(0, next) && next.is_fault() && next.number == 0x105);
+  h3_config wrong = client_config();
+  wrong.blocked = 65536;
+  WANT(client.open(wrong).answer == H3_BLOCKED_LIMIT && !client);
+}
+
+}  // namespace
+
+int main() {
+  for (std::size_t piece : {1, 7, 100000}) exchange(piece);
+  ownership();
+  refusals();
+  std::printf("ok h3.hpp: C++ %ld\n", static_cast<long>(__cplusplus));
+}
