@@ -17,7 +17,7 @@ returns-in-Decoded-clause-answer g c =
     let there : nat_lt r.table.inserted i.waits_for ≡ false = le-ltb r.table.inserted i.waits_for (omega (arith, waits, c.inserted.ensures.value, c.if-inserted-self.false)) in
     let tried = ap (decode_section r) (sym c.as_slice.ensures) ∙ h.2 in
     section_gives c.args.side c.args.announced.now c.args.id r i _ c.in-Some.section _ _ _ _ next
-    (λ given. gives_as _ _ _ _ _ _ (tried_section c.args.side c.args.announced.now c.args.id r i _ _ there tried) (c.finish_section.ensures.answer r h.1 h.0 (rw c.section.ensures at h.3) given))
+    (λ given. gives_as _ _ _ _ _ _ (tried_section c.args.side c.args.announced.now c.args.id r i _ _ there tried) (c.finish_section.ensures.answer r h.1 h.0 (rw c.section.ensures.value at h.3) given))
 
 pub returns-in-Missing-clause-answer : goal.returns-in-Missing-clause-answer
 returns-in-Missing-clause-answer g c =
@@ -36,4 +36,4 @@ returns-in-Decoded-clause-list g c =
     let h = c.in-Decoded.ensures in
     let next = ap {A = Incoming} (λ x. x.section) (sym c.self.view_is) ∙ c.in-Some.is in
     let tried = ap (decode_section r) (sym c.as_slice.ensures) ∙ h.2 in
-    lists_there r c.args.self.now.section c.in-Some.section _ next (lists_decoded r c.in-Some.section h.0 h.1 _ tried (c.finish_section.ensures.list _ h.0 (rw c.section.ensures at h.3)))
+    lists_there r c.args.self.now.section c.in-Some.section _ next (lists_decoded r c.in-Some.section h.0 h.1 _ tried (c.finish_section.ensures.list _ h.0 (rw c.section.ensures.value at h.3)))
