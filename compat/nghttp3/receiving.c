@@ -31,7 +31,7 @@ static int refuse_message(nghttp3_conn *connection, stream *s, uint64_t code) {
   return refuse(connection, s, code);
 }
 
-/* The code of a malformed message (RFC 9114, sections 4.1 and 4.1.2). Numbers after those of the rules for messages are those of limits. */
+/* The code of a malformed message (RFC 9114, sections 4.1 and 4.1.2). Numbers after those of h3.h's rules for messages are of limits. */
 static uint64_t code_of_malformation(const nghttp3_conn *connection, uint64_t malformation) {
   if (malformation > H3_NO_TRAILER_FIELD) return NGHTTP3_H3_EXCESSIVE_LOAD;
   return connection->is_server && malformation == H3_NO_HEAD ? NGHTTP3_H3_REQUEST_INCOMPLETE : NGHTTP3_H3_MESSAGE_ERROR;
