@@ -13,10 +13,9 @@ enum {
 int send_fields(nghttp3_conn *connection, stream *s, const field_list *fields, bool is_trailer) {
   uint64_t detail = 0;
   const uint8_t *bytes = (const uint8_t *)(fields->sizes + fields->count);
-  uint32_t answer =
-      is_trailer
-          ? h3_send_trailer_fields(&connection->endpoint, s->endpoint_id, fields->sizes, fields->count, bytes, fields->length, &detail)
-          : h3_send_fields(&connection->endpoint, s->endpoint_id, fields->sizes, fields->count, bytes, fields->length, &detail);
+  uint32_t (*send)(h3_endpoint *, uint64_t, const h3_field_size *, size_t, const void *, size_t, uint64_t *) =
+      is_trailer ? h3_send_trailer_fields : h3_send_fields;
+  uint32_t answer = send(&connection->endpoint, s->endpoint_id, fields->sizes, fields->count, bytes, fields->length, &detail);
   connection->has_own_bytes = true;
   return answer == H3_OK ? endpoint_take(connection, s) : error_of_answer(answer, detail);
 }
@@ -58,7 +57,10 @@ static int read_body(nghttp3_conn *connection, stream *s) {
   nghttp3_vec pieces[MOST_VECTORS];
   uint32_t flags = 0;
   nghttp3_ssize count = s->read_data(connection, s->id, pieces, MOST_VECTORS, &flags, connection->user_data, s->user_data);
-  if (count == NGHTTP3_ERR_WOULDBLOCK) return s->awaits_data = true, 0;
+  if (count == NGHTTP3_ERR_WOULDBLOCK) {
+    s->awaits_data = true;
+    return 0;
+  }
   if (count < 0) return NGHTTP3_ERR_CALLBACK_FAILURE;
   if (s->is_write_shut || s->is_closed) return 0;
   int error = send_pieces(connection, s, pieces, (size_t)count, flags);
