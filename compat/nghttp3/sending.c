@@ -73,7 +73,7 @@ static bool wants_body(const stream *s) {
 
 /* ---- which stream is next ---- */
 
-/* The own unidirectional streams come first: the peer's heads may wait for them. */
+/* The local unidirectional streams come first: the peer's heads may wait for them. */
 static int next_own(nghttp3_conn *connection, stream **next) {
   stream *own[] = {&connection->control, &connection->decoder, &connection->encoder};
   for (int i = 0; i < 3; i++) {
@@ -143,9 +143,10 @@ EXPORT int nghttp3_conn_add_write_offset(nghttp3_conn *connection, int64_t id, s
   return 0;
 }
 
-/* Forgets what is acknowledged, and tells the application how much of it is its body. */
+/* Forgets what is acknowledged, and says to the application how much of it is its body. What was not sent cannot be. */
 static int acknowledge(nghttp3_conn *connection, stream *s, uint64_t count) {
   int error = 0;
+  if (count > s->sent - s->acknowledged) count = s->sent - s->acknowledged;
   s->acknowledged += count;
   while (count > 0 && !error) {
     chunk *first = STAILQ_FIRST(&s->chunks);
@@ -166,7 +167,6 @@ static int acknowledge(nghttp3_conn *connection, stream *s, uint64_t count) {
 EXPORT int nghttp3_conn_add_ack_offset(nghttp3_conn *connection, int64_t id, uint64_t count) {
   stream *s = stream_find(connection, id);
   if (!s) return 0;
-  if (count > s->sent - s->acknowledged) return NGHTTP3_ERR_INVALID_ARGUMENT;
   stream_hold(s);
   int error = acknowledge(connection, s, count);
   stream_release(connection, s);

@@ -31,7 +31,7 @@ build() { # KIND FLAGS..
   fi
 }
 
-# memory that is refused: a program in C, in which the library's allocations are its own
+# memory that is refused: a program in C, whose malloc the library uses
 refused() {
   local include program=$out/$SONAME.refused
   include=$(dirname "$(dirname "$HEADER")")
