@@ -38,7 +38,10 @@ static int connection_new(nghttp3_conn **to, bool is_server, const nghttp3_callb
   nghttp3_conn *connection = calloc(1, sizeof *connection);
   if (!connection) return NGHTTP3_ERR_NOMEM;
   uint32_t answer = h3_new(&connection->endpoint, &config, NULL);
-  if (answer != H3_OK) return free(connection), error_of_answer(answer, 0);
+  if (answer != H3_OK) {
+    free(connection);
+    return error_of_answer(answer, 0);
+  }
   connection->callbacks = *callbacks, connection->user_data = user_data;
   connection->is_server = is_server, connection->end_id = INT64_MAX;
   stream_init(&connection->control, -1, h3_control_id(is_server));

@@ -22,7 +22,7 @@
 #define CALLBACK(connection, name, ...) \
   ((connection)->callbacks.name && (connection)->callbacks.name((connection), __VA_ARGS__) ? NGHTTP3_ERR_CALLBACK_FAILURE : 0)
 
-/* Bytes that are sent on a stream, kept until they are acknowledged: a copy, which stands behind the struct, or the application's own. */
+/* Bytes that are sent on a stream, kept until they are acknowledged: a copy, which stands after the struct, or the application's. */
 typedef struct chunk {
   STAILQ_ENTRY(chunk) next;
   const uint8_t *bytes;
@@ -44,7 +44,7 @@ typedef struct {
 
 typedef struct stream {
   int64_t id;           /* QUIC's */
-  uint64_t endpoint_id; /* the endpoint's, which may be another one for an own unidirectional stream */
+  uint64_t endpoint_id; /* the endpoint's, which may be another one for a local unidirectional stream */
   struct stream *next;  /* in the same place of the table */
   TAILQ_ENTRY(stream) ready, waiting;
   void *user_data;
@@ -78,10 +78,10 @@ struct nghttp3_conn {
   nghttp3_callbacks callbacks;
   void *user_data;
   bool is_server;
-  bool has_own_bytes; /* the endpoint may have bytes for the own unidirectional streams */
-  bool has_settings;  /* the peer's were told */
+  bool has_own_bytes; /* the endpoint may have bytes for the local unidirectional streams */
+  bool has_settings;  /* the application has the peer's */
   bool is_leaving;    /* nghttp3_conn_shutdown was called */
-  bool has_goaway;    /* one of the peer's was told, of this id */
+  bool has_goaway;    /* the application has one of the peer's, of this id */
   uint64_t goaway;
   int64_t next_id; /* after the last request that was opened, or came */
   int64_t end_id;  /* a server takes no request from here on */

@@ -55,7 +55,10 @@ int endpoint_send_body(nghttp3_conn *connection, stream *s, const nghttp3_vec *b
   chunk *first = chunk_new(head, head_length), *second = malloc(sizeof *second);
   uint32_t answer = first && second ? h3_send_body_lent(&connection->endpoint, s->endpoint_id, body->base, body->len, &detail)
                                     : H3_MEMORY;
-  if (answer != H3_OK) return free(first), free(second), error_of_answer(answer, detail);
+  if (answer != H3_OK) {
+    free(first), free(second);
+    return error_of_answer(answer, detail);
+  }
   h3_outgoing(&connection->endpoint, s->endpoint_id, first + 1, head_length, &length, NULL);
   h3_advance(&connection->endpoint, s->endpoint_id, head_length + body->len);
   *second = (chunk){.bytes = body->base, .length = body->len, .is_body = true};

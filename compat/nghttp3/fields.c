@@ -74,7 +74,7 @@ EXPORT int nghttp3_rcbuf_is_static(const nghttp3_rcbuf *buffer) { return (void)b
 
 /* ---- checks ---- */
 
-/* Version 1 of nghttp3 takes letters in upper case in this call, against its own comment. Whatever it says, no message with one is taken
+/* Version 1 of nghttp3 takes letters in upper case in this call, against its comment. Whatever it says, no message with one is taken
  * or sent. */
 static bool is_token_byte(uint8_t byte) {
 #ifdef HAS_VERSION_1

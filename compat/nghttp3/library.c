@@ -2,10 +2,10 @@
 #include <stdlib.h>
 #include "connection.h"
 
+/* Where the library was built without its proofs the mark stands early: `curl -V` shows 22 bytes of the text. */
 EXPORT const nghttp3_info *nghttp3_version(int least_version) {
   static const nghttp3_info PROVED = {NGHTTP3_VERSION_AGE, NGHTTP3_VERSION_NUM, NGHTTP3_VERSION "-beanwhile-" H3_VERSION_TEXT};
-  static const nghttp3_info UNPROVED = {NGHTTP3_VERSION_AGE, NGHTTP3_VERSION_NUM,
-                                        NGHTTP3_VERSION "-beanwhile-" H3_VERSION_TEXT "-UNPROVED"};
+  static const nghttp3_info UNPROVED = {NGHTTP3_VERSION_AGE, NGHTTP3_VERSION_NUM, NGHTTP3_VERSION "-UNPROVED-beanwhile-" H3_VERSION_TEXT};
   if (least_version > NGHTTP3_VERSION_NUM) return NULL;
   return h3_version() & H3_UNPROVED ? &UNPROVED : &PROVED;
 }

@@ -1,7 +1,7 @@
 /* priority_field.c: the value of a `priority` field: a dictionary of structured fields (RFC 8941, section 3.2; RFC 9651 adds two types),
  * of which the members u and i count (RFC 9218, section 4). The whole value has to be well-formed, else it is ignored.
  *
- * TO BE REPLACED by the library's own parser, which is proved, as soon as h3.h exports it: this is the one file that parses bytes of the
+ * TO BE REPLACED by the library's parser, which is proved, as soon as h3.h exports it: this is the one file that parses bytes of the
  * peer's. */
 #include <string.h>
 #include "connection.h"
@@ -34,7 +34,7 @@ static bool key(text *t) {
   return true;
 }
 
-/* ---- bare items (RFC 8941, section 4.2.3.1), after the byte that tells the type ---- */
+/* ---- bare items (RFC 8941, section 4.2.3.1), after the byte that says the type ---- */
 
 static bool boolean(text *t, bare_item *item) {
   if (!is_at(t, "01")) return false;

@@ -1,10 +1,10 @@
-/* receiving.c: what came on a stream, told to the application by its callbacks, and the end of a stream. */
+/* receiving.c: the callbacks for what came on a stream, and the end of a stream. */
 #include <stdlib.h>
 #include "connection.h"
 
 /* ---- streams that are given up ---- */
 
-/* Nothing more of the stream is told. */
+/* The application gets nothing more of the stream. */
 void give_up_reading(nghttp3_conn *connection, stream *s) {
   s->is_read_shut = true;
   stream_set_waiting(connection, s, false);
@@ -31,7 +31,7 @@ static int refuse_message(nghttp3_conn *connection, stream *s, uint64_t code) {
   return refuse(connection, s, code);
 }
 
-/* The code of a malformed message (RFC 9114, sections 4.1 and 4.1.2). Numbers after those of the rules for messages are those of limits. */
+/* The code of a malformed message (RFC 9114, sections 4.1 and 4.1.2). Numbers after those of h3.h's rules for messages are of limits. */
 static uint64_t code_of_malformation(const nghttp3_conn *connection, uint64_t malformation) {
   if (malformation > H3_NO_TRAILER_FIELD) return NGHTTP3_H3_EXCESSIVE_LOAD;
   return connection->is_server && malformation == H3_NO_HEAD ? NGHTTP3_H3_REQUEST_INCOMPLETE : NGHTTP3_H3_MESSAGE_ERROR;
@@ -76,13 +76,13 @@ static int tell_fields(nghttp3_conn *connection, stream *s, const h3_item *item)
   return error;
 }
 
-/* The end of a field section is told with the next item: then it is known whether the stream ends there. */
+/* The callback for the end of a field section comes with the next item: then it is known whether the stream ends there. */
 static int tell_end_of_fields(nghttp3_conn *connection, stream *s, uint32_t kind, int is_end) {
   return kind == H3_TRAILER ? CALLBACK(connection, end_trailers, s->id, is_end, connection->user_data, s->user_data)
                             : CALLBACK(connection, end_headers, s->id, is_end, connection->user_data, s->user_data);
 }
 
-/* The application grants credit for a body that it is told of. */
+/* The application grants credit for the bytes that recv_data gets. */
 static int tell_body(nghttp3_conn *connection, stream *s, const h3_item *item) {
   const uint8_t *bytes;
   s->owed -= item->len < s->owed ? item->len : s->owed;
@@ -109,7 +109,7 @@ static int tell_item(nghttp3_conn *connection, stream *s, const h3_item *item, b
 
 static bool is_section(uint32_t kind) { return kind == H3_HEAD || kind == H3_INTERIM || kind == H3_TRAILER; }
 
-/* Tells all items that are there, of what came before and of `in`. */
+/* Passes all items that are there, of what came before and of `in`. */
 static int tell_items(nghttp3_conn *connection, stream *s, input *in) {
   uint32_t before = H3_PENDING; /* the kind of the item before */
   bool is_last = false;
@@ -149,7 +149,7 @@ static int close_now(nghttp3_conn *connection, stream *s) {
   return error;
 }
 
-/* A stream whose head waits is closed after that message, as nghttp3 does: its application is told all that came. */
+/* A stream whose head waits is closed after that message, as nghttp3 does: its application gets all that came. */
 EXPORT int nghttp3_conn_close_stream(nghttp3_conn *connection, int64_t id, uint64_t code) {
   stream *s = stream_find(connection, id);
   bool is_of_peer = id % 4 != 0 && (id % 2 == 1) != connection->is_server;
@@ -214,7 +214,7 @@ static int tell_settings(nghttp3_conn *connection, const h3_state *state) {
       .max_field_section_size = state->peer_section,
       .qpack_max_dtable_capacity = (size_t)state->peer_table,
       .qpack_blocked_streams = (size_t)state->peer_blocked,
-      .enable_connect_protocol = connection->is_server && connect == 1, /* as nghttp3 tells it */
+      .enable_connect_protocol = connection->is_server && connect == 1, /* as nghttp3 has it */
       .h3_datagram = datagram == 1,
   };
   return CALLBACK(connection, recv_settings, &peer, connection->user_data);
@@ -255,7 +255,7 @@ static int read_request(nghttp3_conn *connection, stream *s, input *in, size_t *
   return error ? error : kept;
 }
 
-/* A request that comes after the own GOAWAY (RFC 9114, section 5.2). */
+/* A request that comes after the local GOAWAY (RFC 9114, section 5.2). */
 static int reject(nghttp3_conn *connection, stream *s) {
   stream_hold(s);
   s->is_read_shut = s->is_write_shut = true;

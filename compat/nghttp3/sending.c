@@ -13,10 +13,9 @@ enum {
 int send_fields(nghttp3_conn *connection, stream *s, const field_list *fields, bool is_trailer) {
   uint64_t detail = 0;
   const uint8_t *bytes = (const uint8_t *)(fields->sizes + fields->count);
-  uint32_t answer =
-      is_trailer
-          ? h3_send_trailer_fields(&connection->endpoint, s->endpoint_id, fields->sizes, fields->count, bytes, fields->length, &detail)
-          : h3_send_fields(&connection->endpoint, s->endpoint_id, fields->sizes, fields->count, bytes, fields->length, &detail);
+  uint32_t (*send)(h3_endpoint *, uint64_t, const h3_field_size *, size_t, const void *, size_t, uint64_t *) =
+      is_trailer ? h3_send_trailer_fields : h3_send_fields;
+  uint32_t answer = send(&connection->endpoint, s->endpoint_id, fields->sizes, fields->count, bytes, fields->length, &detail);
   connection->has_own_bytes = true;
   return answer == H3_OK ? endpoint_take(connection, s) : error_of_answer(answer, detail);
 }
@@ -58,7 +57,10 @@ static int read_body(nghttp3_conn *connection, stream *s) {
   nghttp3_vec pieces[MOST_VECTORS];
   uint32_t flags = 0;
   nghttp3_ssize count = s->read_data(connection, s->id, pieces, MOST_VECTORS, &flags, connection->user_data, s->user_data);
-  if (count == NGHTTP3_ERR_WOULDBLOCK) return s->awaits_data = true, 0;
+  if (count == NGHTTP3_ERR_WOULDBLOCK) {
+    s->awaits_data = true;
+    return 0;
+  }
   if (count < 0) return NGHTTP3_ERR_CALLBACK_FAILURE;
   if (s->is_write_shut || s->is_closed) return 0;
   int error = send_pieces(connection, s, pieces, (size_t)count, flags);
@@ -71,7 +73,7 @@ static bool wants_body(const stream *s) {
 
 /* ---- which stream is next ---- */
 
-/* The own unidirectional streams come first: the peer's heads may wait for them. */
+/* The local unidirectional streams come first: the peer's heads may wait for them. */
 static int next_own(nghttp3_conn *connection, stream **next) {
   stream *own[] = {&connection->control, &connection->decoder, &connection->encoder};
   for (int i = 0; i < 3; i++) {
@@ -141,9 +143,10 @@ EXPORT int nghttp3_conn_add_write_offset(nghttp3_conn *connection, int64_t id, s
   return 0;
 }
 
-/* Forgets what is acknowledged, and tells the application how much of it is its body. */
+/* Forgets what is acknowledged, and says to the application how much of it is its body. What was not sent cannot be. */
 static int acknowledge(nghttp3_conn *connection, stream *s, uint64_t count) {
   int error = 0;
+  if (count > s->sent - s->acknowledged) count = s->sent - s->acknowledged;
   s->acknowledged += count;
   while (count > 0 && !error) {
     chunk *first = STAILQ_FIRST(&s->chunks);
@@ -164,7 +167,6 @@ static int acknowledge(nghttp3_conn *connection, stream *s, uint64_t count) {
 EXPORT int nghttp3_conn_add_ack_offset(nghttp3_conn *connection, int64_t id, uint64_t count) {
   stream *s = stream_find(connection, id);
   if (!s) return 0;
-  if (count > s->sent - s->acknowledged) return NGHTTP3_ERR_INVALID_ARGUMENT;
   stream_hold(s);
   int error = acknowledge(connection, s, count);
   stream_release(connection, s);

@@ -17,7 +17,7 @@ static stream *find_own(nghttp3_conn *connection, int64_t id) {
   return NULL;
 }
 
-/* A request stream, or an own unidirectional stream that is bound to this id; else NULL. */
+/* A request stream, or a local unidirectional stream that is bound to this id; else NULL. */
 stream *stream_find(nghttp3_conn *connection, int64_t id) {
   if (!is_request(id)) return find_own(connection, id);
   if (connection->places == 0) return NULL;

@@ -7,11 +7,10 @@ lib=$(realpath "$1")
 kind=${2:-}
 shift "$(($# < 2 ? $# : 2))"
 
-mapfile -t versions < <(bash scripts/compat/versions.sh)
-[ ${#versions[@]} -gt 0 ] || bash scripts/dev/packages.sh compat
+versions=$(bash scripts/compat/versions.sh)
+[ -n "$versions" ] || bash scripts/dev/packages.sh compat
 mkdir -p build/compat
-for version in "${versions[@]}"; do
-  read -r soname header _ <<< "$version"
+while read -r soname header _; do
   make --no-print-directory -s -C compat/nghttp3 LIB="$lib" OUT="$PWD/build/compat" NGHTTP3="$header" KIND="$kind" CFLAGS="-O2 -g $*"
   [ -n "$kind" ] || echo "build/compat/$soname"
-done
+done <<< "$versions"

@@ -31,7 +31,7 @@ build() { # KIND FLAGS..
   fi
 }
 
-# memory that is refused: a program in C, in which the library's allocations are its own
+# memory that is refused: a program in C, whose malloc the library uses
 refused() {
   local include program=$out/$SONAME.refused
   include=$(dirname "$(dirname "$HEADER")")
@@ -47,7 +47,8 @@ sanitized() { # NAME COMMAND..
 }
 
 checks() { # SONAME, the folder of the header, Debian's library
-  export SONAME=$1 HEADER=$2/nghttp3/nghttp3.h NATIVE=$3 OURS=$PWD/$out/$1
+  export SONAME=$1 HEADER=$2/nghttp3/nghttp3.h NATIVE=$3 OURS=$PWD/$out/$1 MARK=""
+  [ ! -e "$lib/UNPROVED" ] || MARK=UNPROVED # what its version is to say
   if [ "$NATIVE" = - ]; then
     echo "skipped $SONAME: its header is there, and Debian's library is not"
     return

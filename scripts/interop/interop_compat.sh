@@ -175,7 +175,7 @@ debian13() {
   cp -r "$folder" "$cert" "$key" "$inside"
   # one packet of ClientHello: see curl in examples/PEERS.md
   curl=("${over[@]}" curl --silent --http3-only --curves X25519 --cacert "$there/cert.pem")
-  check "curl of Debian 13 has the drop-in" grep -q "nghttp3/1.8.0-beanwhile" <("${over[@]}" curl -V)
+  check "curl of Debian 13 has the drop-in" grep -qE "nghttp3/1.8.0-(UNPROVED-)?beanwh" <("${over[@]}" curl -V)
   check "gtlsclient 1.11 has the drop-in" has_drop_in gtlsclient
   check "gtlsserver 1.11 has the drop-in" has_drop_in gtlsserver
   nginx_conf > "$inside/nginx.conf"

@@ -1,6 +1,7 @@
 #!/usr/bin/env python3
 """calls.py: the calls that need no connection, asked the same of both libraries: errors, checks of names and values, the `priority`
 field."""
+import os
 import random
 import sys
 
@@ -68,6 +69,8 @@ def case_of(name):
 
 def main():
     native, ours = libraries()
+    text, mark = ours.version(0)[0].text, os.environ["MARK"].encode()
+    assert (b"UNPROVED" in text) == bool(mark), f"the version {text} of a library that is marked {mark}"
     found, count = {}, 0
     for name, ask in questions():
         count += 1

@@ -75,6 +75,7 @@ class Steps:
         order = self.move(self.server, self.client)
         assert order.index(4) < order.index(8) < order.index(0) < order.index(12), f"urgencies 0, 1, 3 and 5 went out as {order}"
         self.note("order", order)
+        self.note("more acknowledged than was sent", server.add_ack_offset(self.server.at, 12, 1 << 30))
         if IS_VERSION_1:
             self.note("acknowledged", *(error_name(server.update_ack_offset(self.server.at, 8, offset)) for offset in (100, 90, 200)))
 
