@@ -51,23 +51,24 @@ pub fn limits_above_what_is_announced_take_what_is_sent()
 }
 
 /// So two endpoints that ask for no strict messages run in a world whatever their limits, over every schedule of events that may be sent in which
-/// each limit takes what is sent to it: the answers are those of a run of the world of the setup without limits (`world`). By the answers alone, no
-/// answer tells of a connection fault (`fault`), what a side is handed out of a stream is a front of what the other side sent on it (`front`), and
-/// all of that with the end (`end`).
+/// each limit takes the lists that were sent to it before its side's settings came: the answers are those of a run of the world of the setup
+/// without limits (`world`). By the answers alone, no answer tells of a connection fault (`fault`), what a side is handed out of a stream is a
+/// front of what the other side sent on it (`front`), and all of that with the end (`end`).
 pub fn two_limited_endpoints_run_in_a_world()
-    ensures world { (setup : Setup) (events : List Event) → IsMadeSetup setup → AsksForNone setup → AllByRecursion IsSendable events → AreTaken setup events (answers_of_ends (new_ends setup) events) →
+    ensures world { (setup : Setup) (events : List Event) → IsMadeSetup setup → AsksForNone setup → AllByRecursion IsSendable events → EarlyAreTaken setup (new_ends setup) events →
         (w : World) × Run (Happens (unlimited_setup setup)) (empty_world (unlimited_setup setup)) events (answers_of_ends (new_ends setup) events) w
         × Stands (unlimited_setup setup) w (unlimited_ends (ends_after (new_ends setup) events)) }
-    ensures fault { (setup : Setup) (events : List Event) → IsMadeSetup setup → AsksForNone setup → AllByRecursion IsSendable events → AreTaken setup events (answers_of_ends (new_ends setup) events) →
+    ensures fault { (setup : Setup) (events : List Event) → IsMadeSetup setup → AsksForNone setup → AllByRecursion IsSendable events → EarlyAreTaken setup (new_ends setup) events →
         list_any is_connection_fault (answers_of_ends (new_ends setup) events) ≡ false }
-    ensures front { (setup : Setup) (events : List Event) (side : Side) (id : ℕ) → IsMadeSetup setup → AsksForNone setup → AllByRecursion IsSendable events → AreTaken setup events (answers_of_ends (new_ends setup) events) →
+    ensures front { (setup : Setup) (events : List Event) (side : Side) (id : ℕ) → IsMadeSetup setup → AsksForNone setup → AllByRecursion IsSendable events → EarlyAreTaken setup (new_ends setup) events →
         IsFrontOf (pulled side id events (answers_of_ends (new_ends setup) events)) (map (at_reader (section_of (announced_at setup side))) (sent (other side) id events (answers_of_ends (new_ends setup) events))) }
-    ensures end { (setup : Setup) (events : List Event) (side : Side) (id : ℕ) → IsMadeSetup setup → AsksForNone setup → AllByRecursion IsSendable events → AreTaken setup events (answers_of_ends (new_ends setup) events) →
+    ensures end { (setup : Setup) (events : List Event) (side : Side) (id : ℕ) → IsMadeSetup setup → AsksForNone setup → AllByRecursion IsSendable events → EarlyAreTaken setup (new_ends setup) events →
         has_pulled_end side id events (answers_of_ends (new_ends setup) events) ≡ true →
         (pulled side id events (answers_of_ends (new_ends setup) events) ≡ map (at_reader (section_of (announced_at setup side))) (sent (other side) id events (answers_of_ends (new_ends setup) events)))
         × (has_finished (other side) id events (answers_of_ends (new_ends setup) events) ≡ true) }
 {
     limits_that_take_what_is_sent_change_nothing();
+    limits_above_what_is_announced_take_what_is_sent();
     h3_headline::laws::two_endpoints_run_in_a_world();
     h3_headline::parts::endpoints_hand_out_what_was_sent();
 }
@@ -76,22 +77,23 @@ pub fn two_limited_endpoints_run_in_a_world()
 /// message or finds a frame too long (`none`), and all of the above holds without the sends that were refused as malformed.
 pub fn two_strict_limited_endpoints_run_in_a_world()
     ensures none { (setup : Setup) (events : List Event) → IsMadeSetup setup → AsksForStrict setup → AllByRecursion IsSendable events →
-        ServerKnows events (answers_of_ends (new_ends setup) events) → AreTaken setup events (answers_of_ends (new_ends setup) events) → NoneJudges (new_ends setup) events }
+        ServerKnows events (answers_of_ends (new_ends setup) events) → EarlyAreTaken setup (new_ends setup) events → NoneJudges (new_ends setup) events }
     ensures world { (setup : Setup) (events : List Event) → IsMadeSetup setup → AsksForStrict setup → AllByRecursion IsSendable events →
-        ServerKnows events (answers_of_ends (new_ends setup) events) → AreTaken setup events (answers_of_ends (new_ends setup) events) →
+        ServerKnows events (answers_of_ends (new_ends setup) events) → EarlyAreTaken setup (new_ends setup) events →
         (w : World) × Run (Happens (plain_setup setup)) (empty_world (plain_setup setup)) (without_malformed events (answers_of_ends (new_ends setup) events)) (answers_without_malformed (answers_of_ends (new_ends setup) events)) w
         × Stands (plain_setup setup) w (plain_ends (ends_after (new_ends setup) events)) }
     ensures fault { (setup : Setup) (events : List Event) → IsMadeSetup setup → AsksForStrict setup → AllByRecursion IsSendable events →
-        ServerKnows events (answers_of_ends (new_ends setup) events) → AreTaken setup events (answers_of_ends (new_ends setup) events) → list_any is_connection_fault (answers_of_ends (new_ends setup) events) ≡ false }
+        ServerKnows events (answers_of_ends (new_ends setup) events) → EarlyAreTaken setup (new_ends setup) events → list_any is_connection_fault (answers_of_ends (new_ends setup) events) ≡ false }
     ensures front { (setup : Setup) (events : List Event) (side : Side) (id : ℕ) → IsMadeSetup setup → AsksForStrict setup → AllByRecursion IsSendable events →
-        ServerKnows events (answers_of_ends (new_ends setup) events) → AreTaken setup events (answers_of_ends (new_ends setup) events) →
+        ServerKnows events (answers_of_ends (new_ends setup) events) → EarlyAreTaken setup (new_ends setup) events →
         IsFrontOf (pulled side id events (answers_of_ends (new_ends setup) events)) (map (at_reader (section_of (announced_at setup side))) (sent (other side) id events (answers_of_ends (new_ends setup) events))) }
     ensures end { (setup : Setup) (events : List Event) (side : Side) (id : ℕ) → IsMadeSetup setup → AsksForStrict setup → AllByRecursion IsSendable events →
-        ServerKnows events (answers_of_ends (new_ends setup) events) → AreTaken setup events (answers_of_ends (new_ends setup) events) → has_pulled_end side id events (answers_of_ends (new_ends setup) events) ≡ true →
+        ServerKnows events (answers_of_ends (new_ends setup) events) → EarlyAreTaken setup (new_ends setup) events → has_pulled_end side id events (answers_of_ends (new_ends setup) events) ≡ true →
         (pulled side id events (answers_of_ends (new_ends setup) events) ≡ map (at_reader (section_of (announced_at setup side))) (sent (other side) id events (answers_of_ends (new_ends setup) events)))
         × (has_finished (other side) id events (answers_of_ends (new_ends setup) events) ≡ true) }
 {
     limits_that_take_what_is_sent_change_nothing();
+    limits_above_what_is_announced_take_what_is_sent();
     crate::strict::strict_endpoints_take_what_they_send();
     crate::laws::whole_runs_are_plain();
     crate::laws::strict_endpoints_run_in_a_world();
