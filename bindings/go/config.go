@@ -19,7 +19,7 @@ type Config struct {
 	Datagram                bool   // RFC 9297
 	WebTransport            bool
 	MaxWebTransportSessions uint64
-	UnfinishedLimit         uint64 // the greatest length of a frame or instruction that is kept until it is whole; one below MaxFieldSectionSize is refused
+	UnfinishedLimit         uint64 // the greatest length of a frame or instruction that is kept until it is whole; 0: four times what is announced, the least that is taken
 }
 
 // DefaultConfig has the limits of h3_config_default, which are fit for a peer that is not trusted: heads and trailers of at most 65,536 bytes, a

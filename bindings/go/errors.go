@@ -30,7 +30,7 @@ const (
 	TableLimit      Answer = C.H3_TABLE_LIMIT       // Table is above 2^30 - 1
 	BlockedLimit    Answer = C.H3_BLOCKED_LIMIT     // Blocked is above 65535
 	Setting         Answer = C.H3_SETTING           // a setting cannot be announced; detail: its id
-	UnfinishedLimit Answer = C.H3_UNFINISHED_LIMIT  // UnfinishedLimit is below MaxFieldSectionSize
+	UnfinishedLimit Answer = C.H3_UNFINISHED_LIMIT  // UnfinishedLimit is below four times what is announced
 	FieldName       Answer = C.H3_FIELD_NAME        // a name is empty, not in lower case, or an unknown one that begins with ':'
 	FieldValue      Answer = C.H3_FIELD_VALUE       // a value is not one of its name's grammar
 	FieldCount      Answer = C.H3_FIELD_COUNT       // there are more different names than fit
@@ -64,7 +64,7 @@ var refusals = map[Answer]string{
 	TableLimit:      "the table is above its limit",
 	BlockedLimit:    "the count of blocked streams is above its limit",
 	Setting:         "a setting cannot be announced",
-	UnfinishedLimit: "the limit on what is unfinished is below the size of field sections",
+	UnfinishedLimit: "the limit on what is unfinished is below four times what is announced",
 	FieldName:       "a field's name is none",
 	FieldValue:      "a field's value is none",
 	FieldCount:      "too many fields",
@@ -136,6 +136,7 @@ const (
 	BadPath              Malformation = C.H3_BAD_PATH
 	BadStatus            Malformation = C.H3_BAD_STATUS
 	NoTrailerField       Malformation = C.H3_NO_TRAILER_FIELD
+	TooLong              Malformation = C.H3_TOO_LONG
 )
 
 // String is the malformation's name in h3.h.
@@ -145,7 +146,7 @@ func (m Malformation) String() string { return C.GoString(C.h3_malformation_text
 const (
 	NoError           = C.H3_CODE_NO_ERROR
 	InternalError     = C.H3_CODE_INTERNAL_ERROR
-	ExcessiveLoad     = 0x107
+	ExcessiveLoad     = C.H3_CODE_EXCESSIVE_LOAD
 	RequestRejected   = C.H3_CODE_REQUEST_REJECTED
 	RequestCancelled  = C.H3_CODE_REQUEST_CANCELLED
 	RequestIncomplete = C.H3_CODE_REQUEST_INCOMPLETE
@@ -183,6 +184,8 @@ func (f Fault) Code(server bool) uint64 {
 		return f.Number
 	case f.Kind == FaultMalformed && server && Malformation(f.Number) == NoHead:
 		return RequestIncomplete
+	case f.Kind == FaultMalformed && Malformation(f.Number) == TooLong:
+		return ExcessiveLoad
 	case f.Kind == FaultMalformed:
 		return MessageError
 	case f.Kind == FaultMemory:

@@ -243,7 +243,7 @@ func TestRefusals(t *testing.T) {
 	_, err = New(config)
 	is(t, err, Error{Setting, 6})
 	config = DefaultConfig(true)
-	config.UnfinishedLimit = config.MaxFieldSectionSize - 1
+	config.UnfinishedLimit = 4*config.MaxFieldSectionSize - 1
 	_, err = New(config)
 	is(t, err, Error{Answer: UnfinishedLimit})
 	for answer := Answer(1); answer <= Setting; answer++ { // each has its text, but that which no call of this package answers

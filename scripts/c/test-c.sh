@@ -1,6 +1,6 @@
 #!/usr/bin/env bash
 # C programs over build/c (scripts/c/lib.sh), by the machine's C compiler alone: the calls of crates/h3_cases and hostile lists of calls through the header,
-# each allocation refused in turn, large input with none refused, two endpoints under random schedules, what is held of a stream and of small pieces, unknown frames, long instructions, wrong arguments, bytes that are lent, pulled lists, and the program of docs/TUTORIAL.md. Once as
+# each allocation refused in turn, large input with none refused, two endpoints under random schedules, what is held of a stream and of small pieces, unknown frames, long instructions, wrong arguments, bytes that are lent, pulled lists, and the programs of docs/TUTORIAL.md and docs/QUICKSTART.md. Once as
 # they are, and once with the sanitizers of addresses, leaks and undefined behaviour where the compiler has them (large input, memory: once). Then how programs find the
 # library (scripts/c/test-install.sh), and the packages for Go and Rust (scripts/c/test-bindings.sh). One line 'ok NAME' or 'failed NAME' for each; the last is the sum. With LIB=FOLDER the library in that folder is
 # taken, as that of `make lib-unproved`, and none is built.
@@ -46,12 +46,12 @@ rows() { # PROGRAM
   fi
 }
 
-# the program of docs/TUTORIAL.md, by its stored lines
-tutorial() { # PROGRAM, NAME
-  if "$1" | cmp -s - tests/c/in_memory.stdout; then
-    echo "ok $2"
+# the program of a page, by its stored lines
+printed() { # PROGRAM, LINES, NAME
+  if "$1" | cmp -s - "$2"; then
+    echo "ok $3"
   else
-    echo "failed $2: $("$1" | diff - tests/c/in_memory.stdout | head -n 6 | tr '\n' ' ')"
+    echo "failed $3: $("$1" | diff - "$2" | head -n 6 | tr '\n' ' ')"
     bad=1
   fi
 }
@@ -78,6 +78,7 @@ checks() {
   compile lent lent
   compile lists lists
   compile in_memory in_memory
+  compile ../../examples/quickstart quickstart "-I$lib" # includes <beanwhile/h3.h>, as its page says
   if [ "$bad" -eq 0 ]; then
     rows "$out/calls" "rows"
     run "hostile calls" python3 scripts/gate/hostile_calls.py "$out/calls" 400
@@ -91,7 +92,8 @@ checks() {
     run arguments "$out/arguments" $mark
     run lent "$out/lent"
     run lists "$out/lists"
-    tutorial "$out/in_memory" "in_memory: the lines of docs/TUTORIAL.md"
+    printed "$out/in_memory" tests/c/in_memory.stdout "in_memory: the lines of docs/TUTORIAL.md"
+    printed "$out/quickstart" examples/quickstart.stdout "quickstart: the lines of docs/QUICKSTART.md"
   fi
   if [ "$bad" -eq 0 ] && echo 'int main(void){return 0;}' | "$cc" -x c -fsanitize=address,undefined -o "$out/probe" - 2> "$out/probe.log"; then
     flags=(-fsanitize=address,undefined -fno-sanitize-recover=all)
@@ -102,6 +104,7 @@ checks() {
     compile lent lent_checked "${flags[@]}"
     compile lists lists_checked "${flags[@]}"
     compile in_memory in_memory_checked "${flags[@]}"
+    compile ../../examples/quickstart quickstart_checked "-I$lib" "${flags[@]}"
     if [ "$bad" -eq 0 ]; then
       rows "$out/calls_checked" "rows with sanitizers"
       run "schedules with sanitizers" "$out/schedules_checked" 1000 100
@@ -109,7 +112,8 @@ checks() {
       run "arguments with sanitizers" "$out/arguments_checked" $mark
       run "lent with sanitizers" "$out/lent_checked"
       run "lists with sanitizers" "$out/lists_checked"
-      tutorial "$out/in_memory_checked" "in_memory with sanitizers"
+      printed "$out/in_memory_checked" tests/c/in_memory.stdout "in_memory with sanitizers"
+    printed "$out/quickstart_checked" examples/quickstart.stdout "quickstart with sanitizers"
     fi
   fi
   bash scripts/c/test-install.sh "$lib" || bad=1

@@ -102,9 +102,9 @@ static void of_pointers(h3_endpoint *e, uint64_t id) {
   HOLDS(n == 0 && m == 8);
   HOLDS(!strcmp(h3_answer_text(H3_OK), "H3_OK") && !strcmp(h3_answer_text(H3_NO_ENDPOINT), "H3_NO_ENDPOINT"));
   HOLDS(!strcmp(h3_kind_text(H3_INTERIM), "H3_INTERIM") && !strcmp(h3_kind_text(H3_FAULT_MEMORY), "H3_FAULT_MEMORY"));
-  HOLDS(!strcmp(h3_malformation_text(H3_BAD_NAME), "H3_BAD_NAME") && !strcmp(h3_malformation_text(H3_NO_TRAILER_FIELD), "H3_NO_TRAILER_FIELD"));
+  HOLDS(!strcmp(h3_malformation_text(H3_BAD_NAME), "H3_BAD_NAME") && !strcmp(h3_malformation_text(H3_TOO_LONG), "H3_TOO_LONG"));
   HOLDS(!strcmp(h3_answer_text(99), "an unknown answer") && !strcmp(h3_kind_text(0), "an unknown kind"));
-  HOLDS(!strcmp(h3_malformation_text(H3_NO_TRAILER_FIELD + 1), "an unknown malformation"));
+  HOLDS(!strcmp(h3_malformation_text(H3_TOO_LONG + 1), "an unknown malformation"));
 }
 
 static void of_new(void) {
@@ -131,9 +131,18 @@ static void of_new(void) {
   IS(h3_new(&e, &c, &detail), H3_SETTING);
   HOLDS(!e.at && detail == 6);
   c.max_field_section_size--;
-  IS(h3_new(&e, &c, &detail), H3_UNFINISHED_LIMIT);
+  c.unfinished_limit = (UINT64_C(1) << 62) - 2;
+  IS(h3_new(&e, &c, &detail), H3_UNFINISHED_LIMIT); /* below four times the section size, */
   HOLDS(!e.at && detail == 0);
-  c.unfinished_limit = c.max_field_section_size;
+  c.max_field_section_size = 10;
+  c.table = 10000;
+  c.unfinished_limit = 39999;
+  IS(h3_new(&e, &c, &detail), H3_UNFINISHED_LIMIT); /* or four times the table, */
+  c.table = 0;
+  c.unfinished_limit = 255;
+  IS(h3_new(&e, &c, &detail), H3_UNFINISHED_LIMIT); /* or 256 */
+  c.max_field_section_size = FAR - 1;
+  c.unfinished_limit = 0;
   c.max_webtransport_sessions = FAR;
   IS(h3_new(&e, &c, &detail), H3_SETTING);
   HOLDS(detail == UINT64_C(0x2b603743));
@@ -708,25 +717,34 @@ static void of_encoder_tables(void) {
   }
 }
 
-/* A frame that says more than `unfinished_limit` closes the connection as soon as its head came, on a request stream when it is pulled, and one
- * that says as much does not; DATA is never too long. Without a limit such a frame is waited for. */
+/* A frame that says more than `unfinished_limit` is a fault as soon as its head came, when it is pulled: HEADERS of their stream, any other of the
+ * connection. One that says as much is none; DATA is never too long. Without a limit such a frame is waited for. 0 is four times what is announced. */
 static void of_unfinished_limits(void) {
   static const struct {
     uint64_t most;
+    uint64_t section;
     const char *bytes;
     size_t len;
     uint32_t kind;
   } of[] = {
-      {65536, "\1\xc0\0\0\0\x40\0\0\0", 9, H3_FAULT_CONNECTION}, /* HEADERS of 2^30 bytes */
-      {65536, "\1\x80\1\0\1", 5, H3_FAULT_CONNECTION},             /* of 65,537, */
-      {65536, "\1\x80\1\0\0", 5, H3_PENDING},                      /* and of 65,536 */
-      {65536, "\1\x80\1\0", 4, H3_PENDING},                        /* no head yet */
-      {65536, "\5\xc0\0\0\0\x40\0\0\0", 9, H3_FAULT_CONNECTION}, /* PUSH_PROMISE, */
-      {65536, "\x21\xc0\0\0\0\x40\0\0\0", 9, H3_PENDING},        /* and a type that is unknown */
-      {0, "\x21\1\0\1\1\0", 6, H3_FAULT_CONNECTION},               /* HEADERS behind an unknown frame that is whole, and whole itself */
-      {UINT64_MAX, "\1\xc0\0\0\0\x40\0\0\0", 9, H3_PENDING},
-      {(UINT64_C(1) << 62) - 1, "\1\xff\xff\xff\xff\xff\xff\xff\xff", 9, H3_PENDING},
-      {(UINT64_C(1) << 62) - 2, "\1\xff\xff\xff\xff\xff\xff\xff\xff", 9, H3_FAULT_CONNECTION},
+      {0, 65536, "\1\xc0\0\0\0\x40\0\0\0", 9, H3_FAULT_MALFORMED},      /* HEADERS of 2^30 bytes */
+      {0, 65536, "\1\x80\4\0\1", 5, H3_FAULT_MALFORMED},                  /* of 262,145, */
+      {0, 65536, "\1\x80\4\0\0", 5, H3_PENDING},                          /* and of 262,144 */
+      {0, 65536, "\1\x80\4\0", 4, H3_PENDING},                            /* no head yet */
+      {300000, 65536, "\1\x80\4\0\1", 5, H3_PENDING},                     /* a greater limit */
+      {262144, 65536, "\1\x80\4\0\1", 5, H3_FAULT_MALFORMED},
+      {0, 131072, "\1\x80\4\0\1", 5, H3_PENDING},                         /* the limit follows what is announced */
+      {0, 131072, "\1\x80\x8\0\1", 5, H3_FAULT_MALFORMED},
+      {0, 65536, "\5\xc0\0\0\0\x40\0\0\0", 9, H3_FAULT_CONNECTION},     /* PUSH_PROMISE, */
+      {0, 65536, "\4\x80\4\0\1", 5, H3_FAULT_CONNECTION},                 /* SETTINGS, */
+      {0, 65536, "\x21\xc0\0\0\0\x40\0\0\0", 9, H3_PENDING},            /* and a type that is unknown */
+      {0, 65536, "\x21\1\0\1\x80\4\0\1", 8, H3_FAULT_MALFORMED},         /* HEADERS behind an unknown frame that is whole */
+      {UINT64_MAX, 65536, "\1\xc0\0\0\0\x40\0\0\0", 9, H3_PENDING},
+      {0, (UINT64_C(1) << 62) - 1, "\1\xff\xff\xff\xff\xff\xff\xff\xff", 9, H3_PENDING}, /* any size is announced: no limit */
+      {0, UINT64_C(1) << 60, "\1\xff\xff\xff\xff\xff\xff\xff\xff", 9, H3_PENDING},
+      {0, (UINT64_C(1) << 60) - 1, "\1\xff\xff\xff\xff\xff\xff\xff\xff", 9, H3_FAULT_MALFORMED},
+      {(UINT64_C(1) << 62) - 1, 65536, "\1\xff\xff\xff\xff\xff\xff\xff\xff", 9, H3_PENDING},
+      {(UINT64_C(1) << 62) - 2, 65536, "\1\xff\xff\xff\xff\xff\xff\xff\xff", 9, H3_FAULT_MALFORMED},
   };
   for (size_t i = 0; i < sizeof of / sizeof *of; i++) {
     h3_endpoint e = H3_NONE_YET;
@@ -734,21 +752,24 @@ static void of_unfinished_limits(void) {
     h3_item item;
     uint64_t detail = 9;
     plain_config(&c);
-    HOLDS(c.unfinished_limit == 65536);
+    HOLDS(c.unfinished_limit == 0);
     c.server = 1;
     c.unfinished_limit = of[i].most;
-    if (of[i].most < c.max_field_section_size) {
-      IS(h3_new(&e, &c, NULL), H3_UNFINISHED_LIMIT);
-      c.max_field_section_size = of[i].most;
-    }
+    c.max_field_section_size = of[i].section;
     IS(h3_new(&e, &c, NULL), H3_OK);
     IS(h3_deliver(&e, 0, of[i].bytes, of[i].len, NULL), H3_OK);
     IS(h3_pull(&e, 0, &item), H3_OK);
     HOLDS(item.kind == of[i].kind);
     if (item.kind == H3_FAULT_CONNECTION) {
-      HOLDS(item.number == 0x107);
+      HOLDS(item.number == H3_CODE_EXCESSIVE_LOAD);
       IS(h3_deliver(&e, 0, "\0", 1, &detail), H3_CONNECTION);
-      HOLDS(detail == 0x107);
+      HOLDS(detail == H3_CODE_EXCESSIVE_LOAD);
+    }
+    if (item.kind == H3_FAULT_MALFORMED) {
+      HOLDS(item.number == H3_TOO_LONG);
+      IS(h3_deliver(&e, 0, "\0", 1, &detail), H3_OK);
+      IS(h3_pull(&e, 4, &item), H3_OK);
+      HOLDS(item.kind == H3_PENDING);
     }
     h3_free(&e);
   }

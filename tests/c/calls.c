@@ -28,7 +28,7 @@ static const char *const refusals[] = {"ok", "Closed", "Connection", "NotReceivi
                                        "OutOfMemory", "TableLimit", "BlockedLimit", "Settings"};
 static const char *const malformations[] = {"Name", "Value", "TooMany", "WrongSide", "PseudoInTrailer", "NoHead",
                                             "PseudoOrder", "WrongPseudo", "RepeatedPseudo", "ConnectionField", "ContentLength", "Protocol", "Connect",
-                                            "MissingPseudo", "Scheme", "Authority", "Path", "Status", "TrailerField"};
+                                            "MissingPseudo", "Scheme", "Authority", "Path", "Status", "TrailerField", "TooLong"};
 
 static void answer(uint32_t n, uint64_t detail) {
   if (n == H3_OK)
@@ -186,7 +186,7 @@ static void begin(char **words, size_t count) {
     c.count_acknowledgments |= !strcmp(words[i], "counted");
     if (!strcmp(words[i], "small")) c.encoder_table = 40;
     c.economical_table |= !strcmp(words[i], "economical");
-    if (!strcmp(words[i], "limited")) c.unfinished_limit = 100;
+    if (!strcmp(words[i], "limited")) c.unfinished_limit = 1000;
   }
   h3_endpoint made = H3_NONE_YET;
   uint32_t n = h3_new(&made, &c, &detail);

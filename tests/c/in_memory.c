@@ -1,5 +1,5 @@
 /* A client and a server in one program, with the bytes between them carried by hand in place of a QUIC library: docs/TUTORIAL.md goes through it.
- * It prints what each side is told; tests/c/in_memory.stdout has these lines. */
+ * It prints what each side receives; tests/c/in_memory.stdout has these lines. */
 #include "h3.h"
 #include <stdio.h>
 #include <stdlib.h>
@@ -18,7 +18,7 @@ typedef struct {
 } side;
 
 static void fail(const side *at, const char *call, uint32_t answer) {
-  printf("%s: %s answered %u\n", at->name, call, answer);
+  printf("%s: %s returned %s\n", at->name, call, h3_answer_text(answer));
   exit(1);
 }
 
@@ -28,14 +28,14 @@ static void make(side *at) {
   h3_config config;
   h3_config_default(&config);
   config.server = (uint32_t)at->is_server;
-  config.max_field_section_size = 65536; /* heads above this are passed over */
+  config.max_field_section_size = 65536; /* larger header sections are skipped: H3_TOO_LARGE_HEAD */
   config.table = 4096;                   /* bytes of the dynamic table that the peer may fill */
-  config.blocked = 16;                   /* heads that may wait for it */
+  config.blocked = 16;                   /* header sections that may wait for it */
   uint32_t answer = h3_new(&at->h3, &config, NULL);
   if (answer != H3_OK) fail(at, "h3_new", answer);
 }
 
-/* ---- fields: the sizes of names and values, and all their bytes in one row ---- */
+/* ---- fields: the sizes of names and values in an array, and all their bytes in a buffer ---- */
 
 typedef struct {
   h3_field_size sizes[FIELDS];
@@ -85,13 +85,14 @@ static void respond(side *server, uint64_t id) {
 
 /* ---- what came is read ---- */
 
-static void print_fields(side *at, size_t count) {
-  char name[64], value[256];
-  size_t name_len, value_len;
-  for (size_t i = 0; i < count; i++) {
-    uint32_t answer = h3_item_field(&at->h3, i, name, sizeof name, &name_len, value, sizeof value, &value_len);
-    if (answer != H3_OK) fail(at, "h3_item_field", answer); /* H3_ROOM: longer than the buffers */
-    printf(" %.*s=%.*s", (int)name_len, name, (int)value_len, value);
+static void print_fields(side *at, const h3_item *item) {
+  fields list;
+  uint32_t answer = h3_item_fields(&at->h3, list.sizes, FIELDS, list.bytes, sizeof list.bytes);
+  if (answer != H3_OK) fail(at, "h3_item_fields", answer); /* H3_ROOM: item->fields or item->len is more than fits */
+  const char *next = list.bytes;
+  for (size_t i = 0; i < item->fields; i++) {
+    printf(" %.*s=%.*s", (int)list.sizes[i].name, next, (int)list.sizes[i].value, next + list.sizes[i].name);
+    next += list.sizes[i].name + list.sizes[i].value;
   }
 }
 
@@ -105,22 +106,22 @@ static void print_bytes(side *at, size_t len) {
   }
 }
 
-/* Takes all that is there of a message. */
+/* Reads all that has come of a message. */
 static void pull(side *at, uint64_t id) {
   h3_item item;
   for (;;) {
-    uint32_t answer = h3_pull(&at->h3, id, &item);
-    if (answer != H3_OK) fail(at, "h3_pull", answer);
+    uint32_t answer = h3_pull_fields(&at->h3, id, &item);
+    if (answer != H3_OK) fail(at, "h3_pull_fields", answer);
     at->is_waiting[id / 4] = item.kind == H3_WAITING;
     if (item.kind == H3_PENDING || item.kind == H3_WAITING) return; /* more has to come first */
     printf("%s, stream %u:", at->name, (unsigned)id);
     switch (item.kind) {
-    case H3_HEAD: print_fields(at, item.fields); break;
+    case H3_HEAD: print_fields(at, &item); break;
     case H3_BODY: printf(" %u bytes: ", (unsigned)item.len), print_bytes(at, item.len); break;
     case H3_END: printf(" end\n"); return;
     case H3_FAULT_RESET: printf(" reset with code 0x%x\n", (unsigned)item.number); return;
-    case H3_FAULT_CANCELED: printf(" given up\n"); return;
-    default: printf(" kind %u, %u\n", item.kind, (unsigned)item.number); return; /* enum h3_kind has the others */
+    case H3_FAULT_CANCELED: printf(" canceled\n"); return;
+    default: printf(" %s, %u\n", h3_kind_text(item.kind), (unsigned)item.number); return; /* enum h3_kind has all */
     }
     if (item.kind != H3_BODY) printf("\n"); /* these bodies end with one */
   }
@@ -128,7 +129,7 @@ static void pull(side *at, uint64_t id) {
 
 /* ---- bytes go over: what a QUIC library does ---- */
 
-/* Stream data came: hand it over, then pull. */
+/* Stream data came: deliver it, then pull. */
 static void received(side *at, uint64_t id, const uint8_t *bytes, size_t n, int fin) {
   uint64_t code;
   uint32_t answer = h3_deliver(&at->h3, id, bytes, n, &code);
@@ -136,7 +137,7 @@ static void received(side *at, uint64_t id, const uint8_t *bytes, size_t n, int 
   /* H3_CONNECTION: close the connection with `code`; H3_MEMORY: nothing was taken, so deliver it again */
   if (answer != H3_OK && answer != H3_KEPT) fail(at, "h3_deliver", answer);
   if (id % 4 == 0) return pull(at, id);
-  /* the peer's encoder stream: heads may wait for it */
+  /* the peer's encoder stream: header sections may wait for it */
   for (uint64_t request = 0; request < 4 * REQUESTS; request += 4)
     if (at->is_waiting[request / 4]) pull(at, request);
 }
@@ -160,13 +161,13 @@ static void carry_stream(side *from, side *to, uint64_t id) {
 
 static void carry(side *from, side *to) {
   uint64_t own[] = {h3_control_id(from->is_server), h3_encoder_id(from->is_server), h3_decoder_id(from->is_server)};
-  for (int i = 0; i < 3; i++) carry_stream(from, to, own[i]); /* first: heads may wait for them */
+  for (int i = 0; i < 3; i++) carry_stream(from, to, own[i]); /* first: header sections may wait for them */
   for (uint64_t id = 0; h3_next_to_send(&from->h3, id, &id) == H3_OK; id++) carry_stream(from, to, id);
 }
 
-/* ---- a request is given up: no further bytes go out on it, and nothing more of the answer is wanted ---- */
+/* ---- a request is canceled: no further bytes go out on it, and nothing more of the response is needed ---- */
 
-static void give_up(side *at, side *other, uint64_t id) {
+static void cancel(side *at, side *other, uint64_t id) {
   uint32_t answer = h3_cancel(&at->h3, id, NULL); /* QUIC: STOP_SENDING */
   if (answer != H3_OK) fail(at, "h3_cancel", answer);
   answer = h3_reset(&at->h3, id, NULL);
@@ -198,16 +199,16 @@ int main(void) {
   carry(&server, &client);
 
   id = ask(&client, "/echo", "a body of a request\n");
-  carry_stream(&client, &server, id); /* before the encoder stream: the head may wait for it */
+  carry_stream(&client, &server, id); /* before the encoder stream: the header section may wait for it */
   carry(&client, &server);
   respond(&server, id);
   carry(&server, &client);
 
   id = ask(&client, "/never", NULL);
-  give_up(&client, &server, id);
+  cancel(&client, &server, id);
 
-  say_goaway(&server, &client, ANY_ID); /* a notice: requests that are on their way are still taken */
-  say_goaway(&server, &client, id + 4); /* a round trip later: from here on none is */
+  say_goaway(&server, &client, ANY_ID); /* a notice: the client opens no more, and requests on their way are processed */
+  say_goaway(&server, &client, id + 4); /* a round trip later: requests from this id on are not processed */
   if (h3_open_request(&client.h3, &id, &detail) != H3_GOING_AWAY) fail(&client, "h3_open_request", H3_OK);
   printf("client: no request from stream %u on\n", (unsigned)detail);
 

@@ -5,7 +5,7 @@
 #define TEST "instructions"
 #include "expect.h"
 
-#define MOST 1000
+#define MOST 20000 /* with a table of 4,096 bytes, whose instructions have at most 16,384 */
 static const uint64_t CONTROL = 3, ENCODER = 7, DECODER = 11; /* of the peer, a server */
 static const size_t STEPS[] = {100000, 100, 1};
 static const uint64_t NEVER = 0;
@@ -15,7 +15,7 @@ static h3_endpoint client = H3_NONE_YET;
 static void make(uint64_t most) {
   h3_config config;
   h3_config_default(&config);
-  config.max_field_section_size = most;
+  config.max_field_section_size = 5000;
   config.unfinished_limit = most;
   IS(h3_new(&client, &config, NULL), H3_OK);
 }
@@ -70,9 +70,9 @@ static void of_long_strings(void) {
     }
 }
 
-/* an integer that never ends is told once as much as the limit came */
+/* An integer that never ends is told once as much as the limit came. A decoder stream is not read before the settings: what comes of it is kept, and is no fault. */
 static void of_endless_integers(void) {
-  static char bytes[5000];
+  static char bytes[3 * MOST];
   memset(bytes, 0x80, sizeof bytes);
   bytes[0] = 0x3f;
   for (size_t k = 0; k < 3; k++)
@@ -83,19 +83,20 @@ static void of_endless_integers(void) {
         if (known) IS(h3_deliver(&client, CONTROL, "\0\4\0", 3, NULL), H3_OK);
         IS(h3_deliver(&client, id, decoder ? "\3" : "\2", 1, NULL), H3_OK);
         uint64_t at = closed_at(id, bytes, sizeof bytes, STEPS[k], 0x107);
-        /* a decoder stream is not read before the settings: its bytes are counted */
-        HOLDS(at == rounded(decoder && !known ? MOST + 1 : MOST, STEPS[k], sizeof bytes));
-        HOLDS(unread(id) == at);
+        HOLDS(at == (decoder && !known ? NEVER : rounded(MOST, STEPS[k], sizeof bytes)));
+        HOLDS(unread(id) == (decoder && !known ? sizeof bytes : at));
         h3_free(&client);
       }
 }
 
-/* what its decoder said before the settings is read behind them, up to the limit */
+/* what its decoder said before the settings is read after them: an instruction that is longer than the limit is told then, however much came */
 static void of_early_replies(void) {
-  static char bytes[MOST];
+  static char bytes[3 * MOST];
   memset(bytes, 0x80, sizeof bytes);
   bytes[0] = 0x3f;
-  for (size_t len = MOST - 1; len <= MOST; len++) {
+  static const size_t lens[] = {MOST - 1, MOST, 3 * MOST};
+  for (size_t i = 0; i < 3; i++) {
+    size_t len = lens[i];
     make(MOST);
     IS(h3_deliver(&client, DECODER, "\3", 1, NULL), H3_OK);
     HOLDS(closed_at(DECODER, bytes, len, 100, 0) == NEVER && unread(DECODER) == len);
@@ -104,39 +105,46 @@ static void of_early_replies(void) {
   }
 }
 
-/* an insertion of so many bytes, above 500: a name of one byte, and a value */
+/* cancellations of so many streams before the settings are no fault, and are read after them */
+static void of_early_cancellations(void) {
+  static char bytes[3 * MOST];
+  memset(bytes, 0x44, sizeof bytes); /* stream 4 */
+  make(MOST);
+  IS(h3_deliver(&client, DECODER, "\3", 1, NULL), H3_OK);
+  HOLDS(closed_at(DECODER, bytes, sizeof bytes, 1200, 0) == NEVER && unread(DECODER) == sizeof bytes);
+  HOLDS(closed_at(CONTROL, "\0\4\0", 3, 3, 0) == NEVER && unread(DECODER) == 0);
+  h3_free(&client);
+}
+
+/* an insertion of so many bytes, 500 or more: a name of one byte, and a value whose length takes two or three bytes behind its first */
 static size_t insertion(char *to, size_t len) {
-  size_t value = len - 5;
+  size_t behind = len < 16000 ? 2 : 3, rest = len - 3 - behind - 127;
   memset(to, 'v', len);
   memcpy(to, "\x41n\x7f", 3);
-  to[3] = (char)(0x80 | ((value - 127) & 0x7f));
-  to[4] = (char)((value - 127) >> 7);
+  for (size_t i = 3; i < 3 + behind; i++, rest >>= 7) to[i] = (char)((i < 2 + behind ? 0x80 : 0) | (rest & 0x7f));
   return len;
 }
 
-/* Insertions of exactly the limit are read, also where more of them come at once than the limit, and one increment counts those of a delivery. One of a byte
- * more is told behind them by its length. */
+/* Insertions are read, also where more of them come at once than the limit, and one increment counts those of a delivery. One of the limit's length that comes
+ * after them is waited for, and is bad once it is whole, since the table has no room for it. One of a byte more is told by its length. */
 static void of_the_limit(void) {
-  static char bytes[5 * MOST];
+  static char bytes[26 * 1000 + 2 * MOST];
   for (size_t k = 0; k < 3; k++)
     for (size_t more = 0; more < 2; more++) {
       size_t len = 3;
       memcpy(bytes, "\x3f\xe1\x1f", len); /* a capacity of 4,096 */
-      for (size_t i = 0; i < 3; i++) len += insertion(bytes + len, MOST);
+      for (size_t i = 0; i < 25; i++) len += insertion(bytes + len, 1000);
       size_t begins = len;
-      len += insertion(bytes + len, MOST + more);
       make(MOST);
       IS(h3_deliver(&client, ENCODER, "\2", 1, NULL), H3_OK);
-      uint64_t at = closed_at(ENCODER, bytes, len, STEPS[k], 0x107);
-      HOLDS(at == (more ? rounded(begins + 5, STEPS[k], len) : NEVER));
-      HOLDS(unread(ENCODER) == (more ? at - begins : 0));
-      uint8_t replies[16];
+      HOLDS(closed_at(ENCODER, bytes, begins, STEPS[k], 0) == NEVER && unread(ENCODER) == 0);
+      uint8_t replies[64];
       size_t n = 0;
       uint32_t fin;
-      if (!more) {
-        IS(h3_outgoing(&client, h3_decoder_id(0), replies, sizeof replies, &n, &fin), H3_OK);
-        HOLDS(STEPS[k] > len ? n == 2 && !memcmp(replies, "\3\4", 2) : n == 5 && !memcmp(replies, "\3\1\1\1\1", 5));
-      }
+      IS(h3_outgoing(&client, h3_decoder_id(0), replies, sizeof replies, &n, &fin), H3_OK);
+      HOLDS(STEPS[k] > begins ? n == 2 && !memcmp(replies, "\3\x19", 2) : n == 26 && replies[0] == 3 && replies[1] == 1 && replies[25] == 1);
+      len = insertion(bytes, MOST + more);
+      HOLDS(closed_at(ENCODER, bytes, len, STEPS[k], more ? 0x107 : 0x201) == rounded(more ? 6 : MOST, STEPS[k], len));
       h3_free(&client);
     }
 }
@@ -174,6 +182,7 @@ int main(void) {
   of_long_strings();
   of_endless_integers();
   of_early_replies();
+  of_early_cancellations();
   of_the_limit();
   of_no_limit();
   of_bad_instructions();

@@ -57,6 +57,7 @@ typedef struct {
   uint8_t body[BODY];
   size_t body_len, body_out;
   int head_sent, trailer_sent, finished, reset;      /* at the sender */
+  int takes_no_trailer;                              /* a 2xx response to a request whose head was not pulled */
   int head_out, trailer_out, end_out, fin_given, reset_given, canceled, faulty; /* at the receiver */
   int end_said; /* h3_end_taken was */
 } flow;
@@ -144,6 +145,7 @@ static void send_some(int side) {
     n = h3_send_head(&ends[side], id, l->sizes, l->count, l->bytes, l->len, &detail);
     WANT(is_memory_aside(n), "send_head", id, n);
     f->head_sent = 1;
+    f->takes_no_trailer = side && l->bytes[7] == '2' && !flows[i][0].head_out;
   } else if (rnd(4) && !f->trailer_sent) {
     size_t len = rnd(1200);
     if (len > BODY - f->body_len) len = BODY - f->body_len;
@@ -154,8 +156,9 @@ static void send_some(int side) {
   } else if (rnd(3) == 0 && !f->trailer_sent) {
     add_random(&f->trailer, 1 + rnd(3));
     n = h3_send_trailer(&ends[side], id, f->trailer.sizes, f->trailer.count, f->trailer.bytes, f->trailer.len, &detail);
-    WANT(n == H3_OK, "send_trailer", id, n);
-    f->trailer_sent = 1;
+    WANT(f->takes_no_trailer ? n == H3_MALFORMED && detail == H3_BAD_CONNECT : n == H3_OK, "send_trailer", id, n);
+    f->trailer_sent = n == H3_OK;
+    if (!f->trailer_sent) f->trailer = (list){0};
   } else {
     n = h3_finish(&ends[side], id, &detail);
     WANT(n == H3_OK, "finish", id, n);

@@ -81,7 +81,6 @@ static void make(void) {
     h3_config c;
     h3_config_default(&c);
     c.max_field_section_size = 1 << 24;
-    c.unfinished_limit = 1 << 24; /* as much of a field section as it is written */
     c.server = (uint32_t)side;
     c.table = 4096;
     c.blocked = 100;

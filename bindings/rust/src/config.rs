@@ -31,8 +31,10 @@ pub struct Config {
     pub datagram: bool,
     pub webtransport: bool,
     pub max_webtransport_sessions: u64,
-    /// The greatest length that a frame may say which is kept until it is whole: any known one but DATA. One that says more is a fault of the
-    /// connection, H3_EXCESSIVE_LOAD, and so is a longer instruction of the encoder or decoder stream. One below `max_field_section_size` is refused. 2^62 - 1 and more: there is no limit.
+    /// The greatest length of a frame that is kept until it is whole: any known one but DATA. A longer HEADERS frame makes its message
+    /// malformed (`Malformation::TooLong`); any other longer frame, or a longer instruction of the encoder or decoder stream, is a fault of the
+    /// connection, H3_EXCESSIVE_LOAD. 0: the least limit, at least 256 and four times the greater of `max_field_section_size` and `table`. A lower
+    /// one is refused. 2^62 - 1 and more: there is no limit.
     pub unfinished_limit: u64,
 }
 

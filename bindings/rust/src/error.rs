@@ -56,7 +56,7 @@ pub enum Error {
     BlockedLimit,
     /// The setting with this id cannot be announced.
     Setting(u64),
-    /// `unfinished_limit` is below `max_field_section_size`.
+    /// `unfinished_limit` is neither 0 nor at least 256 and four times `max_field_section_size` and `table`.
     UnfinishedLimit,
     /// A name is empty, not in lower case, or an unknown one that begins with ':'.
     FieldName,
@@ -148,7 +148,7 @@ impl fmt::Display for Error {
             Error::Memory => "memory was refused",
             Error::TableLimit => "the table is above its limit",
             Error::BlockedLimit => "the count of blocked streams is above its limit",
-            Error::UnfinishedLimit => "the limit on what is unfinished is below the size of field sections",
+            Error::UnfinishedLimit => "the limit on what is unfinished is below four times what is announced",
             Error::FieldName => "a field's name is none",
             Error::FieldValue => "a field's value is none",
             Error::FieldCount => "too many fields",
@@ -181,6 +181,7 @@ impl Fault {
         match self {
             Fault::Connection(code) => *code,
             Fault::Malformed(Malformation::NoHead) if server => code::REQUEST_INCOMPLETE,
+            Fault::Malformed(Malformation::TooLong) => code::EXCESSIVE_LOAD,
             Fault::Malformed(_) => code::MESSAGE_ERROR,
             Fault::Reset(_) | Fault::Canceled => code::REQUEST_CANCELLED,
             Fault::Memory => code::INTERNAL_ERROR,
@@ -209,7 +210,7 @@ impl From<Fault> for Error {
 }
 
 /// Why a message is malformed (RFC 9114, section 4.1.2): an `h3_malformation`, which says more of each. Those from `LatePseudoField` on are
-/// told where `strict` is set.
+/// told where `strict` is set, and `TooLong` where there is an `unfinished_limit`.
 #[derive(Debug, Clone, Copy, PartialEq, Eq)]
 #[non_exhaustive]
 pub enum Malformation {
@@ -232,13 +233,14 @@ pub enum Malformation {
     BadPath,
     BadStatus,
     NoTrailerField,
+    TooLong,
     /// One that this crate does not know, as of a later library.
     Other(u64),
 }
 
 impl Malformation {
     /// All that are known, in the order of their numbers.
-    const KNOWN: [Malformation; 19] = [
+    const KNOWN: [Malformation; 20] = [
         Malformation::BadName,
         Malformation::BadValue,
         Malformation::TooMany,
@@ -258,6 +260,7 @@ impl Malformation {
         Malformation::BadPath,
         Malformation::BadStatus,
         Malformation::NoTrailerField,
+        Malformation::TooLong,
     ];
 
     pub(crate) fn of(number: u64) -> Malformation {
@@ -290,6 +293,7 @@ impl fmt::Display for Malformation {
             Malformation::BadPath => "the path is none",
             Malformation::BadStatus => "the status is none",
             Malformation::NoTrailerField => "a field that no trailer has",
+            Malformation::TooLong => "a HEADERS frame is longer than the limit on what is unfinished",
             Malformation::Other(number) => return write!(f, "number {number}"),
         };
         f.write_str(text)

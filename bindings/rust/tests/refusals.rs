@@ -43,7 +43,7 @@ fn calls_say_why_they_are_refused() {
     assert_eq!(Endpoint::new(&Config { table: 1 << 30, ..config }).err(), Some(Error::TableLimit));
     assert_eq!(Endpoint::new(&Config { blocked: 65536, ..config }).err(), Some(Error::BlockedLimit));
     assert_eq!(Endpoint::new(&Config { max_field_section_size: 1 << 62, ..config }).err(), Some(Error::Setting(6)));
-    assert_eq!(Endpoint::new(&Config { unfinished_limit: config.max_field_section_size - 1, ..config }).err(), Some(Error::UnfinishedLimit));
+    assert_eq!(Endpoint::new(&Config { unfinished_limit: 4 * config.max_field_section_size - 1, ..config }).err(), Some(Error::UnfinishedLimit));
     assert_eq!(Endpoint::new(&Config { grease: u64::MAX, ..config }).err(), Some(Error::Argument));
 }
 

@@ -80,7 +80,7 @@ fn config(told: &mut Told, section: u64, choices: &[&str]) -> Config {
             "counted" => config.with_acknowledgments_counted(true),
             "small" => config.with_encoder_table(40),
             "economical" => config.with_economical_table(true),
-            "limited" => config.with_unfinished_limit(100),
+            "limited" => config.with_unfinished_limit(1000),
             _ => {
                 told.unreadable();
                 config

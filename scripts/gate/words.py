@@ -1,0 +1,117 @@
+#!/usr/bin/env python3
+"""Do the pages use the standards' words? The list of terms is the table of CONTRIBUTING.md below "Words": what to say, and what not.
+
+    python3 scripts/gate/words.py           one line 'ok FILE' or 'failed FILE:LINE ..' for each file of COVERED and each word that it may not have
+
+Of a page its text is read, of include/h3.h its comments: code, names between backticks and the targets of links are left out. A phrase is found across the end
+of a line too. Its first letter may be a capital one: `head` finds Head and not HEAD. The column "Fine" has phrases in which the word may stand.
+COVERED grows as pages are mended. Not in it yet: pages for provers (docs/PROVED.md, MESSAGES, HEADLINE, MODEL, PROOFS, GATE, ARCHITECTURE, STATES, DECISIONS and
+their folders, crates/*/README.md), which quote statements and names of definitions. LATER has names whose comments in include/h3.h are not mended yet."""
+import os
+import re
+import sys
+
+ROOT = os.path.dirname(os.path.dirname(os.path.dirname(os.path.realpath(__file__))))
+LIST = "CONTRIBUTING.md"
+HEADER = "include/h3.h"
+COVERED = ["README.md", "CONTRIBUTING.md", "SECURITY.md", "CHANGELOG.md", "docs/TUTORIAL.md", "docs/C_API.md", "docs/RFC.md", "docs/DIFFERENCES.md", "docs/PERFORMANCE.md",
+           "bindings/go/README.md", "bindings/rust/README.md", "examples/c/README.md", "examples/go/README.md", "examples/rust/README.md", HEADER]
+LATER = {"unfinished_limit", "H3_UNFINISHED_LIMIT", "h3_config_default", "h3_malformation", "h3_deliver_lent", "h3_keep"}
+LONGEST_COMMENT = 100
+FENCE = re.compile(r"^( *)```\w*\n.*?^\1```$", re.M | re.S)
+LEFT_OUT = [FENCE, re.compile(r"<!--.*?-->", re.S), re.compile(r"``[^`]+``|`[^`]*`"), re.compile(r"\]\([^()\s]+\)")]
+
+
+def read(path):
+    with open(os.path.join(ROOT, path), encoding="utf-8") as file:
+        return file.read()
+
+
+def blank(text):
+    """as many lines, with nothing on them"""
+    return re.sub(r"[^\n]", " ", text)
+
+
+def terms(page):
+    """the rows of the list: what to say, a pattern for what not, and one for the phrases that are fine"""
+    table = re.search(r"^\| Say \| Not \| Fine \|\n\|[-|]+\|\n((?:\|.*\n)+)", page, re.M)
+    if table is None:
+        sys.exit(f"failed {LIST}: it has no table '| Say | Not | Fine |'")
+    rows = [[cell.strip() for cell in row.strip("|").split("|")] for row in table[1].strip().split("\n")]
+    return [(say, pattern(wrong), pattern(fine) if fine else None) for say, wrong, fine in rows]
+
+
+def pattern(phrases):
+    """finds each of the phrases, as whole words, with any space or end of line between them"""
+    found = []
+    for phrase in phrases.split(", "):
+        first, rest = re.escape(phrase[0]), re.escape(phrase[1:]).replace("\\ ", r"\s+")
+        found.append((f"[{phrase[0]}{phrase[0].upper()}]" if phrase[0].isalpha() else first) + rest)
+    return re.compile(rf"(?<![\w-])(?:{'|'.join(found)})(?![\w-])")
+
+
+def page_text(page):
+    text = read(page)
+    if page == LIST:  # it names the words
+        text = re.sub(r"^\| Say \| Not \| Fine \|\n(?:\|.*\n)+", lambda it: blank(it[0]), text, flags=re.M)
+    for form in LEFT_OUT:
+        text = form.sub(lambda it: blank(it[0]), text)
+    return text
+
+
+def comments(header):
+    """the comments of the header, each with the name that it stands at: in front of it on its line, else the next that is declared"""
+    for it in re.finditer(r"/\*.*?\*/|//[^\n]*", header, re.S):
+        line = header[header.rfind("\n", 0, it.start()) + 1 : it.start()]
+        before = re.findall(r"\w+(?= = \d+,?\s*$|;\s*$)", line) or re.findall(r"enum (\w+)", line)
+        after = re.match(r"(?:static inline [\w ]+?\*?(?=\w+\()|enum |typedef struct \{.*?\} )(\w+)", header[it.end() :].lstrip(), re.S)
+        yield it, before[-1] if before else after[1] if after else ""
+
+
+def is_later(it, name, header):
+    """Is the comment, or the list of constants that it stands in, to be mended yet?"""
+    within = re.findall(r"^enum (\w+) \{[^}]*\Z", header[: it.start()], re.M)
+    return name in LATER or bool(within) and within[-1] in LATER
+
+
+def header_text(header):
+    text = list(blank(header))
+    for it, name in comments(header):
+        if not is_later(it, name, header):
+            text[it.start() : it.end()] = re.sub(r"(?m)^ *\*", lambda star: " " * len(star[0]), it[0])
+    return re.sub(r"/\*|\*/|//", "  ", "".join(text))
+
+
+def wrong_words(text, terms):
+    for say, wrong, fine in terms:
+        for it in wrong.finditer(fine.sub(lambda it: blank(it[0]), text) if fine else text):
+            yield text.count("\n", 0, it.start()) + 1, f"'{' '.join(it[0].split())}' (say: {say})"
+
+
+def long_comments(header):
+    """lines of the header that are longer than LONGEST_COMMENT because of a comment"""
+    for it, name in comments(header):
+        if is_later(it, name, header):
+            continue
+        first, end = header.count("\n", 0, it.start()), header.count("\n", 0, it.end())
+        for number in range(first, end + 1):
+            length = len(header.split("\n")[number])
+            if length > LONGEST_COMMENT:
+                yield number + 1, f"a comment on a line of {length} characters, more than {LONGEST_COMMENT}"
+
+
+def main():
+    table, bad = terms(read(LIST)), 0
+    for file in COVERED:
+        header = read(file) if file == HEADER else ""
+        text = header_text(header) if header else page_text(file)
+        wrong = sorted([*wrong_words(text, table), *(long_comments(header) if header else ())])
+        for line, why in wrong:
+            print(f"failed {file}:{line}: {why}")
+        if not wrong:
+            print(f"ok {file}: {len(text.split())} words, and none that {LIST} replaces")
+        bad |= bool(wrong)
+    return bad
+
+
+sys.exit(main())
