@@ -50,8 +50,8 @@
  *
  * NULL may stand for `detail`, for `fin`, for a buffer that is to be filled (it has no room then),
  * and for bytes and sizes whose length or count is 0. NULL for an endpoint is the same as one that
- * holds none. Every other NULL is H3_ARGUMENT, and nothing is done (but *endpoint of h3_new holds
- * none): bytes or sizes whose length or count is not 0, a configuration, any other result.
+ * holds none. Every other NULL is H3_ARGUMENT, and nothing is done: bytes or sizes whose length or
+ * count is not 0, a configuration, any other result.
  *
  * THREADS
  *
