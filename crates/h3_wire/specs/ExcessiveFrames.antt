@@ -31,6 +31,15 @@ abbrev pub head_said : Option (ℕ × List ℕ) → Option (ℕ × ℕ)
 head_said None = None
 head_said (Some p) = Some (p.0, length_said (varint_at p.1))
 
+-- and what that tells of the limit and of the type
+abbrev pub tells_too_much : ℕ → Option (ℕ × ℕ) → Bool
+tells_too_much most None = false
+tells_too_much most (Some h) = is_kept_whole h.0 && nat_lt most h.1
+
+abbrev pub tells_type : ℕ → Option (ℕ × ℕ) → Bool
+tells_type kind None = false
+tells_type kind (Some h) = h.0 == kind
+
 -- The bytes begin with HEADERS (RFC 9114, section 7.2.2)
 abbrev pub begins_section : List ℕ → Bool
 begins_section bytes = is_of_type 1 (varint_at bytes)

@@ -6,7 +6,7 @@ use Rattle.h3_coding.specs.VarintLaws.{cases_number, reads_more}
 use Rattle.h3_proto.specs.Config.{is_limit}
 use Rattle.h3_proto.specs.Settings.{settings_of}
 use Rattle.h3_proto.specs.declared.frame.SettingsError.{SettingsError}
-use Rattle.h3_wire.specs.ExcessiveFrames.{begins_section, head_said, is_kept_whole, is_of_type, is_too_long, length_said, says_too_much, is_excessive}
+use Rattle.h3_wire.specs.ExcessiveFrames.{begins_section, head_said, is_kept_whole, is_of_type, is_too_long, length_said, says_too_much, is_excessive, tells_too_much, tells_type}
 use Rattle.h3_wire.specs.FrameLaws.{at_no_kind, at_no_number, at_head}
 use Rattle.h3_wire.specs.Fronts.{IsFinished, IsKept, IsKnown}
 use Rattle.h3_wire.specs.Frames.{Front, Whole, Unknown, Refused, Unfinished, alone, one_number, settings_frame, promise_frame, is_http2, frame_of, with_head, frame_at}
@@ -213,14 +213,6 @@ pub waiting_says : (kind number : ℕ) (bytes mid behind : List ℕ) → is_kept
 waiting_says kind number bytes mid behind none other e k short = whole_says kind number bytes mid behind (stays_unknown kind number bytes mid behind none other e k short) e k
 
 -- **What is too long, and what is a field section, is told by it.**
-abbrev pub tells_too_much : ℕ → Option (ℕ × ℕ) → Bool
-tells_too_much most None = false
-tells_too_much most (Some h) = is_kept_whole h.0 && nat_lt most h.1
-
-abbrev pub tells_type : ℕ → Option (ℕ × ℕ) → Bool
-tells_type kind None = false
-tells_type kind (Some h) = h.0 == kind
-
 pub excess_told : (most : ℕ) (bytes : List ℕ) (o : Option (ℕ × ℕ)) → is_limit most ≡ true → o ≡ head_said (varint_at bytes) → tells_too_much most o ≡ is_excessive most bytes
 excess_told most bytes o limit e = ap (tells_too_much most) e ∙ by_kind (varint_at bytes) ∙ sym (ap (λ b. b && says_too_much most (varint_at bytes)) limit)
   where
