@@ -69,6 +69,10 @@ static void of_pointers(h3_endpoint *e, uint64_t id) {
   IS(h3_new(NULL, &c, NULL), H3_ARGUMENT);
   IS(h3_new(&none, NULL, NULL), H3_ARGUMENT);
   HOLDS(!none.at);
+  h3_endpoint live = *e;
+  uint64_t untouched = 7;
+  IS(h3_new(&live, NULL, &untouched), H3_ARGUMENT);
+  HOLDS(live.at == e->at && untouched == 7);
   h3_free(NULL);
   IS(h3_pull(NULL, id, NULL), H3_NO_ENDPOINT);
   IS(h3_finish(NULL, id, NULL), H3_NO_ENDPOINT);
@@ -177,7 +181,7 @@ static void of_sizes(void) {
     e.at = &c;
     detail = 9;
     IS(h3_new(&e, &c, &detail), H3_ARGUMENT);
-    HOLDS(!e.at && detail == 0);
+    HOLDS(e.at == &c && detail == 0); /* what it held stays */
   }
   /* as of a program whose header knew the first numbers alone, at the end of its memory */
   for (size_t count = 1; count <= ALL; count++) {
