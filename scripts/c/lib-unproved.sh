@@ -1,17 +1,23 @@
 #!/usr/bin/env bash
-# Builds the library for C from the same sources without their proofs (scripts/c/unproved.py), into build/c-unproved, and marks it there:
-# in the file UNPROVED and in the package files. build/c, which `make lib` makes, is left alone.
+# Builds the library for C from the same sources without their proofs (scripts/c/unproved.py), into build/c-unproved, and marks it there: in the file
+# UNPROVED and in the package files. build/c, which `make lib` makes, is left alone. As there, sources are compiled once.
 set -euo pipefail
 cd "$(dirname "$0")/../.."
 bash scripts/dev/need.sh rt
 
 room=$(mktemp -d)
 trap 'rm -rf "$room"' EXIT
+archive=$room/libbeanwhile_h3.a
 sources=$(bash scripts/c/sources.sh)
-echo "compiling crates/h3_c and what it stands on, without their proofs: one or two minutes" >&2
-if ! bash scripts/dev/watched.sh "$room/log" python3 scripts/c/unproved.py "$room/libbeanwhile_h3.a"; then
-  echo "h3_c was not built" >&2
-  exit 1
+if bash scripts/c/made_of.sh is build/c-unproved "$sources"; then
+  echo "build/c-unproved was compiled of these very sources: they are not compiled again" >&2
+  cp -p build/c-unproved/libbeanwhile_h3.a "$archive"
+else
+  echo "compiling crates/h3_c and what it stands on, without their proofs: one or two minutes" >&2
+  if ! bash scripts/dev/watched.sh "$room/log" python3 scripts/c/unproved.py "$archive"; then
+    echo "h3_c was not built" >&2
+    exit 1
+  fi
 fi
-bash scripts/c/library_folder.sh "$room/libbeanwhile_h3.a" build/c-unproved unproved
+bash scripts/c/library_folder.sh "$archive" build/c-unproved unproved
 [ "$(bash scripts/c/sources.sh)" != "$sources" ] || bash scripts/c/made_of.sh write build/c-unproved "$sources"
