@@ -8,7 +8,10 @@ bash scripts/dev/need.sh rt
 room=$(mktemp -d)
 trap 'rm -rf "$room"' EXIT
 archive=$room/libbeanwhile_h3.a
-sources=$(bash scripts/c/sources.sh)
+sources_now() { # a library with fewer tests (scripts/c/unproved.py) is another one
+  echo "$(bash scripts/c/sources.sh)${UNTESTED:+-untested}"
+}
+sources=$(sources_now)
 if bash scripts/c/made_of.sh is build/c-unproved "$sources"; then
   echo "build/c-unproved was compiled of these very sources: they are not compiled again" >&2
   cp -p build/c-unproved/libbeanwhile_h3.a "$archive"
@@ -20,4 +23,4 @@ else
   fi
 fi
 bash scripts/c/library_folder.sh "$archive" build/c-unproved unproved
-[ "$(bash scripts/c/sources.sh)" != "$sources" ] || bash scripts/c/made_of.sh write build/c-unproved "$sources"
+[ "$(sources_now)" != "$sources" ] || bash scripts/c/made_of.sh write build/c-unproved "$sources"
