@@ -21,7 +21,7 @@ END
 work=$(mktemp -d)
 log=$work/log
 pids=()
-leave() { # what runs in a root ends too
+leave() {
   for pid in "${pids[@]}"; do kill "$pid" 2> /dev/null && wait "$pid" 2> /dev/null; done
   rm -rf "$work"
 }
