@@ -77,7 +77,7 @@ in_root() { # ROOT
   cp "$from"/* "$try/dist"
   cp -r examples/start "$try/start"
   cp docs/INSTALL.md scripts/dist/inside.sh tests/c/endpoint.cpp "$try"
-  inside "$1" timeout -k 5 1800 bash /root/try/inside.sh
+  (run=exec; inside "$1" timeout -k 5 1800 bash /root/try/inside.sh)
 }
 
 listens() { grep -qi ":$(printf %04X "$1") " /proc/net/udp; }

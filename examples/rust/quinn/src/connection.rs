@@ -136,9 +136,12 @@ impl Connection {
             }
             Next::Pause(_) => return Ok(None),
         };
-        if let (Item::Fault(fault), Some(mut stream)) = (&item, self.sending.remove(&id)) {
-            let _ = stream.reset(VarInt::from_u64(fault.code(self.is_server))?);
-            let _ = self.h3.reset(id);
+        if let Item::Fault(fault) = &item {
+            let code = VarInt::from_u64(fault.code(self.is_server))?;
+            if let Some(mut stream) = self.sending.remove(&id) {
+                let _ = stream.reset(code);
+                let _ = self.h3.reset(id);
+            }
         }
         Ok(Some(item))
     }
