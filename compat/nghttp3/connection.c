@@ -21,8 +21,8 @@ static h3_config config_of(bool is_server, const nghttp3_settings *settings) {
   h3_config_default(&config);
   config.server = is_server;
   config.max_field_section_size = most_section;
-  config.unfinished_limit = 4 * most_section > LEAST_UNFINISHED ? 4 * most_section : LEAST_UNFINISHED;
   config.table = settings->qpack_max_dtable_capacity;
+  if (most_section < LEAST_UNFINISHED / 4 && config.table < LEAST_UNFINISHED / 4) config.unfinished_limit = LEAST_UNFINISHED;
   config.blocked = settings->qpack_blocked_streams;
   config.encoder_table = settings->qpack_encoder_max_dtable_capacity;
   config.extended_connect = is_server && settings->enable_connect_protocol;

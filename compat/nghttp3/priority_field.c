@@ -1,8 +1,6 @@
-/* priority_field.c: the value of a `priority` field: a dictionary of structured fields (RFC 8941, section 3.2; RFC 9651 adds two types),
- * of which the members u and i count (RFC 9218, section 4). The whole value has to be well-formed, else it is ignored.
- *
- * TO BE REPLACED by the library's parser, which is proved, as soon as h3.h exports it: this is the one file that parses bytes of the
- * peer's. */
+/* priority_field.c: the value of a `priority` field as nghttp3 of this version reads it for an application that asks
+ * (nghttp3_pri_parse_priority): a dictionary of structured fields (RFC 8941, section 3.2; RFC 9651 adds two types), of which the members
+ * u and i count (RFC 9218, section 4). The fields of a peer's requests are read by h3_priority_read. */
 #include <string.h>
 #include "connection.h"
 

@@ -33,17 +33,17 @@ static int refuse_message(nghttp3_conn *connection, stream *s, uint64_t code) {
 
 /* The code of a malformed message (RFC 9114, sections 4.1 and 4.1.2). Numbers after those of h3.h's rules for messages are of limits. */
 static uint64_t code_of_malformation(const nghttp3_conn *connection, uint64_t malformation) {
-  if (malformation > H3_NO_TRAILER_FIELD) return NGHTTP3_H3_EXCESSIVE_LOAD;
+  if (malformation == H3_TOO_LONG) return NGHTTP3_H3_EXCESSIVE_LOAD;
   return connection->is_server && malformation == H3_NO_HEAD ? NGHTTP3_H3_REQUEST_INCOMPLETE : NGHTTP3_H3_MESSAGE_ERROR;
 }
 
 /* ---- items ---- */
 
-/* A request's `priority` field counts until its application sets another one (RFC 9218, section 5). */
+/* A request's `priority` field counts until its application sets another one (RFC 9218, section 5). It is read by the library's parser. */
 static void read_priority(nghttp3_conn *connection, stream *s, nghttp3_vec value) {
-  priority to = {.urgency = NGHTTP3_DEFAULT_URGENCY};
-  if (connection->is_server && !s->is_prioritized && priority_field_parse(&to, value.base, value.len))
-    stream_set_priority(connection, s, to);
+  uint32_t urgency, incremental;
+  if (connection->is_server && !s->is_prioritized && h3_priority_read(value.base, value.len, &urgency, &incremental) == H3_OK)
+    stream_set_priority(connection, s, (priority){urgency, incremental != 0});
 }
 
 static int tell_field(nghttp3_conn *connection, stream *s, nghttp3_rcbuf *name, nghttp3_rcbuf *value, bool is_trailer) {
