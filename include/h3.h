@@ -525,16 +525,22 @@ static inline uint32_t h3_end_taken(h3_endpoint *endpoint, uint64_t id);
  * is a fault). (If the copy of the bytes fails, H3_MEMORY comes first.) */
 static inline uint32_t h3_deliver(h3_endpoint *endpoint, uint64_t id, const void *bytes, size_t len, uint64_t *detail);
 
-/* Bytes came on a stream, as by h3_deliver, with no copy on a request stream: the library reads them where they lie. The caller leaves them there
- * unchanged until h3_keep of the stream answered H3_OK; or `unread` of h3_stream is 0, and the item that was pulled last is none of the stream's (as
- * behind a pause, unless a frame is cut or a head waits); or h3_pull of the stream answered H3_END or a fault that is not H3_FAULT_MEMORY; or
- * h3_cancel or h3_deliver_reset of it answered H3_OK, or the connection has a fault (H3_CLOSED, H3_CONNECTION), and h3_pull was called since; or
- * the endpoint was freed. H3_KEPT and a refused call keep none of them. Refused as h3_deliver. */
+/* Delivers bytes as h3_deliver does, with no copy on a request stream: the library reads yours.
+ * Leave them unchanged until one of these holds:
+ *   h3_keep of the stream returned H3_OK;
+ *   `unread` of h3_stream is 0, and the item that was pulled last is not of this stream (as after a
+ *     pause, unless a frame is incomplete or a header section waits);
+ *   h3_pull of the stream returned H3_END, or a fault that is not H3_FAULT_MEMORY;
+ *   h3_cancel or h3_deliver_reset of the stream returned H3_OK, or the connection has a fault
+ *     (H3_CLOSED, H3_CONNECTION), and h3_pull was called since;
+ *   the endpoint was freed.
+ * After H3_KEPT or a refusal the library reads none of them. Refused as h3_deliver. */
 static inline uint32_t h3_deliver_lent(h3_endpoint *endpoint, uint64_t id, const void *bytes, size_t len, uint64_t *detail);
 
-/* Copies what is still held of the bytes that were lent on a stream, and the item that was pulled last: the caller may let the bytes go. To be called
- * behind h3_deliver_lent and its pulls where `unread` is not 0. It changes what no call answers. Refused: H3_ARGUMENT (id not below 2^62), H3_MEMORY (call
- * again, or leave the bytes). */
+/* Copies what is still held of the bytes that were lent on a stream, and the item that was pulled
+ * last: then you may free the bytes. Call it after h3_deliver_lent and its pulls if `unread` is not
+ * 0. No later result changes by it. Refused: H3_ARGUMENT (id not below 2^62), H3_MEMORY (repeat the
+ * call, or leave the bytes). */
 static inline uint32_t h3_keep(h3_endpoint *endpoint, uint64_t id);
 
 /* The end of a stream came (FIN). Refused as bytes are. */
