@@ -1,6 +1,7 @@
 #!/usr/bin/env bash
-# test-bindings.sh FOLDER: the packages for Go and Rust (bindings) over the library in FOLDER, by the machine's go and cargo or rustc, with no registry: their tests, and
-# a program that stands outside and imports them. One line 'ok NAME' or 'failed NAME' each; a language that the machine lacks is left out, with a line that says so.
+# test-bindings.sh FOLDER: the packages for Go, Rust and Python (bindings) over the library in FOLDER, by the machine's go, cargo and
+# python3, with no registry: their tests, and a program that stands outside and imports them. One line 'ok NAME' or 'failed NAME' each; a
+# language that the machine lacks is left out, with a line that says so.
 set -uo pipefail
 cd "$(dirname "$0")/../.."
 folder=$(realpath "$1")
@@ -84,7 +85,34 @@ END
   (cd "$work/crate" && cargo run --offline --quiet --target-dir "$work/target")
 }
 
-command -v pkg-config > /dev/null || { echo "left out: bindings, which want pkg-config" >&2; exit 0; }
+python_package() {
+  PYTHONPATH=bindings/python BEANWHILE_H3_LIBRARY=$folder/libbeanwhile_h3.so.1 PYTHONDONTWRITEBYTECODE=1 \
+    python3 -W error -m unittest discover -s bindings/python/tests
+}
+
+# examples/start/main.py in a folder of its own, where a wheel would put the package, with the library inside
+python_caller() {
+  mkdir -p "$work/site"
+  cp -r bindings/python/beanwhile_h3 "$work/site" && cp "$folder/libbeanwhile_h3.so.1" "$work/site/beanwhile_h3" && cp examples/start/main.py "$work/site" &&
+    (cd "$work/site" && env -u PYTHONPATH -u BEANWHILE_H3_LIBRARY python3 main.py) | cmp - examples/start/printed
+}
+
+python_types() {
+  (cd bindings/python && python3 -m mypy --cache-dir "$work/mypy" beanwhile_h3 tests ../../examples/start/main.py)
+}
+
+if python3 -c 'import sys; sys.exit(sys.version_info < (3, 11))' 2> /dev/null; then
+  check "bindings/python: its tests" python_package
+  check "bindings/python: a program that imports it" python_caller
+  if python3 -c 'import mypy' 2> /dev/null; then
+    check "bindings/python: its types" python_types
+  else
+    echo "left out: the types of bindings/python, which want mypy (Debian: apt-get install mypy)" >&2
+  fi
+else
+  echo "left out: bindings/python, which wants Python 3.11 or later (Debian: apt-get install python3)" >&2
+fi
+command -v pkg-config > /dev/null || { echo "left out: bindings for Go and Rust, which want pkg-config" >&2; exit "$bad"; }
 if command -v go > /dev/null; then
   check "bindings/go: its tests" go_package
   check "bindings/go: a module that imports it" go_caller

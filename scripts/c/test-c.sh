@@ -4,8 +4,8 @@
 # a stream and of small pieces, unknown frames, long instructions, wrong arguments, bytes that are lent, pulled lists, and the program of
 # docs/TUTORIAL.md. Once as they are, and once with the sanitizers of addresses, leaks and undefined behaviour where the compiler has them
 # (large input, memory: once). Then h3.hpp, by C++17 and C++20; the binary interface (scripts/c/abi.py); how programs find the library
-# (scripts/c/test-install.sh); and the packages for Go and Rust (scripts/c/test-bindings.sh). One line 'ok NAME' or 'failed NAME' for each;
-# the last is the sum. With LIB=FOLDER the library in that folder is taken, as that of `make lib-unproved`, and none is built.
+# (scripts/c/test-install.sh); and the packages for Go, Rust and Python (scripts/c/test-bindings.sh). One line 'ok NAME' or 'failed NAME'
+# for each; the last is the sum. With LIB=FOLDER the library in that folder is taken, as that of `make lib-unproved`, and none is built.
 # Beside these: lists between two endpoints with the defaults, frames above the limit, early cancellations, what `detail` says, COUNT=60000
 # pairs of random programs (in C++), and a short run of the fuzzers (scripts/c/fuzz.sh).
 set -uo pipefail

@@ -1,10 +1,13 @@
 #!/usr/bin/env python3
 """Compares include/h3.h with the exports of crates/h3_c, which nothing else does: each declaration with the export of its name, each struct with the
 `#[repr(C)]` struct that crosses, the numbers of refusals and kinds with those that the crate answers, each function that programs call with the
-export that it calls, and all of these with what bindings/rust has of them by hand; and each call has to stand in tests/c/sizes.c. Prints a line 'ok NAME' or 'failed NAME' for each of these."""
+export that it calls, and all of these with what bindings/rust and bindings/python (python_binding.py) have of them by hand; and each call has to stand in
+tests/c/sizes.c. Prints a line 'ok NAME' or 'failed NAME' for each of these."""
 import glob
 import re
 import sys
+
+import python_binding
 
 TYPES = {"u8": "uint8_t", "u32": "uint32_t", "u64": "uint64_t", "usize": "size_t", "Handle": "h3_endpoint", "FieldSize": "h3_field_size",
          "PulledItem": "h3_item", "StreamState": "h3_stream_state", "ConnectionState": "h3_state"}
@@ -176,6 +179,10 @@ def main():
     tell(len(bound) == len(declared) - 5 and not wrong, "the declarations of bindings/rust are its own, but for lent bytes and pulls that make a map", wrong)
     wrong = rust_numbers(header)
     tell(not wrong, "the numbers of bindings/rust are its own", wrong)
+    wrong = [*python_binding.wrong_declarations(declared), *python_binding.wrong_structs(here)]
+    tell(not wrong, "the declarations and structs of bindings/python are its own, but for lent bytes and calls that make a map", wrong)
+    wrong = python_binding.wrong_numbers(header, numbers, here)
+    tell(not wrong, "the numbers of bindings/python are its own", wrong)
     code, answers = open("crates/h3_c/src/numbers.rt").read(), numbers(header, "h3_answer")
     told = {snake(name): int(n) for name, n in re.findall(r"Refusal::(\w+)(?:\(\w+\))? => (?:plain|with)\((\d+)", code)}
     told.update({f"H3_{name}": int(n) for name, n in re.findall(r"const (\w+): Told = Told \{\s+number: (\d+),", code)})

@@ -1,0 +1,72 @@
+"""What an endpoint is and announces."""
+
+import ctypes
+import dataclasses
+from typing import Any, Self
+
+from . import raw
+
+
+@dataclasses.dataclass(kw_only=True, slots=True)
+class Config:
+    """`h3_config`: what an endpoint is and announces. Begin with `Config.client()` or `Config.server()`, since a later version may have more
+    fields, and set what differs:
+
+        config = Config.server()
+        config.max_field_section_size = 16_384
+    """
+
+    max_field_section_size: int
+    """The largest field section that is accepted, in bytes (RFC 9114, section 4.2.2)."""
+    max_webtransport_sessions: int
+    """How many sessions of WebTransport are announced."""
+    table: int
+    """Capacity of the local decoder's dynamic table in bytes; 0: no table."""
+    blocked: int
+    """How many streams may wait for insertions into it."""
+    grease: int
+    """Which reserved setting is sent, with `send_grease`: a random number below 0x210842108421083."""
+    is_server: bool
+    """This side accepted the connection."""
+    send_grease: bool
+    """A reserved setting is sent (RFC 9114, section 7.2.4.1)."""
+    webtransport: bool
+    """WebTransport is announced."""
+    extended_connect: bool
+    """Extended CONNECT is announced (RFC 9220)."""
+    datagram: bool
+    """HTTP datagrams are announced (RFC 9297)."""
+    strict: bool
+    """Messages are checked by RFC 9114, sections 4.1.2 and 4.2 to 4.5."""
+    count_acknowledgments: bool
+    """A section acknowledgment tells the local encoder that insertions arrived (RFC 9204, section 2.1.4)."""
+    encoder_table: int
+    """The most bytes of the local encoder's dynamic table; 0: it uses none."""
+    economical_table: bool
+    """The local encoder avoids inserting fields that are not repeated."""
+    unfinished_limit: int
+    """The longest frame but DATA, in bytes, that is kept until it is whole; 0: the least limit. h3.h says what a longer one does."""
+
+    @classmethod
+    def client(cls) -> Self:
+        """A client with the limits of `h3_config_default`, which fit an untrusted peer."""
+        numbers = (ctypes.c_uint64 * NUMBERS)()
+        raw.library().h3_raw_config_default(numbers, NUMBERS)
+        given: dict[str, Any] = {}
+        for it, number in zip(dataclasses.fields(cls), numbers[1:], strict=True):
+            given[it.name] = number != 0 if it.type is bool else number
+        return cls(**given)
+
+    @classmethod
+    def server(cls) -> Self:
+        """A server with the same limits."""
+        config = cls.client()
+        config.is_server = True
+        return config
+
+    def numbers(self) -> list[int]:
+        """The numbers of `h3_config`, its size first."""
+        return [8 * NUMBERS, *(int(getattr(self, it.name)) for it in dataclasses.fields(self))]
+
+
+NUMBERS = 1 + len(dataclasses.fields(Config))

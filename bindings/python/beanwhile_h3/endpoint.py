@@ -1,0 +1,320 @@
+"""One endpoint of a connection."""
+
+import ctypes
+import threading
+from collections.abc import Callable, Iterable, Iterator
+from ctypes import byref, c_size_t, c_uint32, c_uint64
+from types import TracebackType
+from typing import Self
+
+from . import raw
+from .config import NUMBERS, Config
+from .errors import Answer, Malformation, refused
+from .items import (
+    Body,
+    Canceled,
+    End,
+    Field,
+    Head,
+    Interim,
+    Item,
+    Kind,
+    Malformed,
+    NoMessages,
+    Pause,
+    Pending,
+    Raw,
+    Reset,
+    Session,
+    TooLargeHead,
+    Trailer,
+    Waiting,
+)
+from .state import ConnectionState, PeerLimits, StreamState
+
+Bytes = bytes | bytearray | memoryview
+
+
+def _as_bytes(data: Bytes) -> bytes:
+    return data if isinstance(data, bytes) else bytes(memoryview(data))
+
+
+def _number(value: int) -> int:
+    """The value, if 64 bits hold it: ctypes would cut it."""
+    if not 0 <= value < 1 << 64:
+        raise refused(Answer.ARGUMENT)
+    return value
+
+
+def _listed(fields: Iterable[tuple[Bytes, Bytes]]) -> tuple[ctypes.Array[raw.FieldSize], int, bytes]:
+    """A list of fields as the library takes it: the sizes, how many fields they are, and all bytes."""
+    parts = [_as_bytes(part) for name, value in fields for part in (name, value)]
+    if any(len(part) >> 32 for part in parts):
+        raise refused(Answer.ARGUMENT)
+    count = len(parts) // 2
+    sizes = (raw.FieldSize * max(count, 1))(*(raw.FieldSize(len(parts[at]), len(parts[at + 1])) for at in range(0, 2 * count, 2)))
+    return sizes, count, b"".join(parts)
+
+
+class Endpoint:
+    """One endpoint of an HTTP/3 connection. Its settings wait on its control stream as soon as it is made.
+
+    A call that is refused raises `Refused`; its documentation names the answers. Each call with an id raises `Answer.ARGUMENT` if the id is
+    2^62 or more. Only one call at a time is made on an endpoint, by a lock: threads may share it. `close` frees it, and so do `with` and the
+    garbage collector; every call after that raises `Answer.NO_ENDPOINT`."""
+
+    def __init__(self, config: Config) -> None:
+        """Raises `Answer.ARGUMENT` (the value of `grease`), `TABLE_LIMIT`, `BLOCKED_LIMIT`, `SETTING`, `UNFINISHED_LIMIT`, `MEMORY`."""
+        self._handle = raw.Handle()
+        self._lock = threading.RLock()
+        self._library = raw.library()
+        self.is_server = bool(config.is_server)
+        numbers, detail = (c_uint64 * NUMBERS)(*map(_number, config.numbers())), c_uint64()
+        answer = self._library.h3_raw_new(numbers, NUMBERS, byref(detail), byref(self._handle))
+        if answer:
+            raise refused(answer, detail.value)
+
+    def close(self) -> None:
+        """Frees the endpoint. A second call does nothing."""
+        with self._lock:
+            if self._handle.at:
+                self._library.h3_raw_free(self._handle)
+                self._handle.at = None
+
+    def __enter__(self) -> Self:
+        return self
+
+    def __exit__(self, kind: type[BaseException] | None, error: BaseException | None, trace: TracebackType | None) -> None:
+        self.close()
+
+    def __del__(self) -> None:
+        if hasattr(self, "_library"):  # else there is no library
+            self.close()
+
+    def _answer(self, name: str, *arguments: object) -> int:
+        """What an export returns. It gets the handle, and writes the handle for the next call."""
+        with self._lock:
+            if not self._handle.at:
+                raise refused(Answer.NO_ENDPOINT)
+            answer: int = getattr(self._library, name)(self._handle, *arguments, byref(self._handle))
+            return answer
+
+    def _call(self, name: str, *arguments: object) -> None:
+        """A call with a detail."""
+        detail = c_uint64()
+        answer = self._answer(name, *arguments, byref(detail))
+        if answer:
+            raise refused(answer, detail.value)
+
+    def _plain_call(self, name: str, *arguments: object) -> None:
+        """A call that has no detail."""
+        answer = self._answer(name, *arguments)
+        if answer:
+            raise refused(answer)
+
+    def _delivery(self, name: str, *arguments: object) -> None:
+        """A delivery, which is taken too if an allocation failed while it was read (`H3_KEPT`)."""
+        detail = c_uint64()
+        answer = self._answer(name, *arguments, byref(detail))
+        if answer not in (Answer.OK, Answer.KEPT):
+            raise refused(answer, detail.value)
+
+    def _found(self, name: str, number: int) -> int | None:
+        """A number that a call finds, or None."""
+        found = c_uint64()
+        answer = self._answer(name, _number(number), byref(found))
+        if answer not in (Answer.OK, Answer.NONE):
+            raise refused(answer)
+        return None if answer else found.value
+
+    # ---- sending ----
+
+    def open_request(self) -> int:
+        """Opens a client's next request, and returns the id of its stream: 0, 4, 8, .. Call it before QUIC opens the stream.
+
+        Raises `Answer.CLOSED`, `NOT_CLIENT`, `GOING_AWAY`, `IDS_USED_UP`, `MEMORY`."""
+        id = c_uint64()
+        self._call("h3_raw_open_request", byref(id))
+        return id.value
+
+    def next_request_id(self) -> int:
+        """The id that `open_request` returns next. It opens nothing.
+
+        Raises what `open_request` raises, except `Answer.MEMORY`."""
+        id = c_uint64()
+        self._call("h3_raw_next_request_id", byref(id))
+        return id.value
+
+    def send_fields(self, id: int, fields: Iterable[tuple[Bytes, Bytes]]) -> None:
+        """Sends a header section as the list that it is given as: put pseudo-header fields in front, each once. A response with a status
+        from 100 to 199 is an interim one, after which another one is sent.
+
+        Raises `Answer.CLOSED`, `NOT_OPEN`, `OUT_OF_ORDER`, `FIELD_NAME`, `FIELD_VALUE`, `FIELD_COUNT`, `WRONG_SIDE`, `MALFORMED` (a strict
+        endpoint), `TOO_LARGE`, `MEMORY`. Nothing was sent then."""
+        sizes, count, data = _listed(fields)
+        self._call("h3_raw_send_fields", _number(id), sizes, count, data, len(data))
+
+    def send_trailer_fields(self, id: int, fields: Iterable[tuple[Bytes, Bytes]]) -> None:
+        """Sends a trailer section as the list that it is given as. Send no empty one: finish the stream.
+
+        Raises what `send_fields` raises, but `Answer.PSEUDO_IN_TRAILER` in place of `WRONG_SIDE`."""
+        sizes, count, data = _listed(fields)
+        self._call("h3_raw_send_trailer_fields", _number(id), sizes, count, data, len(data))
+
+    def send_body(self, id: int, data: Bytes) -> None:
+        """Sends a piece of a body, as one DATA frame.
+
+        Raises `Answer.CLOSED`, `NOT_OPEN`, `OUT_OF_ORDER`, `MALFORMED` (a strict endpoint: more than content-length says), `MEMORY`."""
+        data = _as_bytes(data)
+        self._call("h3_raw_send_body", _number(id), data, len(data))
+
+    def finish(self, id: int) -> None:
+        """The message is whole: FIN follows what waits.
+
+        Raises `Answer.CLOSED`, `NOT_OPEN`, `OUT_OF_ORDER`, `MALFORMED` (a strict endpoint: less than content-length says)."""
+        self._call("h3_raw_finish", _number(id))
+
+    def reset(self, id: int) -> None:
+        """Sending on a stream ends here, and what waits is dropped: QUIC sends RESET_STREAM.
+
+        Raises `Answer.CLOSED`, `CRITICAL`, `NOT_OPEN`, `ENDED` (nothing is left to be sent)."""
+        self._call("h3_raw_reset", _number(id))
+
+    def cancel(self, id: int) -> None:
+        """Nothing more is needed of a request stream: QUIC sends STOP_SENDING, and the next item is `Canceled`.
+
+        Raises `Answer.CLOSED`, `CRITICAL`, `NOT_OPEN`, `ENDED` (its end was delivered, or it was canceled), `MEMORY`."""
+        self._call("h3_raw_cancel", _number(id))
+
+    def goaway(self, id: int) -> None:
+        """A server processes no request from this id on (a multiple of 4), a client no push (RFC 9114, section 5.2).
+
+        Raises `Answer.CLOSED`, `NOT_REQUEST_ID`, `RAISED`, `MEMORY`."""
+        self._call("h3_raw_goaway", _number(id))
+
+    # ---- what waits to be sent ----
+
+    def next_waiting(self, start: int = 0) -> int | None:
+        """The lowest stream id from `start` on on which bytes wait."""
+        return self._found("h3_raw_next_waiting", start)
+
+    def next_to_send(self, start: int = 0) -> int | None:
+        """The lowest stream id from `start` on on which bytes wait, or an end that `end_taken` did not name yet."""
+        return self._found("h3_raw_next_to_send", start)
+
+    def outgoing(self, id: int, most: int | None = None) -> tuple[bytes, bool]:
+        """The first bytes that wait on a stream, all or at most so many, and whether the stream ends after them. They wait until `advance`."""
+        with self._lock:
+            waiting = self.stream(id).waiting
+            room = waiting if most is None else min(_number(most), waiting)
+            buffer, count, end = ctypes.create_string_buffer(max(room, 1)), c_size_t(), c_uint32()
+            self._plain_call("h3_raw_outgoing", id, buffer, room, byref(count), byref(end))
+        return buffer.raw[: count.value], end.value == 1
+
+    def advance(self, id: int, count: int) -> None:
+        """QUIC took so many bytes of a stream: any count of those that wait.
+
+        Raises `Answer.ARGUMENT`: fewer bytes wait."""
+        self._plain_call("h3_raw_advance", _number(id), _number(count))
+
+    def end_taken(self, id: int) -> bool:
+        """QUIC took the FIN of a stream: `next_to_send` names it no longer. False: no end was next."""
+        answer = self._answer("h3_raw_end_taken", _number(id))
+        if answer not in (Answer.OK, Answer.NONE):
+            raise refused(answer)
+        return answer == Answer.OK
+
+    # ---- what came ----
+
+    def deliver(self, id: int, data: Bytes) -> None:
+        """Bytes came on a stream, after those that came before. They were taken too if an allocation failed while they were read (`H3_KEPT`):
+        the next delivery or item reads on.
+
+        Raises `ConnectionFault` (`Answer.CONNECTION`: close the connection with its code), `Answer.NOT_RECEIVING`, `NOT_OPEN`, `AFTER_END`,
+        `MEMORY` (nothing was taken: deliver again)."""
+        data = _as_bytes(data)
+        self._delivery("h3_raw_deliver", _number(id), data, len(data))
+
+    def deliver_end(self, id: int) -> None:
+        """The stream's FIN came. Raises what `deliver` raises."""
+        self._delivery("h3_raw_deliver_end", _number(id))
+
+    def deliver_reset(self, id: int, code: int) -> None:
+        """RESET_STREAM came with this code. Raises what `deliver` raises; `Answer.AFTER_END` is normal if it came late."""
+        self._delivery("h3_raw_deliver_reset", _number(id), _number(code))
+
+    def next_item(self, id: int) -> Item | Pause:
+        """What is next on a stream: an item, or a pause. A fault of this stream alone is an item, `Fault`.
+
+        Raises `ConnectionFault`, and `OutOfMemory`: nothing is lost, ask again."""
+        with self._lock:
+            item = raw.RawItem()
+            self._plain_call("h3_raw_pull_fields", _number(id), byref(item))
+            if item.kind == Kind.FAULT_CONNECTION:
+                raise refused(Answer.CONNECTION, item.number)
+            if item.kind == Kind.FAULT_MEMORY:
+                raise refused(Answer.MEMORY)
+            return _READERS[Kind(item.kind)](self, item)
+
+    def items(self, id: int) -> Iterator[Item]:
+        """The items of a stream that are there, up to a pause or to the last one. Raises what `next_item` raises."""
+        while isinstance(item := self.next_item(id), Item):
+            yield item
+            if item.is_last:
+                return
+
+    def _fields(self, item: raw.RawItem) -> list[Field]:
+        """The fields of the item that was pulled last."""
+        sizes, data = (raw.FieldSize * max(item.fields, 1))(), ctypes.create_string_buffer(max(item.len, 1))
+        self._plain_call("h3_raw_item_fields", sizes, item.fields, data, item.len)
+        found, at, everything = [], 0, data.raw
+        for size in sizes[: item.fields]:
+            name, end = at + size.name, at + size.name + size.value
+            found.append((everything[at:name], everything[name:end]))
+            at = end
+        return found
+
+    def _data(self, item: raw.RawItem) -> bytes:
+        """The bytes of the item that was pulled last."""
+        buffer, count = ctypes.create_string_buffer(max(item.len, 1)), c_size_t()
+        self._plain_call("h3_raw_item_bytes", 0, buffer, item.len, byref(count))
+        return buffer.raw[: count.value]
+
+    # ---- what can be read ----
+
+    def stream(self, id: int) -> StreamState:
+        """The state of a stream."""
+        state = raw.RawStream()
+        self._plain_call("h3_raw_stream", _number(id), byref(state))
+        return StreamState(state.waiting, state.unread, state.has_outgoing == 1, state.is_finished == 1, state.is_reset == 1, state.tries)
+
+    def connection(self) -> ConnectionState:
+        """The state of the connection."""
+        state = raw.RawConnection()
+        self._plain_call("h3_raw_connection", byref(state))
+        goaway = state.goaway if state.has_goaway else None
+        peer = PeerLimits(state.peer_table, state.peer_blocked, state.peer_section) if state.has_settings else None
+        return ConnectionState(state.sending_table, state.receiving_table, state.waiting_heads, state.sent, goaway, peer)
+
+    def peer_setting(self, setting: int) -> int | None:
+        """The value of a setting that the peer announced (RFC 9114, section 7.2.4)."""
+        return self._found("h3_raw_peer_setting", setting)
+
+
+# how an item of each kind is read, but of the two faults that are raised
+_READERS: dict[Kind, Callable[[Endpoint, raw.RawItem], Item | Pause]] = {
+    Kind.INTERIM: lambda endpoint, item: Interim(endpoint._fields(item), item.status),
+    Kind.HEAD: lambda endpoint, item: Head(endpoint._fields(item), item.status or None),
+    Kind.BODY: lambda endpoint, item: Body(endpoint._data(item)),
+    Kind.TRAILER: lambda endpoint, item: Trailer(endpoint._fields(item)),
+    Kind.TOO_LARGE_HEAD: lambda _, item: TooLargeHead(item.number),
+    Kind.SESSION: lambda _, item: Session(item.number),
+    Kind.RAW: lambda endpoint, item: Raw(endpoint._data(item)),
+    Kind.END: lambda _, item: End(),
+    Kind.PENDING: lambda _, item: Pending(),
+    Kind.WAITING: lambda _, item: Waiting(item.number),
+    Kind.NO_MESSAGES: lambda _, item: NoMessages(),
+    Kind.FAULT_MALFORMED: lambda _, item: Malformed(Malformation(item.number)),
+    Kind.FAULT_RESET: lambda _, item: Reset(item.number),
+    Kind.FAULT_CANCELED: lambda _, item: Canceled(),
+}
