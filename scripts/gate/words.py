@@ -19,7 +19,8 @@ LIST = "CONTRIBUTING.md"
 HEADER = "include/h3.h"
 COVERED = ["README.md", "CONTRIBUTING.md", "SECURITY.md", "CHANGELOG.md", "docs/QUICKSTART.md", "docs/TUTORIAL.md", "docs/C_API.md",
            "docs/RFC.md", "docs/DIFFERENCES.md", "docs/PERFORMANCE.md", "bindings/go/README.md", "bindings/rust/README.md",
-           "examples/c/README.md", "examples/go/README.md", "examples/rust/README.md", "bindings/python/README.md", "docs/INSTALL.md", "compat/nghttp3/README.md", HEADER]
+           "bindings/python/README.md", "examples/c/README.md", "examples/go/README.md", "examples/rust/README.md", "docs/INSTALL.md",
+           "compat/nghttp3/README.md", HEADER]
 LATER = {"h3_malformation"}
 LONGEST_COMMENT = 100
 FENCE = re.compile(r"^( *)```\w*\n.*?^\1```$", re.M | re.S)
