@@ -10,6 +10,7 @@ enum {
   HELD_LIMIT = 256 * 1024 - 16, /* bytes of a request that the endpoint may hold, just below the window: what fills that never becomes whole. A
                                  * header section of 64 KiB has up to 240 KiB in the Huffman code */
   GRACE = 100,               /* milliseconds that a client has for an answer before it is told to send no more */
+  SECTION_GRACE = 2000,      /* the same for one whose header section is too long, and who may read no answer until it is sent */
   LINGER = 5,                /* seconds of silence behind which a connection that takes no more requests is closed */
   NOTICE = 1                 /* seconds between the first GOAWAY and the last: requests that were on their way come */
 };
@@ -126,10 +127,13 @@ static uint64_t code_of(const http3 *h, uint64_t malformation) {
   return h->setup->server && malformation == H3_NO_HEAD ? H3_CODE_REQUEST_INCOMPLETE : H3_CODE_MESSAGE_ERROR;
 }
 
-/* A request whose header section is longer than the endpoint keeps. No more of it is needed, and the program answers it as one that is too large. */
+/* A request whose header section is longer than the endpoint keeps. No more of it is needed, and the program answers it as one that is too
+ * large. Some clients read no answer until they have sent the section, and fail if they are stopped before: so they may send a window more,
+ * and have some time for it. */
 static void tell_too_long(http3_request *request) {
   http3 *h = request->connection;
-  quic_stop(h->quic, (int64_t)request->entry.id, H3_CODE_EXCESSIVE_LOAD);
+  quic_allow(h->quic, (int64_t)request->entry.id, HELD_LIMIT);
+  request->stop_at = quic_time() + SECTION_GRACE;
   h->setup->events->head(request, &(h3_item){.kind = H3_TOO_LARGE_HEAD});
 }
 
@@ -348,7 +352,8 @@ static void stop_in_time(http3_request *request) {
   uint64_t time = quic_time();
   if (time < request->stop_at) return quic_wake(request->connection->quic, request->stop_at - time);
   request->stop_at = 0;
-  quic_stop(request->connection->quic, (int64_t)request->entry.id, H3_CODE_NO_ERROR);
+  /* a request without a header section is one whose section was too long */
+  quic_stop(request->connection->quic, (int64_t)request->entry.id, request->has_head ? H3_CODE_NO_ERROR : H3_CODE_EXCESSIVE_LOAD);
 }
 
 /* Hands all that waits to QUIC, and more of the bodies, as long as QUIC has room. */

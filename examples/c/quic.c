@@ -211,6 +211,10 @@ void quic_consumed(quic_connection *connection, int64_t id, size_t count) {
   ngtcp2_conn_extend_max_offset(connection->conn, count);
 }
 
+void quic_allow(quic_connection *connection, int64_t id, size_t count) {
+  if (!connection->gone) ngtcp2_conn_extend_max_stream_offset(connection->conn, id, count);
+}
+
 void quic_dropped(quic_connection *connection, size_t count) {
   if (!connection->gone) ngtcp2_conn_extend_max_offset(connection->conn, count);
 }

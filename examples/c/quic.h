@@ -73,6 +73,8 @@ void quic_reset(quic_connection *, int64_t stream, uint64_t code);
 void quic_stop(quic_connection *, int64_t stream, uint64_t code);
 /* The peer may send so many bytes more on this stream: they were consumed. */
 void quic_consumed(quic_connection *, int64_t stream, size_t count);
+/* The peer may send so many bytes more on this stream, but not on the connection: they will be thrown away. */
+void quic_allow(quic_connection *, int64_t stream, size_t count);
 /* The peer may send so many bytes more on the connection, but not on the stream where they came: they were thrown away. */
 void quic_dropped(quic_connection *, size_t count);
 /* `fill` is called again after so many milliseconds at most. It is called by itself behind a packet, a timer, and the calls here. */

@@ -21,8 +21,9 @@ const (
 	streams   = 100        // requests that a client may have at once
 	anyID     = 1<<62 - 4  // the greatest id of a request
 
-	grace  = 100 * time.Millisecond // that a client has for an answer before it is told to send no more
-	notice = time.Second            // between the first GOAWAY and the last: requests that were on their way come
+	grace        = 100 * time.Millisecond // that a client has for an answer before it is told to send no more
+	sectionGrace = 2 * time.Second        // the same where its header section is too long: it may read no answer until that is sent
+	notice       = time.Second            // between the first GOAWAY and the last: requests that were on their way come
 )
 
 // errTooLarge is the fault of a frame that is larger than any that is taken.
@@ -477,12 +478,17 @@ func (r *Request) GiveUp(code quic.StreamErrorCode) {
 
 // Ignore wants nothing more of the request: a server has answered (RFC 9114, section 4.1), and the client need not send the rest. It is told so a
 // little later, so that it reads the answer first: some clients fail where they are stopped in sending.
-func (r *Request) Ignore() {
+func (r *Request) Ignore() { r.ignore(h3.NoError, grace) }
+
+// IgnoreSection does the same where the header section is longer than the endpoint keeps.
+func (r *Request) IgnoreSection() { r.ignore(h3.ExcessiveLoad, sectionGrace) }
+
+func (r *Request) ignore(code quic.StreamErrorCode, after time.Duration) {
 	r.call(func(endpoint *h3.Endpoint) error {
 		defer r.connection.wakeOwn()
 		return endpoint.Cancel(r.id) // refused where the message is over
 	})
-	time.AfterFunc(grace, func() { r.stream.CancelRead(h3.NoError) })
+	time.AfterFunc(after, func() { r.stream.CancelRead(code) })
 }
 
 // Next waits for the next item of the peer's message. quic-go grants credit for what is read, so no more is read of a stream of which the endpoint

@@ -23,6 +23,8 @@ import (
 // linger is how long a client may be silent that has all its answers, and is expected to close.
 const linger = 5 * time.Second
 
+const tooLarge = "the fields are too large\n"
+
 // handler answers one request.
 type handler struct {
 	*Request
@@ -58,6 +60,21 @@ func (h *handler) refuse(status, text string) error {
 		h.Ignore()
 	}
 	return err
+}
+
+// refuseSection answers a request whose header section is longer than the endpoint keeps.
+func (h *handler) refuseSection() error {
+	err := h.text("431", tooLarge)
+	if err == nil {
+		h.IgnoreSection()
+	}
+	return err
+}
+
+// isTooLong says whether a header section is longer than the endpoint keeps.
+func isTooLong(err error) bool {
+	var fault h3.Fault
+	return errors.As(err, &fault) && fault.Kind == h3.FaultMalformed && h3.Malformation(fault.Number) == h3.TooLong
 }
 
 // file answers with a file below the folder.
@@ -111,6 +128,9 @@ func (h *handler) rest() error {
 
 func (h *handler) answer() error {
 	head, err := h.Next()
+	if isTooLong(err) {
+		return h.refuseSection()
+	}
 	if err != nil {
 		return err
 	}
@@ -120,7 +140,7 @@ func (h *handler) answer() error {
 	h.method = value(head, ":method")
 	switch {
 	case head.Kind == h3.TooLargeHead:
-		return h.refuse("431", "the fields are too large\n")
+		return h.refuse("431", tooLarge)
 	case h.method == http.MethodPost:
 		return h.post()
 	case h.method == http.MethodGet || h.method == http.MethodHead:

@@ -1,5 +1,5 @@
-# checks.sh, for scripts/interop/interop_quic.sh and scripts/interop/interop_peers.sh to read in at the top of the repository: what a check is, servers that are ended
-# at the end, a folder that is served and a certificate. Each check prints 'ok NAME' or 'failed NAME'. Sets `work`, a folder that is removed at the end.
+# checks.sh, for interop_*.sh of this folder to read in at the top of the repository: what a check is, servers that are ended at the end, a folder
+# that is served and a certificate. Each check prints 'ok NAME' or 'failed NAME'. Sets `work`, a folder that is removed at the end.
 work=$(mktemp -d)
 failed=0
 pids=()

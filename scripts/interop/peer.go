@@ -8,6 +8,7 @@
 //	peer slow TRUSTED RATE URL                     the body to standard output, read at so many bytes a second
 //	peer head TRUSTED BYTES URL                    a request with a field of so many bytes: the status to standard output
 //	peer put TRUSTED FILE URL                      PUTs a file: the status, and whether all of the file was read
+//	peer beside TRUSTED FILE URL OTHER             on one connection, while URL is read, which gives FILE, requests of OTHER with long fields: lines 'ok CASE', 'failed CASE: WHAT'
 //	peer resets TRUSTED COUNT ADDRESS              COUNT requests on one connection, each reset behind its head; then one whole
 package main
 
@@ -174,6 +175,89 @@ func head(client *http.Client, size int, url string) error {
 	return err
 }
 
+// A field that a request has, and the status of the answer.
+type besideCase struct {
+	name   string
+	text   string
+	repeat int
+	status int
+}
+
+// What a request has beside a download, where the server takes sections of 65,536 bytes (as a list of fields) in frames of at most 262,144. quic-go writes
+// every string in the Huffman code (RFC 7541, appendix B), in which these two characters have 130 bits.
+var besideCases = []besideCase{
+	{"a field of 100,000 bytes in a frame of some 62,600 gives 431", "a", 100000, 431},
+	{"a field of 19,998 bytes in a frame of some 54,200", "漢字", 3333, 200},
+	{"a field of 61,998 bytes in a frame of some 168,000", "漢字", 10333, 200},
+	{"a field of 99,996 bytes in a frame of some 270,900 gives 431", "漢字", 16666, 431},
+	{"a field of 149,994 bytes in a frame of some 406,300 gives 431", "漢字", 24999, 431},
+	{"a field of one byte", "a", 1, 200},
+}
+
+// ask sends a request that has the field.
+func (c besideCase) ask(client *http.Client, url string) error {
+	request, err := http.NewRequest(http.MethodGet, url, nil)
+	if err != nil {
+		return err
+	}
+	request.Header.Set("x-long", strings.Repeat(c.text, c.repeat))
+	answer, err := client.Do(request)
+	if err != nil {
+		return err
+	}
+	defer answer.Body.Close()
+	if answer.StatusCode != c.status {
+		return fmt.Errorf("status %d", answer.StatusCode)
+	}
+	_, err = io.Copy(io.Discard, answer.Body)
+	return err
+}
+
+func say(name string, err error) {
+	if err == nil {
+		fmt.Println("ok", name)
+	} else {
+		fmt.Printf("failed %s: %v\n", name, err)
+	}
+}
+
+// beside begins to read a file that is larger than what the client gives credit for, asks with long fields, and then reads the rest.
+func beside(trusted, name, url, other string) error {
+	file, err := os.ReadFile(name)
+	if err != nil {
+		return err
+	}
+	client, leave := newClient(trusted)
+	defer leave()
+	dials := 0
+	client.Transport.(*http3.RoundTripper).Dial = func(ctx context.Context, address string, config *tls.Config, options *quic.Config) (quic.EarlyConnection, error) {
+		dials++
+		return quic.DialAddrEarlyContext(ctx, address, config, options)
+	}
+	answer, err := client.Get(url)
+	if err != nil {
+		return err
+	}
+	defer answer.Body.Close()
+	first := make([]byte, 100000)
+	if _, err := io.ReadFull(answer.Body, first); err != nil {
+		return err
+	}
+	for _, c := range besideCases {
+		say(c.name, c.ask(client, other))
+	}
+	rest, err := io.ReadAll(answer.Body)
+	if err == nil && !bytes.Equal(append(first, rest...), file) {
+		err = fmt.Errorf("%d bytes, which differ", len(first)+len(rest))
+	}
+	say("the download is whole", err)
+	if dials != 1 {
+		err = fmt.Errorf("%d", dials)
+	}
+	say("one connection for all", err)
+	return nil
+}
+
 type counted struct {
 	io.Reader
 	count int64
@@ -260,12 +344,16 @@ func main() {
 		return
 	}
 	if len(words) < 3 {
-		fail(fmt.Errorf("serve, fetch, post, many, cancel, slow, put, head or resets, and their words"))
+		fail(fmt.Errorf("serve, fetch, post, many, cancel, slow, put, head, beside or resets, and their words"))
 	}
 	if words[0] == "resets" && len(words) == 4 {
 		connection, err := connect(words[1], words[3])
 		fail(err)
 		fail(resets(connection, number(words[2])))
+		return
+	}
+	if words[0] == "beside" && len(words) == 5 {
+		fail(beside(words[1], words[2], words[3], words[4]))
 		return
 	}
 	client, leave := newClient(words[1])

@@ -43,6 +43,10 @@ const (
 	getLine = "\xd1\xd7\x50\x09localhost"
 	path    = "\xc1"
 	ok      = "\xd9"
+	// 262,145, one above what is kept until it is whole: a frame's length (RFC 9000, section 16), and an insertion with a name of so many bytes (RFC 9204,
+	// section 4.3.3)
+	longFrame     = "\x80\x04\x00\x01"
+	longInsertion = "\x5f\xe2\xff\x0f"
 )
 
 // line is a field line with a literal name (RFC 9204, section 4.5.6); names have 7 to 134 bytes, values at most 126
@@ -85,6 +89,9 @@ var fromClient = []violation{
 	{name: "a dynamic entry that is not there (RFC 9204, section 2.2.3)", control: settings, request: "\x01\x03\x00\x00\x80", code: 0x200},
 	{name: "a capacity above the announced one (RFC 9204, section 3.2.3)", control: settings, others: []string{"\x02\x3f\xe1\x3f"}, code: 0x201},
 	{name: "a second encoder stream (RFC 9204, section 4.2)", control: settings, others: []string{"\x02", "\x02"}, code: 0x103},
+	{name: "HEADERS above the limit, which are answered (10.5)", control: settings, request: "\x01" + longFrame},
+	{name: "SETTINGS above the limit (10.5)", control: "\x00\x04" + longFrame, code: 0x107},
+	{name: "an insertion above the limit (RFC 9204, section 7.4)", control: settings, others: []string{"\x02" + longInsertion}, code: 0x107},
 	{name: "an acknowledgment of nothing (RFC 9204, section 4.4.1)", control: settings, others: []string{"\x03\x80"}, code: 0x202},
 }
 
@@ -102,6 +109,9 @@ var fromServer = []violation{
 	{name: "two content-length (4.1.2)", control: settings, request: head(ok + line("content-length", "0") + line("content-length", "1")), end: true},
 	{name: ":status behind a regular field (4.3)", control: settings, request: head(line("x-front", "1") + ok), end: true},
 	{name: "a trailer with a pseudo-header field (4.3)", control: settings, request: status200 + status200, end: true},
+	{name: "HEADERS above the limit (10.5)", control: settings, request: "\x01" + longFrame},
+	{name: "SETTINGS above the limit (10.5)", control: "\x00\x04" + longFrame, code: 0x107},
+	{name: "an insertion above the limit (RFC 9204, section 7.4)", control: settings, others: []string{"\x02" + longInsertion}, code: 0x107},
 }
 
 func must(err error) {
