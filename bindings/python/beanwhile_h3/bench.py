@@ -40,8 +40,8 @@ class Step:
 class Pair:
     """A client and a server in memory, in place of QUIC.
 
-    `on_item(side, id, item)` is called with each item that a side receives, and may send. `tamper(step, data)` returns what arrives in place
-    of the bytes that were sent."""
+    `on_item(side, id, item)` is called with each item that a side receives, and may send. `tamper(step, data)` returns what arrives in
+    place of the bytes that were sent."""
 
     def __init__(
         self,

@@ -68,8 +68,8 @@ class Refusals(unittest.TestCase):
         id = client.open_request()
         client.send_fields(id, GET)
         for wrong in (1 << 62, 1 << 64, -1, (1 << 64) + id):
-            calls: list[Any] = [client.next_item, client.finish, client.stream, client.outgoing, client.end_taken, client.deliver_end, client.cancel]
-            for call in calls:
+            calls: list[Any] = [client.next_item, client.finish, client.stream, client.outgoing, client.end_taken]
+            for call in [*calls, client.deliver_end, client.cancel]:
                 self.refused(Answer.ARGUMENT, 0, call, wrong)
             self.refused(Answer.ARGUMENT, 0, client.send_fields, wrong, GET)
             self.refused(Answer.ARGUMENT, 0, client.send_body, wrong, b"")
@@ -139,7 +139,7 @@ class Refusals(unittest.TestCase):
         self.assertTrue(all(isinstance(it, Fault) for it in (malformed, empty, Reset(0), Canceled())))
         # the connection goes on: GET, https, the authority "a" and the path "/" (RFC 9204, appendix A and section 4.5.4)
         server.deliver(16, frame(1, bytes.fromhex("0000 d1 d7 50 01 61 c1")))
-        self.assertEqual(server.next_item(16), Head([(b":method", b"GET"), (b":scheme", b"https"), (b":authority", b"a"), (b":path", b"/")]))
+        self.assertEqual(server.next_item(16), Head([*GET[:2], (b":authority", b"a"), GET[3]]))
         self.assertEqual(server.next_item(16), Pending())
 
     def test_a_malformed_header_section_is_not_sent(self) -> None:
