@@ -93,7 +93,7 @@ python_package() {
 # examples/start/main.py in a folder of its own, where a wheel would put the package, with the library inside
 python_caller() {
   mkdir -p "$work/site"
-  cp -r bindings/python/beanwhile_h3 "$work/site" && cp "$folder/libbeanwhile_h3.so.1" "$work/site/beanwhile_h3" && cp examples/start/main.py "$work/site" &&
+  cp -r bindings/python/beanwhile_h3 examples/start/main.py "$work/site" && cp "$folder/libbeanwhile_h3.so.1" "$work/site/beanwhile_h3" &&
     (cd "$work/site" && env -u PYTHONPATH -u BEANWHILE_H3_LIBRARY python3 main.py) | cmp - examples/start/printed
 }
 

@@ -106,6 +106,9 @@ cpp_tests() { # VERSION
 rust_tests() {
   cd "$top"/rust/beanwhile-h3-*/ && cargo test --offline --quiet --target-dir "$top/rust/target"
 }
+python_tests() { # in the environment that the page's commands made
+  "$top/python/env/bin/python" -B -W error -m unittest discover -s "$top/python-tests/tests"
+}
 go_tests() {
   cd "$top"/go/beanwhile-h3-go-*/ && go vet . && go test -count=1 .
 }
@@ -155,6 +158,7 @@ check "Rust by docs/INSTALL.md" start rust main.rs src/main.rs
 check "Go by docs/INSTALL.md" start go main.go main.go
 if [ -e "$top/start/main.py" ] && ls "$top"/dist/*.whl > /dev/null 2>&1; then
   check "Python by docs/INSTALL.md" start python main.py main.py
+  check "the Python package's own tests" python_tests
 else
   echo "skipped $release: Python, of which there is no wheel, or no examples/start/main.py"
 fi

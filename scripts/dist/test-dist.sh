@@ -76,6 +76,7 @@ in_root() { # ROOT
   mkdir -p "$try/dist"
   cp "$from"/* "$try/dist"
   cp -r examples/start "$try/start"
+  mkdir "$try/python-tests" && cp -r bindings/python/{README.md,pyproject.toml,tests} "$try/python-tests"
   cp docs/INSTALL.md scripts/dist/inside.sh tests/c/endpoint.cpp "$try"
   (run=exec; inside "$1" timeout -k 5 1800 bash /root/try/inside.sh)
 }

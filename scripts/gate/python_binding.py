@@ -1,4 +1,4 @@
-"""What bindings/python has of include/h3.h by hand: declarations, structs, numbers. c_header.py compares them; no library is loaded for it."""
+"""What bindings/python has of include/h3.h by hand: declarations, structs, numbers. c_header.py compares them; no library is loaded."""
 import ctypes
 import dataclasses
 import os
@@ -14,7 +14,8 @@ STRUCTS = {"h3_endpoint": raw.Handle, "h3_field_size": raw.FieldSize, "h3_item":
            "h3_state": raw.RawConnection}
 NUMBERS = {"uint32_t": ctypes.c_uint32, "uint64_t": ctypes.c_uint64, "size_t": ctypes.c_size_t}
 # they make a map of the fields, or take bytes that are lent
-NOT_CALLED = {"h3_raw_send_head", "h3_raw_send_trailer", "h3_raw_pull", "h3_raw_item_field", "h3_raw_send_body_lent", "h3_raw_deliver_lent", "h3_raw_keep"}
+NOT_CALLED = {"h3_raw_send_head", "h3_raw_send_trailer", "h3_raw_pull", "h3_raw_item_field", "h3_raw_send_body_lent", "h3_raw_deliver_lent",
+              "h3_raw_keep"}
 
 
 def kind(text):
@@ -31,7 +32,8 @@ def kind(text):
 def wrong_declarations(declared):
     """the exports that are declared in another way than in the header, or not at all"""
     wanted = {name: (kind(result), [kind(it) for it in given]) for name, (result, given) in declared.items() if name not in NOT_CALLED}
-    return [(it, wanted.get(it), raw.DECLARATIONS.get(it)) for it in sorted({*wanted, *raw.DECLARATIONS}) if wanted.get(it) != raw.DECLARATIONS.get(it)]
+    here = raw.DECLARATIONS
+    return [(it, wanted.get(it), here.get(it)) for it in sorted({*wanted, *here}) if wanted.get(it) != here.get(it)]
 
 
 def wrong_structs(structs):
@@ -50,5 +52,5 @@ def wrong_numbers(header, numbers, structs):
     wrong += sorted({(name, int(n, 16)) for name, n in codes} ^ {(it.name, it.value) for it in errors.Code})
     read = ["size", *(it.name.removeprefix("is_") for it in dataclasses.fields(config.Config))]
     wrong += [] if read == [it for _, it in structs["h3_config"]] else [read]
-    version = int(re.search(r"#define H3_VERSION (\w+)", header)[1], 16), int(re.search(r"#define H3_UNPROVED UINT32_C\((\w+)\)", header)[1], 16)
-    return wrong if version == (raw.VERSION, raw.UNPROVED) else [*wrong, version]
+    version, mark = re.search(r"#define H3_VERSION (\w+)", header)[1], re.search(r"#define H3_UNPROVED UINT32_C\((\w+)\)", header)[1]
+    return wrong if (int(version, 16), int(mark, 16)) == (raw.VERSION, raw.UNPROVED) else [*wrong, version, mark]

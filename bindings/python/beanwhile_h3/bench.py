@@ -40,8 +40,8 @@ class Step:
 class Pair:
     """A client and a server in memory, in place of QUIC.
 
-    `on_item(side, id, item)` is called with each item that a side receives, and may send. `tamper(step, data)` returns what arrives in place
-    of the bytes that were sent."""
+    `on_item(side, id, item)` is called with each item that a side receives, and may send. `tamper(step, data)` returns what arrives in
+    place of the bytes that were sent."""
 
     def __init__(
         self,
@@ -99,6 +99,9 @@ class Pair:
         blocked = self._blocked[side]
         for stream in [id, *(sorted(blocked) if id & 2 else ())]:
             blocked.discard(stream)
+            found = self.received.get((side, stream))
+            if found and found[-1].is_last:
+                continue  # what comes after a fault is dropped
             while isinstance(item := self.endpoint(side).next_item(stream), Item):
                 self.received.setdefault((side, stream), []).append(item)
                 if self.on_item:
@@ -123,6 +126,14 @@ class Pair:
             is_last = step.is_last and count == step.count and (count == 0 or chance.random() < 0.5)
             self.carry(Step(step.sender, step.id, count, is_last))
         return self.steps[before:]
+
+    def reset(self, side: Side, id: int, code: int) -> None:
+        """A side resets its half of a stream, and RESET_STREAM reaches its peer at once: what waited is lost. It is no step.
+
+        Raises what `Endpoint.reset` and `Endpoint.deliver_reset` raise."""
+        self.endpoint(side).reset(id)
+        self.endpoint(side.peer).deliver_reset(id, code)
+        self._read(side.peer, id)
 
     def replay(self, steps: Iterable[Step]) -> None:
         """Carries these steps in turn. Raises what `carry` raises."""

@@ -9,8 +9,8 @@ from . import raw
 
 @dataclasses.dataclass(kw_only=True, slots=True)
 class Config:
-    """`h3_config`: what an endpoint is and announces. Begin with `Config.client()` or `Config.server()`, since a later version may have more
-    fields, and set what differs:
+    """`h3_config`: what an endpoint is and announces. Begin with `Config.client()` or `Config.server()`, since a later version may have
+    more fields, and set what differs:
 
         config = Config.server()
         config.max_field_section_size = 16_384

@@ -59,9 +59,10 @@ def _listed(fields: Iterable[tuple[Bytes, Bytes]]) -> tuple[ctypes.Array[raw.Fie
 class Endpoint:
     """One endpoint of an HTTP/3 connection. Its settings wait on its control stream as soon as it is made.
 
-    A call that is refused raises `Refused`; its documentation names the answers. Each call with an id raises `Answer.ARGUMENT` if the id is
-    2^62 or more. Only one call at a time is made on an endpoint, by a lock: threads may share it. `close` frees it, and so do `with` and the
-    garbage collector; every call after that raises `Answer.NO_ENDPOINT`."""
+    A call that is refused raises `Refused`; its documentation names the answers. Each call with an id raises `Answer.ARGUMENT` if the id
+    is 2^62 or more (`next_waiting` and `next_to_send` only if 64 bits do not hold it). One call at a time is made on an endpoint, by a
+    lock: threads may share it. `close` frees it, and so do `with` and the garbage collector; every call after that raises
+    `Answer.NO_ENDPOINT`."""
 
     def __init__(self, config: Config) -> None:
         """Raises `Answer.ARGUMENT` (the value of `grease`), `TABLE_LIMIT`, `BLOCKED_LIMIT`, `SETTING`, `UNFINISHED_LIMIT`, `MEMORY`."""
@@ -203,7 +204,8 @@ class Endpoint:
         return self._found("h3_raw_next_to_send", start)
 
     def outgoing(self, id: int, most: int | None = None) -> tuple[bytes, bool]:
-        """The first bytes that wait on a stream, all or at most so many, and whether the stream ends after them. They wait until `advance`."""
+        """The first bytes that wait on a stream, all or at most so many, and whether the stream ends after them. They go on waiting until
+        `advance`."""
         with self._lock:
             waiting = self.stream(id).waiting
             room = waiting if most is None else min(_number(most), waiting)
@@ -227,8 +229,8 @@ class Endpoint:
     # ---- what came ----
 
     def deliver(self, id: int, data: Bytes) -> None:
-        """Bytes came on a stream, after those that came before. They were taken too if an allocation failed while they were read (`H3_KEPT`):
-        the next delivery or item reads on.
+        """Bytes came on a stream, after those that came before. They were taken too if an allocation failed while they were read
+        (`H3_KEPT`): the next delivery or item reads on.
 
         Raises `ConnectionFault` (`Answer.CONNECTION`: close the connection with its code), `Answer.NOT_RECEIVING`, `NOT_OPEN`, `AFTER_END`,
         `MEMORY` (nothing was taken: deliver again)."""

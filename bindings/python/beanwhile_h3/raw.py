@@ -156,5 +156,6 @@ def library() -> ctypes.CDLL:
         raise ImportError(f"{error}: {VARIABLE} may name the file {NAME} of Beanwhile", path=place) from error
     version = loaded.h3_raw_version() & ~UNPROVED
     if version < VERSION or version >> 16 != VERSION >> 16:
-        raise ImportError(f"{place} has version {version:#x}, and this package needs {VERSION:#x} or later of the same major version", path=place)
+        needed = f"{VERSION:#x} or later of the same major version"
+        raise ImportError(f"{place} has version {version:#x}, and this package needs {needed}", path=place)
     return loaded

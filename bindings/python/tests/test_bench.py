@@ -1,9 +1,11 @@
 """The test bench: schedules that are random by a seed and can be taken again, and hostile bytes."""
 
+import os
 import random
+import re
 import unittest
 
-from beanwhile_h3 import Body, Config, ConnectionFault, End, Endpoint, Field, Head, Interim, Item, Refused
+from beanwhile_h3 import Body, Canceled, Config, ConnectionFault, End, Endpoint, Field, Head, Interim, Item, Refused, Reset
 from beanwhile_h3.bench import Pair, Side, Step, frame, joined, spoiled, varint
 
 GET: list[Field] = [(b":method", b"GET"), (b":scheme", b"https"), (b":authority", b"localhost"), (b":path", b"/")]
@@ -71,6 +73,31 @@ class Schedules(unittest.TestCase):
         pair.carry(Step(Side.CLIENT, id, 1, False))
         self.assertEqual(pair.received, {(Side.SERVER, id): [Head(GET)]})
 
+    def test_a_stream_that_is_canceled_or_reset_ends_once(self) -> None:
+        for seed in range(20):
+            pair = Pair()
+            exchange(pair, 2)
+            answer = pair.on_item
+
+            def give_up(side: Side, id: int, item: Item) -> None:
+                if (side, id, type(item)) == (Side.SERVER, 0, Head):
+                    pair.server.cancel(0)
+                    pair.reset(Side.SERVER, 0, 0x10B)
+                elif answer and (side, id) != (Side.SERVER, 0):
+                    answer(side, id, item)
+
+            pair.on_item = give_up
+            pair.run(seed)
+            self.assertEqual([type(it) for it in pair.received[Side.SERVER, 0]], [Head, Canceled])
+            self.assertEqual(pair.received[Side.CLIENT, 0], [Reset(0x10B)])
+            self.assertEqual(pair.received[Side.CLIENT, 4][-1], End())
+
+    def test_the_example_of_the_page(self) -> None:
+        with open(os.path.join(os.path.dirname(__file__), "..", "README.md"), encoding="utf-8") as file:
+            code = re.findall(r"^```python\n(.*?)^```", file.read(), re.M | re.S)
+        self.assertEqual(len(code), 1)
+        exec(code[0], {})
+
     def test_joined(self) -> None:
         items: list[Item] = [Interim([], 103), Body(b"a"), Body(b""), Body(b"b"), End()]
         self.assertEqual(joined(items), [Interim([], 103), Body(b"ab"), End()])
@@ -116,6 +143,8 @@ class Hostile(unittest.TestCase):
                 self.assertEqual(again.exception.code, fault.code)
             except Refused:  # the server answers a request that the fault has changed
                 pass
+            for items in pair.received.values():
+                self.assertFalse(any(it.is_last for it in items[:-1]))
         self.assertGreater(faults, 100)
 
     def test_random_bytes_on_each_stream(self) -> None:

@@ -26,7 +26,8 @@ from beanwhile_h3 import (
 from beanwhile_h3.bench import Pair, Side, frame, joined
 
 GET: list[Field] = [(b":method", b"GET"), (b":scheme", b"https"), (b":authority", b"localhost"), (b":path", b"/")]
-POST: list[Field] = [(b":method", b"POST"), *GET[1:], (b"x-long", b"v" * 3000), (b"x-none", b""), (b"x-bytes", b"\x80\xff"), (b"x-none", b"2")]
+MORE: list[Field] = [(b"x-long", b"v" * 3000), (b"x-none", b""), (b"x-bytes", b"\x80\xff"), (b"x-none", b"2")]
+POST: list[Field] = [(b":method", b"POST"), *GET[1:], *MORE]
 
 
 def settings(data: bytes) -> dict[int, int]:

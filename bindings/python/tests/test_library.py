@@ -67,6 +67,7 @@ class Library(unittest.TestCase):
         version = Version.of_library()
         with open(os.path.join(HERE, "..", "pyproject.toml"), "rb") as file:
             self.assertEqual(f"{version.major}.{version.minor}.{version.patch}", tomllib.load(file)["project"]["version"])
+        self.assertEqual(version.is_proved, raw.library().h3_raw_version() >> 31 == 0)
 
 
 if __name__ == "__main__":

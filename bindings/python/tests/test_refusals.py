@@ -68,8 +68,8 @@ class Refusals(unittest.TestCase):
         id = client.open_request()
         client.send_fields(id, GET)
         for wrong in (1 << 62, 1 << 64, -1, (1 << 64) + id):
-            calls: list[Any] = [client.next_item, client.finish, client.stream, client.outgoing, client.end_taken, client.deliver_end, client.cancel]
-            for call in calls:
+            calls: list[Any] = [client.next_item, client.finish, client.stream, client.outgoing, client.end_taken]
+            for call in [*calls, client.deliver_end, client.cancel]:
                 self.refused(Answer.ARGUMENT, 0, call, wrong)
             self.refused(Answer.ARGUMENT, 0, client.send_fields, wrong, GET)
             self.refused(Answer.ARGUMENT, 0, client.send_body, wrong, b"")
@@ -106,6 +106,11 @@ class Refusals(unittest.TestCase):
         self.refused(Answer.ARGUMENT, 0, lambda: made(grease=(1 << 64) - 1))
         self.refused(Answer.ARGUMENT, 0, lambda: made(table=-1))
         made(unfinished_limit=4 * 65536)
+        # h3.h, above h3_config_default
+        config = Config.client()
+        self.assertEqual((config.max_field_section_size, config.table, config.blocked, config.encoder_table), (65_536, 4_096, 16, 4_096))
+        self.assertEqual((config.is_server, config.webtransport, Config.server().is_server), (False, False, True))
+        self.assertIs(config.strict, True)
 
     def test_faults_of_a_stream_are_items(self) -> None:
         pair = Pair(plain())
@@ -126,10 +131,15 @@ class Refusals(unittest.TestCase):
         server.deliver(12, b"")
         server.cancel(12)
         self.assertEqual(server.next_item(12), Canceled())
+        # a HEADERS frame above the limit of 262,144 bytes, four times the largest field section
+        server.deliver(20, frame(1, b"", 262_145))
+        long = Malformed(Malformation.TOO_LONG)
+        self.assertEqual((server.next_item(20), long.closing_code(True)), (long, 0x107))
+        self.assertEqual((Reset(0).closing_code(True), Canceled().closing_code(False)), (0x10C, 0x10C))
         self.assertTrue(all(isinstance(it, Fault) for it in (malformed, empty, Reset(0), Canceled())))
         # the connection goes on: GET, https, the authority "a" and the path "/" (RFC 9204, appendix A and section 4.5.4)
         server.deliver(16, frame(1, bytes.fromhex("0000 d1 d7 50 01 61 c1")))
-        self.assertEqual(server.next_item(16), Head([(b":method", b"GET"), (b":scheme", b"https"), (b":authority", b"a"), (b":path", b"/")]))
+        self.assertEqual(server.next_item(16), Head([*GET[:2], (b":authority", b"a"), GET[3]]))
         self.assertEqual(server.next_item(16), Pending())
 
     def test_a_malformed_header_section_is_not_sent(self) -> None:
