@@ -309,14 +309,54 @@ static inline const char *h3_answer_text(uint32_t answer) {
   }
 }
 
-/* Error codes that a program may need by name (RFC 9114, section 8.1). */
+/* Error codes: RFC 9114, section 8.1, and of QPACK RFC 9204, section 6. */
 #define H3_CODE_NO_ERROR UINT64_C(0x100)
+#define H3_CODE_GENERAL_PROTOCOL_ERROR UINT64_C(0x101)
 #define H3_CODE_INTERNAL_ERROR UINT64_C(0x102)
+#define H3_CODE_STREAM_CREATION_ERROR UINT64_C(0x103)
+#define H3_CODE_CLOSED_CRITICAL_STREAM UINT64_C(0x104)
+#define H3_CODE_FRAME_UNEXPECTED UINT64_C(0x105)
+#define H3_CODE_FRAME_ERROR UINT64_C(0x106)
 #define H3_CODE_EXCESSIVE_LOAD UINT64_C(0x107)
+#define H3_CODE_ID_ERROR UINT64_C(0x108)
+#define H3_CODE_SETTINGS_ERROR UINT64_C(0x109)
+#define H3_CODE_MISSING_SETTINGS UINT64_C(0x10a)
 #define H3_CODE_REQUEST_REJECTED UINT64_C(0x10b)
 #define H3_CODE_REQUEST_CANCELLED UINT64_C(0x10c)
 #define H3_CODE_REQUEST_INCOMPLETE UINT64_C(0x10d)
 #define H3_CODE_MESSAGE_ERROR UINT64_C(0x10e)
+#define H3_CODE_CONNECT_ERROR UINT64_C(0x10f)
+#define H3_CODE_VERSION_FALLBACK UINT64_C(0x110)
+#define H3_CODE_QPACK_DECOMPRESSION_FAILED UINT64_C(0x200)
+#define H3_CODE_QPACK_ENCODER_STREAM_ERROR UINT64_C(0x201)
+#define H3_CODE_QPACK_DECODER_STREAM_ERROR UINT64_C(0x202)
+
+/* The name of a code, for a log, or "an unknown code". */
+static inline const char *h3_code_text(uint64_t code) {
+  switch (code) {
+    case H3_CODE_NO_ERROR: return "H3_NO_ERROR";
+    case H3_CODE_GENERAL_PROTOCOL_ERROR: return "H3_GENERAL_PROTOCOL_ERROR";
+    case H3_CODE_INTERNAL_ERROR: return "H3_INTERNAL_ERROR";
+    case H3_CODE_STREAM_CREATION_ERROR: return "H3_STREAM_CREATION_ERROR";
+    case H3_CODE_CLOSED_CRITICAL_STREAM: return "H3_CLOSED_CRITICAL_STREAM";
+    case H3_CODE_FRAME_UNEXPECTED: return "H3_FRAME_UNEXPECTED";
+    case H3_CODE_FRAME_ERROR: return "H3_FRAME_ERROR";
+    case H3_CODE_EXCESSIVE_LOAD: return "H3_EXCESSIVE_LOAD";
+    case H3_CODE_ID_ERROR: return "H3_ID_ERROR";
+    case H3_CODE_SETTINGS_ERROR: return "H3_SETTINGS_ERROR";
+    case H3_CODE_MISSING_SETTINGS: return "H3_MISSING_SETTINGS";
+    case H3_CODE_REQUEST_REJECTED: return "H3_REQUEST_REJECTED";
+    case H3_CODE_REQUEST_CANCELLED: return "H3_REQUEST_CANCELLED";
+    case H3_CODE_REQUEST_INCOMPLETE: return "H3_REQUEST_INCOMPLETE";
+    case H3_CODE_MESSAGE_ERROR: return "H3_MESSAGE_ERROR";
+    case H3_CODE_CONNECT_ERROR: return "H3_CONNECT_ERROR";
+    case H3_CODE_VERSION_FALLBACK: return "H3_VERSION_FALLBACK";
+    case H3_CODE_QPACK_DECOMPRESSION_FAILED: return "QPACK_DECOMPRESSION_FAILED";
+    case H3_CODE_QPACK_ENCODER_STREAM_ERROR: return "QPACK_ENCODER_STREAM_ERROR";
+    case H3_CODE_QPACK_DECODER_STREAM_ERROR: return "QPACK_DECODER_STREAM_ERROR";
+    default: return "an unknown code";
+  }
+}
 
 /* ---- making and freeing ---- */
 
@@ -629,6 +669,21 @@ static inline const char *h3_malformation_text(uint64_t malformation) {
     case H3_BAD_PATH: return "H3_BAD_PATH"; case H3_BAD_STATUS: return "H3_BAD_STATUS";
     case H3_NO_TRAILER_FIELD: return "H3_NO_TRAILER_FIELD"; case H3_TOO_LONG: return "H3_TOO_LONG";
     default: return "an unknown malformation";
+  }
+}
+
+/* The error code for an item that is a fault, by its kind and number. It closes the connection after
+ * H3_FAULT_CONNECTION, and ends the stream after any other fault (STOP_SENDING and RESET_STREAM).
+ * `server` is 1 at a server. For an item that is no fault: H3_NO_ERROR. */
+static inline uint64_t h3_error_code(uint32_t kind, uint64_t number, int server) {
+  switch (kind) {
+    case H3_FAULT_CONNECTION: return number;
+    case H3_FAULT_MALFORMED:
+      if (number == H3_TOO_LONG) return H3_CODE_EXCESSIVE_LOAD;
+      return server && number == H3_NO_HEAD ? H3_CODE_REQUEST_INCOMPLETE : H3_CODE_MESSAGE_ERROR;
+    case H3_FAULT_RESET: case H3_FAULT_CANCELED: return H3_CODE_REQUEST_CANCELLED;
+    case H3_FAULT_MEMORY: return H3_CODE_INTERNAL_ERROR;
+    default: return H3_CODE_NO_ERROR;
   }
 }
 

@@ -177,19 +177,7 @@ func (f Fault) Error() string {
 // Is says whether another error is the same kind of fault, or Memory: errors.Is(err, h3.Memory) holds of a call and of a pull.
 func (f Fault) Is(other error) bool { return f.Kind == FaultMemory && other == error(Memory) }
 
-// Code is what a server or a client ends the stream with, or the connection where the fault is its own (RFC 9114, sections 4.1.1 and 4.1.2).
+// Code is the code that ends the stream, or the connection if the fault is the connection's (RFC 9114, sections 4.1.1, 4.1.2 and 8.1).
 func (f Fault) Code(server bool) uint64 {
-	switch {
-	case f.Kind == FaultConnection:
-		return f.Number
-	case f.Kind == FaultMalformed && server && Malformation(f.Number) == NoHead:
-		return RequestIncomplete
-	case f.Kind == FaultMalformed && Malformation(f.Number) == TooLong:
-		return ExcessiveLoad
-	case f.Kind == FaultMalformed:
-		return MessageError
-	case f.Kind == FaultMemory:
-		return InternalError
-	}
-	return RequestCancelled
+	return uint64(C.h3_error_code(C.uint32_t(f.Kind), C.uint64_t(f.Number), side(server)))
 }

@@ -31,12 +31,6 @@ static int refuse_message(nghttp3_conn *connection, stream *s, uint64_t code) {
   return refuse(connection, s, code);
 }
 
-/* The code of a malformed message (RFC 9114, sections 4.1 and 4.1.2). Numbers after those of h3.h's rules for messages are of limits. */
-static uint64_t code_of_malformation(const nghttp3_conn *connection, uint64_t malformation) {
-  if (malformation == H3_TOO_LONG) return NGHTTP3_H3_EXCESSIVE_LOAD;
-  return connection->is_server && malformation == H3_NO_HEAD ? NGHTTP3_H3_REQUEST_INCOMPLETE : NGHTTP3_H3_MESSAGE_ERROR;
-}
-
 /* ---- items ---- */
 
 /* A request's `priority` field counts until its application sets another one (RFC 9218, section 5). It is read by the library's parser. */
@@ -100,7 +94,7 @@ static int tell_item(nghttp3_conn *connection, stream *s, const h3_item *item, b
     case H3_BODY: return tell_body(connection, s, item);
     case H3_END: s->is_read_shut = true; return CALLBACK(connection, end_stream, s->id, connection->user_data, s->user_data);
     case H3_TOO_LARGE_HEAD: return refuse_message(connection, s, NGHTTP3_H3_EXCESSIVE_LOAD);
-    case H3_FAULT_MALFORMED: return refuse_message(connection, s, code_of_malformation(connection, item->number));
+    case H3_FAULT_MALFORMED: return refuse_message(connection, s, h3_error_code(H3_FAULT_MALFORMED, item->number, connection->is_server));
     case H3_FAULT_CONNECTION: return error_of_code(item->number);
     case H3_FAULT_MEMORY: return NGHTTP3_ERR_NOMEM;
     default: *is_last = true; return 0;

@@ -121,12 +121,6 @@ static void tell_body(http3_request *request, const h3_item *item) {
   }
 }
 
-/* The code that ends the stream of a malformed message (RFC 9114, sections 4.1.2 and 8.1). */
-static uint64_t code_of(const http3 *h, uint64_t malformation) {
-  if (malformation == H3_TOO_LONG) return H3_CODE_EXCESSIVE_LOAD;
-  return h->setup->server && malformation == H3_NO_HEAD ? H3_CODE_REQUEST_INCOMPLETE : H3_CODE_MESSAGE_ERROR;
-}
-
 /* A request whose header section is longer than the endpoint keeps. No more of it is needed, and the program answers it as one that is too
  * large. Some clients read no answer until they have sent the section, and fail if they are stopped before: so they may send a window more,
  * and have some time for it. */
@@ -143,10 +137,8 @@ static void settle(http3_request *request, const h3_item *item) {
   request->settled = true;
   if (item->kind == H3_END) return h->setup->events->end(request);
   if (item->kind == H3_FAULT_MALFORMED && item->number == H3_TOO_LONG && h->setup->server && !request->has_head) return tell_too_long(request);
-  if (item->kind == H3_FAULT_MALFORMED)
-    cut_off(request, code_of(h, item->number));
-  else if (item->kind == H3_FAULT_RESET)
-    cut_off(request, H3_CODE_REQUEST_CANCELLED);
+  if (item->kind == H3_FAULT_MALFORMED || item->kind == H3_FAULT_RESET)
+    cut_off(request, h3_error_code(item->kind, item->number, h->setup->server));
   if (item->kind != H3_FAULT_CANCELED) h->setup->events->failed(request, item);
 }
 

@@ -106,6 +106,13 @@ static void of_pointers(h3_endpoint *e, uint64_t id) {
   HOLDS(n == 0 && m == 8);
   HOLDS(!strcmp(h3_answer_text(H3_OK), "H3_OK") && !strcmp(h3_answer_text(H3_NO_ENDPOINT), "H3_NO_ENDPOINT"));
   HOLDS(!strcmp(h3_kind_text(H3_INTERIM), "H3_INTERIM") && !strcmp(h3_kind_text(H3_FAULT_MEMORY), "H3_FAULT_MEMORY"));
+  HOLDS(!strcmp(h3_code_text(0x107), "H3_EXCESSIVE_LOAD") && !strcmp(h3_code_text(0x200), "QPACK_DECOMPRESSION_FAILED"));
+  HOLDS(!strcmp(h3_code_text(0x111), "an unknown code"));
+  HOLDS(h3_error_code(H3_FAULT_CONNECTION, 0x105, 0) == 0x105 && h3_error_code(H3_FAULT_RESET, 7, 0) == 0x10c);
+  HOLDS(h3_error_code(H3_FAULT_MALFORMED, H3_NO_HEAD, 1) == 0x10d && h3_error_code(H3_FAULT_MALFORMED, H3_NO_HEAD, 0) == 0x10e);
+  HOLDS(h3_error_code(H3_FAULT_MALFORMED, H3_BAD_PATH, 1) == 0x10e && h3_error_code(H3_FAULT_MALFORMED, H3_TOO_LONG, 1) == 0x107);
+  HOLDS(h3_error_code(H3_FAULT_CANCELED, 0, 1) == 0x10c && h3_error_code(H3_FAULT_MEMORY, 0, 1) == 0x102);
+  HOLDS(h3_error_code(H3_BODY, 0, 1) == 0x100);
   HOLDS(!strcmp(h3_malformation_text(H3_BAD_NAME), "H3_BAD_NAME") && !strcmp(h3_malformation_text(H3_TOO_LONG), "H3_TOO_LONG"));
   HOLDS(!strcmp(h3_answer_text(99), "an unknown answer") && !strcmp(h3_kind_text(0), "an unknown kind"));
   HOLDS(!strcmp(h3_malformation_text(H3_TOO_LONG + 1), "an unknown malformation"));
