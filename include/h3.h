@@ -672,8 +672,9 @@ static inline const char *h3_malformation_text(uint64_t malformation) {
   }
 }
 
-/* The error code for an item that is a fault, by its kind and number. It closes the connection after
- * H3_FAULT_CONNECTION, and ends the stream after any other fault (STOP_SENDING and RESET_STREAM).
+/* The error code for an item that is a fault, by its kind and number. It closes the connection
+ * after H3_FAULT_CONNECTION, and ends the stream after any other fault (STOP_SENDING and
+ * RESET_STREAM).
  * `server` is 1 at a server. For an item that is no fault: H3_NO_ERROR. */
 static inline uint64_t h3_error_code(uint32_t kind, uint64_t number, int server) {
   switch (kind) {
