@@ -62,9 +62,10 @@ make_served() {
 }
 
 listens() { grep -qi ":$(printf %04X "$1") " /proc/net/udp /proc/net/udp6 2>/dev/null; }
-# A server for ten minutes at most, and thirty seconds after the signal that ends it. In the foreground, since `timeout` would else signal its
+# A server for ten minutes at most, and 45 seconds after the signal that ends it: it stays while a connection does, and one whose close is lost
+# lasts until its idle timeout, 30 seconds. In the foreground, since `timeout` would else signal its
 # whole group, twice, and LeakSanitizer, which looks for leaks at a program's end from a process of its own, may then never end.
-limited() { exec timeout --foreground -k 30 600 "$@"; }
+limited() { exec timeout --foreground -k 45 600 "$@"; }
 # start PORT LOG COMMAND..: a server in the background, until it listens; `last` is its process
 start() {
   local port=$1 log=$2

@@ -400,7 +400,7 @@ refused_endpoints() {
     REFUSE_AT=$count within 20 "$work/refusing/two_endpoints" 1000 > "$work/got"
     status=$?
     if [ "$status" -eq 134 ]; then grep -q "memory allocation of" "$work/log" || return 1; fi
-    if [ "$status" -eq 1 ]; then grep -q "memory was refused" "$work/log" || return 1; fi
+    if [ "$status" -eq 1 ]; then grep -q "out of memory" "$work/log" || return 1; fi
     if ! grep -q "allocation is refused" "$work/log"; then break; fi
     count=$((count + 3))
   done
