@@ -19,7 +19,9 @@ type Config struct {
 	Datagram                bool   // RFC 9297
 	WebTransport            bool
 	MaxWebTransportSessions uint64
-	UnfinishedLimit         uint64 // the greatest length of a frame or instruction that is kept until it is whole; 0: four times what is announced, the least that is taken
+	// UnfinishedLimit is the greatest length of a frame or instruction that is kept until it is whole. 0 is the default: 256 or four times the
+	// greater of the two announced sizes, if that is more. A lower limit is refused.
+	UnfinishedLimit uint64
 }
 
 // DefaultConfig has the limits of h3_config_default, which are fit for a peer that is not trusted: heads and trailers of at most 65,536 bytes, a

@@ -9,8 +9,9 @@ type Priority struct {
 	Incremental bool  // parts of the response are of use before it is whole
 }
 
-// ReadPriority reads the value of a `priority` field, the values of several such fields joined by ", ". What it leaves out has its default, 3 and false.
-// false: the value is no dictionary (RFC 8941, section 3.2), and the field is to be ignored.
+// ReadPriority reads the value of a `priority` field (RFC 9218, section 4). Join the values of several such fields by ", ". An urgency that is
+// missing is 3, and an incremental that is missing is false. It returns false if the value is not a dictionary (RFC 8941, section 3.2): ignore
+// the field then.
 func ReadPriority(value []byte) (Priority, bool) {
 	var urgency, incremental C.uint32_t
 	answer := C.h3_priority_read(start(value), C.size_t(len(value)), &urgency, &incremental)

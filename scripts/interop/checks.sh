@@ -48,6 +48,17 @@ build() {
   exit 1
 }
 
+# make_examples: those in C, with sanitizers, and in Go, over the library in the folder `lib`
+make_examples() {
+  if ! bash scripts/dev/packages.sh examples-c examples-go || ! bash scripts/dev/need.sh library "$lib"; then
+    bad "what the examples stand on"
+    exit 1
+  fi
+  export PKG_CONFIG_PATH=$lib GO111MODULE=off GOPATH=/usr/share/gocode GOCACHE=${GOCACHE:-$work/go}
+  build make -s -C examples/c LIB="$lib" OUT="$work/checked" CFLAGS="-O1 -g -fsanitize=address,undefined -fno-sanitize-recover=undefined"
+  build make -s -C examples/go LIB="$lib" OUT="$work"
+}
+
 # make_served: the folder that is served, a certificate with its key, and what some answers are
 make_served() {
   folder=$work/folder

@@ -9,16 +9,9 @@ top=$PWD
 lib=${LIB:-$top/build/c}
 . scripts/interop/checks.sh
 
-if ! bash scripts/dev/packages.sh examples-c examples-go || ! bash scripts/dev/need.sh library "$lib"; then
-  bad "what the peers stand on"
-  exit 1
-fi
-
 # ---- programs, and what is served ----
 
-export PKG_CONFIG_PATH=$lib GO111MODULE=off GOPATH=/usr/share/gocode GOCACHE=${GOCACHE:-$work/go}
-build make -s -C examples/c LIB="$lib" OUT="$work/checked" CFLAGS="-O1 -g -fsanitize=address,undefined -fno-sanitize-recover=undefined"
-build make -s -C examples/go LIB="$lib" OUT="$work"
+make_examples
 has_root=no
 if bash scripts/interop/upstream.sh peers; then
   has_root=yes

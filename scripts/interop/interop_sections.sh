@@ -1,25 +1,18 @@
 #!/usr/bin/env bash
-# Header sections up to the limits of the servers of the examples in C and Go, and above them, beside a download of 10 MB on the same connection: what keeps
-# to the limits is answered, what does not gets 431, and the download is whole. The clients are quic-go's, gtlsclient, and curl of the root that `make
-# upstream-root` leaves (build/trixie); fetch and the Go client send what keeps to the limits. Only loopback addresses, each command within a time, each
-# server ended at the end. Prints 'ok NAME', 'failed NAME' or 'skipped NAME' for each check or group of checks. The library is that of the folder LIB
-# (build/c, as `make lib` leaves it).
+# Header sections up to the limits of the example servers in C and Go, and above them, beside a download of 10 MB on the same connection.
+# A section within the limits is answered, a longer one gets 431, and the download stays whole. The clients are quic-go's, gtlsclient, and
+# curl of the root that `make upstream-root` leaves (build/trixie). fetch and the Go client send sections within the limits. Only loopback
+# addresses are used. Each command has a time limit, and each server is ended. Prints 'ok NAME', 'failed NAME' or 'skipped NAME' for each
+# check or group of checks. The library is that of the folder LIB (build/c, as `make lib` leaves it).
 set -uo pipefail
 cd "$(dirname "$0")/../.."
 top=$PWD
 lib=${LIB:-$top/build/c}
 . scripts/interop/checks.sh
 
-if ! bash scripts/dev/packages.sh examples-c examples-go || ! bash scripts/dev/need.sh library "$lib"; then
-  bad "what the sections stand on"
-  exit 1
-fi
-
 # ---- programs, and what is served ----
 
-export PKG_CONFIG_PATH=$lib GO111MODULE=off GOPATH=/usr/share/gocode GOCACHE=${GOCACHE:-$work/go}
-build make -s -C examples/c LIB="$lib" OUT="$work/checked" CFLAGS="-O1 -g -fsanitize=address,undefined -fno-sanitize-recover=undefined"
-build make -s -C examples/go LIB="$lib" OUT="$work"
+make_examples
 build go build -o "$work/peer" scripts/interop/peer.go
 make_served
 mapfile -t ports < <(python3 scripts/interop/ports.py 2)
@@ -39,7 +32,8 @@ quic_go() { # what the server is called, PORT
   [ -s "$work/cases" ] || bad "$1, quic-go beside 10 MB"
 }
 
-# ---- gtlsclient: a path is the one field whose value is given to it, and it reads 65,535 bytes of it at most before a '?', and as many after it ----
+# ---- gtlsclient ----
+# Its path is the one value that it is given. It reads at most 65,535 bytes of it before a '?', and as many after it.
 
 gtls() { # PORT
   rm -rf "$work/down"

@@ -3,13 +3,11 @@
 #include "h3.h"
 #include <string.h>
 #define TEST "cancellations"
-#include "expect.h"
 #include "field_list.h"
+#include "pair.h"
 
 enum { EARLY = 40000, BEFORE_THEIR_BYTES = 1500 };
-enum { CLIENT, SERVER };
 
-static h3_endpoint ends[2];
 static field_list request, response;
 
 static void make(void) {
@@ -20,37 +18,6 @@ static void make(void) {
     config.economical_table = 0; /* so that a first head inserts its fields and names them */
     IS(h3_new(&ends[side], &config, NULL), H3_OK);
   }
-}
-
-static void drop(void) {
-  h3_free(&ends[CLIENT]);
-  h3_free(&ends[SERVER]);
-}
-
-static void carry(int from, uint64_t id) {
-  static uint8_t bytes[1 << 20];
-  size_t n = 0;
-  uint32_t fin = 0;
-  do {
-    IS(h3_outgoing(&ends[from], id, bytes, sizeof bytes, &n, &fin), H3_OK);
-    IS(h3_deliver(&ends[!from], id, bytes, n, NULL), H3_OK);
-    IS(h3_advance(&ends[from], id, n), H3_OK);
-  } while (n && !fin);
-  if (fin) IS(h3_deliver_end(&ends[!from], id, NULL), H3_OK);
-}
-
-static void carry_own(void) {
-  for (int side = 0; side < 2; side++) {
-    carry(side, h3_control_id(side));
-    carry(side, h3_encoder_id(side));
-    carry(side, h3_decoder_id(side));
-  }
-}
-
-static h3_item pull(int side, uint64_t id) {
-  h3_item item = {0};
-  IS(h3_pull_fields(&ends[side], id, &item), H3_OK);
-  return item;
 }
 
 static void ask(uint64_t id) {

@@ -4,8 +4,8 @@
  * control stream is the connection's. Linked with --wrap for malloc, realloc and free. One line 'ok NAME' or 'failed NAME'. */
 #include "counted.h"
 #define TEST "excess"
-#include "expect.h"
 #include "field_list.h"
+#include "pair.h"
 
 /* what is expected of the library */
 enum {
@@ -16,10 +16,8 @@ enum {
   KEPT_OF_A_STREAM = 4096, /* bytes that a stream may cost that was given up */
 };
 
-enum { CLIENT, SERVER };
 enum { PIECE = 512, PIECES = 40, FRAME = 5 + LIMIT + 1, AFTER = 10 };
 
-static h3_endpoint ends[2];
 static uint8_t frame[FRAME + AFTER];
 static uint8_t content[PIECE];
 static field_list request, response, came_last;
@@ -35,45 +33,13 @@ static void make(uint64_t limit) {
   }
 }
 
-static void drop(void) {
-  h3_free(&ends[CLIENT]);
-  h3_free(&ends[SERVER]);
-}
-
 static uint64_t unread(int side, uint64_t id) {
   h3_stream_state stream;
   IS(h3_stream(&ends[side], id, &stream), H3_OK);
   return stream.unread;
 }
 
-static h3_item pull(int side, uint64_t id) {
-  h3_item item = {0};
-  IS(h3_pull_fields(&ends[side], id, &item), H3_OK);
-  return item;
-}
-
 static void deliver(int side, uint64_t id, const void *bytes, size_t len) { IS(h3_deliver(&ends[side], id, bytes, len, NULL), H3_OK); }
-
-/* what waits on a stream goes over, and its end */
-static void carry(int from, uint64_t id) {
-  static uint8_t bytes[2 * LIMIT];
-  size_t n = 0;
-  uint32_t fin = 0;
-  do {
-    IS(h3_outgoing(&ends[from], id, bytes, sizeof bytes, &n, &fin), H3_OK);
-    deliver(!from, id, bytes, n);
-    IS(h3_advance(&ends[from], id, n), H3_OK);
-  } while (n && !fin);
-  if (fin) IS(h3_deliver_end(&ends[!from], id, NULL), H3_OK);
-}
-
-static void carry_own(void) {
-  for (int side = 0; side < 2; side++) {
-    carry(side, h3_control_id(side));
-    carry(side, h3_encoder_id(side));
-    carry(side, h3_decoder_id(side));
-  }
-}
 
 /* exactly these bytes wait on a stream; they are taken */
 static void waits(int side, uint64_t id, const char *bytes, size_t len) {

@@ -1,5 +1,5 @@
-/* Instructions of the peer's encoder and decoder streams (RFC 9204, sections 4.3 and 4.4) that are longer than `unfinished_limit`, and those that are not:
- * in one delivery, in pieces of 100 and byte by byte. The endpoint is a client. */
+/* Instructions of the peer's encoder and decoder streams (RFC 9204, sections 4.3 and 4.4), longer than `unfinished_limit` and not: in one
+ * delivery, in pieces of 100 and byte by byte. The endpoint is a client. */
 #include "h3.h"
 #include <string.h>
 #define TEST "instructions"
@@ -26,7 +26,7 @@ static uint64_t unread(uint64_t id) {
   return state.unread;
 }
 
-/* Delivers the bytes in pieces of `step`. It answers how many came with the one that closed the connection with this code, NEVER where none did. */
+/* Delivers the bytes in pieces of `step`. Returns how many had come when the connection closed with this code, or NEVER if it did not. */
 static uint64_t closed_at(uint64_t id, const void *bytes, size_t len, size_t step, uint64_t code) {
   for (size_t at = 0; at < len; at += step) {
     size_t n = len - at < step ? len - at : step;
@@ -70,7 +70,8 @@ static void of_long_strings(void) {
     }
 }
 
-/* An integer that never ends is told once as much as the limit came. A decoder stream is not read before the settings: what comes of it is kept, and is no fault. */
+/* An integer that never ends closes the connection once the limit is reached. A decoder stream is not read before the settings: its bytes
+ * are kept, and are no fault. */
 static void of_endless_integers(void) {
   static char bytes[3 * MOST];
   memset(bytes, 0x80, sizeof bytes);
@@ -89,7 +90,7 @@ static void of_endless_integers(void) {
       }
 }
 
-/* what its decoder said before the settings is read after them: an instruction that is longer than the limit is told then, however much came */
+/* Decoder-stream bytes that came before the settings are read after them: an instruction above the limit closes the connection then. */
 static void of_early_replies(void) {
   static char bytes[3 * MOST];
   memset(bytes, 0x80, sizeof bytes);
@@ -125,8 +126,8 @@ static size_t insertion(char *to, size_t len) {
   return len;
 }
 
-/* Insertions are read, also where more of them come at once than the limit, and one increment counts those of a delivery. One of the limit's length that comes
- * after them is waited for, and is bad once it is whole, since the table has no room for it. One of a byte more is told by its length. */
+/* Insertions are read, also if more of them come at once than the limit, and one increment counts those of a delivery. An insertion as long
+ * as the limit is kept until it is whole, and is invalid then, since the table has no room for it. One byte more is refused by its length. */
 static void of_the_limit(void) {
   static char bytes[26 * 1000 + 2 * MOST];
   for (size_t k = 0; k < 3; k++)
@@ -142,7 +143,8 @@ static void of_the_limit(void) {
       size_t n = 0;
       uint32_t fin;
       IS(h3_outgoing(&client, h3_decoder_id(0), replies, sizeof replies, &n, &fin), H3_OK);
-      HOLDS(STEPS[k] > begins ? n == 2 && !memcmp(replies, "\3\x19", 2) : n == 26 && replies[0] == 3 && replies[1] == 1 && replies[25] == 1);
+      if (STEPS[k] > begins) HOLDS(n == 2 && !memcmp(replies, "\3\x19", 2));
+      else HOLDS(n == 26 && replies[0] == 3 && replies[1] == 1 && replies[25] == 1);
       len = insertion(bytes, MOST + more);
       HOLDS(closed_at(ENCODER, bytes, len, STEPS[k], more ? 0x107 : 0x201) == rounded(more ? 6 : MOST, STEPS[k], len));
       h3_free(&client);

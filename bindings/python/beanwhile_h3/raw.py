@@ -145,7 +145,7 @@ def path() -> str:
 def library() -> ctypes.CDLL:
     """The shared library, loaded at the first call that needs it.
 
-    Raises ImportError: there is none, or it is of another version than this package needs."""
+    Raises ImportError if it is missing, or if its version is not the one that this package needs."""
     place = path()
     try:
         loaded = ctypes.CDLL(place)

@@ -42,10 +42,10 @@ pub struct Config {
     pub webtransport: bool,
     /// How many sessions of it may be open.
     pub max_webtransport_sessions: u64,
-    /// The greatest length of a frame that is kept until it is whole: any known one but DATA. A longer HEADERS frame makes its message
-    /// malformed (`Malformation::TooLong`); any other longer frame, or a longer instruction of the encoder or decoder stream, is a fault of the
-    /// connection, H3_EXCESSIVE_LOAD. 0: the least limit, at least 256 and four times the greater of `max_field_section_size` and `table`. A lower
-    /// one is refused. 2^62 - 1 and more: there is no limit.
+    /// The greatest length of a frame, other than DATA, that is kept until it is whole. A longer HEADERS frame makes its message malformed
+    /// (`Malformation::TooLong`). Any other longer frame closes the connection with H3_EXCESSIVE_LOAD, and so does a longer instruction of the
+    /// encoder or decoder stream. 0 is the default, and the lowest limit: 256, or four times the greater of `max_field_section_size` and
+    /// `table` if that is more. A lower one is refused. With 2^62 - 1 or more there is no limit.
     pub unfinished_limit: u64,
 }
 

@@ -12,8 +12,8 @@ pub struct Priority {
 }
 
 impl Priority {
-    /// Reads a field's value, the values of several such fields joined by `, `. What it leaves out has its default, 3 and `false`. `None`: the value
-    /// is no dictionary (RFC 8941, section 3.2), and the field is to be ignored.
+    /// Reads the value of a `priority` field. Join the values of several such fields by `, `. An urgency that is missing is 3, and an
+    /// `incremental` that is missing is `false`. Returns `None` if the value is not a dictionary (RFC 8941, section 3.2): ignore the field then.
     pub fn read(value: &[u8]) -> Option<Priority> {
         let (mut urgency, mut incremental) = (0, 0);
         // SAFETY: the pointer and length are those of a slice, and both results are numbers of this function.
