@@ -4,6 +4,9 @@ use Rattle.h3_coding.specs.Encodings.{encoding}
 use Rattle.h3_wire.specs.Encoded.{frame_encoding}
 use Rattle.h3_wire.specs.StreamHeaders.{control_encoding}
 use Rattle.h3_field.specs.Instruction.{EncoderInstruction, DecoderInstruction, encoder_bytes, decoder_bytes}
+use Rattle.h3_proto.specs.Config.{is_limit}
+use Rattle.h3_proto.specs.declared.config.Choices.{Choices}
+use Rattle.h3_table.specs.Cancellations.{none_canceled}
 use Rattle.h3_qpack.specs.EncoderHistory.{EncoderHistory, no_table}
 use Rattle.h3_qpack.specs.DecoderState.{DecoderState, announcing}
 use Rattle.h3_connection.specs.declared.setup.Announced.{Announced}
@@ -52,10 +55,23 @@ pub record EndpointHistory : Type 0 where
   -- what it was handed to send: the bytes of names, values and bodies, and 64 for each field and each call
   pub sent : ℕ
 
--- what an encoder goes by before anything. Whether acknowledgments count, the most that its table may have, and whether it is economical
--- with it, is chosen once
+-- how many ids are kept, where a choice limits them
+abbrev pub most_kept : Choices → Option ℕ
+most_kept choices = if is_limit choices.extensions.kept_ids then Some choices.extensions.kept_ids else None
+
+-- what an encoder goes by before anything. Whether acknowledgments count, the most that its table may have, whether it is economical with
+-- it, and how many canceled streams it keeps, is chosen once
+abbrev pub chosen_encoder : Choices → EncoderHistory
+chosen_encoder choices =
+    record no_table {
+      most_capacity = choices.encoder_table;
+      counts_acknowledgments = choices.acknowledgments_counted;
+      economical = choices.economical_table;
+      canceled = none_canceled (most_kept choices);
+    }
+
 abbrev pub first_encoder : Announced → EncoderHistory
-first_encoder announced = record no_table { most_capacity = announced.choices.encoder_table; counts_acknowledgments = announced.choices.acknowledgments_counted; economical = announced.choices.economical_table }
+first_encoder announced = chosen_encoder announced.choices
 
 abbrev pub new_endpoint : Side → Announced → EndpointHistory
 new_endpoint side announced =

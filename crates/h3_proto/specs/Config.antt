@@ -5,6 +5,7 @@ use Rattle.h3_proto.specs.Settings.{value_of}
 use Rattle.h3_proto.specs.declared.config.Settings.{Settings}
 use Rattle.h3_proto.specs.declared.config.Config.{Config}
 use Rattle.h3_proto.specs.declared.config.Choices.{Choices}
+use Rattle.h3_proto.specs.declared.config.Extensions.{Extensions}
 use Rattle.h3_proto.specs.declared.frame.SettingsError.{SettingsError}
 use Rattle.h3_proto.specs.declared.frame.SettingsError.TheVariants.{InvalidSettingValue}
 
@@ -19,8 +20,19 @@ default_settings = record {
 }
 
 -- what an end chooses that chooses nothing
+abbrev pub no_extensions : Extensions
+no_extensions = record { kept_ids = 2 ^ 62 - 1; requests_rejected = false }
+
 abbrev pub no_choices : Choices
-no_choices = record { strict_messages = false; acknowledgments_counted = false; encoder_table = 2 ^ 30 - 1; economical_table = false; unfinished_limit = 2 ^ 62 - 1 }
+no_choices =
+    record {
+      strict_messages = false;
+      acknowledgments_counted = false;
+      encoder_table = 2 ^ 30 - 1;
+      economical_table = false;
+      unfinished_limit = 2 ^ 62 - 1;
+      extensions = no_extensions;
+    }
 
 -- a length that a frame can say exceeds it: lengths are below 2^62 (RFC 9000, section 16)
 abbrev pub is_limit : ℕ → Bool

@@ -1,6 +1,6 @@
 //! What an end of a connection announces of itself, and what its peer announced.
 ghost use Rattle.std.specs.Prelude.{◌≡◌, ℕ, ◌-◌, ◌^◌, ◌<◌, true, false};
-ghost use Rattle.h3_proto.specs.Config.{announced, default_settings, no_choices, peer_settings};
+ghost use Rattle.h3_proto.specs.Config.{announced, default_settings, no_choices, no_extensions, peer_settings};
 
 use crate::frame;
 use crate::frame::{SettingId, SettingsError};
@@ -91,12 +91,32 @@ pub struct Choices {
     pub acknowledgments_counted: bool,
     /// The most bytes that the table of the own encoder has, however many its peer announces (RFC 9204, section 3.2.3).
     pub encoder_table: u64,
-    /// The own encoder keeps out of its table what never comes again, and does not name what is soon to go. Where its peer lets no section
-    /// wait, it inserts for later sections what it may not name yet.
+    /// The own encoder keeps out of its table what never comes again. Where its peer lets no section wait, it inserts for later ones.
     pub economical_table: bool,
-    /// The greatest length that a frame may say whose payload is kept until it is whole, and the greatest of an instruction of the peer's
-    /// encoder or decoder (RFC 9114, section 10.5). 2^62 - 1 or more: none.
+    /// The greatest length of a frame or an instruction that is kept until it is whole (RFC 9114, section 10.5). 2^62 - 1 or more: none.
     pub unfinished_limit: u64,
+    /// What it chooses beyond that.
+    pub extensions: Extensions,
+}
+
+/// What an end chooses that changes an answer of the plain calls. By default nothing.
+#[derive(Clone, Copy, Debug)]
+pub struct Extensions {
+    /// The most ids of canceled streams that its encoder keeps. 2^62 - 1 or more: all.
+    pub kept_ids: u64,
+    /// A request that first comes from the id of its last GOAWAY on is refused (RFC 9114, section 5.2).
+    pub requests_rejected: bool,
+}
+
+impl Default for Extensions {
+    ghost is_default = { λ e. e ≡ no_extensions };
+
+    fn default() -> Self {
+        Extensions {
+            kept_ids: VarInt::MAX.into_inner(),
+            requests_rejected: false,
+        }
+    }
 }
 
 impl Default for Choices {
@@ -109,6 +129,7 @@ impl Default for Choices {
             encoder_table: MAX_TABLE_CAPACITY,
             economical_table: false,
             unfinished_limit: VarInt::MAX.into_inner(),
+            extensions: Extensions::default(),
         }
     }
 }
@@ -242,6 +263,27 @@ impl Config {
         ensures { result ≡ record self { choices = record self.choices { unfinished_limit = max } } }
     {
         self.choices.unfinished_limit = max;
+        self
+    }
+
+    /// The most ids of streams that the peer canceled which the local encoder keeps (RFC 9204, section 4.4.2). If there is one too many, the
+    /// least is let go, and from then on sections on each stream up to it are written without the table, unless one there is not yet
+    /// acknowledged. 2^62 - 1 by default, and then all are kept; a greater value is the same.
+    pub fn with_kept_ids(mut self, max: u64) -> Self
+        ensures { result ≡ record self { choices = record self.choices { extensions = record self.choices.extensions { kept_ids = max } } } }
+    {
+        self.choices.extensions.kept_ids = max;
+        self
+    }
+
+    /// Whether a server refuses what first comes on a request stream from the id of its last GOAWAY on (RFC 9114, section 5.2). Off by default: such
+    /// a request is taken as any other.
+    pub fn with_requests_rejected(mut self, rejected: bool) -> Self
+        ensures { result ≡ record self {
+          choices = record self.choices { extensions = record self.choices.extensions { requests_rejected = rejected } };
+        } }
+    {
+        self.choices.extensions.requests_rejected = rejected;
         self
     }
 

@@ -18,7 +18,9 @@ use Rattle.h3_field.specs.Prefix.{prefix_bytes}
 use Rattle.h3_field.specs.Section.{literal_line, line_or_literal, static_line, static_lines, section_bytes}
 use Rattle.h3_table.specs.Table.{table, evictions}
 use Rattle.h3_qpack.specs.EncoderHistory.{EncoderHistory, blocks_out, referenced_entries, was_canceled, writing_on}
-use Rattle.h3_qpack.specs.EncoderState.{EncoderState, encoder_state}
+use Rattle.h3_table.specs.Cancellations.{counts_as_canceled}
+use Rattle.h3_qpack.specs.EncoderState.{EncoderState, encoder_state, was_canceled_in}
+use Rattle.h3_qpack.proofs.EncoderStates.{tracked_state}
 use Rattle.h3_qpack.specs.SectionEncoding.{Draft, add_line, add_literal, add_ahead, write_field, add_field, unnamed, held, found, found_name, any_equal, is_usable, is_worth_to, literal_value, marked, marks_after, entry_name_line, evictions_by, finds_room, is_insertable, is_new, is_insertable_ahead, draft_of, required_insert_count, encoded_section, instructions_for, having_inserted, sent_section}
 use Rattle.h3_qpack.specs.Drafting.{IsSent, IsCutOff}
 use Rattle.h3_qpack.proofs.Newest.{newest_from-none}
@@ -216,9 +218,9 @@ on_announced s stream fields above = by_test (was_canceled s stream) refl
     by_test true e = let none = ap required_insert_count (on_static s stream fields e) in absurd (omega (arith, above, none))
     by_test false e = ap (λ (by : EncoderHistory). by.announced) (on_other s stream e)
 
--- what is kept of the ids
-pub kept_id : (s : EncoderHistory) (t : EncoderState) (stream : ℕ) (b : Bool) → t ≡ encoder_state s → b ≡ list_any (λ id. id == stream) t.canceled → was_canceled s stream ≡ b
-kept_id s t stream b e is = sym (is ∙ ap (λ (u : EncoderState). list_any (λ id. id == stream) u.canceled) e)
+-- A stream counts as canceled by the history where it does by what is kept.
+pub canceled_state : (s : EncoderHistory) (t : EncoderState) (stream : ℕ) (b : Bool) → t ≡ encoder_state s → b ≡ was_canceled_in t stream → was_canceled s stream ≡ b
+canceled_state s t stream b e is = ap (counts_as_canceled s.canceled stream) (tracked_state stream s.tracked) ∙ sym (is ∙ ap (λ u. was_canceled_in u stream) e)
 
 none_waits : (known : ℕ) (counts : List ℕ) → filter (λ c. nat_lt known c) (counts ++ 0 ∷ []) ≡ filter (λ c. nat_lt known c) counts
 none_waits known counts =

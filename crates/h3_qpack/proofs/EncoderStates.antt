@@ -7,8 +7,7 @@ use Rattle.std.proofs.lemmas.Grind.{common_steps}
 use Rattle.h3_field.specs.Instruction.{DecoderInstruction}
 use Rattle.h3_field.specs.Instruction.DecoderInstruction.{Acknowledge, CancelStream, Increment}
 use Rattle.h3_qpack.specs.EncoderHistory.{EncoderHistory, UnacknowledgedSection, acknowledged_count, known_by, released, without_stream, encoder_after}
-use Rattle.std.specs.Ordering.{nat_cmp}
-use Rattle.std.specs.BTreeSet.{insert_key}
+use Rattle.h3_table.specs.Cancellations.{with_canceled}
 use Rattle.h3_table.specs.declared.tracking.TrackedSection.{TrackedSection}
 use Rattle.h3_table.specs.InOrder.{put_first, in_order}
 use Rattle.h3_table.specs.InOrderLaws.{any_in_order, oldest_in_order, filter_in_order, length_in_order}
@@ -101,7 +100,7 @@ encoder_after_state s (Acknowledge stream) small =
     (ap (in_order (λ t. t.stream)) (released_state stream s.tracked) ∙ sym (oldest_in_order stream (map tracked_section s.tracked)))
     ∙ ap (λ (t : EncoderState). record t { tracked = without_oldest_of stream (in_order (λ t. t.stream) (map tracked_section s.tracked)) }) (acknowledging_state s stream s.counts_acknowledgments refl)
 encoder_after_state s (CancelStream stream) small =
-    ap (λ ts. record (encoder_state s) { tracked = ts; canceled = insert_key nat_cmp s.canceled stream })
+    ap (λ ts. record (encoder_state s) { tracked = ts; canceled = with_canceled s.canceled stream })
     (ap (in_order (λ t. t.stream)) (without_stored stream s.tracked) ∙ sym (filter_in_order (λ t. not (is_of stream t)) (λ t. t.stream) (map tracked_section s.tracked)))
 encoder_after_state s (Increment count) small = known_state s (min (s.known_received + count) (2 ^ 64 - 1)) (omega (arith, small count refl))
 

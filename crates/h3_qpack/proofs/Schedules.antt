@@ -1,6 +1,6 @@
 -- Every session is sound.
 use Rattle.std.proofs.Common.{ℕ, Bool, true, false, if◌then◌else◌, List, [], ◌∷◌, refl, sym, subst, arith}
-use Rattle.std.proofs.Common.{◌≡◌, ◌<◌, ◌≤◌, ap, length, min}
+use Rattle.std.proofs.Common.{◌≡◌, ◌<◌, ◌≤◌, ap, length, min, Option}
 use Rattle.std.proofs.lemmas.Grind.{common_steps}
 use Rattle.std.specs.List.{AllByRecursion}
 use Rattle.h3_field.specs.Field.{Field}
@@ -11,8 +11,10 @@ use Rattle.h3_table.specs.Table.{evictions}
 use Rattle.h3_qpack.specs.EncoderHistory.{EncoderHistory, referenced_entries, encoder_after, writing_on, was_canceled}
 use Rattle.h3_qpack.specs.SectionEncoding.{encoded_section, instructions_for}
 use Rattle.h3_qpack.specs.Session.{Session, IsSound}
-use Rattle.h3_qpack.specs.Schedule.{SessionEvent, SessionStep, SessionRun, beginning, with_table, economizing}
-use Rattle.h3_qpack.specs.Schedule.SessionEvent.{UseTable, Economize, Encode, CutOff, InsertionsRead, Decode, Cancel, DecoderInstructionRead}
+use Rattle.h3_qpack.specs.Schedule.{SessionEvent, SessionStep, SessionRun, beginning, with_table, economizing, keeping_canceled}
+use Rattle.h3_table.specs.Cancellations.{none_canceled}
+use Rattle.h3_qpack.proofs.Cancellations.{untracked_by}
+use Rattle.h3_qpack.specs.Schedule.SessionEvent.{UseTable, Economize, KeepCanceled, Encode, CutOff, InsertionsRead, Decode, Cancel, DecoderInstructionRead}
 use Rattle.h3_qpack.proofs.Sessions.{section_written, insertions_kept, insertions_read, section_decoded, stream_abandoned, reply_read, nothing_told}
 
 nothing_evicted : (capacity : ℕ) (inserted : List Field) → inserted ≡ [] → evictions capacity inserted ≡ 0
@@ -71,9 +73,30 @@ now_economical s economical h =
       small = h.small;
     }
 
+-- and so does how many canceled streams are kept
+now_keeping : (s : Session) (most : Option ℕ) → IsSound s → IsSound (keeping_canceled s most)
+now_keeping s most h =
+    record {
+      received = h.received;
+      accounted = h.accounted;
+      evictions_known = h.evictions_known;
+      references_present = h.references_present;
+      tracked = h.tracked;
+      acknowledged = h.acknowledged;
+      told = h.told;
+      written = h.written;
+      cancels = h.cancels;
+      untracked = λ stream canceled. untracked_by (none_canceled most) s.encoder.tracked stream (λ kept. absurd (cc)) canceled;
+      within_limit = h.within_limit;
+      read = h.read;
+      within_announced = h.within_announced;
+      small = h.small;
+    }
+
 pub step_is_sound : (s : Session) (event : SessionEvent) (new : Session) → IsSound s → SessionStep s event new → IsSound new
 step_is_sound s (UseTable announced limit) new h e = subst IsSound (sym e.2) (table_used s announced limit e.0 e.1 h)
 step_is_sound s (Economize economical) new h e = subst IsSound (sym e) (now_economical s economical h)
+step_is_sound s (KeepCanceled most) new h e = subst IsSound (sym e) (now_keeping s most h)
 step_is_sound s (Encode stream fields) new h e = subst IsSound (sym e) (section_written s stream fields h)
 step_is_sound s (CutOff stream fields) new h e = subst IsSound (sym e) (insertions_kept s stream fields h)
 step_is_sound s (InsertionsRead count) new h e = subst IsSound (sym e.2) (insertions_read s count e.0 e.1 h)

@@ -13,7 +13,9 @@ use Rattle.h3_field.specs.Instruction.DecoderInstruction.{Acknowledge, CancelStr
 use Rattle.h3_table.specs.Table.{evictions}
 use Rattle.h3_qpack.specs.EncoderHistory.{EncoderHistory, UnacknowledgedSection, acknowledged_count, known_by, released, without_stream, was_canceled, writing_on, blocks_out}
 use Rattle.h3_qpack.specs.SectionEncoding.{Draft, draft_of, marks_after, required_insert_count}
-use Rattle.h3_qpack.proofs.Canceled.{canceled_more, on_static, on_other, on_marks, sent_draft}
+use Rattle.h3_table.specs.Cancellations.{with_canceled}
+use Rattle.h3_qpack.proofs.Cancellations.{untracked_by, kept_counts, kept_before, canceled_before, is_among}
+use Rattle.h3_qpack.proofs.Canceled.{on_static, on_other, on_marks, sent_draft}
 use Rattle.h3_qpack.proofs.Insertions.{section_read_as}
 use Rattle.h3_qpack.proofs.Told.{released_names, released_others, without_others, one_acknowledged, other_acknowledged, told_behind, told_acknowledgment, told_more, unraised}
 use Rattle.h3_qpack.proofs.Drafts.{All-first, All-second, draft_is_draft, IsNamed}
@@ -176,7 +178,7 @@ acknowledgment_read s stream rest is h =
       told = (subst (AreTold s.encoder.known_received s.encoder.tracked) is h.told).2;
       written = h.written;
       cancels = subst (CancelsAreLast s.canceled) is h.cancels;
-      untracked = λ other canceled. none_released stream other s.encoder.tracked (h.untracked other canceled);
+      untracked = λ other canceled. untracked_by s.encoder.canceled (released stream s.encoder.tracked) other (λ kept. none_released stream other s.encoder.tracked (h.untracked other (kept_counts s.encoder.canceled other (is_among other s.encoder.tracked) kept))) canceled;
       within_limit = h.within_limit;
       read = h.read;
       within_announced = h.within_announced;
@@ -209,16 +211,14 @@ cancellation_read s stream rest is h =
       cancels = last.2;
       untracked = λ other canceled. ⊎_elim
           (λ e. subst (λ t. tracked_references t (without_stream stream s.encoder.tracked) ≡ []) e (without_own stream s.encoder.tracked))
-          (λ ne. others other ne ∙ h.untracked other (sym (another stream other ne (was_canceled s.encoder other)) ∙ sym (canceled_more stream other s.encoder.canceled) ∙ canceled))
+          (λ ne. untracked_by (with_canceled s.encoder.canceled stream) (without_stream stream s.encoder.tracked) other
+          (λ kept. others other ne ∙ h.untracked other (kept_counts s.encoder.canceled other (is_among other s.encoder.tracked) (kept_before s.encoder.canceled stream other ne kept))) canceled)
           (cases_eq stream other);
       within_limit = h.within_limit;
       read = h.read;
       within_announced = h.within_announced;
       small = h.small;
     }
-  where
-    another : (stream other : ℕ) → stream ≢ other → (b : Bool) → ((stream == other) || b) ≡ b
-    another stream other ne b = let no : (stream == other) ≡ false = grind (arith, common_steps) in rw no refl
 
 -- the encoder reads whatever the decoder wrote
 pub reply_read : (s : Session) (instruction : DecoderInstruction) (rest : List DecoderInstruction) → s.decoder_instructions ≡ instruction ∷ rest → IsSound s → IsSound (after_decoder_instruction s instruction rest)
@@ -385,7 +385,7 @@ other_written s stream fields e h =
           (longer_written s.encoder.inserted draft.inserted d.more d.begins s.sections h.written)
           (record { more = []; begins = sym (append-nil draft.inserted) }, tt);
       cancels = h.cancels;
-      untracked = still_untracked s stream draft e h;
+      untracked = λ other canceled. still_untracked s stream draft e h other (canceled_before s.encoder.canceled s.encoder.tracked (if required_insert_count draft == 0 then [] else record { stream = stream; references = draft.references } ∷ []) other canceled);
       within_limit = one_more_out s.encoder (required_insert_count draft) h.within_limit (may_block s.encoder draft.inserted draft.references 0 (omega arith) d.references);
       read = section_read_as s.encoder.announced s.encoder s.instructions fields h.read;
       within_announced = h.within_announced;

@@ -1,10 +1,9 @@
 -- What an encoder goes by: the insertions that it made, and what it read of the decoder.
-use Rattle.std.specs.Prelude.{◌≡◌, ℕ, ◌+◌, ◌-◌, ◌^◌, min, max, Bool, false, not, ◌&&◌, ◌||◌, List, [], ◌∷◌, length, fold, filter, flat_map, count_by, nat_lt, if◌then◌else◌, ◌==◌}
+use Rattle.std.specs.Prelude.{◌≡◌, ℕ, ◌+◌, ◌-◌, ◌^◌, min, max, Bool, false, not, ◌&&◌, ◌||◌, List, [], ◌∷◌, length, fold, filter, flat_map, count_by, nat_lt, if◌then◌else◌, ◌==◌, None}
 use Rattle.std.specs.List.{list_any}
-use Rattle.std.specs.Ordering.{nat_cmp}
-use Rattle.std.specs.BTreeSet.{insert_key}
 use Rattle.h3_field.specs.Field.{Field}
 use Rattle.h3_table.specs.Tracking.{without_newest}
+use Rattle.h3_table.specs.Cancellations.{Cancellations, none_canceled, with_canceled, counts_as_canceled}
 use Rattle.h3_qpack.specs.Marks.{no_marks}
 use Rattle.h3_field.specs.Instruction.{DecoderInstruction}
 use Rattle.h3_field.specs.Instruction.DecoderInstruction.{Acknowledge, CancelStream, Increment}
@@ -27,8 +26,8 @@ pub record EncoderHistory : Type 0 where
   -- the required counts of all sections written
   pub required_insert_counts : List ℕ
   pub tracked : List UnacknowledgedSection
-  -- the streams of which a cancellation was read, in increasing order
-  pub canceled : List ℕ
+  -- the streams of which a cancellation was read
+  pub canceled : Cancellations
   -- an acknowledgment tells of the insertions that its section needs (RFC 9204, section 2.1.4); else increments alone tell of any
   pub counts_acknowledgments : Bool
   -- it does not keep in its table what never comes again, and inserts for later sections what the present one may not name
@@ -38,7 +37,7 @@ pub record EncoderHistory : Type 0 where
 
 -- an encoder that may not use a table yet, and then as large a one as is announced: a greater capacity than this is not used
 abbrev pub no_table : EncoderHistory
-no_table = record { most_capacity = 2 ^ 30 - 1; announced = 0; capacity = 0; limit = 0; inserted = []; known_received = 0; required_insert_counts = []; tracked = []; canceled = []; counts_acknowledgments = false; economical = false; marks = no_marks }
+no_table = record { most_capacity = 2 ^ 30 - 1; announced = 0; capacity = 0; limit = 0; inserted = []; known_received = 0; required_insert_counts = []; tracked = []; canceled = none_canceled None; counts_acknowledgments = false; economical = false; marks = no_marks }
 
 -- The decoder announced this: the encoder sets the lesser of the capacity and the most that its table may have (RFC 9204, section 3.2.3).
 abbrev pub using_table : EncoderHistory → ℕ → ℕ → EncoderHistory
@@ -75,11 +74,16 @@ known_by s stream = if s.counts_acknowledgments then max s.known_received (ackno
 abbrev pub without_stream : ℕ → List UnacknowledgedSection → List UnacknowledgedSection
 without_stream stream sections = filter (λ section. not (section.stream == stream)) sections
 
--- A cancellation of the stream was read: nobody acknowledges what is sent on it from now on.
-abbrev pub was_canceled : EncoderHistory → ℕ → Bool
-was_canceled s stream = list_any (λ other. other == stream) s.canceled
+-- A section of the stream is tracked.
+abbrev pub is_tracked : EncoderHistory → ℕ → Bool
+is_tracked s stream = list_any (λ section. section.stream == stream) s.tracked
 
--- What a section on the stream is written by (RFC 9204, section 2.1.2): where a cancellation of the stream was read, an encoder
+-- The stream counts as canceled: nobody may acknowledge what is sent on it from now on. So does each whose cancellation was read, and
+-- where at most so many are kept also one below them that has no tracked section.
+abbrev pub was_canceled : EncoderHistory → ℕ → Bool
+was_canceled s stream = counts_as_canceled s.canceled stream (is_tracked s stream)
+
+-- What a section on the stream is written by (RFC 9204, section 2.1.2): where the stream counts as canceled, an encoder
 -- of an announced capacity 0 whose sections may not be blocked, and which is not economical.
 abbrev pub writing_on : EncoderHistory → ℕ → EncoderHistory
 writing_on s stream = if was_canceled s stream then record s { announced = 0; capacity = 0; limit = 0; economical = false } else s
@@ -87,7 +91,7 @@ writing_on s stream = if was_canceled s stream then record s { announced = 0; ca
 -- the encoder after an instruction of the decoder. The known received count stops at the greatest number of 64 bits.
 abbrev pub encoder_after : EncoderHistory → DecoderInstruction → EncoderHistory
 encoder_after s (Acknowledge stream) = record s { known_received = known_by s stream; tracked = released stream s.tracked }
-encoder_after s (CancelStream stream) = record s { tracked = without_stream stream s.tracked; canceled = insert_key nat_cmp s.canceled stream }
+encoder_after s (CancelStream stream) = record s { tracked = without_stream stream s.tracked; canceled = with_canceled s.canceled stream }
 encoder_after s (Increment count) = record s { known_received = min (s.known_received + count) (2 ^ 64 - 1) }
 
 abbrev pub encoder_after_all : EncoderHistory → List DecoderInstruction → EncoderHistory
@@ -97,7 +101,7 @@ encoder_after_all s (instruction ∷ rest) = encoder_after_all (encoder_after s 
 -- an acknowledgment of a stream without a tracked section. An increment that is 0 or past what was inserted (RFC 9204, section 4.4.3)
 -- is refused where acknowledgments count
 abbrev pub is_refused : EncoderHistory → DecoderInstruction → Bool
-is_refused s (Acknowledge stream) = not (list_any (λ section. section.stream == stream) s.tracked)
+is_refused s (Acknowledge stream) = not (is_tracked s stream)
 is_refused s (CancelStream stream) = false
 is_refused s (Increment count) = s.counts_acknowledgments && ((count == 0) || nat_lt (length s.inserted) (s.known_received + count))
 

@@ -1,11 +1,11 @@
 -- What an encoder keeps of its history.
 use Rattle.std.specs.Prelude.{◌≡◌, ◌⊎◌, false, ◌<◌, ◌≤◌, ℕ, Bool, ◌+◌, ◌-◌, ◌^◌, true, ◌&&◌, ◌||◌, min, max, List, [], ◌∷◌, length, map, filter, fold, nat_lt, if◌then◌else◌, ◌==◌}
-use Rattle.std.specs.Ordering.{nat_cmp}
-use Rattle.std.specs.BTreeSet.{insert_key}
+use Rattle.std.specs.List.{list_any}
 use Rattle.h3_field.specs.Instruction.{DecoderInstruction}
 use Rattle.h3_field.specs.Instruction.DecoderInstruction.{Acknowledge, CancelStream, Increment}
 use Rattle.h3_table.specs.InOrder.{in_order, put_last}
-use Rattle.h3_table.specs.Tracking.{is_free_to, newest_named, without_newest, without_oldest_of, without_newest_of, without_all_of}
+use Rattle.h3_table.specs.Cancellations.{Cancellations, with_canceled, counts_as_canceled}
+use Rattle.h3_table.specs.Tracking.{is_of, is_free_to, newest_named, without_newest, without_oldest_of, without_newest_of, without_all_of}
 use Rattle.h3_field.specs.Field.{Field, field_size}
 use Rattle.h3_table.specs.Table.{table}
 use Rattle.h3_table.specs.TableState.{TableState, evicted, with_entry, with_capacity}
@@ -26,7 +26,7 @@ pub record EncoderState : Type 0 where
   -- the sections in the order of their streams, and those of one stream in the order of sending
   pub tracked : List TrackedSection
   -- the streams of which a cancellation was read
-  pub canceled : List ℕ
+  pub canceled : Cancellations
   pub counts_acknowledgments : Bool
   pub economical : Bool
   -- marks of the last values that it wrote as literals
@@ -56,6 +56,10 @@ encoder_state s =
       marks = s.marks;
     }
 
+-- The stream counts as canceled.
+abbrev pub was_canceled_in : EncoderState → ℕ → Bool
+was_canceled_in s stream = counts_as_canceled s.canceled stream (list_any (is_of stream) s.tracked)
+
 -- So many insertions are known to be received.
 abbrev pub knowing : EncoderState → ℕ → EncoderState
 knowing s known = record s { known_received = known; blocking_counts = filter (λ c. nat_lt known c) s.blocking_counts }
@@ -75,7 +79,7 @@ refuses_increment s count = s.counts_acknowledgments && ((count == 0) || nat_lt 
 -- the state after an instruction of the decoder
 abbrev pub encoder_state_after : EncoderState → DecoderInstruction → EncoderState
 encoder_state_after s (Acknowledge stream) = record (raised_by s stream) { tracked = without_oldest_of stream s.tracked }
-encoder_state_after s (CancelStream stream) = record s { tracked = without_all_of stream s.tracked; canceled = insert_key nat_cmp s.canceled stream }
+encoder_state_after s (CancelStream stream) = record s { tracked = without_all_of stream s.tracked; canceled = with_canceled s.canceled stream }
 encoder_state_after s (Increment count) = raised s count
 
 -- The field may be inserted: it fits, and the entries that it evicts are known to be received, named by no section that is

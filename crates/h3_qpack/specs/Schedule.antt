@@ -1,7 +1,8 @@
 -- Every schedule of one encoder and one decoder.
-use Rattle.std.specs.Prelude.{◌≡◌, ℕ, ◌+◌, ◌++◌, ◌<◌, ◌≤◌, Bool, false, List, [], ◌∷◌, length, Some}
+use Rattle.std.specs.Prelude.{◌≡◌, ℕ, ◌+◌, ◌++◌, ◌<◌, ◌≤◌, Bool, false, List, [], ◌∷◌, length, Option, Some}
 use Rattle.h3_field.specs.Field.{Field}
 use Rattle.h3_field.specs.Instruction.{DecoderInstruction}
+use Rattle.h3_table.specs.Cancellations.{none_canceled}
 use Rattle.h3_qpack.specs.EncoderHistory.{no_table, using_table, writing_on}
 use Rattle.h3_qpack.specs.SectionEncoding.{having_inserted, instructions_for}
 use Rattle.h3_qpack.specs.Session.{Session, UndecodedSection, encoded, inserted, oldest, is_canceled, count_of, decoded, after_cancellation, after_decoder_instruction}
@@ -11,6 +12,8 @@ pub data SessionEvent : Type 0 where
   UseTable : (announced limit : ℕ) → SessionEvent
   -- from now on the encoder is economical with its table, or is not
   Economize : (economical : Bool) → SessionEvent
+  -- from now on at most so many of the streams are kept whose cancellation is read, or all; those that were kept are forgotten
+  KeepCanceled : (most : Option ℕ) → SessionEvent
   Encode : (stream : ℕ) (fields : List Field) → SessionEvent
   -- a section of the stream is withdrawn, or was cut off behind these fields: what was inserted for it stays
   CutOff : (stream : ℕ) (fields : List Field) → SessionEvent
@@ -26,6 +29,9 @@ with_table s announced limit = record s { encoder = using_table s.encoder announ
 abbrev pub economizing : Session → Bool → Session
 economizing s economical = record s { encoder = record s.encoder { economical = economical } }
 
+abbrev pub keeping_canceled : Session → Option ℕ → Session
+keeping_canceled s most = record s { encoder = record s.encoder { canceled = none_canceled most } }
+
 abbrev pub without_section : Session → ℕ → List Field → Session
 without_section s stream fields =
     record s {
@@ -36,6 +42,7 @@ without_section s stream fields =
 abbrev pub SessionStep : Session → SessionEvent → Session → Type 0
 SessionStep s (UseTable announced limit) new = (s.encoder.inserted ≡ []) × (s.encoder.limit ≡ 0) × (new ≡ with_table s announced limit)
 SessionStep s (Economize economical) new = new ≡ economizing s economical
+SessionStep s (KeepCanceled most) new = new ≡ keeping_canceled s most
 SessionStep s (Encode stream fields) new = new ≡ encoded s stream fields
 SessionStep s (CutOff stream fields) new = new ≡ without_section s stream fields
 SessionStep s (InsertionsRead count) new = (0 < count) × (s.received + count ≤ length s.encoder.inserted) × (new ≡ inserted s count)

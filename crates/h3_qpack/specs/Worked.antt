@@ -2,6 +2,7 @@
 use Rattle.std.specs.Prelude.{ℕ, Bool, true, List, [], ◌∷◌, replicate, codes}
 use Rattle.h3_field.specs.Field.{Field}
 use Rattle.h3_field.specs.Instruction.DecoderInstruction.{Acknowledge, CancelStream, Increment}
+use Rattle.h3_table.specs.Cancellations.{none_canceled}
 use Rattle.h3_qpack.specs.EncoderHistory.{EncoderHistory, no_table, using_table, encoder_after}
 use Rattle.h3_field.specs.Instruction.EncoderInstruction.{SetCapacity, InsertLiteral, InsertWithEntryName, Duplicate}
 use Rattle.std.specs.Prelude.{Option, Some}
@@ -57,6 +58,12 @@ three_canceled =
 -- Stream 0 is canceled before anything.
 abbrev pub canceled_first : EncoderHistory
 canceled_first = encoder_after (fresh 64 10) (CancelStream 0)
+
+-- At most one canceled stream is kept: the stream 0 has a section, and then the streams 8 and 4 are canceled.
+abbrev pub one_kept : EncoderHistory
+one_kept =
+    let sent = sent_section (record (fresh 64 10) { canceled = none_canceled (Some 1) }) 0 (with_header x_a) in
+    encoder_after (encoder_after sent (CancelStream 8)) (CancelStream 4)
 
 -- One more section may be blocked, and acknowledgments count or do not: stream 0 has a response that waits for an insertion.
 abbrev pub one_waits : Bool → EncoderHistory

@@ -1,13 +1,14 @@
 //! The dynamic table with what its encoder goes by (RFC 9204, sections 2.1 and 3.2).
 ghost use Rattle.std.specs.Prelude.{◌≡◌, ℕ, ◌+◌, ◌-◌, ◌^◌, ◌<◌, ◌≤◌, List, [], length, min, max, true, false, None, IfSome, IfNone, ◌==◌, IfOk, IfErr, OnErr, OnOk};
 ghost use Rattle.std.specs.List.{list_any};
+ghost use Rattle.h3_table.specs.Cancellations.{none_canceled};
 ghost use Rattle.h3_field.specs.Field.{Field, field_size, section_size};
 ghost use Rattle.h3_table.specs.TableState.{no_entries, evicted, entry_at, newest_in, with_entry, with_capacity};
 ghost use Rattle.h3_table.specs.Matches.{matches};
 ghost use Rattle.h3_table.specs.Index.{IsIndexed, HasRoom};
 ghost use Rattle.h3_table.specs.Tracking.{is_of, is_free_to};
 ghost use Rattle.h3_field.specs.Instruction.DecoderInstruction.{Acknowledge, CancelStream};
-ghost use Rattle.h3_qpack.specs.EncoderState.{EncoderState, MayInsertInto, MayHaveCapacity, IsCapacityRefusal, raised, refuses_increment, encoder_state_sent, encoder_state_after, encoder_state_withdrawn};
+ghost use Rattle.h3_qpack.specs.EncoderState.{EncoderState, MayInsertInto, MayHaveCapacity, IsCapacityRefusal, raised, refuses_increment, encoder_state_sent, encoder_state_after, encoder_state_withdrawn, was_canceled_in};
 ghost use Rattle.h3_qpack.specs.Marks.{no_marks};
 ghost use Rattle.h3_qpack.specs.Missed.{IsMissed};
 ghost use Rattle.h3_qpack.specs.Drafting.{begun, draining_in, is_worth_in, noted, IsSmall, MayInsertAhead};
@@ -20,9 +21,9 @@ use crate::view::DynamicTableDecoder;
 use h3_field::FieldRef;
 pub use h3_field::dynamic::Error;
 use h3_table::blocking::BlockingCounts;
+use h3_table::canceled_streams::CanceledStreams;
 use h3_table::entries::{Entries, Entry, MAX_CAPACITY, MOST_INSERTIONS, Match, size_of};
 use h3_table::index::Index;
-use h3_table::stream_set::StreamSet;
 use h3_table::tracking::{TrackedSection, Tracking};
 use std::alloc::{AllocError, Global};
 use std::marker::Model;
@@ -40,7 +41,7 @@ pub struct DynamicTable {
     fields: Index,
     tracking: Tracking,
     // the streams of which a cancellation was read, which nobody acknowledges any more
-    canceled: StreamSet,
+    canceled: CanceledStreams,
     // the most that the table may have, and the greatest capacity that the decoder announced
     most_capacity: usize,
     announced: usize,
@@ -82,14 +83,14 @@ fn reserve(names: &mut Index, fields: &mut Index) -> Result<(), AllocError>
 impl DynamicTable {
     /// A table of capacity 0, whose sections may not be blocked. It may have any capacity up to 2^30 - 1.
     pub fn new(alloc: Global) -> DynamicTable
-        ensures { result ≡ record { table = no_entries; most_capacity = 2 ^ 30 - 1; announced = 0; limit = 0; known_received = 0; blocking_counts = []; tracked = []; canceled = []; counts_acknowledgments = false; economical = false; marks = no_marks } }
+        ensures { result ≡ record { table = no_entries; most_capacity = 2 ^ 30 - 1; announced = 0; limit = 0; known_received = 0; blocking_counts = []; tracked = []; canceled = none_canceled None; counts_acknowledgments = false; economical = false; marks = no_marks } }
     {
         DynamicTable {
             entries: Entries::new(alloc),
             names: Index::new(alloc),
             fields: Index::new(alloc),
             tracking: Tracking::new(alloc),
-            canceled: StreamSet::new(alloc),
+            canceled: CanceledStreams::new(alloc, None),
             most_capacity: MAX_CAPACITY,
             announced: 0,
             limit: 0,
@@ -507,18 +508,28 @@ impl DynamicTable {
         true
     }
 
-    /// Whether a cancellation of the stream was read.
-    pub(crate) fn is_canceled(&self, stream: u64) -> bool
-        ensures { result ≡ list_any (λ other. other == stream) self.now.canceled }
+    /// From now on at most so many streams are kept of which a cancellation was read, or all; those that were kept are forgotten.
+    pub(crate) fn keep_canceled(&mut self, most: Option<usize>)
+        ensures { self.new ≡ record self.old { canceled = none_canceled most } }
     {
-        self.canceled.contains(stream)
+        self.canceled = CanceledStreams::new(self.alloc, most);
+    }
+
+    /// Whether the stream counts as canceled.
+    pub(crate) fn is_canceled(&self, stream: u64) -> bool
+        ensures { result ≡ was_canceled_in self.now stream }
+    {
+        if self.canceled.is_kept(stream) {
+            return true;
+        }
+        self.canceled.is_below(stream) && !self.tracking.has(stream)
     }
 
     /// Keeps that a cancellation of the stream was read, and releases all its tracked sections. Where memory is refused nothing
     /// changes; none is needed where one was read before.
     pub(crate) fn cancel(&mut self, stream: u64) -> Result<(), AllocError>
         ensures ok { OnOk result (self.new ≡ encoder_state_after self.old (CancelStream stream)) }
-        ensures err { OnErr result ((self.new ≡ self.old) × (list_any (λ other. other == stream) self.old.canceled ≡ false)) }
+        ensures err { OnErr result ((self.new ≡ self.old) × (was_canceled_in self.old stream ≡ false)) }
     {
         let Ok(()) = self.canceled.insert(stream) else {
             return Err(AllocError);

@@ -1,6 +1,5 @@
 //! An encoder with its dynamic table: what it writes, and what it reads of its decoder (RFC 9204, sections 2.1 and 4).
 ghost use Rattle.std.specs.Prelude.{◌≡◌, ◌≢◌, ◌==◌, ◌<◌, ◌≤◌, ◌^◌, ◌++◌, ◌-◌, true, false, length, drop, min, IfOk, IfErr, OnOk, OnErr};
-ghost use Rattle.std.specs.List.{list_any};
 ghost use Rattle.std.specs.Result.{IsOkUnless};
 ghost use Rattle.h3_field.specs.Field.{section_size};
 ghost use Rattle.h3_field.specs.declared.encoder_error.EncoderError.TheVariants.{OutOfMemory};
@@ -9,7 +8,8 @@ ghost use Rattle.h3_field.specs.Shapes.{begins};
 ghost use Rattle.h3_field.specs.InstructionReading.{decoder_instruction};
 ghost use Rattle.h3_qpack.specs.EncoderHistory.{EncoderHistory, no_table, using_table, blocks_out, was_canceled, writing_on, withdrawn};
 ghost use Rattle.h3_table.specs.Table.{table};
-ghost use Rattle.h3_qpack.specs.EncoderState.{encoder_state, MayHaveCapacity};
+ghost use Rattle.h3_qpack.specs.EncoderState.{encoder_state, was_canceled_in, MayHaveCapacity};
+ghost use Rattle.h3_table.specs.Cancellations.{none_canceled};
 ghost use Rattle.h3_qpack.specs.Drafting.{IsSent, IsCutOff};
 ghost use Rattle.h3_table.specs.TableState.{with_capacity};
 ghost use Rattle.h3_field.specs.Instruction.{encoder_bytes};
@@ -82,6 +82,15 @@ impl Encoder {
         self.table.economize(economical);
     }
 
+    /// From now on at most so many of the streams are kept whose cancellation is read, or all, as at first; those that were kept are
+    /// forgotten. Where there is one too many the least goes. From then on each stream up to it counts as canceled that has no tracked
+    /// section: its sections name no entry, which costs their compression alone.
+    pub fn keep_canceled(&mut self, most: Option<usize>)
+        ensures { (s : EncoderHistory) → self.old ≡ encoder_state s → self.new ≡ encoder_state (record s { canceled = none_canceled most }) }
+    {
+        self.table.keep_canceled(most);
+    }
+
     /// From now on `use_table` and `allow_table` give the table at most this capacity, whatever the decoder announces. 2^30 - 1 at
     /// first, which is as much as a table has.
     pub fn limit_table(&mut self, most: usize)
@@ -131,9 +140,10 @@ impl Encoder {
         self.table.size()
     }
 
-    /// Whether a cancellation of the stream was read (RFC 9204, section 4.4.2): what is written on it names no entry.
+    /// Whether the stream counts as canceled (RFC 9204, section 4.4.2): what is written on it names no entry. Each stream does whose
+    /// cancellation was read, and where at most so many are kept (`keep_canceled`) also one below them that has no tracked section.
     pub fn is_canceled(&self, stream: u64) -> bool
-        ensures value { result ≡ list_any (λ other. other == stream) self.now.canceled }
+        ensures value { result ≡ was_canceled_in self.now stream }
         ensures history { (s : EncoderHistory) → self.now ≡ encoder_state s → result ≡ was_canceled s stream }
     {
         self.table.is_canceled(stream)

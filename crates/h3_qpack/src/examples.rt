@@ -2,7 +2,7 @@
 ghost use Rattle.std.specs.Prelude.{◌≡◌, ◌∷◌, ◌++◌, [], replicate, codes, flat_map};
 ghost use Rattle.h3_field.specs.Instruction.{encoder_bytes};
 ghost use Rattle.h3_field.specs.Instruction.DecoderInstruction.{CancelStream, Increment};
-ghost use Rattle.h3_qpack.specs.EncoderHistory.{blocks_out, encoder_after, writing_on};
+ghost use Rattle.h3_qpack.specs.EncoderHistory.{blocks_out, encoder_after, was_canceled, writing_on};
 ghost use Rattle.h3_qpack.specs.Marks.{value_mark};
 ghost use Rattle.h3_qpack.specs.SectionEncoding.{draining, draft_of, encoded_section, instructions_for, sent_section};
 ghost use Rattle.std.specs.Prelude.{Some, None, option_map, true, false};
@@ -12,7 +12,7 @@ ghost use Rattle.h3_field.specs.Instruction.EncoderInstruction.{SetCapacity, Ins
 ghost use Rattle.h3_qpack.specs.EncoderHistory.{is_refused, encoder_after_front, withdrawn};
 ghost use Rattle.h3_table.specs.Table.{table};
 ghost use Rattle.h3_qpack.specs.DecoderState.{announcing, decoder_after_all};
-ghost use Rattle.h3_qpack.specs.Worked.{three, fresh, sample, host_text, path_text, with_header, x_a, x_b, x_a_of, older_known, three_canceled, canceled_first, one_waits, one_acknowledged, two_on_a_stream, no_waiting, inserted_ahead, capped, twice_inserted, empty_b, x_long, two_drain, a_of_two};
+ghost use Rattle.h3_qpack.specs.Worked.{three, fresh, sample, host_text, path_text, with_header, x_a, x_b, x_a_of, older_known, three_canceled, canceled_first, one_kept, one_waits, one_acknowledged, two_on_a_stream, no_waiting, inserted_ahead, capped, twice_inserted, empty_b, x_long, two_drain, a_of_two};
 
 /// Three requests for the same page: the first inserts two fields, the second names them, and the third may not.
 #[tactic(auto, unfolding(h3_field::specs::StaticTable::static_table, h3_field::specs::StaticTable::static_field, h3_field::specs::StaticTable::static_name, h3_huffman::specs::Huffman::huffman, h3_huffman::specs::Huffman::octets, h3_huffman::specs::Huffman::code_word, h3_huffman::specs::Huffman::bits))]
@@ -72,6 +72,22 @@ pub fn cancellations()
     ensures released { encoded_section (writing_on three_canceled 4) (with_header x_b) ≡ 3 ∷ 128 ∷ 217 ∷ 16 ∷ [] }
     ensures canceled { encoded_section (writing_on canceled_first 0) (with_header x_a) ≡ 0 ∷ 0 ∷ 217 ∷ 43 ∷ 242 ∷ 176 ∷ 255 ∷ 129 ∷ 15 ∷ [] }
     ensures other { encoded_section (writing_on canceled_first 4) (with_header x_a) ≡ 2 ∷ 128 ∷ 217 ∷ 16 ∷ [] }
+{}
+
+/// Where one canceled stream is kept, the least of two is let go. Up to it each stream counts as canceled, unless a section of it is tracked.
+/// One that is canceled again is not kept again.
+#[tactic(auto, unfolding(h3_field::specs::StaticTable::static_table, h3_field::specs::StaticTable::static_field, h3_field::specs::StaticTable::static_name, h3_huffman::specs::Huffman::huffman, h3_huffman::specs::Huffman::octets, h3_huffman::specs::Huffman::code_word, h3_huffman::specs::Huffman::bits))]
+pub fn kept_cancellations()
+    ensures kept { one_kept.canceled ≡ record { kept = 8 ∷ []; most = Some 1; below = 5 } }
+    ensures again { (encoder_after one_kept (CancelStream 4)).canceled ≡ one_kept.canceled }
+    ensures greatest { was_canceled one_kept 8 ≡ true }
+    ensures least { was_canceled one_kept 4 ≡ true }
+    ensures below { was_canceled one_kept 1 ≡ true }
+    ensures between { was_canceled one_kept 5 ≡ false }
+    ensures above { was_canceled one_kept 12 ≡ false }
+    ensures tracked { was_canceled one_kept 0 ≡ false }
+    ensures released { was_canceled (encoder_after one_kept (Acknowledge 0)) 0 ≡ true }
+    ensures sections { encoded_section (writing_on one_kept 1) (with_header x_a) ≡ 0 ∷ 0 ∷ 217 ∷ 43 ∷ 242 ∷ 176 ∷ 255 ∷ 129 ∷ 15 ∷ [] }
 {}
 
 /// A decoder acknowledges a section and leaves the increment out. Where acknowledgments count, the next section with the same field is an

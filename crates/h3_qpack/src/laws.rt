@@ -28,6 +28,9 @@ ghost use Rattle.h3_qpack.specs.Encodings.{decoder_of, HasInsertions, IsDecoderA
 ghost use Rattle.h3_field.specs.Prefix.{most_entries, IsRequiredCount};
 ghost use Rattle.h3_qpack.specs.Session.{Session, UndecodedSection, oldest, is_canceled, count_of, tracked_references, IsSound, DecodesTo};
 ghost use Rattle.h3_qpack.specs.Schedule.{SessionEvent, SessionRun, beginning};
+ghost use Rattle.std.specs.Ordering.{nat_cmp};
+ghost use Rattle.std.specs.BTreeSet.{insert_key};
+ghost use Rattle.h3_table.specs.Cancellations.{Cancellations, KeepsAll, with_canceled};
 ghost use Rattle.h3_qpack.specs.EncoderHistory.{EncoderHistory, HasNoTable, blocks_out, encoder_after, encoder_after_all, was_canceled, withdrawn, writing_on};
 ghost use Rattle.h3_qpack.specs.EncoderState.{encoder_state};
 ghost use Rattle.h3_qpack.specs.Exchange.{ExchangeHistory, Exchange, start, opening};
@@ -74,15 +77,27 @@ pub fn plain_encoders_go_by_their_table()
     ensures marks { (s : EncoderHistory) (lines : List FieldLine) → s.economical ≡ false → marks_after s lines ≡ s.marks }
 {}
 
-/// Every cancellation that was read is kept, and nothing else is.
+/// A stream counts as canceled once its cancellation was read, and over every schedule it does from then on, however many are kept. At
+/// most so many are kept as are to be.
 pub fn cancellations_are_kept()
-    ensures canceled { (s : EncoderHistory) (stream other : ℕ) → was_canceled (encoder_after s (CancelStream stream)) other ≡ ((stream == other) || was_canceled s other) }
-    ensures acknowledged { (s : EncoderHistory) (stream other : ℕ) → was_canceled (encoder_after s (Acknowledge stream)) other ≡ was_canceled s other }
+    ensures canceled { (s : EncoderHistory) (stream : ℕ) → was_canceled (encoder_after s (CancelStream stream)) stream ≡ true }
+    ensures stays { (counts : Bool) (most announced limit : ℕ) (events : List SessionEvent) (s : Session) (i : DecoderInstruction) (stream : ℕ) → SessionRun (beginning counts most announced limit) events s →
+        was_canceled s.encoder stream ≡ true → was_canceled (encoder_after s.encoder i) stream ≡ true }
     ensures counted { (s : EncoderHistory) (count other : ℕ) → was_canceled (encoder_after s (Increment count)) other ≡ was_canceled s other }
     ensures sent { (s : EncoderHistory) (stream other : ℕ) (fields : List Field) → was_canceled (sent_section s stream fields) other ≡ was_canceled s other }
+    ensures few { (s : EncoderHistory) (i : DecoderInstruction) (most : ℕ) → s.canceled.most ≡ Some most → length s.canceled.kept ≤ most →
+        ((encoder_after s i).canceled.most ≡ Some most) × (length (encoder_after s i).canceled.kept ≤ most) }
 {}
 
-/// Over every schedule, no tracked section is of a stream whose cancellation was read.
+/// Where all are kept, a stream counts as canceled only once its cancellation was read.
+pub fn all_cancellations_are_kept()
+    ensures canceled { (s : EncoderHistory) (stream other : ℕ) → KeepsAll s.canceled → was_canceled (encoder_after s (CancelStream stream)) other ≡ ((stream == other) || was_canceled s other) }
+    ensures acknowledged { (s : EncoderHistory) (stream other : ℕ) → KeepsAll s.canceled → was_canceled (encoder_after s (Acknowledge stream)) other ≡ was_canceled s other }
+    ensures stays { (s : EncoderHistory) (i : DecoderInstruction) → KeepsAll s.canceled → KeepsAll (encoder_after s i).canceled }
+    ensures kept { (c : Cancellations) (stream : ℕ) → KeepsAll c → with_canceled c stream ≡ record c { kept = insert_key nat_cmp c.kept stream } }
+{}
+
+/// Over every schedule, no tracked section is of a stream that counts as canceled.
 pub fn canceled_streams_are_not_tracked()
     ensures { (counts : Bool) (most announced limit : ℕ) (events : List SessionEvent) (s : Session) (stream : ℕ) → SessionRun (beginning counts most announced limit) events s → was_canceled s.encoder stream ≡ true →
         tracked_references stream s.encoder.tracked ≡ [] }

@@ -20,6 +20,8 @@ pub mod Words
 pub mod ShortWords
 pub mod StreamSet
 pub mod StreamSetInside
+pub mod Cancellations
+pub mod CancellationsInside
 pub mod ByteRow
 pub mod ByteQueueInside
 pub mod FieldRow

@@ -1,5 +1,7 @@
 //! Sections that are sent and neither acknowledged nor canceled, where often there is one alone.
 ghost use Rattle.std.specs.Prelude.{◌≡◌, ◌<◌, ◌^◌, [], length, OnErr, OnOk};
+ghost use Rattle.std.specs.List.{list_any};
+ghost use Rattle.h3_table.specs.Tracking.{is_of};
 ghost use Rattle.h3_table.specs.InOrder.{put_last};
 ghost use Rattle.h3_table.specs.Sections.{IsOldestTaken, IsNewestTaken};
 
@@ -56,6 +58,16 @@ impl TrackedSections {
             return Ok(());
         }
         self.others.add(section)
+    }
+
+    /// Whether there are sections of a stream.
+    pub fn has(&self, stream: u64) -> bool
+        ensures { result ≡ list_any (is_of stream) self.now }
+    {
+        let Some(only) = self.only else {
+            return self.others.has(stream);
+        };
+        only.stream == stream
     }
 
     /// Takes the oldest section of a stream away, and answers what it names.

@@ -1,5 +1,7 @@
 //! Sections that are sent and neither acknowledged nor canceled, and have no place of their own: each stream has its own in the order of sending.
-ghost use Rattle.std.specs.Prelude.{◌≡◌, ◌++◌, ◌∷◌, List, [], length, false, None, Some, IfSome, IfNone, OnErr, OnOk};
+ghost use Rattle.std.specs.Prelude.{◌≡◌, ◌<◌, ◌++◌, ◌∷◌, List, [], length, false, None, Some, IfSome, IfNone, OnErr, OnOk};
+ghost use Rattle.std.specs.List.{list_any};
+ghost use Rattle.h3_table.specs.Tracking.{is_of};
 ghost use Rattle.std.specs.Ordering.{nat_cmp};
 ghost use Rattle.std.specs.BTreeMap.{is_at};
 ghost use Rattle.std.specs.Map.{lookup};
@@ -68,6 +70,13 @@ impl EntriesInOrder {
         ensures none { IfNone result ((length self.old ≡ 1) × (self.new ≡ self.old)) }
     {
         self.more.pop_back()
+    }
+
+    /// There is at least one. It does nothing: a proof that needs the fact calls it.
+    fn has_some(&self)
+        ensures { 0 < length self.now }
+    {
+        self.more.len();
     }
 
     fn first(&self) -> NamedEntries
@@ -179,9 +188,16 @@ impl FurtherSections {
 
     /// Whether there are sections of a stream.
     pub(crate) fn has(&self, stream: u64) -> bool
-        ensures { result ≡ false → of_stream stream self.now ≡ [] }
+        ensures value { result ≡ list_any (is_of stream) self.now }
+        ensures absent { result ≡ false → of_stream stream self.now ≡ [] }
     {
-        self.streams.contains_key(&stream)
+        let Some(entries) = self.streams.get(&stream) else {
+            return false;
+        };
+        // (for the proof: there is at least one, and the map is in order)
+        entries.has_some();
+        self.streams.len();
+        true
     }
 
     /// A section was sent on its stream. Where memory is refused nothing changes.

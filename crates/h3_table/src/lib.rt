@@ -5,6 +5,7 @@
 pub mod alone;
 pub mod blocking;
 mod byte_queue;
+pub mod canceled_streams;
 pub mod entries;
 mod field_queue;
 mod further;

@@ -1,5 +1,7 @@
 //! Sections that are sent and neither acknowledged nor canceled, each at the place of its stream: it is found with no search.
 ghost use Rattle.std.specs.Prelude.{◌≡◌, ◌<◌, ◌≤◌, ◌+◌, ◌*◌, [], true, false, max, IfSome, IfOk, OnErr};
+ghost use Rattle.std.specs.List.{list_any};
+ghost use Rattle.h3_table.specs.Tracking.{is_of};
 ghost use Rattle.h3_table.specs.Places.{place_of};
 ghost use Rattle.h3_table.specs.ByStream.{of_stream, HaveSame, HasOneMore, IsFirstTaken};
 
@@ -212,5 +214,20 @@ impl Places {
         }
         self.slots[place] = NOTHING;
         Some(there.named())
+    }
+    /// Whether there is a section of a stream.
+    pub(crate) fn has(&self, stream: u64) -> bool
+        ensures { result ≡ list_any (is_of stream) self.now.sections }
+    {
+        let len = self.slots.len();
+        if len == 0 {
+            return false;
+        }
+        let place = place_of(len, stream);
+        let there = self.slots[place];
+        if there.stream() != stream || there.oldest() == 0 {
+            return false;
+        }
+        true
     }
 }

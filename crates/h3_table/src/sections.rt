@@ -1,5 +1,7 @@
 //! Sections that are sent and neither acknowledged nor canceled, by their streams: each stream has its own in the order of sending.
 ghost use Rattle.std.specs.Prelude.{◌≡◌, ◌<◌, ◌≤◌, ◌+◌, ◌*◌, ◌^◌, ◌++◌, [], length, max, OnErr, OnOk};
+ghost use Rattle.std.specs.List.{list_any};
+ghost use Rattle.h3_table.specs.Tracking.{is_of};
 ghost use Rattle.h3_table.specs.InOrder.{in_order, put_last};
 ghost use Rattle.h3_table.specs.Sections.{IsOldestTaken, IsNewestTaken};
 ghost use Rattle.h3_table.specs.ByStream.{HaveSame, HasOneMore, IsFirstTaken, IsLastTaken};
@@ -132,6 +134,16 @@ impl Sections {
         };
         self.count = count;
         Ok(())
+    }
+
+    /// Whether there are sections of a stream.
+    pub fn has(&self, stream: u64) -> bool
+        ensures { result ≡ list_any (is_of stream) self.now }
+    {
+        if self.places.has(stream) {
+            return true;
+        }
+        self.further.has(stream)
     }
 
     /// Takes the oldest section of a stream away, and answers what it names.

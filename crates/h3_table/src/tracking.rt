@@ -145,6 +145,13 @@ impl Tracking {
         self.evicted = number;
     }
 
+    /// Whether sections of a stream are tracked.
+    pub fn has(&self, stream: u64) -> bool
+        ensures { result ≡ list_any (is_of stream) self.now.sections }
+    {
+        self.sections.has(stream)
+    }
+
     /// Tracks a section whose oldest entry is there.
     pub fn track(&mut self, section: TrackedSection) -> Result<(), AllocError>
         requires from { self.old.evicted < section.oldest }

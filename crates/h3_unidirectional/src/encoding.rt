@@ -3,17 +3,18 @@ ghost use Rattle.std.specs.Prelude.{◌≡◌, ◌<◌, ◌^◌, ◌++◌, [], f
 ghost use Rattle.h3_field.specs.Field.{section_size};
 ghost use Rattle.h3_field.specs.Waiting.{goes_on, decoder_wait};
 ghost use Rattle.h3_qpack.specs.Drafting.{IsSent, IsCutOff};
-ghost use Rattle.h3_qpack.specs.EncoderHistory.{EncoderHistory, no_table, withdrawn, writing_on};
+ghost use Rattle.h3_qpack.specs.EncoderHistory.{EncoderHistory, withdrawn, writing_on};
 ghost use Rattle.h3_qpack.specs.EncoderState.{encoder_state};
 ghost use Rattle.h3_connection.specs.Codes.{decoder_stream_error, excessive_load};
 ghost use Rattle.h3_connection.specs.Control.{is_table_usable};
+ghost use Rattle.h3_connection.specs.Endpoint.{chosen_encoder};
 ghost use Rattle.h3_connection.specs.Listeners.{Listens, fault_if};
 ghost use Rattle.h3_unidirectional.specs.Faults.{IsReplyFaultOf, UnlessMemory};
 ghost use Rattle.h3_unidirectional.specs.Fronts.{ListensFront, StopsListening};
 ghost use Rattle.h3_unidirectional.specs.Learned.{having_learned, usable_capacity};
 ghost use Rattle.h3_unidirectional.specs.Windows.{is_longer, ListeningEnds, ListensWindow, IsRefusedAt};
 
-use crate::limits::{is_longer, window};
+use crate::limits::{is_longer, most_kept, window};
 use crate::waiting::{WaitingBytes, drop_front};
 use h3_field::HeaderField;
 use h3_field::waiting::{Wait, decoder_wait, decoder_wait_behind};
@@ -50,14 +51,15 @@ impl Model for Encoding {
 
 impl Encoding {
     /// An encoder that may not use a table yet. Whether acknowledgments tell of insertions (RFC 9204, section 2.1.4), the most that its
-    /// table may have, and whether it is economical with it, is chosen here.
+    /// table may have, whether it is economical with it, and how many canceled streams it keeps, is chosen here.
     pub fn new(alloc: Global, choices: Choices) -> Encoding
-        ensures { result ≡ record { encoder = encoder_state (record no_table { most_capacity = choices.encoder_table; counts_acknowledgments = choices.acknowledgments_counted; economical = choices.economical_table }); unread = [] } }
+        ensures { result ≡ record { encoder = encoder_state (chosen_encoder choices); unread = [] } }
     {
         let mut encoder = Encoder::new(alloc);
         encoder.limit_table(choices.encoder_table as usize);
         encoder.count_acknowledgments(choices.acknowledgments_counted);
         encoder.economize(choices.economical_table);
+        encoder.keep_canceled(most_kept(choices));
         Encoding {
             encoder,
             unread: Vec::new(alloc),

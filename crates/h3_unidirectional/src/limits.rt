@@ -1,17 +1,32 @@
-//! Instructions that are longer than their reader takes (RFC 9114, section 10.5), and how bytes are read so that none is.
+//! Instructions that are longer than their reader takes (RFC 9114, section 10.5), how bytes are read so that none is, and how many ids are
+//! kept.
 ghost use Rattle.std.specs.Prelude.{◌≡◌, ◌+◌, ◌≤◌, ◌&&◌, nat_lt};
 ghost use Rattle.h3_proto.specs.Config.{is_limit};
+ghost use Rattle.h3_connection.specs.Endpoint.{most_kept};
 ghost use Rattle.h3_connection.specs.ExcessiveInstructions.{missing};
 ghost use Rattle.h3_unidirectional.specs.Windows.{window, is_longer};
 
 use h3_coding::varint::VarInt;
 use h3_field::waiting::Wait;
+use h3_proto::config::Choices;
 
 /// Whether this is a limit: the greatest integer of variable length stands for none.
 fn is_limit(most: u64) -> bool
     ensures { result ≡ is_limit most }
 {
     most < VarInt::MAX.into_inner()
+}
+
+/// How many ids are kept, where the choices limit them.
+pub(crate) fn most_kept(choices: Choices) -> Option<usize>
+    ensures { result ≡ most_kept choices }
+{
+    let most = choices.extensions.kept_ids;
+    if is_limit(most) {
+        Some(most as usize)
+    } else {
+        None
+    }
 }
 
 /// How many bytes are known to be missing.

@@ -12,7 +12,7 @@ use Rattle.h3_qpack.specs.EncoderHistory.{EncoderHistory, writing_on}
 use Rattle.h3_qpack.specs.SectionEncoding.{Draft, add_ahead, add_field, add_literal, draft_of, found, found_name, insertion, remaining, marks_after, is_insertable, is_insertable_ahead, required_insert_count, instructions_for, sent_section, write_field}
 use Rattle.h3_qpack.specs.Session.{Session}
 use Rattle.h3_qpack.specs.Schedule.{SessionEvent, SessionStep, SessionRun, beginning}
-use Rattle.h3_qpack.specs.Schedule.SessionEvent.{UseTable, Economize, Encode, CutOff, InsertionsRead, Decode, Cancel, DecoderInstructionRead}
+use Rattle.h3_qpack.specs.Schedule.SessionEvent.{UseTable, Economize, KeepCanceled, Encode, CutOff, InsertionsRead, Decode, Cancel, DecoderInstructionRead}
 use Rattle.h3_table.specs.Table.{newest_from, or_else}
 use Rattle.h3_qpack.specs.WholeInstructions.{whole_in, insertions_in, is_insertion}
 use Rattle.h3_proto.specs.declared.stream.Side.{Side}
@@ -84,6 +84,7 @@ section_inserts s fields = fields_insert s (record { inserted = s.inserted; inst
 step_inserts : (s : Session) (event : SessionEvent) (new : Session) → AreInsertions s.instructions → SessionStep s event new → AreInsertions new.instructions
 step_inserts s (UseTable capacity limit) new h e = subst (λ x. AreInsertions x.instructions) (sym e.2) h
 step_inserts s (Economize economical) new h e = subst (λ x. AreInsertions x.instructions) (sym e) h
+step_inserts s (KeepCanceled most) new h e = subst (λ x. AreInsertions x.instructions) (sym e) h
 step_inserts s (Encode stream fields) new h e = subst (λ x. AreInsertions x.instructions) (sym e) (joined s.instructions (instructions_for (writing_on s.encoder stream) fields) h (section_inserts (writing_on s.encoder stream) fields))
 step_inserts s (CutOff stream fields) new h e = subst (λ x. AreInsertions x.instructions) (sym e) (joined s.instructions (instructions_for (writing_on s.encoder stream) fields) h (section_inserts (writing_on s.encoder stream) fields))
 step_inserts s (InsertionsRead count) new h e = subst (λ x. AreInsertions x.instructions) (sym e.2) h

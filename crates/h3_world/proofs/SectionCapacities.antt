@@ -9,7 +9,7 @@ use Rattle.h3_qpack.specs.EncoderHistory.{EncoderHistory, encoder_after, was_can
 use Rattle.h3_qpack.specs.SectionEncoding.{draft_of}
 use Rattle.h3_qpack.specs.Session.{Session, UndecodedSection, IsSound, IsWrittenOver, count_of, without_oldest}
 use Rattle.h3_qpack.specs.Schedule.{SessionEvent, SessionStep, SessionRun, beginning}
-use Rattle.h3_qpack.specs.Schedule.SessionEvent.{UseTable, Economize, Encode, CutOff, InsertionsRead, Decode, Cancel, DecoderInstructionRead}
+use Rattle.h3_qpack.specs.Schedule.SessionEvent.{UseTable, Economize, KeepCanceled, Encode, CutOff, InsertionsRead, Decode, Cancel, DecoderInstructionRead}
 use Rattle.h3_world.proofs.Grown.{SessionsAreSound, run_joined}
 use Rattle.h3_world.proofs.Inserted.{needs_made}
 use Rattle.h3_world.proofs.SoundFlows.{all_weaker}
@@ -66,6 +66,7 @@ step_has : CanceledNameNone → (s : Session) (event : SessionEvent) (new : Sess
 step_has canceled s (UseTable announced limit) new sound e all =
     subst AllHave (sym e.2) (all_weaker (IsWrittenOver s.encoder.inserted) (HasItsAnnounced announced) (λ b w. names_none announced s.encoder.inserted b e.0 w) s.sections sound.written)
 step_has canceled s (Economize economical) new sound e all = subst AllHave (sym e) all
+step_has canceled s (KeepCanceled most) new sound e all = subst AllHave (sym e) all
 step_has canceled s (Encode stream fields) new sound e all =
     subst AllHave (sym e) (all_and (HasItsAnnounced s.encoder.announced) s.sections _ all (new_section canceled s.encoder stream fields))
 step_has canceled s (CutOff stream fields) new sound e all = subst AllHave (sym e) all

@@ -1,7 +1,7 @@
 use Rattle.std.proofs.Common.{false, inr, refl, sym, ◌∙◌}
 use Rattle.h3_field.specs.InstructionReading.{cancellation}
 use Rattle.h3_field.specs.InstructionAnswer.{stream_cancellation}
-use Rattle.h3_qpack.proofs.Canceled.{kept_id}
+use Rattle.h3_qpack.proofs.Canceled.{canceled_state}
 use Rattle.h3_field.specs.ReadBackLaws.{reply_cancellation}
 use Rattle.h3_field.specs.ShorterLaws.{cancellation_less}
 use Rattle.h3_qpack.proofs.DecoderInstructionsRead.{reply_here, heard_one}
@@ -27,7 +27,7 @@ returns-in_default c =
         stream = c.in-Ok-Some.field-0-0.0;
         rest = c.decode.new.buf;
         here = whole;
-        first = kept_id s c.self.inside.table c.in-Ok-Some.field-0-0.0 false (c.self.view_is ∙ e) (sym c.in_default.ensures.err.1);
+        first = canceled_state s c.self.inside.table c.in-Ok-Some.field-0-0.0 false (c.self.view_is ∙ e) (sym c.in_default.ensures.err.1);
       }),
       rw whole refl,
       rw (← c.self.view_is) c.in_default.ensures.err.0,
