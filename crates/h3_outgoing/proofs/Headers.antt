@@ -45,30 +45,30 @@ head_is start block bytes long is before =
     sym (drop-take start (9 - start) bytes) ∙ ap (λ n. drop start (take n bytes)) end ∙ ap (λ l. drop start (take 9 l)) is ∙ sym (first_is (drop start (take 9 block)) (drop (max start 9) block) some)
 
 -- The type stands right in front of the last bytes of a word.
-marked : (at first : ℕ) (bytes : List ℕ) → at ≤ length bytes → drop at (slice_set (first ∷ bytes) at 1) ≡ 1 ∷ drop at bytes
-marked zero first bytes fits = refl
-marked (suc at) first [] fits = absurd (omega (arith, fits))
-marked (suc at) first (byte ∷ bytes) fits = marked at byte bytes (omega (arith, fits))
+marked : (at first kind : ℕ) (bytes : List ℕ) → at ≤ length bytes → drop at (slice_set (first ∷ bytes) at kind) ≡ kind ∷ drop at bytes
+marked zero first kind bytes fits = refl
+marked (suc at) first kind [] fits = absurd (omega (arith, fits))
+marked (suc at) first kind (byte ∷ bytes) fits = marked at byte kind bytes (omega (arith, fits))
 
-marked_behind : (at : ℕ) (block bytes : List ℕ) → 9 ≤ length block → at ≤ length bytes → drop at (slice_set (take 1 block ++ bytes) at 1) ≡ 1 ∷ drop at bytes
-marked_behind at [] bytes long fits = absurd (omega (arith, long))
-marked_behind at (first ∷ block) bytes long fits = marked at first bytes fits
+marked_behind : (at kind : ℕ) (block bytes : List ℕ) → 9 ≤ length block → at ≤ length bytes → drop at (slice_set (take 1 block ++ bytes) at kind) ≡ kind ∷ drop at bytes
+marked_behind at kind [] bytes long fits = absurd (omega (arith, long))
+marked_behind at kind (first ∷ block) bytes long fits = marked at first kind bytes fits
 
-take_set : (n at : ℕ) (xs : List ℕ) → at < n → take n (slice_set xs at 1) ≡ slice_set (take n xs) at 1
-take_set zero at xs within = absurd (omega (arith, within))
-take_set (suc n) zero [] within = refl
-take_set (suc n) zero (x ∷ xs) within = refl
-take_set (suc n) (suc at) [] within = refl
-take_set (suc n) (suc at) (x ∷ xs) within = ap (λ l. x ∷ l) (take_set n at xs (omega (arith, within)))
+take_set : (n at kind : ℕ) (xs : List ℕ) → at < n → take n (slice_set xs at kind) ≡ slice_set (take n xs) at kind
+take_set zero at kind xs within = absurd (omega (arith, within))
+take_set (suc n) zero kind [] within = refl
+take_set (suc n) zero kind (x ∷ xs) within = refl
+take_set (suc n) (suc at) kind [] within = refl
+take_set (suc n) (suc at) kind (x ∷ xs) within = ap (λ l. x ∷ l) (take_set n at kind xs (omega (arith, within)))
 
-pub head_written : (block bytes : List ℕ) (word size len : ℕ) → 9 ≤ length block → bytes ≡ to_be_bytes w64 word → drop (8 - size) (to_be_bytes w64 word) ≡ encoding len → len ≡ length (drop 9 block)
-    → drop (8 - size) (take 9 (slice_set (put_mid 1 8 block bytes) (8 - size) 1)) ≡ head_encoding 1 (length (drop 9 block))
-head_written block bytes word size len long is coded count =
+pub head_written : (block bytes : List ℕ) (word size kind len : ℕ) → 9 ≤ length block → kind < 64 → bytes ≡ to_be_bytes w64 word → drop (8 - size) (to_be_bytes w64 word) ≡ encoding len
+    → drop (8 - size) (take 9 (slice_set (put_mid 1 8 block bytes) (8 - size) kind)) ≡ head_encoding kind len
+head_written block bytes word size kind len long small is coded =
     let at = 8 - size in
     let eight : length bytes ≡ 8 = ap length is in
     let mid = put_mid 1 8 block bytes in
     let put : take 9 mid ≡ take 1 block ++ bytes = take-put_mid 1 8 block bytes 9 (omega (arith, eight)) (omega (arith, long)) in
-    ap (drop at) (take_set 9 at mid (omega arith) ∙ ap (λ l. slice_set l at 1) put)
-    ∙ marked_behind at block bytes long (omega (arith, eight))
-    ∙ ap (λ l. 1 ∷ drop at l) is ∙ ap (λ l. 1 ∷ l) (coded ∙ ap encoding count)
-    ∙ ap (λ l. l ++ encoding (length (drop 9 block))) (sym (encoding_one 1 (omega arith)))
+    ap (drop at) (take_set 9 at kind mid (omega arith) ∙ ap (λ l. slice_set l at kind) put)
+    ∙ marked_behind at kind block bytes long (omega (arith, eight))
+    ∙ ap (λ l. kind ∷ drop at l) is ∙ ap (λ l. kind ∷ l) coded
+    ∙ ap (λ l. l ++ encoding len) (sym (encoding_one kind small))

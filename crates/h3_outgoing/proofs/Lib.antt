@@ -1,3 +1,4 @@
 mod Headers
 mod Queues
 mod Filling
+mod HeldFronts

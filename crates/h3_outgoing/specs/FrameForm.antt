@@ -9,6 +9,7 @@ use Rattle.h3_outgoing.specs.declared.frame.Form.TheVariants as form
 abbrev pub frame_in : Form → Outgoing
 frame_in (form.Headers frame) = frame
 frame_in (form.Data frame) = frame
+frame_in (form.Held frame) = frame
 
 abbrev pub bytes_in : BytesForm → List ℕ
 bytes_in (bytes.Short short) = short

@@ -1,5 +1,5 @@
 -- Frames that wait on a stream, and room for more.
-use Rattle.std.specs.Prelude.{ℕ, Bool, true, false, ◌&&◌, ◌==◌, List, [], ◌∷◌, ◌++◌, length, Option, Some, None}
+use Rattle.std.specs.Prelude.{ℕ, Bool, true, false, ◌==◌, List, [], ◌∷◌, ◌++◌, length, Option, Some, None}
 use Rattle.h3_wire.specs.Outgoing.{Outgoing}
 
 -- the frames in the order in which they go out, and how many more find a place

@@ -1,6 +1,9 @@
 //! Bytes that are copied into a buffer.
+ghost use Rattle.std.specs.List.{AllByRecursion};
 ghost use Rattle.std.specs.Prelude.{◌≡◌, ◌≤◌, length, min};
+ghost use Rattle.h3_coding.specs.Encodings.{IsByte};
 ghost use Rattle.h3_outgoing.specs.Copied.{Puts, put};
+ghost use Rattle.h3_outgoing.specs.Held.{Fronts};
 
 /// Copies bytes into a buffer from a place on, as many as fit, and answers the place behind them.
 pub(crate) fn put_at(bytes: &[u8], at: usize, out: &mut [u8]) -> usize
@@ -18,4 +21,20 @@ pub fn put_front(bytes: &[u8], out: &mut [u8]) -> usize
     let count = bytes.len().min(out.len());
     out[..count].copy_from_slice(&bytes[..count]);
     count
+}
+
+/// The same of bytes that wait: none of them is one that the caller holds.
+pub fn put_bytes(bytes: &[u8], out: &mut [u8]) -> usize
+    ensures { Fronts bytes.now out.old out.new result 0 }
+{
+    put_front(as_bytes(bytes), out)
+}
+
+/// These bytes. For the proof: each item of a slice of bytes is below 256.
+#[inline]
+pub fn as_bytes(bytes: &[u8]) -> &[u8]
+    ensures same { result.now ≡ bytes.now }
+    ensures each { AllByRecursion IsByte result.now }
+{
+    bytes
 }

@@ -1,10 +1,12 @@
 //! A frame of a message that waits.
-ghost use Rattle.std.specs.Prelude.{◌≡◌, ◌++◌, ◌≤◌, ◌^◌, ◌<◌, length};
+ghost use Rattle.std.specs.Prelude.{◌≡◌, ◌≤◌, ◌^◌, ◌<◌, ◌-◌, length, drop};
 ghost use Rattle.h3_connection.specs.WaitingPieces.{frame_piece, without_first};
 ghost use Rattle.h3_wire.specs.Outgoing.{all_of, first_part};
-ghost use Rattle.h3_outgoing.specs.Copied.{Filled, Puts};
+ghost use Rattle.h3_outgoing.specs.Held.{Fronts, FrontsAt, front_of, held, past_of};
+ghost use Rattle.h3_outgoing.specs.Copied.{Puts};
 
-use crate::copying::{put_at, put_front};
+use crate::copying::{as_bytes, put_at, put_bytes, put_front};
+use crate::held::HeldFrame;
 use crate::section::{EncodedSection, HeadersFrame};
 use bytes::{Buf, Bytes};
 use h3_wire::stream::MessageBuf;
@@ -23,6 +25,8 @@ pub(crate) enum Form {
     Headers(HeadersFrame),
     /// A DATA frame, whose payload is the body that was handed over.
     Data(MessageBuf<Bytes>),
+    /// A DATA frame, whose payload the caller holds.
+    Held(HeldFrame),
 }
 
 // A short section takes no more room than a body does.
@@ -62,6 +66,18 @@ impl Frame {
         }
     }
 
+    /// The DATA frame of a payload of so many bytes, which the caller holds.
+    pub(crate) fn held(len: usize) -> Frame
+        requires { len < 2 ^ 61 }
+        ensures value { result ≡ frame_piece 0 (held len) }
+        ensures size { length (all_of result) < 2 ^ 62 }
+    {
+        let frame = HeldFrame::of(len);
+        Frame {
+            form: Form::Held(frame),
+        }
+    }
+
     /// How many bytes are left.
     pub(crate) fn remaining(&self) -> usize
         ensures { result ≡ length (all_of self.now) }
@@ -69,35 +85,50 @@ impl Frame {
         match &self.form {
             Form::Headers(frame) => frame.remaining(),
             Form::Data(frame) => frame.remaining(),
+            Form::Held(frame) => frame.remaining(),
         }
     }
 
-    /// What is left of the type and length, or else of the payload.
+    /// What is left of the type and length, or else of the payload. Of one that the caller holds none is lent.
     pub(crate) fn first_part(&self) -> &[u8]
-        ensures { result.now ≡ first_part self.now }
+        ensures { result.now ≡ front_of (first_part self.now) }
     {
         match &self.form {
-            Form::Headers(frame) => frame.first_part(),
-            Form::Data(frame) => frame.first_part(),
+            Form::Headers(frame) => as_bytes(frame.first_part()),
+            Form::Data(frame) => as_bytes(frame.first_part()),
+            Form::Held(frame) => held_head(frame),
         }
     }
 
-    /// Copies what is left into a buffer from a place on, as much as fits, and answers the place behind it.
+    /// Copies what is left into a buffer from a place on, up to a payload that the caller holds and as much as fits, and answers the place
+    /// behind it, how many bytes of that payload follow, and whether nothing more is to be copied behind this frame.
     #[inline]
-    pub(crate) fn put(&self, at: usize, out: &mut [u8]) -> usize
+    pub(crate) fn put(&self, at: usize, out: &mut [u8]) -> (usize, usize, bool)
         requires { at ≤ length out.old }
-        ensures { Puts (all_of self.now) at out.old result out.new }
+        ensures { FrontsAt (all_of self.now) at out.old result.0 result.1 result.2 out.new }
     {
-        at + self.put_front(&mut out[at..])
+        let (next, past) = self.put_from(at, out);
+        (next, past, past > 0 || next == out.len())
     }
 
-    // The same to the front of a buffer.
-    fn put_front(&self, out: &mut [u8]) -> usize
-        ensures { Filled (all_of self.now) out.old out.new result }
+    // The same without whether more is to be copied.
+    fn put_from(&self, at: usize, out: &mut [u8]) -> (usize, usize)
+        requires { at ≤ length out.old }
+        ensures copied { Puts (front_of (all_of self.now)) at out.old result.0 out.new }
+        ensures past { result.1 ≡ past_of (drop (result.0 - at) (all_of self.now)) }
+    {
+        let (count, past) = self.put_front(&mut out[at..]);
+        (at + count, past)
+    }
+
+    // The same to the front of a buffer: how many bytes, and how many of the payload follow.
+    fn put_front(&self, out: &mut [u8]) -> (usize, usize)
+        ensures { Fronts (all_of self.now) out.old out.new result.0 result.1 }
     {
         match &self.form {
-            Form::Headers(frame) => put_front(frame.bytes(), out),
-            Form::Data(frame) => put_data(frame, out),
+            Form::Headers(frame) => (put_bytes(frame.bytes(), out), 0),
+            Form::Data(frame) => (put_data(frame, out), 0),
+            Form::Held(frame) => put_held(frame, out),
         }
     }
 
@@ -109,14 +140,37 @@ impl Frame {
         match &mut self.form {
             Form::Headers(frame) => frame.advance(count),
             Form::Data(frame) => frame.advance(count),
+            Form::Held(frame) => frame.advance(count),
         }
     }
 }
 
 // Copies what is left of a DATA frame to the front of a buffer: its type and length, and then its payload.
 fn put_data(frame: &MessageBuf<Bytes>, out: &mut [u8]) -> usize
-    ensures { Filled (all_of frame.now) out.old out.new result }
+    ensures { Fronts (all_of frame.now) out.old out.new result 0 }
 {
-    let behind_head = put_front(frame.head(), out);
-    put_at(frame.payload(), behind_head, out)
+    let of_head = put_front(as_bytes(frame.head()), out);
+    put_at(as_bytes(frame.payload()), of_head, out)
+}
+
+// What is left of the type and length of a frame whose payload the caller holds.
+fn held_head(frame: &HeldFrame) -> &[u8]
+    ensures { result.now ≡ front_of (first_part frame.now) }
+{
+    // (for the proof: the payload is places)
+    let _left = frame.left();
+    as_bytes(frame.head())
+}
+
+// Copies it to the front of a buffer, and says how many bytes of the payload follow where all of it fits.
+fn put_held(frame: &HeldFrame, out: &mut [u8]) -> (usize, usize)
+    ensures { Fronts (all_of frame.now) out.old out.new result.0 result.1 }
+{
+    let left = frame.left();
+    let head = as_bytes(frame.head());
+    let of_head = put_front(head, out);
+    if of_head < head.len() {
+        return (of_head, 0);
+    }
+    (of_head, left)
 }

@@ -1,9 +1,10 @@
 //! The frames that wait on a stream.
-ghost use Rattle.std.specs.Prelude.{◌≡◌, ◌+◌, ◌-◌, ◌*◌, ◌<◌, ◌≤◌, ◌^◌, ◌++◌, [], ◌∷◌, ◌==◌, length, min, max, All, OnOk, OnErr};
+ghost use Rattle.std.specs.Prelude.{◌≡◌, ◌+◌, ◌-◌, ◌*◌, ◌<◌, ◌≤◌, ◌^◌, ◌++◌, [], ◌∷◌, ◌==◌, true, length, drop, min, max, All, OnOk, OnErr};
 ghost use Rattle.std.specs.VecDeque.{deque_len, deque_capacity};
 ghost use Rattle.h3_wire.specs.Outgoing.{all_of};
 ghost use Rattle.h3_connection.specs.WaitingPieces.{bytes_of, lent, without_front};
 ghost use Rattle.h3_outgoing.specs.Copied.{Filled, Puts};
+ghost use Rattle.h3_outgoing.specs.Held.{AreApart, FrontsAt, front_of, past_of};
 ghost use Rattle.h3_outgoing.specs.Queue.{at_most_one, has_own_place};
 
 use crate::frame::Frame;
@@ -120,9 +121,10 @@ impl WaitingFrames {
         }
     }
 
-    /// The first bytes: the rest of a frame's type and length, or of its payload. Empty exactly where none waits.
+    /// The first bytes: the rest of a frame's type and length, or of its payload. Empty exactly where none waits, or first those that the
+    /// caller holds.
     pub(crate) fn first_part(&self) -> &[u8]
-        ensures { result.now ≡ lent self.now.frames }
+        ensures { result.now ≡ front_of (lent self.now.frames) }
     {
         if let Some(frame) = &self.first {
             return frame.first_part();
@@ -136,16 +138,21 @@ impl WaitingFrames {
         }
     }
 
-    /// Copies the first bytes to the front of `out`, as many as fit, over frames too, and says how many.
-    pub(crate) fn copy_to(&self, out: &mut [u8]) -> usize
-        ensures { Filled (bytes_of self.now.frames) out.old out.new result }
+    /// Copies the first bytes to the front of `out`, over frames too, up to a payload that the caller holds and as many as fit, and says how
+    /// many, and how many of that payload follow them.
+    pub(crate) fn copy_to(&self, out: &mut [u8]) -> (usize, usize)
+        ensures copied { Filled (front_of (bytes_of self.now.frames)) out.old out.new result.0 }
+        ensures past { AreApart self.now.frames → result.1 ≡ past_of (drop result.0 (bytes_of self.now.frames)) }
     {
-        let behind_first = put_one(&self.first, 0, out);
-        let behind_second = put_one(&self.second, behind_first, out);
-        if self.later.is_empty() {
-            return behind_second;
+        let (first, past, is_last) = put_one(&self.first, 0, out);
+        if is_last {
+            return (first, past);
         }
-        put_later(&self.later, behind_second, out)
+        let (second, past, is_last) = put_one(&self.second, first, out);
+        if is_last || self.later.is_empty() {
+            return (second, past);
+        }
+        put_later(&self.later, second, out)
     }
 
     /// Takes the first bytes, over frames too. A frame that is wholly taken is dropped.
@@ -202,38 +209,43 @@ fn take_place(later: &mut VecDeque<Frame>) -> Result<(), AllocError>
     later.reserve_exact(len.max(FIRST_PLACES))
 }
 
-/// Copies what is left of a frame, where there is one, into a buffer from a place on, as much as fits, and answers the place behind it.
-fn put_one(frame: &Option<Frame>, at: usize, out: &mut [u8]) -> usize
+/// Copies what is left of a frame, where there is one, as `Frame::put` does.
+fn put_one(frame: &Option<Frame>, at: usize, out: &mut [u8]) -> (usize, usize, bool)
     requires { at ≤ length out.old }
-    ensures { Puts (bytes_of (at_most_one frame.now)) at out.old result out.new }
+    ensures copied { FrontsAt (bytes_of (at_most_one frame.now)) at out.old result.0 result.1 result.2 out.new }
+    ensures some { result.2 ≡ true → 0 < length (at_most_one frame.now) }
 {
     match frame {
         Some(frame) => frame.put(at, out),
-        None => at,
+        None => (at, 0, false),
     }
 }
 
-/// The same of frames one behind the other.
+/// The same of frames one behind the other, without whether they are the last.
 #[inline(never)]
-fn put_later(frames: &VecDeque<Frame>, at: usize, out: &mut [u8]) -> usize
+fn put_later(frames: &VecDeque<Frame>, at: usize, out: &mut [u8]) -> (usize, usize)
     requires { at ≤ length out.old }
-    ensures { Puts (bytes_of frames.now.items) at out.old result out.new }
+    ensures copied { Puts (front_of (bytes_of frames.now.items)) at out.old result.0 out.new }
+    ensures past { AreApart frames.now.items → result.1 ≡ past_of (drop (result.0 - at) (bytes_of frames.now.items)) }
 {
-    at + put_queue(frames, &mut out[at..])
+    let (count, past) = put_queue(frames, &mut out[at..]);
+    (at + count, past)
 }
 
 /// The same to the front of a buffer.
-fn put_queue(frames: &VecDeque<Frame>, out: &mut [u8]) -> usize
-    ensures { Filled (bytes_of frames.now.items) out.old out.new result }
+fn put_queue(frames: &VecDeque<Frame>, out: &mut [u8]) -> (usize, usize)
+    ensures copied { Filled (front_of (bytes_of frames.now.items)) out.old out.new result.0 }
+    ensures past { AreApart frames.now.items → result.1 ≡ past_of (drop result.0 (bytes_of frames.now.items)) }
 {
     let mut at = 0;
     for index in 0..frames.len() {
-        if at == out.len() {
-            return at;
+        let (next, past, is_last) = frames[index].put(at, out);
+        if is_last {
+            return (next, past);
         }
-        at = frames[index].put(at, out);
+        at = next;
     }
-    at
+    (at, 0)
 }
 
 /// Takes up to `count` bytes of a frame, where there is one, and answers how many. One that is wholly taken goes.

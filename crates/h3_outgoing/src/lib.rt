@@ -5,6 +5,7 @@ mod block;
 mod copying;
 mod frame;
 mod frames;
+mod held;
 pub mod outgoing;
 mod room;
 mod section;

@@ -1,12 +1,13 @@
 //! What is sent on a request stream: where its message is, and the frames that wait.
-ghost use Rattle.std.specs.Prelude.{◌≡◌, ◌==◌, ◌+◌, ◌<◌, ◌≤◌, ◌^◌, ◌++◌, length, take, min, true, false, OnOk, OnErr, IfErr, IsTrue};
+ghost use Rattle.std.specs.Prelude.{◌≡◌, ◌==◌, ◌+◌, ◌<◌, ◌≤◌, ◌^◌, ◌++◌, length, take, drop, true, false, OnOk, OnErr, IfErr, IsTrue};
 ghost use Rattle.h3_connection.specs.WaitingPieces.{bytes_of, lent};
 ghost use Rattle.h3_connection.specs.State.{nothing_waits};
 ghost use Rattle.h3_connection.specs.StrictSending.{early_trailer, passes_content};
-ghost use Rattle.h3_outgoing.specs.Copied.{put};
+ghost use Rattle.h3_outgoing.specs.Copied.{Filled, put};
+ghost use Rattle.h3_outgoing.specs.Held.{AreApart, front_of, held, past_of};
 ghost use Rattle.h3_outgoing.specs.Sent.{has_section, has_body, is_to_have, has_ended, was_cut_off, taken_from, takes_head, takes_body, takes_end, is_sent_off, end_waits, is_end_next, has_end_taken};
 
-pub use crate::copying::put_front;
+pub use crate::copying::{as_bytes, put_bytes, put_front};
 use crate::frame::Frame;
 use crate::frames::WaitingFrames;
 use crate::room::FrameRoom;
@@ -20,7 +21,8 @@ use std::alloc::{AllocError, Global};
 use std::marker::Model;
 
 /// A request stream at its sender. Its frames wait one behind the other: a short section in the frame itself, a longer one in the block in which
-/// it was written, and a body that was handed over as the payload itself. Only the first is copied. A contract sees the pieces that wait.
+/// it was written, a body that was handed over as the payload itself, and one that the caller holds as its length. Only the first is copied. A
+/// contract sees the pieces that wait.
 #[derive(Drop)]
 pub struct OutgoingStream {
     frames: WaitingFrames,
@@ -179,6 +181,26 @@ impl OutgoingStream {
         Ok(())
     }
 
+    /// The same of a body of so many bytes, which the caller holds: its frame is announced, and none of its bytes is given. An `Err`
+    /// changes nothing.
+    pub fn send_body_of(&mut self, len: usize) -> Result<(), AllocError>
+        ensures ok { OnOk result (self.new ≡ has_body self.old (held len)) }
+        ensures err { OnErr result (self.new ≡ self.old) }
+    {
+        if len == 0 {
+            return Ok(());
+        }
+        if !self.has_room_for(len) {
+            return Err(AllocError);
+        }
+        let Ok(()) = self.frames.reserve() else {
+            return Err(AllocError);
+        };
+        self.content = self.content.left_behind(len as u64);
+        self.frames.push(Frame::held(len));
+        Ok(())
+    }
+
     /// The message is whole. It takes no memory.
     pub fn finish(&mut self)
         ensures { self.new ≡ has_ended self.old }
@@ -234,14 +256,16 @@ impl OutgoingStream {
         }
     }
 
-    /// The first bytes that wait: the rest of a frame's type and length, or of its payload. Empty exactly where nothing waits.
+    /// The first bytes that wait: the rest of a frame's type and length, or of its payload. Empty exactly where nothing waits, or first a
+    /// payload that the caller holds.
     pub fn outgoing(&self) -> &[u8]
-        ensures { result.now ≡ lent self.now.pieces }
+        ensures { result.now ≡ front_of (lent self.now.pieces) }
     {
         self.frames.first_part()
     }
 
-    /// Appends the first `count` bytes that wait, at most all, over frames too. They keep waiting. A refusal appends nothing.
+    /// Appends the first `count` bytes that wait, at most all, over frames too. They keep waiting. A refusal appends nothing: memory was
+    /// refused, or the caller holds some of these bytes.
     pub fn copy_front(&self, count: usize, out: &mut Vec<u8>) -> Result<(), AllocError>
         ensures ok { OnOk result (out.new.items ≡ out.old.items ++ take count (bytes_of self.now.pieces)) }
         ensures err { OnErr result (out.new.items ≡ out.old.items) }
@@ -250,15 +274,29 @@ impl OutgoingStream {
         let count = count.min(self.waiting());
         out.reserve(count)?;
         out.resize(start + count, 0)?;
-        self.copy_to(&mut out[start..]);
+        let Ok(()) = self.fill(&mut out[start..]) else {
+            out.truncate(start);
+            return Err(AllocError);
+        };
         Ok(())
     }
 
-    /// Copies the first bytes that wait to the front of `out`, as many as fit, over frames too, and says how many. They keep
-    /// waiting. It takes no memory.
-    pub fn copy_to(&self, out: &mut [u8]) -> usize
-        ensures count { result ≡ min (length (bytes_of self.now.pieces)) (length out.old) }
-        ensures front { out.new ≡ put (bytes_of self.now.pieces) out.old }
+    // Fills a buffer with the first bytes that wait. An `Err`: so many are not there, or the caller holds some of them.
+    fn fill(&self, out: &mut [u8]) -> Result<(), AllocError>
+        ensures { OnOk result (out.new ≡ put (bytes_of self.now.pieces) out.old) }
+    {
+        let (copied, _) = self.copy_to(out);
+        if copied < out.len() {
+            return Err(AllocError);
+        }
+        Ok(())
+    }
+
+    /// Copies the first bytes that wait to the front of `out`, over frames too, up to a payload that the caller holds and as many as fit, and
+    /// says how many, and how many of that payload follow them. They keep waiting. It takes no memory.
+    pub fn copy_to(&self, out: &mut [u8]) -> (usize, usize)
+        ensures copied { Filled (front_of (bytes_of self.now.pieces)) out.old out.new result.0 }
+        ensures past { AreApart self.now.pieces → result.1 ≡ past_of (drop result.0 (bytes_of self.now.pieces)) }
     {
         self.frames.copy_to(out)
     }

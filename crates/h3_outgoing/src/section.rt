@@ -3,6 +3,7 @@ ghost use Rattle.std.specs.Prelude.{◌≡◌, ◌-◌, ◌<◌, ◌≤◌, ◌^
 ghost use Rattle.std.specs.Int.{w64, to_be_bytes};
 ghost use Rattle.h3_coding.specs.Encodings.{encoding};
 ghost use Rattle.h3_connection.specs.WaitingPieces.{frame_piece, without_first};
+ghost use Rattle.h3_wire.specs.Encoded.{head_encoding};
 ghost use Rattle.h3_wire.specs.Outgoing.{all_of, first_part};
 
 use crate::block::FrameBytes;
@@ -10,7 +11,7 @@ use std::alloc::{AllocError, Global};
 use std::marker::Model;
 
 /// How many bytes the type and the length of a HEADERS frame have at most (RFC 9114, section 7.1).
-const HEAD_ROOM: usize = 9;
+pub(crate) const HEAD_ROOM: usize = 9;
 
 /// The type of a HEADERS frame (RFC 9114, section 7.2.2).
 const HEADERS: u8 = 1;
@@ -169,10 +170,23 @@ pub(crate) fn write_head(block: &mut [u8]) -> usize
     ensures section { drop 9 block.new ≡ drop 9 block.old }
     ensures start { result ≤ 7 }
 {
-    let (word, size) = length_word((block.len() - HEAD_ROOM) as u64);
+    let len = block.len() - HEAD_ROOM;
+    write_front(block, HEADERS, len as u64)
+}
+
+/// Writes the type and the length of a frame so that they end with the ninth byte of a block, and answers where they begin.
+pub(crate) fn write_front(block: &mut [u8], kind: u8, len: u64) -> usize
+    requires room { 9 ≤ length block.old }
+    requires kind { kind < 64 }
+    requires size { len < 2 ^ 62 }
+    ensures head { drop result (take 9 block.new) ≡ head_encoding kind len }
+    ensures rest { drop 9 block.new ≡ drop 9 block.old }
+    ensures start { result ≤ 7 }
+{
+    let (word, size) = length_word(len);
     block[1..HEAD_ROOM].copy_from_slice(&word.to_be_bytes());
     let start = HEAD_ROOM - 1 - size;
-    block[start] = HEADERS;
+    block[start] = kind;
     start
 }
 

@@ -1,19 +1,20 @@
-use Rattle.std.proofs.Common.{ap, ◌∙◌, length, min, ◌-◌, ◌+◌, ◌++◌, take, drop}
-use Rattle.h3_outgoing.specs.Copied.{put}
+use Rattle.std.proofs.Common.{ap, ◌∙◌, ◌++◌, subst}
+use Rattle.h3_outgoing.specs.Held.{Fronts}
 use Rattle.h3_outgoing.proofs.Filling.{behind}
+use Rattle.h3_outgoing.specs.HeldLaws.{only_bytes}
+use Rattle.h3_outgoing.proofs.HeldFronts.{bytes_append}
 use Rattle.h3_outgoing.proofs.frame.put_data.Goals as goal
 
 pub returns : goal.returns
 returns c =
-    let out = c.args.out.now in
-    let mid = c.put_front-behind_head.new.out in
-    let at = c.put_front-behind_head.result in
-    behind c.args.frame.now.head c.args.frame.now.payload out mid c.put_at.new.out at c.put_at.result
-    (record {
-      filled = c.put_front-behind_head.ensures.front ∙ ap (λ bytes. put bytes out) c.head.ensures;
-      place = c.put_front-behind_head.ensures.count ∙ ap (λ bytes. min (length bytes) (length out)) c.head.ensures;
-    })
-    (record {
-      place = c.put_at.ensures.place ∙ ap (λ bytes. at + min (length bytes) (length mid - at)) c.payload.ensures;
-      front = c.put_at.ensures.front ∙ ap (λ bytes. take at mid ++ put bytes (drop at mid)) c.payload.ensures;
-    })
+    let before = c.args.out.now in
+    let mid = c.put_front-of_head.new.out in
+    let at = c.put_front-of_head.result in
+    let out = c.put_at.new.out in
+    let next = c.put_at.result in
+    let head = c.as_bytes.result.now in
+    let payload = c.as_bytes-2.result.now in
+    subst (λ w. Fronts w before out next 0)
+    (ap (λ l. l ++ payload) (c.as_bytes.ensures.same ∙ c.head.ensures) ∙ ap (λ l. c.args.frame.now.head ++ l) (c.as_bytes-2.ensures.same ∙ c.payload.ensures))
+    (only_bytes (head ++ payload) before out next (bytes_append head payload c.as_bytes.ensures.each c.as_bytes-2.ensures.each)
+    (behind head payload before mid out at next (record { filled = c.put_front-of_head.ensures.front; place = c.put_front-of_head.ensures.count }) c.put_at.ensures))

@@ -1,5 +1,5 @@
 -- The last bytes of the word are the encoding, by its size.
-use Rattle.std.proofs.Common.{rules, arith, ◌≡◌, ◌%◌, ◌∷◌, [], ap, sym, ◌∙◌}
+use Rattle.std.proofs.Common.{arith, ◌≡◌, ◌%◌, ◌∷◌, [], ap, sym, ◌∙◌}
 use Rattle.h3_coding.specs.ShortestLaws.{encoding_one, encoding_two, encoding_four, encoding_eight}
 use Rattle.h3_outgoing.proofs.section.length_word.Goals as goal
 

@@ -1,4 +1,4 @@
-use Rattle.std.proofs.Common.{rules, arith, ◌≡◌, ◌∙◌, ◌<◌, ◌-◌, ap}
+use Rattle.std.proofs.Common.{rules, ◌∙◌, ◌-◌, ap}
 use Rattle.h3_connection.specs.WaitingPieces.{without_front}
 use Rattle.h3_outgoing.specs.Queue.{frames_in}
 use Rattle.h3_outgoing.proofs.Queues.{counted_fewer, later_same, later_some, places_fewer, second_some}

@@ -8,8 +8,8 @@ invariant_of-self c =
     (behind_queue c.self.inside.first c.self.inside.second c.self.inside.later.items c.push_back_reserved.new.self.items c.args.frame c.push_back_reserved.ensures.items)
     c.self.invariant c.remaining.ensures c.requires.some
 
-pub invariant_of-self-then-is_some-5 : goal.invariant_of-self-then-is_some-5
-invariant_of-self-then-is_some-5 c =
+pub invariant_of-self-then-is_some-6 : goal.invariant_of-self-then-is_some-6
+invariant_of-self-then-is_some-6 c =
     one_more _ _ c.args.frame c.self.inside.waiting c.remaining.result
     (in_second c.self.inside.first c.self.inside.second c.self.inside.later.items c.args.frame (search rules) (search rules))
     c.self.invariant c.remaining.ensures c.requires.some
