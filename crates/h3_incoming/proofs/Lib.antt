@@ -9,3 +9,5 @@ pub mod NextFrame
 pub mod FieldsPullLaws
 pub mod BlockPullLaws
 pub mod SurveyLaws
+pub mod SomePieces
+pub mod BodyPieces

@@ -11,4 +11,6 @@ pub mod Outline
 pub mod Answering
 pub mod FieldsPulls
 pub mod BlockPulls
+pub mod BodyPlaces
+pub mod SomePieces
 pub mod Coming

@@ -4,6 +4,7 @@
 
 pub mod answer;
 pub mod block;
+pub mod body_place;
 pub mod fields;
 mod judge;
 pub mod outline;
@@ -14,5 +15,6 @@ mod strict;
 
 pub use answer::Answer;
 pub use block::{BlockPull, Told};
+pub use body_place::BodyPlace;
 pub use fields::{FieldList, FieldsItem, FieldsPull};
 pub use stream::IncomingStream;

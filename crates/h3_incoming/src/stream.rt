@@ -23,6 +23,7 @@ mod front;
 mod left;
 mod owning;
 mod pull;
+mod reading;
 mod sections;
 mod unread;
 
@@ -75,6 +76,7 @@ impl Model for IncomingStream {
     ghost use Rattle.std.specs.Prelude.{◌≡◌, ◌<◌, ◌≤◌, true, false, [], None};
     ghost use Rattle.std.specs.Option.{is_some};
     ghost use Rattle.h3_wire.specs.UnreadFrames.{AreBetween};
+    ghost use Rattle.h3_incoming.specs.SomePieces.{AreSome};
 
     ghost invariant = { λ s. (0 < s.body_left → AreBetween s.unread)
         × (is_some s.section ≡ true → AreBetween s.unread)
@@ -83,7 +85,8 @@ impl Model for IncomingStream {
         × (s.tries ≤ 2)
         × (0 < s.waits_for → s.tries ≡ 1)
         × (s.section ≡ None → s.waits_for ≡ 0)
-        × (s.is_over ≡ true → s.came_behind ≡ false → s.unread.pieces ≡ []) };
+        × (s.is_over ≡ true → s.came_behind ≡ false → s.unread.pieces ≡ [])
+        × AreSome s.unread.pieces };
 }
 
 impl IncomingStream {
@@ -110,6 +113,7 @@ impl IncomingStream {
 
     /// More bytes came. They are kept as they are, with no copy but of small pieces; those of a stream that was given up are thrown away, and
     /// those of an unknown frame that is under way are let go. An `Err` changes nothing, and hands the bytes back: memory was refused.
+    #[tactic(auto, using(crate::proofs::SomePieces::some_with))]
     pub fn deliver(&mut self, bytes: Bytes) -> Result<(), Bytes>
         requires { length (concat self.old.unread) + length bytes < 2 ^ 64 }
         ensures ok { OnOk result (self.new ≡ kept self.old bytes) }

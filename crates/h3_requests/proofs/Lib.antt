@@ -6,9 +6,11 @@ pub mod Found
 pub mod Listed
 pub mod Places
 pub mod Pulls
+pub mod Seeking
 pub mod Sendable
 pub mod Received
 pub mod Ways
 pub mod Bits
 pub mod WaitingWords
 pub mod LeastBit
+pub mod ReadingBodies

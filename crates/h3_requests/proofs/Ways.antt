@@ -196,7 +196,7 @@ alike_by false r code h = refl
 abbrev pub told : Option Way → ℕ → Option RequestState
 told o code = option_map (λ w. over_so w code) o
 
-told_over : (o : Option Way) (code : ℕ) → IfSome o IsWay → IfSome (told o code) IsOver
+pub told_over : (o : Option Way) (code : ℕ) → IfSome o IsWay → IfSome (told o code) IsOver
 told_over None code h = tt
 told_over (Some w) code h = way_over w code h
 
@@ -204,7 +204,7 @@ told_alike : (o : Option Way) (code : ℕ) → IfSome o IsWay → AreAlike (opti
 told_alike None code h = refl
 told_alike (Some w) code h = ap Some (alike_by w.has_code w.stream code h.code)
 
-told_some : (o : Option Way) (code : ℕ) → is_some (told o code) ≡ is_some o
+pub told_some : (o : Option Way) (code : ℕ) → is_some (told o code) ≡ is_some o
 told_some None code = refl
 told_some (Some w) code = refl
 
@@ -230,7 +230,7 @@ there : (ways : List Way) (n : ℕ) → n < length ways → is_some (slice_get w
 there [] n within = absurd (omega (arith, within))
 there (w ∷ ways) n within = ap is_some (slice_get-get_or (w ∷ ways) n w within)
 
-way_there : (ways : List Way) (way : ℕ) → way ≤ length ways → is_some (way_at ways way) ≡ nat_lt 0 way
+pub way_there : (ways : List Way) (way : ℕ) → way ≤ length ways → is_some (way_at ways way) ≡ nat_lt 0 way
 way_there ways zero known = refl
 way_there ways (suc n) known =
     let within : n < length ways = omega (arith, known) in

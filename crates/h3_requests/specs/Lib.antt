@@ -6,12 +6,15 @@ pub mod HasBytes
 pub mod Lending
 pub mod Limited
 pub mod Coming
+pub mod Done
+pub mod Greatest
 pub mod FirstWord
 pub mod Listed
 pub mod Marks
 pub mod OthersLending
 pub mod Over
 pub mod Ready
+pub mod ReadingBodies
 pub mod Refused
 pub mod Row
 pub mod RowLending

@@ -1,5 +1,5 @@
 -- A mark for each request stream, by its id.
-use Rattle.std.specs.Prelude.{◌≡◌, ◌≢◌, ℕ, ◌/◌, ◌%◌, Bool, ◌&&◌, List, [], length, nat_lt, ◌==◌, if◌then◌else◌, slice_index_or, Option, Some, None}
+use Rattle.std.specs.Prelude.{◌≡◌, ◌≢◌, ◌<◌, ℕ, ◌/◌, ◌%◌, Bool, ◌&&◌, List, [], length, nat_lt, ◌==◌, if◌then◌else◌, slice_index_or, Option, Some, None}
 use Rattle.std.specs.Ordering.{nat_cmp}
 use Rattle.std.specs.BTreeMap.{is_at}
 use Rattle.std.specs.Map.{lookup}
@@ -22,6 +22,10 @@ page_marks m number = if is_last m number then m.last.items else marks_of (looku
 -- the mark of a stream, and 0 where none was set
 abbrev pub mark_at : Marks → ℕ → ℕ
 mark_at m id = if id % 4 == 0 then slice_index_or (page_marks m (id / 512)) (id / 4 % 128) 0 else 0
+
+-- no stream above this id has a mark
+abbrev pub AreBelow : Marks → Type 0
+AreBelow m = (id : ℕ) → m.top < id → mark_at m id ≡ 0
 
 -- the codes of a page, and none where it is not there
 abbrev pub page_codes : Codes → ℕ → List ℕ

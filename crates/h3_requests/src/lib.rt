@@ -3,6 +3,7 @@
 #![tactic(auto)]
 
 mod boxed;
+mod greatest;
 mod map;
 mod over;
 mod ready;

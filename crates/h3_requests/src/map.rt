@@ -7,6 +7,8 @@ ghost use Rattle.h3_blocked.specs.Sums.{TakesOut};
 ghost use Rattle.h3_connection.specs.Calls.{fresh_request, Sets};
 ghost use Rattle.h3_connection.specs.State.{kept_at};
 ghost use Rattle.h3_connection.specs.StreamSets.{HaveDistinctIds};
+ghost use Rattle.h3_requests.specs.Done.{is_sought};
+ghost use Rattle.h3_requests.specs.Greatest.{IsGreatest};
 ghost use Rattle.h3_requests.specs.Lending.{LendsStream};
 ghost use Rattle.h3_requests.specs.HasBytes.{has_end};
 ghost use Rattle.h3_requests.specs.Over.{with_end_taken, AreAlike, IsOver};
@@ -15,6 +17,7 @@ ghost use Rattle.h3_requests.specs.Stored.{over_at, streams_in, under_way_at};
 ghost use Rattle.h3_requests.specs.Listed.{either};
 
 use crate::boxed::BoxedStream;
+use crate::greatest::greater;
 use crate::over::OverStreams;
 use crate::stream::RequestStream;
 use crate::under_way::StreamsUnderWay;
@@ -76,6 +79,22 @@ impl StreamMap {
         ensures over { IfSome (over_at self.now id) IsOver }
     {
         self.over.contains(id)
+    }
+
+    // The greatest id of a stream that is there.
+    pub(crate) fn greatest(&self) -> Option<u64>
+        ensures { IsGreatest (λ id. is_some (kept_at (streams_in self.now) id)) result }
+    {
+        greater(self.under_way.greatest(false), self.over.greatest())
+    }
+
+    // The greatest id of a stream that is not done. It looks at those under way alone: all others are.
+    pub(crate) fn undone(&self) -> Option<u64>
+        ensures { IsGreatest (λ id. is_sought true (kept_at (streams_in self.now) id)) result }
+    {
+        // (for the proof: the others are over)
+        self.over.are_over();
+        self.under_way.greatest(true)
     }
 
     // Why a call is refused on a stream that is not under way: for this on one that is over, and else since none is there.

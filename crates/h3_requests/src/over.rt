@@ -5,6 +5,7 @@ ghost use Rattle.h3_connection.specs.Calls.{Sets};
 ghost use Rattle.h3_connection.specs.State.{kept_at};
 ghost use Rattle.h3_connection.specs.declared.event.StreamFault.TheVariants.{Reset};
 ghost use Rattle.h3_outgoing.specs.Sent.{end_waits};
+ghost use Rattle.h3_requests.specs.Greatest.{IsGreatest};
 ghost use Rattle.h3_requests.specs.HasBytes.{has_end};
 ghost use Rattle.h3_requests.specs.Over.{over_so, reset_with, way_at, with_end_taken, AddsWays, AreAlike, HasWays, IsOver, IsWay};
 
@@ -47,14 +48,14 @@ impl Model for OverStreams {
     ghost use Rattle.h3_connection.specs.State.{RequestState};
     ghost use Rattle.h3_connection.specs.StreamSets.{Streams};
     ghost use Rattle.h3_requests.specs.Listed.{streams_of};
-    ghost use Rattle.h3_requests.specs.Marks.{code_at, mark_at};
+    ghost use Rattle.h3_requests.specs.Marks.{code_at, mark_at, AreBelow};
     ghost use Rattle.h3_requests.specs.Over.{over_in, AreMarked};
 
     ghost Value = { Streams RequestState };
 
     ghost view = { λ o. streams_of (over_in o.ways.items (mark_at o.marks) (code_at o.codes)) };
 
-    ghost invariant = { λ o. AreMarked o.ways.items (mark_at o.marks) };
+    ghost invariant = { λ o. AreMarked o.ways.items (mark_at o.marks) × AreBelow o.marks };
 }
 
 impl OverStreams {
@@ -80,6 +81,22 @@ impl OverStreams {
         ensures over { IfSome (kept_at self.now id) IsOver }
     {
         self.marks.get(id.into_inner()) > 0
+    }
+
+    /// The greatest id of a stream that is among them.
+    pub(crate) fn greatest(&self) -> Option<u64>
+        ensures value { IsGreatest (λ id. is_some (kept_at self.now id)) result }
+        ensures fits { IfSome result (λ id. id < 2 ^ 64) }
+        ensures over { (id : ℕ) → IfSome (kept_at self.now id) IsOver }
+    {
+        self.marks.greatest()
+    }
+
+    /// They are over. It does nothing: a proof that needs the fact calls it.
+    pub(crate) fn are_over(&self)
+        ensures { (id : ℕ) → IfSome (kept_at self.now id) IsOver }
+    {
+        let _ways = self.ways.len();
     }
 
     /// The stream of that id, where it is among them, but for the code of a reset.

@@ -4,6 +4,7 @@ ghost use Rattle.std.specs.List.{concat};
 ghost use Rattle.h3_connection.specs.Calls.{fresh_request};
 ghost use Rattle.h3_connection.specs.Delivering.{kept};
 ghost use Rattle.h3_connection.specs.declared.event.StreamFault.TheVariants.{Reset};
+ghost use Rattle.h3_requests.specs.Done.{is_done, is_sought};
 ghost use Rattle.h3_requests.specs.Over.{reset_with, with_end_taken, IsOver, ReceivesAlike, SendsAlike};
 
 use bytes::Bytes;
@@ -94,6 +95,20 @@ impl RequestStream {
             && self.incoming.is_drained()
             && self.outgoing.is_sent_off()
             && self.outgoing.is_empty()
+    }
+
+    // Whether its end was handed out, or it was given up, and sending has ended.
+    fn is_done(&self) -> bool
+        ensures { result ≡ is_done self.now }
+    {
+        self.is_settled() && self.outgoing.is_sent_off()
+    }
+
+    // Whether it counts, where all streams do, or those alone that are not done.
+    pub(crate) fn is_sought(&self, undone: bool) -> bool
+        ensures { result ≡ is_sought undone (Some self.now) }
+    {
+        !(undone && self.is_done())
     }
 
     // Whether one that is over is over in the same way as another.

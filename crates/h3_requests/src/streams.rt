@@ -13,9 +13,11 @@ use std::alloc::{AllocError, Global};
 use std::marker::Model;
 
 mod answering;
+mod ending;
 mod judged;
 mod owning;
 mod pulling;
+mod reading;
 mod receiving;
 mod seen;
 mod sending;

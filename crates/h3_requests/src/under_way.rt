@@ -1,13 +1,16 @@
 //! The request streams under way, found by their ids: one in its place of a row, and in a map those whose place another has.
 ghost use Rattle.std.specs.Borrow.{sem};
 ghost use Rattle.std.specs.Option.{option_copied_mut};
-ghost use Rattle.std.specs.Prelude.{◌≡◌, [], None, Some, is_some, option_copied, IfSome, OnErr, OnOk};
+ghost use Rattle.std.specs.Prelude.{◌≡◌, ◌<◌, ◌^◌, [], None, Some, is_some, option_copied, IfSome, OnErr, OnOk};
 ghost use Rattle.h3_blocked.specs.Sums.{TakesOut};
 ghost use Rattle.h3_connection.specs.Calls.{fresh_request, Sets};
 ghost use Rattle.h3_connection.specs.State.{kept_at};
+ghost use Rattle.h3_requests.specs.Done.{is_sought};
+ghost use Rattle.h3_requests.specs.Greatest.{IsGreatest};
 ghost use Rattle.h3_requests.specs.UnderWayLending.{LendsUnderWay};
 
 use crate::boxed::BoxedStream;
+use crate::greatest::greater;
 use crate::spare::Spare;
 use crate::stream::RequestStream;
 use std::alloc::{AllocError, Global};
@@ -79,6 +82,14 @@ impl StreamsUnderWay {
         ensures { result ≡ is_some (kept_at self.now id) }
     {
         self.row.has(id) || self.others.has(id)
+    }
+
+    /// The greatest id of a stream: of all, or of those alone that are not done. It looks at each stream that is under way.
+    pub(crate) fn greatest(&self, undone: bool) -> Option<u64>
+        ensures value { IsGreatest (λ id. is_sought undone (kept_at self.now id)) result }
+        ensures fits { IfSome result (λ id. id < 2 ^ 64) }
+    {
+        greater(self.row.greatest(undone), self.others.greatest(undone))
     }
 
     /// The stream of this id, to be changed.

@@ -30,6 +30,7 @@ use std::alloc::Global;
 
 impl IncomingStream {
     /// The next frame that gives something, at its place; or the end.
+    #[tactic(auto, using(crate::proofs::SomePieces::some_rest))]
     pub(super) fn pull_frame<O: Answer>(
         &mut self,
         alloc: Global,

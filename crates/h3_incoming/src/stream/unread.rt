@@ -39,7 +39,7 @@ impl IncomingStream {
     }
 
     // Whether its bytes are those of a message.
-    fn is_message(&self) -> bool
+    pub(super) fn is_message(&self) -> bool
         ensures { result ≡ is_message self.now.place }
     {
         match self.place {

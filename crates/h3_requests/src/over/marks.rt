@@ -1,6 +1,7 @@
 //! A mark of one byte for each request stream, by its id. No call moves more than a page, however many there are.
-ghost use Rattle.std.specs.Prelude.{◌≡◌, ◌<◌, ◌≤◌, ◌/◌, ◌%◌, ◌==◌, ℕ, [], length, true, false, slice_index_or, slice_set, OnOk};
-ghost use Rattle.h3_requests.specs.Marks.{is_last, mark_at, page_marks, HaveSameMarks, IsOneMark};
+ghost use Rattle.std.specs.Prelude.{◌≡◌, ◌<◌, ◌≤◌, ◌/◌, ◌%◌, ◌^◌, ◌==◌, ℕ, [], length, true, false, nat_lt, IfSome, slice_index_or, slice_set, OnOk};
+ghost use Rattle.h3_requests.specs.Greatest.{IsGreatest};
+ghost use Rattle.h3_requests.specs.Marks.{is_last, mark_at, page_marks, AreBelow, HaveSameMarks, IsOneMark};
 
 use std::alloc::{AllocError, Global};
 use std::collections::BTreeMap;
@@ -20,6 +21,8 @@ pub(crate) struct Marks {
     last: Vec<u8>,
     // the other pages, each with the marks of all its streams
     pages: BTreeMap<u64, Vec<u8>>,
+    // the greatest id that was marked
+    top: u64,
 }
 
 // The number of a stream's page.
@@ -92,12 +95,13 @@ fn set_in(page: &mut [u8], place: usize, mark: u8) -> bool
 impl Marks {
     /// No mark. It takes no memory.
     pub(crate) fn new(alloc: Global) -> Marks
-        ensures { (id : ℕ) → mark_at result id ≡ 0 }
+        ensures none { (id : ℕ) → mark_at result id ≡ 0 }
     {
         Marks {
             number: 0,
             last: Vec::new(alloc),
             pages: BTreeMap::new(alloc),
+            top: 0,
         }
     }
 
@@ -127,7 +131,8 @@ impl Marks {
 
     /// Takes memory for the mark of a stream, so that setting it takes none.
     pub(crate) fn reserve(&mut self, alloc: Global, id: u64) -> Result<(), AllocError>
-        ensures { HaveSameMarks (mark_at self.old) (mark_at self.new) }
+        ensures same { HaveSameMarks (mark_at self.old) (mark_at self.new) }
+        ensures top { self.new.top ≡ self.old.top }
     {
         let number = page_of(id);
         let place = place_of(id);
@@ -142,7 +147,8 @@ impl Marks {
     fn reserve_far(&mut self, alloc: Global, number: u64, place: usize) -> Result<(), AllocError>
         requires within { place < 128 }
         requires other { is_last self.old number ≡ false }
-        ensures { HaveSameMarks (mark_at self.old) (mark_at self.new) }
+        ensures same { HaveSameMarks (mark_at self.old) (mark_at self.new) }
+        ensures top { self.new.top ≡ self.old.top }
     {
         let Some(page) = self.pages.get_mut(&number) else {
             return self.add_page(alloc, number, place);
@@ -155,7 +161,8 @@ impl Marks {
     fn add_page(&mut self, alloc: Global, number: u64, place: usize) -> Result<(), AllocError>
         requires within { place < 128 }
         requires absent { page_marks self.old number ≡ [] }
-        ensures { HaveSameMarks (mark_at self.old) (mark_at self.new) }
+        ensures same { HaveSameMarks (mark_at self.old) (mark_at self.new) }
+        ensures top { self.new.top ≡ self.old.top }
     {
         let mut page = Vec::new(alloc);
         lengthen(&mut page, place)?;
@@ -169,6 +176,7 @@ impl Marks {
     fn put_by(&mut self, alloc: Global) -> Result<(), AllocError>
         ensures same { (number : ℕ) → page_marks self.new number ≡ page_marks self.old number }
         ensures none { OnOk result (self.new.last.items ≡ []) }
+        ensures top { self.new.top ≡ self.old.top }
     {
         if self.last.is_empty() {
             return Ok(());
@@ -188,6 +196,23 @@ impl Marks {
         ensures set { result ≡ true → IsOneMark id mark (mark_at self.old) (mark_at self.new) }
         ensures same { result ≡ false → HaveSameMarks (mark_at self.old) (mark_at self.new) }
         ensures none { result ≡ false → mark_at self.old id ≡ 0 }
+        ensures below { AreBelow self.old → AreBelow self.new }
+    {
+        if !self.write(id, mark) {
+            return false;
+        }
+        if mark > 0 && id > self.top {
+            self.top = id;
+        }
+        true
+    }
+
+    // The same of the mark alone.
+    fn write(&mut self, id: u64, mark: u8) -> bool
+        ensures set { result ≡ true → IsOneMark id mark (mark_at self.old) (mark_at self.new) }
+        ensures same { result ≡ false → HaveSameMarks (mark_at self.old) (mark_at self.new) }
+        ensures none { result ≡ false → mark_at self.old id ≡ 0 }
+        ensures top { self.new.top ≡ self.old.top }
     {
         if !has_place(id) {
             return false;
@@ -208,10 +233,27 @@ impl Marks {
         ensures set { result ≡ true → IsOneMark id mark (mark_at self.old) (mark_at self.new) }
         ensures same { result ≡ false → HaveSameMarks (mark_at self.old) (mark_at self.new) }
         ensures none { result ≡ false → mark_at self.old id ≡ 0 }
+        ensures top { self.new.top ≡ self.old.top }
     {
         let Some(page) = self.pages.get_mut(&page_of(id)) else {
             return false;
         };
         set_in(page, place_of(id), mark)
+    }
+
+    /// The greatest id of a stream that has a mark. It goes down from the greatest that ever had one, which mostly has it still.
+    pub(crate) fn greatest(&self) -> Option<u64>
+        requires { AreBelow self.now }
+        ensures fits { IfSome result (λ id. id < 2 ^ 64) }
+        ensures value { IsGreatest (λ id. nat_lt 0 (mark_at self.now id)) result }
+    {
+        let mut id = self.top;
+        while id > 0 {
+            if self.get(id) > 0 {
+                return Some(id);
+            }
+            id -= 1;
+        }
+        if self.get(0) > 0 { Some(0) } else { None }
     }
 }

@@ -8,6 +8,7 @@ ghost use Rattle.h3_connection.specs.State.{kept_at};
 ghost use Rattle.h3_connection.specs.declared.event.Refusal.TheVariants.{OutOfMemory};
 ghost use Rattle.h3_connection.specs.declared.event.StreamFault.TheVariants.{Canceled};
 ghost use Rattle.h3_incoming.specs.Replying.{encodings};
+ghost use Rattle.h3_outgoing.specs.Held.{held};
 ghost use Rattle.h3_outgoing.specs.Sent.{has_body, has_ended, was_cut_off};
 ghost use Rattle.h3_requests.specs.Refused.{head_refused_at, body_refused_at, data_refused_at, early_trailer_at, end_refused_at, reset_refused_at, cancel_refused_at};
 
@@ -112,6 +113,36 @@ impl RequestStreams {
             return Err((Refusal::OutOfMemory, body));
         }
         self.ready.settle(id, stream.outgoing.waiting() > 0);
+        Ok(())
+    }
+
+    /// The same of a body of so many bytes, which the caller holds: its frame is announced, and none of its bytes is given.
+    pub fn send_data_of(&mut self, id: StreamId, len: usize) -> Result<(), Refusal>
+        ensures ok { OnOk result (IfSome (kept_at self.old id) (λ r. Sets self.old self.new id (record r { outgoing = has_body r.outgoing (held len) }))) }
+        ensures taken { OnOk result (data_refused_at (kept_at self.old id) len ≡ None) }
+        ensures why { IfErr result (λ r. r ≡ unwrap_or (data_refused_at (kept_at self.old id) len) OutOfMemory) }
+        ensures err { OnErr result (AllSame self.old self.new) }
+    {
+        let Some(stream) = self.streams.get_mut(id) else {
+            return Err(self.streams.refusal_of_over(id, Refusal::OutOfOrder));
+        };
+        if !stream.outgoing.takes_body() {
+            return Err(Refusal::OutOfOrder);
+        }
+        if stream.outgoing.passes_content(len) {
+            return Err(Refusal::Malformed(Malformation::ContentLength));
+        }
+        if len == 0 {
+            return Ok(());
+        }
+        let Ok(()) = self.ready.reserve(id) else {
+            return Err(Refusal::OutOfMemory);
+        };
+        let Ok(()) = stream.outgoing.send_body_of(len) else {
+            return Err(Refusal::OutOfMemory);
+        };
+        let waits = stream.outgoing.waiting() > 0;
+        self.ready.settle(id, waits);
         Ok(())
     }
 

@@ -2,12 +2,15 @@
 //! row is found with no search and no frame.
 ghost use Rattle.std.specs.Borrow.{sem};
 ghost use Rattle.std.specs.Option.{option_copied_mut};
-ghost use Rattle.std.specs.Prelude.{◌≡◌, [], None, Some, is_some, option_copied, OnErr, OnOk};
+ghost use Rattle.std.specs.Prelude.{◌≡◌, ◌<◌, ◌^◌, [], None, Some, is_some, option_copied, IfSome, OnErr, OnOk};
 ghost use Rattle.h3_connection.specs.State.{kept_at};
+ghost use Rattle.h3_requests.specs.Done.{is_sought};
+ghost use Rattle.h3_requests.specs.Greatest.{IsGreatest};
 ghost use Rattle.h3_requests.specs.OthersLending.{LendsOther};
 ghost use Rattle.h3_requests.specs.Row.{KeepsOthers};
 
 use crate::boxed::BoxedStream;
+use crate::greatest::greater;
 use crate::stream::RequestStream;
 use std::alloc::{AllocError, Global};
 use std::collections::BTreeMap;
@@ -45,6 +48,32 @@ impl Others {
             Some(stream) => Some(stream.get()),
             None => None,
         }
+    }
+
+    // Whether the stream of this id is there, and counts.
+    fn seeks(&self, id: u64, undone: bool) -> bool
+        ensures { result ≡ is_sought undone (kept_at self.now.streams.entries id) }
+    {
+        match self.streams.get(&id) {
+            Some(stream) => stream.get().is_sought(undone),
+            None => false,
+        }
+    }
+
+    /// The greatest id of a stream: of all, or of those alone that are not done.
+    #[inline(never)]
+    pub(crate) fn greatest(&self, undone: bool) -> Option<u64>
+        ensures value { IsGreatest (λ id. is_sought undone (kept_at self.now.streams.entries id)) result }
+        ensures fits { IfSome result (λ id. id < 2 ^ 64) }
+    {
+        let mut found = None;
+        // (the label names the loop in its proof)
+        'ids: for id in self.streams.keys() {
+            if self.seeks(*id, undone) {
+                found = greater(found, Some(*id));
+            }
+        }
+        found
     }
 
     /// The stream of this id, to be changed.

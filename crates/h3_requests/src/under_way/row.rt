@@ -1,10 +1,13 @@
 //! A row of places in which request streams stand by their ids, so that one is found by one comparison.
 ghost use Rattle.std.specs.Borrow.{sem};
-ghost use Rattle.std.specs.Prelude.{◌≡◌, ◌/◌, ◌%◌, ℕ, length, true, Some, None, is_some, option_copied, IsSome};
+ghost use Rattle.std.specs.Prelude.{◌≡◌, ◌<◌, ◌/◌, ◌%◌, ◌^◌, ℕ, length, true, Some, None, is_some, option_copied, IfSome, IsSome};
+ghost use Rattle.h3_requests.specs.Done.{is_sought};
+ghost use Rattle.h3_requests.specs.Greatest.{IsGreatest};
 ghost use Rattle.h3_requests.specs.Row.{held_at, in_place, HasFreePlace, IsOneHeld, HoldSame};
 ghost use Rattle.h3_requests.specs.RowLending.{LendsHeld, LendsPlaced};
 
 use crate::boxed::BoxedStream;
+use crate::greatest::greater;
 use crate::stream::RequestStream;
 use std::alloc::{AllocError, Global};
 use std::mem;
@@ -117,6 +120,31 @@ impl Row {
         ensures value { held_at self.old id ≡ Some result.now }
     {
         self.places[place_of(id)].stream_mut()
+    }
+
+    // Whether the stream of this id has a place, and counts.
+    fn seeks(&self, id: u64, undone: bool) -> bool
+        ensures { result ≡ is_sought undone (held_at self.now id) }
+    {
+        match self.get(id) {
+            Some(stream) => stream.is_sought(undone),
+            None => false,
+        }
+    }
+
+    /// The greatest id of a stream that has a place: of all, or of those alone that are not done.
+    pub(crate) fn greatest(&self, undone: bool) -> Option<u64>
+        ensures value { IsGreatest (λ id. is_sought undone (held_at self.now id)) result }
+        ensures fits { IfSome result (λ id. id < 2 ^ 64) }
+    {
+        let mut found = None;
+        // (the label names the loop in its proof)
+        'places: for place in &self.places {
+            if self.seeks(place.id, undone) {
+                found = greater(found, Some(place.id));
+            }
+        }
+        found
     }
 
     /// Takes memory for all places, where they are not there yet. The streams stay.

@@ -1,6 +1,7 @@
-use Rattle.std.proofs.Common.{◌≡◌, ℕ, true, arith, ap, sym, ◌∙◌}
+use Rattle.std.proofs.Common.{◌≡◌, ℕ, true, arith, ap, sym, subst, ◌∙◌}
 use Rattle.h3_connection.specs.Incoming.{Incoming}
 use Rattle.h3_connection.specs.Unread.{begins_frame}
+use Rattle.h3_incoming.specs.SomePieces.{AreSome}
 use Rattle.h3_incoming.specs.contracts.stream.IncomingStream.{the_view}
 use Rattle.h3_incoming.proofs.NextFrame.{frame_next, not_both}
 use Rattle.h3_incoming.proofs.stream.IncomingStream.spare.Goals as goal
@@ -18,4 +19,5 @@ invariant_of-self c =
       c.self.invariant.5,
       c.self.invariant.6,
       λ over none. c.spare.ensures.pieces ∙ c.self.invariant.7 over none,
+      subst AreSome (sym c.spare.ensures.pieces) c.self.invariant.8,
     )

@@ -9,4 +9,4 @@ returns-clause-takes_out c =
     c.set.ensures.set c.set.ensures.same c.set.ensures.none
 
 pub returns-clause-over : goal.returns-clause-over
-returns-clause-over c = over_known c.self.inside.ways.items (mark_at c.self.inside.marks) (code_at c.self.inside.codes) c.args.self.now c.into_inner.result c.args.id c.self.view_is c.into_inner.ensures.value c.into_inner.ensures.bound c.self.invariant
+returns-clause-over c = over_known c.self.inside.ways.items (mark_at c.self.inside.marks) (code_at c.self.inside.codes) c.args.self.now c.into_inner.result c.args.id c.self.view_is c.into_inner.ensures.value c.into_inner.ensures.bound c.self.invariant.0
