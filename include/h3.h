@@ -11,7 +11,7 @@
  *   uint64_t id;                                // a request: a header section, a body, the end
  *   h3_open_request(&e, &id, NULL);             // then QUIC opens the stream of this id
  *   h3_field_size f[4] = {{7,3},{7,5},{10,9},{5,1}};
- *   h3_send_fields(&e, id, f, 4, ":methodGET:schemehttps:authoritylocalhost:path/", 47, NULL);
+ *   h3_send_head(&e, id, f, 4, ":methodGET:schemehttps:authoritylocalhost:path/", 47, NULL);
  *   h3_send_body(&e, id, body, body_len, NULL);
  *   h3_finish(&e, id, NULL);
  *
@@ -19,14 +19,12 @@
  *                                               // h3_advance, and h3_end_taken with the FIN
  *
  *   h3_deliver(&e, s, bytes, len, NULL);        // QUIC received stream data; then, until a pause,
- *   h3_pull_fields(&e, s, &item);               // H3_END or a fault: the next item of the message,
+ *   h3_pull(&e, s, &item);               // H3_END or a fault: the next item of the message,
  *   h3_item_fields(&e, sizes, 64, text, room);  // its fields
  *   h3_item_bytes(&e, 0, buffer, room, &n);     // or its bytes
  *   h3_free(&e);
  *
- * docs/QUICKSTART.md has this as a program. These are the calls to use. h3_send_head,
- * h3_send_trailer and h3_pull do the same more slowly: they make a map of the fields, which puts
- * pseudo-header fields first and fields of one name together.
+ * docs/QUICKSTART.md has this as a program.
  *
  * THE LIBRARY
  *
@@ -39,11 +37,11 @@
  * h3_endpoint is one pointer, owned by the caller. H3_NONE_YET (all bytes zero) holds no endpoint.
  * h3_new makes an endpoint, and h3_free frees it: each h3_new needs one h3_free. A copy of the
  * struct is the same endpoint: keep one, and move it as you like.
- * Bytes that you pass in are copied within the call, except by h3_send_body_lent and
- * h3_deliver_lent: you may free or change them as soon as it returns. Bytes that you get are
- * copied into your buffer. The library never returns pointers to its memory, and only those two
- * calls keep a pointer of yours. What does not fit into a buffer is not lost: outgoing bytes wait
- * until h3_advance, and an item stays until the next pull.
+ * Bytes that you pass in are copied within the call, except by h3_deliver_lent: you may free or
+ * change them as soon as it returns. Bytes that you get are copied into your buffer. The library
+ * never returns pointers to its memory, and only h3_deliver_lent keeps a pointer of yours. What
+ * does not fit into a buffer is not lost: outgoing bytes wait until h3_advance, and an item stays
+ * until the next pull.
  * Buffers and results of one call must not overlap each other, nor the h3_endpoint.
  *
  * POINTERS
@@ -79,8 +77,8 @@
  * what was taken, or the next pull of a stream that may still deliver something: not of one whose
  * pull returns H3_END or a fault of the stream again. If there is no such stream, pull
  * h3_control_id, which delivers nothing. h3_finish, h3_reset, h3_advance, h3_end_taken,
- * h3_outgoing, h3_next_waiting, h3_next_to_send, h3_next_request_id, the states and h3_free take no
- * memory.
+ * h3_outgoing, h3_next_to_send, h3_next_request_id, h3_first_unseen, h3_is_drained, the states and
+ * h3_free take no memory.
  *
  * WHAT TO CALL FROM QUIC'S CALLBACKS
  *
@@ -98,10 +96,11 @@
  *   the stream's FIN came    h3_deliver_end(id), after its data; then pull
  *   RESET_STREAM came        h3_deliver_reset(id, code), then pull; drop later data of that stream
  *   STOP_SENDING came        h3_reset(id), and send RESET_STREAM (RFC 9000, section 3.5)
- *   data can be sent         h3_outgoing(id, buffer, ..): pass these bytes to QUIC, and call
- *                            h3_advance(id, n) with the n bytes that QUIC took. If `fin` came as 1
- *                            and all n bytes were taken, send FIN with them, and call
- *                            h3_end_taken(id) if you find streams by h3_next_to_send.
+ *   data can be sent         h3_outgoing(id, buffer, ..): pass these bytes to QUIC, and after them
+ *                            `past` bytes of the body that you hold (h3_send_body_of), if there
+ *                            are such. Call h3_advance(id, n) with the n bytes that QUIC took of
+ *                            both. If `fin` came as 1 and all bytes were taken, send FIN with them,
+ *                            and call h3_end_taken(id) if you find streams by h3_next_to_send.
  *   credit (MAX_STREAM_DATA) below: for what is no longer held, not for what came
  *   data is acknowledged     nothing to call. The library forgets bytes at h3_advance. A QUIC
  *                            library that keeps no copy of what it sends (ngtcp2, msquic) needs the
@@ -141,14 +140,14 @@
  * WHICH CALL CAN FILL WHICH STREAM (so that you know which to look at; h3_next_to_send finds all)
  *
  *   h3_new                                  the local control, encoder and decoder stream
- *   h3_send_fields, h3_send_trailer_fields, that stream, and the local encoder stream
- *   h3_send_head, h3_send_trailer
- *   h3_send_body, h3_send_body_lent         that stream
+ *   h3_send_head, h3_send_trailer           that stream, and the local encoder stream
+ *   h3_send_body, h3_send_body_of           that stream
  *   h3_finish                               no bytes; the end of that stream (h3_outgoing then says
  *                                           fin, with 0 bytes if none wait)
- *   h3_goaway                               the local control stream
+ *   h3_goaway, h3_shutdown_notice,          the local control stream
+ *   h3_shutdown
  *   h3_deliver(_lent), h3_deliver_end,      the local encoder stream (the peer's settings came),
- *   h3_deliver_reset, h3_pull(_fields)      the local decoder stream (the peer's encoder stream was
+ *   h3_deliver_reset, h3_pull               the local decoder stream (the peer's encoder stream was
  *                                           read, a section was decoded, a stream was canceled)
  *   h3_cancel                               the local decoder stream
  *   all others                              none
@@ -202,6 +201,21 @@
  *   H3_TOO_LARGE_HEAD: a header or trailer section above the local max_field_section_size, whose
  *     size is `number`, was skipped. A server may answer 431, a client may cancel.
  *     One whose frame is above unfinished_limit is H3_FAULT_MALFORMED with H3_TOO_LONG instead.
+ *
+ * SHUT DOWN (RFC 9114, section 5.2)
+ *
+ * A server:
+ *   h3_shutdown_notice(&e, NULL);               // the client opens no request once this came
+ *   .. go on for a round trip: each request that comes is processed ..
+ *   h3_shutdown(&e, NULL);                      // GOAWAY: no request from h3_first_unseen on
+ *   .. go on. A delivery of a later request is H3_REJECTED: deliver no more of that stream, and
+ *      send RESET_STREAM and STOP_SENDING with H3_CODE_REQUEST_REJECTED ..
+ *   if (!h3_is_drained(&e, &drained) && drained) .. close the connection with H3_CODE_NO_ERROR
+ * A client that received a GOAWAY (has_goaway of h3_connection) opens no request any more. Requests
+ * from its id on, and those that were reset with H3_CODE_REQUEST_REJECTED, were not processed: send
+ * them again on another connection. Of the others send again only idempotent ones (section 4.1.1).
+ * To leave, it finishes its requests, and closes the connection when h3_is_drained says 1 or, if
+ * its server sent no GOAWAY, when its requests have ended.
  *
  * WHAT IS PROVED, TESTED, TRUSTED: see crates/h3_c/README.md. You are trusted: pointers and lengths
  * are right, a handle is used as said above, malloc and realloc align to 16 bytes and belong to one
@@ -280,6 +294,9 @@ enum h3_answer {
   /* of a strict endpoint */
   H3_MALFORMED = 27,         /* a strict peer would call the message malformed; detail: the
                                 h3_malformation */
+  /* of a server that shuts down */
+  H3_REJECTED = 30,          /* the request is rejected: nothing was delivered; detail:
+                                H3_CODE_REQUEST_REJECTED */
   /* programming errors */
   H3_ARGUMENT = 32,          /* an argument is out of the range that the call's comment gives, or a
                                 NULL that may not be; nothing was done */
@@ -303,7 +320,7 @@ static inline const char *h3_answer_text(uint32_t answer) {
     case H3_FIELD_NAME: return "H3_FIELD_NAME"; case H3_FIELD_VALUE: return "H3_FIELD_VALUE";
     case H3_FIELD_COUNT: return "H3_FIELD_COUNT"; case H3_NONE: return "H3_NONE";
     case H3_ROOM: return "H3_ROOM"; case H3_MALFORMED: return "H3_MALFORMED";
-    case H3_UNFINISHED_LIMIT: return "H3_UNFINISHED_LIMIT";
+    case H3_UNFINISHED_LIMIT: return "H3_UNFINISHED_LIMIT"; case H3_REJECTED: return "H3_REJECTED";
     case H3_ARGUMENT: return "H3_ARGUMENT"; case H3_NO_ENDPOINT: return "H3_NO_ENDPOINT";
     default: return "an unknown answer";
   }
@@ -418,13 +435,22 @@ typedef struct {
                                        * these never exceeds it: the Huffman code writes a byte in
                                        * at most 30 bits. A lower limit is refused. 2^62 - 1 and
                                        * more, also as the least limit: there is no limit */
+  uint64_t kept_ids;                  /* how many ids of streams that the peer canceled the local
+                                       * encoder keeps (RFC 9204, section 4.4.2). If there is one
+                                       * too many, it drops the lowest: from then on sections on
+                                       * streams up to that id name no entry of the table, unless
+                                       * one there is not yet acknowledged. So no cancellation is a
+                                       * fault. 2^62 - 1 and more: all ids are kept */
+  uint64_t reject_requests;           /* whether a server rejects requests from the id of its
+                                       * last GOAWAY on: H3_REJECTED (1) */
 } h3_config;
 
 /* A client with limits for an untrusted peer: it takes field sections of at most 65,536 bytes, and
  * has a dynamic table of 4,096 bytes, for which 16 streams may wait. It counts acknowledgments, and
- * the table of its encoder has at most 4,096 bytes and is used economically. It is strict. All else
- * is 0, so a frame or instruction that it keeps until it is whole has at most 262,144 bytes, four
- * times 65,536. SECURITY.md says what each limit bounds. */
+ * the table of its encoder has at most 4,096 bytes and is used economically. It is strict, keeps
+ * 1,000 ids of canceled streams, and has reject_requests set. All else is 0, so a frame or
+ * instruction that it keeps until it is whole has at most 262,144 bytes, four times 65,536.
+ * SECURITY.md says what each limit bounds. */
 static inline void h3_config_default(h3_config *config);
 
 /* Makes an endpoint in *endpoint, which is overwritten: what it held before is not freed. Its
@@ -455,54 +481,37 @@ typedef struct {
   uint32_t name, value;
 } h3_field_size;
 
-/* Sends a header section: `count` fields, with all names and values in `bytes` (name, value, name,
- * value, ..), and `len` the sum of all sizes. Pseudo-header fields may stand anywhere; they are
- * sent first, in the order :method, :scheme, :authority, :path, :status, :protocol (of a repeated
- * one the last), then the others, by name in the order of their first appearance. Names are in
- * lower case. A response with a status from 100 to 199 is an interim one: send a further header
- * section after it.
- * Refused, in this order: H3_ARGUMENT (id not below 2^62; len is not the sum), H3_FIELD_NAME,
- * H3_FIELD_VALUE and H3_FIELD_COUNT (the first field that is refused decides), H3_MEMORY of making
- * the list, then H3_CLOSED, H3_NOT_OPEN, H3_OUT_OF_ORDER, H3_WRONG_SIDE, H3_MALFORMED,
- * H3_TOO_LARGE, H3_MEMORY. */
+/* Sends a header section: `count` fields, each of them and in their order. `bytes` has all names
+ * and values (name, value, name, value, ..), and `len` is the sum of all sizes. Names are in lower
+ * case. Put pseudo-header fields in front, each once: a peer may refuse another order (RFC 9114,
+ * section 4.3), and a strict endpoint does not send it. A response with a status from 100 to 199 is
+ * an interim one: send a further header section after it.
+ * Refused, in this order: H3_ARGUMENT (id not below 2^62; len is not the sum), H3_CLOSED,
+ * H3_NOT_OPEN, H3_OUT_OF_ORDER, H3_FIELD_NAME, H3_FIELD_VALUE and H3_FIELD_COUNT (the first field
+ * that is refused decides), H3_WRONG_SIDE, H3_MALFORMED (for white space around a value
+ * H3_FIELD_VALUE), H3_TOO_LARGE, H3_MEMORY. (If memory is needed to check or to send the list,
+ * H3_MEMORY may come before the refusals after H3_OUT_OF_ORDER.) */
 static inline uint32_t h3_send_head(h3_endpoint *endpoint, uint64_t id, const h3_field_size *sizes, size_t count, const void *bytes, size_t len,
                                     uint64_t *detail);
 
-/* Sends a trailer section, after which only the end comes. Refused as a header section, but after
- * H3_OUT_OF_ORDER: H3_PSEUDO_IN_TRAILER, H3_MALFORMED, H3_TOO_LARGE, H3_MEMORY. */
+/* Sends a trailer section, after which only the end comes. Send no empty one: it is allowed, but
+ * some peers close the connection over it. Refused as h3_send_head, but after the refusals of the
+ * list: H3_PSEUDO_IN_TRAILER, H3_MALFORMED (or H3_FIELD_VALUE), H3_TOO_LARGE, H3_MEMORY. */
 static inline uint32_t h3_send_trailer(h3_endpoint *endpoint, uint64_t id, const h3_field_size *sizes, size_t count, const void *bytes, size_t len,
                                        uint64_t *detail);
 
-/* Sends a header section as the list of fields that you give: each field of it, in its order. No
- * map is made of it, so this is the faster call. Put pseudo-header fields in front, each once: a
- * peer may refuse another order (RFC 9114, section 4.3), and a strict endpoint does not send it.
- * Without `strict` the lists that h3_send_head accepts are accepted here too.
- * Refused, in this order: H3_ARGUMENT (id not below 2^62; len is not the sum), H3_MEMORY of the
- * copy of the list, then H3_CLOSED, H3_NOT_OPEN, H3_OUT_OF_ORDER, H3_FIELD_NAME, H3_FIELD_VALUE and
- * H3_FIELD_COUNT (the first field that is refused decides), H3_WRONG_SIDE, H3_MALFORMED (for white
- * space around a value H3_FIELD_VALUE), H3_TOO_LARGE, H3_MEMORY. (If memory is needed to check or
- * to send the list, H3_MEMORY may come before the refusals after H3_OUT_OF_ORDER.) */
-static inline uint32_t h3_send_fields(h3_endpoint *endpoint, uint64_t id, const h3_field_size *sizes, size_t count, const void *bytes, size_t len,
-                                      uint64_t *detail);
-
-/* Sends a trailer section as the list that you give. Send no empty one: it is allowed, but some
- * peers close the connection over it. Refused as h3_send_fields, but after the refusals of the
- * list: H3_PSEUDO_IN_TRAILER, H3_MALFORMED (or H3_FIELD_VALUE), H3_TOO_LARGE, H3_MEMORY. */
-static inline uint32_t h3_send_trailer_fields(h3_endpoint *endpoint, uint64_t id, const h3_field_size *sizes, size_t count, const void *bytes,
-                                              size_t len, uint64_t *detail);
-
 /* Sends a piece of a body, as one DATA frame; no bytes write nothing. Refused, in this order:
  * H3_ARGUMENT (id not below 2^62), H3_CLOSED, H3_NOT_OPEN, H3_OUT_OF_ORDER, H3_MALFORMED (with
- * `strict`: more than content-length says), H3_MEMORY. (If the copy of the bytes fails, H3_MEMORY
- * comes before H3_CLOSED.) */
+ * `strict`: more than content-length says), H3_MEMORY. */
 static inline uint32_t h3_send_body(h3_endpoint *endpoint, uint64_t id, const void *bytes, size_t len, uint64_t *detail);
 
-/* Sends a piece of a body as h3_send_body does, with no copy: the library reads your bytes in
- * place. Leave them there unchanged until h3_advance has taken all that waits on the stream
- * (`waiting` of h3_stream is 0), or h3_reset of the stream returned H3_OK, or the endpoint was
- * freed. A refused call keeps nothing. Refused, in this order: H3_ARGUMENT, H3_CLOSED, H3_NOT_OPEN,
- * H3_OUT_OF_ORDER, H3_MALFORMED, H3_MEMORY. */
-static inline uint32_t h3_send_body_lent(h3_endpoint *endpoint, uint64_t id, const void *bytes, size_t len, uint64_t *detail);
+/* Sends a piece of a body of `len` bytes that stay with you: the library announces one DATA frame
+ * of this length, and never reads the bytes. When they are to go out, h3_outgoing says so by
+ * `past`. So a body is not copied, and nothing of it has to be in memory yet. Keep the bytes, or
+ * the file, until QUIC needs them no more. 0 bytes write nothing. Refused, in this order:
+ * H3_ARGUMENT (id not below 2^62), H3_CLOSED, H3_NOT_OPEN, H3_OUT_OF_ORDER, H3_MALFORMED (with
+ * `strict`: more than content-length says), H3_MEMORY. */
+static inline uint32_t h3_send_body_of(h3_endpoint *endpoint, uint64_t id, size_t len, uint64_t *detail);
 
 /* The message is whole: FIN follows what waits (h3_outgoing says when). Takes no memory. Refused,
  * in this order: H3_ARGUMENT, H3_CLOSED, H3_NOT_OPEN, H3_OUT_OF_ORDER, H3_MALFORMED (with `strict`:
@@ -520,41 +529,67 @@ static inline uint32_t h3_reset(h3_endpoint *endpoint, uint64_t id, uint64_t *de
 static inline uint32_t h3_cancel(h3_endpoint *endpoint, uint64_t id, uint64_t *detail);
 
 /* Sends GOAWAY: a server announces that it processes no request from this id on (a multiple of 4),
- * a client no push (RFC 9114, section 5.2). It only announces: requests from this id on are
- * delivered like others. End each with h3_cancel, h3_reset and H3_CODE_REQUEST_REJECTED. Refused,
- * in this order: H3_ARGUMENT (id not below 2^62), H3_CLOSED, H3_NOT_REQUEST_ID, H3_RAISED,
- * H3_MEMORY. */
+ * a client no push (RFC 9114, section 5.2). With reject_requests, which h3_config_default sets, a
+ * delivery on a request stream from this id on of which nothing came before is H3_REJECTED (SHUT
+ * DOWN). Without it the call only announces: such a request is delivered like others; end it with
+ * h3_cancel, h3_reset and H3_CODE_REQUEST_REJECTED. Refused, in this order: H3_ARGUMENT (id not
+ * below 2^62), H3_CLOSED, H3_NOT_REQUEST_ID, H3_RAISED, H3_MEMORY. */
 static inline uint32_t h3_goaway(h3_endpoint *endpoint, uint64_t id, uint64_t *detail);
+
+/* The first step of SHUT DOWN: a GOAWAY with the greatest id, 2^62 - 4 of a server, 2^62 - 1 of a
+ * client. The peer opens no further request once it came, and all that it sent until then is
+ * processed. If a GOAWAY was sent before, H3_OK, and nothing is written. Refused, in this order:
+ * H3_CLOSED, H3_MEMORY. */
+static inline uint32_t h3_shutdown_notice(h3_endpoint *endpoint, uint64_t *detail);
+
+/* The second step: a GOAWAY with h3_first_unseen of a server, with 0 of a client (it accepts no
+ * push). If an earlier GOAWAY had that id or a lower one, H3_OK, and nothing is written. Refused,
+ * in this order: H3_CLOSED, H3_IDS_USED_UP (every id was seen, and no GOAWAY was sent),
+ * H3_MEMORY. */
+static inline uint32_t h3_shutdown(h3_endpoint *endpoint, uint64_t *detail);
+
+/* The first id of a request stream above all of which anything came (at a client: above all that
+ * were opened): no request from there on was processed. 0 if there was none. Takes no memory, and
+ * reads the streams that are not over. */
+static inline uint32_t h3_first_unseen(h3_endpoint *endpoint, uint64_t *id);
+
+/* *drained is 1 if nothing is left to be done, so that the connection can be closed without losing
+ * a request, else 0. Then all of this is true: no request is to come (a server's GOAWAY has an id
+ * of at most h3_first_unseen; at a client one came from its server); each request stream was pulled
+ * to H3_END or a fault of the stream, or canceled; each was finished or reset; all that waited on
+ * it was taken, and h3_end_taken was called for its FIN; nothing waits on the local control stream.
+ * If you never call h3_end_taken, it stays 0 once a message was finished. After a fault of the
+ * connection it says nothing: close the connection. Takes no memory, and reads the streams that are
+ * not over. */
+static inline uint32_t h3_is_drained(h3_endpoint *endpoint, uint32_t *drained);
 
 /* ---- what waits to be sent ---- */
 
-/* The lowest stream id, from `from` on, on which bytes wait; local unidirectional streams count
- * too. H3_NONE if there is none (*id is not written then). A finished stream on which nothing waits
- * is not among them: its FIN is due at once at h3_finish. To see all:
- *   for (uint64_t id = 0; h3_next_waiting(&e, id, &id) == H3_OK; id++) .. */
-static inline uint32_t h3_next_waiting(h3_endpoint *endpoint, uint64_t from, uint64_t *id);
-
-/* The same of streams on which bytes or an end wait: an end waits from h3_finish until h3_end_taken
- * (or h3_reset), so no FIN is lost or sent twice. Call h3_end_taken for each FIN that QUIC took, or
- * the stream is named again. To send all:
+/* The lowest stream id, from `from` on, on which bytes or an end wait; local unidirectional streams
+ * count too. H3_NONE if there is none (*id is not written then). An end waits from h3_finish until
+ * h3_end_taken (or h3_reset), so no FIN is lost or sent twice. Call h3_end_taken for each FIN that
+ * QUIC took, or the stream is named again. To send all:
  *   for (uint64_t id = 0; h3_next_to_send(&e, id, &id) == H3_OK; id++) ..
- * with h3_outgoing, h3_advance, and h3_end_taken if fin came and all n bytes were taken. */
+ * with h3_outgoing, h3_advance, and h3_end_taken if fin came and all bytes were taken. */
 static inline uint32_t h3_next_to_send(h3_endpoint *endpoint, uint64_t from, uint64_t *id);
 
-/* Copies the first bytes that wait on a stream, as many as fit; *n says how many. They go on
- * waiting until h3_advance. *fin is 1 if the stream is finished and these bytes are its last ones
- * (0 bytes if none wait), else 0. On a stream that is not open nothing waits. Refused: H3_ARGUMENT
- * (id not below 2^62). */
-static inline uint32_t h3_outgoing(h3_endpoint *endpoint, uint64_t id, void *buffer, size_t room, size_t *n, uint32_t *fin);
+/* Copies the first bytes that wait on a stream, as many as fit; *n says how many. If the next ones
+ * are of a body that you hold (h3_send_body_of), *past says how many of them: pass QUIC the n bytes
+ * and after them the next `past` bytes of your body, or as many of these as you like. Else *past is
+ * 0. All go on waiting until h3_advance, which counts both. *fin is 1 if the stream is finished and
+ * these n + past bytes are its last ones (0 bytes if none wait), else 0. On a stream that is not
+ * open nothing waits. `past` may be NULL in a program that does not call h3_send_body_of. Refused:
+ * H3_ARGUMENT (id not below 2^62, or `past` is NULL and bytes that you hold follow). */
+static inline uint32_t h3_outgoing(h3_endpoint *endpoint, uint64_t id, void *buffer, size_t room, size_t *n, size_t *past, uint32_t *fin);
 
-/* Removes the first n bytes that wait on a stream: QUIC has them. Refused: H3_ARGUMENT (id not
- * below 2^62, or n is more than wait). */
+/* Removes the first n bytes that wait on a stream, also of a body that you hold: QUIC has them.
+ * Refused: H3_ARGUMENT (id not below 2^62, or n is more than wait). */
 static inline uint32_t h3_advance(h3_endpoint *endpoint, uint64_t id, size_t n);
 
 /* QUIC took the FIN of a stream: h3_next_to_send names it no longer. H3_NONE, with nothing changed,
  * if no end was next: the stream is not finished or was reset, bytes still wait on it, or this call
- * was made before. Takes no memory. It changes nothing else: h3_outgoing says fin as before. If you
- * use h3_next_waiting alone you need no such call. Refused: H3_ARGUMENT (id not below 2^62). */
+ * was made before. Takes no memory. It changes nothing else: h3_outgoing says fin as before.
+ * Refused: H3_ARGUMENT (id not below 2^62). */
 static inline uint32_t h3_end_taken(h3_endpoint *endpoint, uint64_t id);
 
 /* ---- what came ---- */
@@ -562,7 +597,7 @@ static inline uint32_t h3_end_taken(h3_endpoint *endpoint, uint64_t id);
 /* Bytes came on a stream, after those that came before. Refused, in this order: H3_ARGUMENT (id not
  * below 2^62), H3_CONNECTION (of an earlier fault), H3_NOT_RECEIVING, H3_NOT_OPEN, H3_AFTER_END,
  * H3_MEMORY (nothing was taken: deliver again), H3_KEPT (all was taken), H3_CONNECTION (what came
- * is a fault). (If the copy of the bytes fails, H3_MEMORY comes first.) */
+ * is a fault). */
 static inline uint32_t h3_deliver(h3_endpoint *endpoint, uint64_t id, const void *bytes, size_t len, uint64_t *detail);
 
 /* Delivers bytes as h3_deliver does, with no copy on a request stream: the library reads yours.
@@ -590,8 +625,8 @@ static inline uint32_t h3_deliver_end(h3_endpoint *endpoint, uint64_t id, uint64
  * if the reset came late. What came on the stream and was not pulled is dropped. */
 static inline uint32_t h3_deliver_reset(h3_endpoint *endpoint, uint64_t id, uint64_t code, uint64_t *detail);
 
-/* What a pull returns. Kinds below H3_PENDING are items; H3_PENDING, H3_WAITING and H3_NO_MESSAGES
- * are pauses; those above are faults. */
+/* What a pull returns. Kinds below H3_PENDING, and H3_BODY_GIVEN, are items; H3_PENDING, H3_WAITING
+ * and H3_NO_MESSAGES are pauses; the others are faults. */
 enum h3_kind {
   H3_INTERIM = 1,           /* an interim response, of status 100 to 199: `fields`, `status` */
   H3_HEAD = 2,              /* the header section: `fields`, and of a response `status` */
@@ -610,7 +645,9 @@ enum h3_kind {
   H3_FAULT_MALFORMED = 13,  /* number: an h3_malformation */
   H3_FAULT_RESET = 14,      /* number: the peer's code */
   H3_FAULT_CANCELED = 15,
-  H3_FAULT_MEMORY = 16      /* nothing is lost: pull again */
+  H3_FAULT_MEMORY = 16,     /* nothing is lost: pull again */
+  H3_BODY_GIVEN = 17        /* of h3_read alone, an item: a piece of the body that lies in the bytes
+                               you gave: `len` bytes from byte `number` on */
 };
 
 /* The name of a kind, for a log, or "an unknown kind". */
@@ -624,6 +661,7 @@ static inline const char *h3_kind_text(uint32_t kind) {
     case H3_NO_MESSAGES: return "H3_NO_MESSAGES"; case H3_FAULT_CONNECTION: return "H3_FAULT_CONNECTION";
     case H3_FAULT_MALFORMED: return "H3_FAULT_MALFORMED"; case H3_FAULT_RESET: return "H3_FAULT_RESET";
     case H3_FAULT_CANCELED: return "H3_FAULT_CANCELED"; case H3_FAULT_MEMORY: return "H3_FAULT_MEMORY";
+    case H3_BODY_GIVEN: return "H3_BODY_GIVEN";
     default: return "an unknown kind";
   }
 }
@@ -693,35 +731,36 @@ typedef struct {
   uint32_t status; /* of a header section with :status: its number, else 0 */
   uint64_t number; /* what the kind says, else 0 */
   size_t fields;   /* of a header or trailer section: how many fields, else 0 */
-  size_t len;      /* of a body or raw bytes: how many; of fields of h3_pull_fields: how many bytes
-                      of names and values; else 0 */
+  size_t len;      /* of a body or raw bytes: how many; of a header or trailer section: how
+                      many bytes its names and values have; else 0 */
 } h3_item;
 
 /* The next item of a stream. It stays in the endpoint until the next pull: read it by
- * h3_item_fields, h3_item_field and h3_item_bytes. A fault of the connection closes the endpoint.
+ * h3_item_fields and h3_item_bytes. A fault of the connection closes the endpoint.
  * Refused: H3_ARGUMENT (id not below 2^62); *item is not written, and the item before stays. */
 static inline uint32_t h3_pull(h3_endpoint *endpoint, uint64_t id, h3_item *item);
 
-/* The same, but the fields of a header or trailer section are the list that came: each field of it,
- * in its order. No map is made of it, so this is the faster call. What is malformed is the same.
- * You may mix the two, and all that is said of h3_pull here is said of both. */
-static inline uint32_t h3_pull_fields(h3_endpoint *endpoint, uint64_t id, h3_item *item);
+/* Bytes came on a stream, after those that came before, and with fin = 1 its end after them: the
+ * next item, and in *used how many of the bytes it took. Call it again with the bytes that are left
+ * (and the same `fin`) until a pause, H3_END or a fault: after a pause all bytes were used. It does
+ * what h3_deliver of these bytes, h3_deliver_end and h3_pull do, but copies no body: it says
+ * at which byte of yours a piece of the body lies (H3_BODY_GIVEN), and keeps nothing of it. Other
+ * bytes are copied, and a piece of a body that comes out of those is an H3_BODY, for
+ * h3_item_bytes. You may change or free your bytes as soon as it returns. If fin is 1 and len is 0,
+ * the end may have come before. You may mix it with the other calls.
+ * Refused as h3_deliver, with *item not written: H3_ARGUMENT and the refusals of bytes with *used
+ * as far as the bytes went that were taken before; H3_MEMORY: nothing is lost, go on with the bytes
+ * that are left. Unlike in h3_deliver, H3_MEMORY may come before the refusals of bytes.
+ * H3_FAULT_MEMORY: the same. */
+static inline uint32_t h3_read(h3_endpoint *endpoint, uint64_t id, const void *bytes, size_t len, int fin, size_t *used,
+                               h3_item *item, uint64_t *detail);
 
-/* All fields of the header or trailer section that was pulled last, in the order below: the sizes
- * of each at `sizes`, and all names and values at `bytes` (name, value, name, value, ..), as
- * h3_send_fields takes them. `most` sizes and `room` bytes fit there: `fields` and `len` of the
- * item are enough (after h3_pull, `len` is 0 and does not say how many). Any other item has no
- * fields.
- * Refused, with nothing written: H3_ROOM, H3_MEMORY (after h3_pull only: call again). */
+/* All fields of the header or trailer section that was pulled last, as they came and in their
+ * order: the sizes of each at `sizes`, and all names and values at `bytes` (name, value, name,
+ * value, ..), as h3_send_head takes them. `most` sizes and `room` bytes fit there: `fields` and
+ * `len` of the item are enough. Any other item has no fields. Takes no memory.
+ * Refused, with nothing written: H3_ROOM. */
 static inline uint32_t h3_item_fields(h3_endpoint *endpoint, h3_field_size *sizes, size_t most, void *bytes, size_t room);
-
-/* Field `index` of the header or trailer section that was pulled last: its name and value, as many
- * bytes as fit, and how long both are. After h3_pull fields come in the order :method, :scheme,
- * :authority, :path, :status, :protocol, then the others; after h3_pull_fields as they came.
- * Refused: H3_NONE (no such field), H3_MEMORY (call again: nothing is lost; no result is written),
- * H3_ROOM (a buffer is too small). */
-static inline uint32_t h3_item_field(h3_endpoint *endpoint, size_t index, void *name, size_t name_room, size_t *name_len, void *value,
-                                     size_t value_room, size_t *value_len);
 
 /* The bytes of the body or of the session that were pulled last, from `from` on, as many as fit; *n
  * says how many were copied. H3_NONE if `from` is past their end or the item has no bytes. */
@@ -799,22 +838,21 @@ void h3_raw_free(h3_endpoint endpoint);
 uint32_t h3_raw_open_request(h3_endpoint endpoint, uint64_t *id, uint64_t *detail, h3_endpoint *out);
 uint32_t h3_raw_next_request_id(h3_endpoint endpoint, uint64_t *id, uint64_t *detail, h3_endpoint *out);
 uint32_t h3_raw_send_head(h3_endpoint endpoint, uint64_t id, const h3_field_size *sizes, size_t count, const uint8_t *bytes, size_t len,
-                          uint64_t *detail, h3_endpoint *out);
-uint32_t h3_raw_send_trailer(h3_endpoint endpoint, uint64_t id, const h3_field_size *sizes, size_t count, const uint8_t *bytes, size_t len,
-                             uint64_t *detail, h3_endpoint *out);
-uint32_t h3_raw_send_fields(h3_endpoint endpoint, uint64_t id, const h3_field_size *sizes, size_t count, const uint8_t *bytes, size_t len,
                             uint64_t *detail, h3_endpoint *out);
-uint32_t h3_raw_send_trailer_fields(h3_endpoint endpoint, uint64_t id, const h3_field_size *sizes, size_t count, const uint8_t *bytes, size_t len,
+uint32_t h3_raw_send_trailer(h3_endpoint endpoint, uint64_t id, const h3_field_size *sizes, size_t count, const uint8_t *bytes, size_t len,
                                     uint64_t *detail, h3_endpoint *out);
 uint32_t h3_raw_send_body(h3_endpoint endpoint, uint64_t id, const uint8_t *bytes, size_t len, uint64_t *detail, h3_endpoint *out);
-uint32_t h3_raw_send_body_lent(h3_endpoint endpoint, uint64_t id, const uint8_t *bytes, size_t len, uint64_t *detail, h3_endpoint *out);
+uint32_t h3_raw_send_body_of(h3_endpoint endpoint, uint64_t id, size_t len, uint64_t *detail, h3_endpoint *out);
 uint32_t h3_raw_finish(h3_endpoint endpoint, uint64_t id, uint64_t *detail, h3_endpoint *out);
 uint32_t h3_raw_reset(h3_endpoint endpoint, uint64_t id, uint64_t *detail, h3_endpoint *out);
 uint32_t h3_raw_cancel(h3_endpoint endpoint, uint64_t id, uint64_t *detail, h3_endpoint *out);
 uint32_t h3_raw_goaway(h3_endpoint endpoint, uint64_t id, uint64_t *detail, h3_endpoint *out);
-uint32_t h3_raw_next_waiting(h3_endpoint endpoint, uint64_t from, uint64_t *id, h3_endpoint *out);
+uint32_t h3_raw_shutdown_notice(h3_endpoint endpoint, uint64_t *detail, h3_endpoint *out);
+uint32_t h3_raw_shutdown(h3_endpoint endpoint, uint64_t *detail, h3_endpoint *out);
+uint32_t h3_raw_first_unseen(h3_endpoint endpoint, uint64_t *id, h3_endpoint *out);
+uint32_t h3_raw_is_drained(h3_endpoint endpoint, uint32_t *drained, h3_endpoint *out);
 uint32_t h3_raw_next_to_send(h3_endpoint endpoint, uint64_t from, uint64_t *id, h3_endpoint *out);
-uint32_t h3_raw_outgoing(h3_endpoint endpoint, uint64_t id, uint8_t *buffer, size_t room, size_t *n, uint32_t *fin, h3_endpoint *out);
+uint32_t h3_raw_outgoing(h3_endpoint endpoint, uint64_t id, uint8_t *buffer, size_t room, size_t *n, size_t *past, uint32_t *fin, h3_endpoint *out);
 uint32_t h3_raw_advance(h3_endpoint endpoint, uint64_t id, size_t n, h3_endpoint *out);
 uint32_t h3_raw_end_taken(h3_endpoint endpoint, uint64_t id, h3_endpoint *out);
 uint32_t h3_raw_deliver(h3_endpoint endpoint, uint64_t id, const uint8_t *bytes, size_t len, uint64_t *detail, h3_endpoint *out);
@@ -823,10 +861,9 @@ uint32_t h3_raw_keep(h3_endpoint endpoint, uint64_t id, h3_endpoint *out);
 uint32_t h3_raw_deliver_end(h3_endpoint endpoint, uint64_t id, uint64_t *detail, h3_endpoint *out);
 uint32_t h3_raw_deliver_reset(h3_endpoint endpoint, uint64_t id, uint64_t code, uint64_t *detail, h3_endpoint *out);
 uint32_t h3_raw_pull(h3_endpoint endpoint, uint64_t id, h3_item *item, h3_endpoint *out);
-uint32_t h3_raw_pull_fields(h3_endpoint endpoint, uint64_t id, h3_item *item, h3_endpoint *out);
+uint32_t h3_raw_read(h3_endpoint endpoint, uint64_t id, const uint8_t *bytes, size_t len, uint32_t fin, size_t *used, h3_item *item,
+                     uint64_t *detail, h3_endpoint *out);
 uint32_t h3_raw_item_fields(h3_endpoint endpoint, h3_field_size *sizes, size_t most, uint8_t *bytes, size_t room, h3_endpoint *out);
-uint32_t h3_raw_item_field(h3_endpoint endpoint, size_t index, uint8_t *name, size_t name_room, size_t *name_len, uint8_t *value, size_t value_room,
-                           size_t *value_len, h3_endpoint *out);
 uint32_t h3_raw_item_bytes(h3_endpoint endpoint, size_t from, uint8_t *buffer, size_t room, size_t *n, h3_endpoint *out);
 uint32_t h3_raw_stream(h3_endpoint endpoint, uint64_t id, h3_stream_state *state, h3_endpoint *out);
 uint32_t h3_raw_connection(h3_endpoint endpoint, h3_state *state, h3_endpoint *out);
@@ -871,32 +908,18 @@ static inline uint32_t h3_next_request_id(h3_endpoint *endpoint, uint64_t *id, u
   return h3_raw_next_request_id(*endpoint, id, detail ? detail : &none, endpoint);
 }
 static inline uint32_t h3_send_head(h3_endpoint *endpoint, uint64_t id, const h3_field_size *sizes, size_t count, const void *bytes, size_t len,
-                                    uint64_t *detail) {
+                                      uint64_t *detail) {
   uint64_t none; h3_field_size no_size = {0, 0};
   if (!endpoint || !endpoint->at) return H3_NO_ENDPOINT;
   if ((!sizes && count) || (!bytes && len)) return H3_ARGUMENT;
   return h3_raw_send_head(*endpoint, id, sizes ? sizes : &no_size, count, h3_in_(bytes), len, detail ? detail : &none, endpoint);
 }
-static inline uint32_t h3_send_trailer(h3_endpoint *endpoint, uint64_t id, const h3_field_size *sizes, size_t count, const void *bytes, size_t len,
-                                       uint64_t *detail) {
-  uint64_t none; h3_field_size no_size = {0, 0};
-  if (!endpoint || !endpoint->at) return H3_NO_ENDPOINT;
-  if ((!sizes && count) || (!bytes && len)) return H3_ARGUMENT;
-  return h3_raw_send_trailer(*endpoint, id, sizes ? sizes : &no_size, count, h3_in_(bytes), len, detail ? detail : &none, endpoint);
-}
-static inline uint32_t h3_send_fields(h3_endpoint *endpoint, uint64_t id, const h3_field_size *sizes, size_t count, const void *bytes, size_t len,
-                                      uint64_t *detail) {
-  uint64_t none; h3_field_size no_size = {0, 0};
-  if (!endpoint || !endpoint->at) return H3_NO_ENDPOINT;
-  if ((!sizes && count) || (!bytes && len)) return H3_ARGUMENT;
-  return h3_raw_send_fields(*endpoint, id, sizes ? sizes : &no_size, count, h3_in_(bytes), len, detail ? detail : &none, endpoint);
-}
-static inline uint32_t h3_send_trailer_fields(h3_endpoint *endpoint, uint64_t id, const h3_field_size *sizes, size_t count, const void *bytes,
+static inline uint32_t h3_send_trailer(h3_endpoint *endpoint, uint64_t id, const h3_field_size *sizes, size_t count, const void *bytes,
                                               size_t len, uint64_t *detail) {
   uint64_t none; h3_field_size no_size = {0, 0};
   if (!endpoint || !endpoint->at) return H3_NO_ENDPOINT;
   if ((!sizes && count) || (!bytes && len)) return H3_ARGUMENT;
-  return h3_raw_send_trailer_fields(*endpoint, id, sizes ? sizes : &no_size, count, h3_in_(bytes), len, detail ? detail : &none, endpoint);
+  return h3_raw_send_trailer(*endpoint, id, sizes ? sizes : &no_size, count, h3_in_(bytes), len, detail ? detail : &none, endpoint);
 }
 static inline uint32_t h3_send_body(h3_endpoint *endpoint, uint64_t id, const void *bytes, size_t len, uint64_t *detail) {
   uint64_t none;
@@ -904,11 +927,10 @@ static inline uint32_t h3_send_body(h3_endpoint *endpoint, uint64_t id, const vo
   if (!bytes && len) return H3_ARGUMENT;
   return h3_raw_send_body(*endpoint, id, h3_in_(bytes), len, detail ? detail : &none, endpoint);
 }
-static inline uint32_t h3_send_body_lent(h3_endpoint *endpoint, uint64_t id, const void *bytes, size_t len, uint64_t *detail) {
+static inline uint32_t h3_send_body_of(h3_endpoint *endpoint, uint64_t id, size_t len, uint64_t *detail) {
   uint64_t none;
   if (!endpoint || !endpoint->at) return H3_NO_ENDPOINT;
-  if (!bytes && len) return H3_ARGUMENT;
-  return h3_raw_send_body_lent(*endpoint, id, h3_in_(bytes), len, detail ? detail : &none, endpoint);
+  return h3_raw_send_body_of(*endpoint, id, len, detail ? detail : &none, endpoint);
 }
 static inline uint32_t h3_finish(h3_endpoint *endpoint, uint64_t id, uint64_t *detail) {
   uint64_t none;
@@ -930,22 +952,39 @@ static inline uint32_t h3_goaway(h3_endpoint *endpoint, uint64_t id, uint64_t *d
   if (!endpoint || !endpoint->at) return H3_NO_ENDPOINT;
   return h3_raw_goaway(*endpoint, id, detail ? detail : &none, endpoint);
 }
-static inline uint32_t h3_next_waiting(h3_endpoint *endpoint, uint64_t from, uint64_t *id) {
+static inline uint32_t h3_shutdown_notice(h3_endpoint *endpoint, uint64_t *detail) {
+  uint64_t none;
+  if (!endpoint || !endpoint->at) return H3_NO_ENDPOINT;
+  return h3_raw_shutdown_notice(*endpoint, detail ? detail : &none, endpoint);
+}
+static inline uint32_t h3_shutdown(h3_endpoint *endpoint, uint64_t *detail) {
+  uint64_t none;
+  if (!endpoint || !endpoint->at) return H3_NO_ENDPOINT;
+  return h3_raw_shutdown(*endpoint, detail ? detail : &none, endpoint);
+}
+static inline uint32_t h3_first_unseen(h3_endpoint *endpoint, uint64_t *id) {
   if (!endpoint || !endpoint->at) return H3_NO_ENDPOINT;
   if (!id) return H3_ARGUMENT;
-  return h3_raw_next_waiting(*endpoint, from, id, endpoint);
+  return h3_raw_first_unseen(*endpoint, id, endpoint);
+}
+static inline uint32_t h3_is_drained(h3_endpoint *endpoint, uint32_t *drained) {
+  if (!endpoint || !endpoint->at) return H3_NO_ENDPOINT;
+  if (!drained) return H3_ARGUMENT;
+  return h3_raw_is_drained(*endpoint, drained, endpoint);
 }
 static inline uint32_t h3_next_to_send(h3_endpoint *endpoint, uint64_t from, uint64_t *id) {
   if (!endpoint || !endpoint->at) return H3_NO_ENDPOINT;
   if (!id) return H3_ARGUMENT;
   return h3_raw_next_to_send(*endpoint, from, id, endpoint);
 }
-static inline uint32_t h3_outgoing(h3_endpoint *endpoint, uint64_t id, void *buffer, size_t room, size_t *n, uint32_t *fin) {
+static inline uint32_t h3_outgoing(h3_endpoint *endpoint, uint64_t id, void *buffer, size_t room, size_t *n, size_t *past, uint32_t *fin) {
   uint8_t nothing;
-  uint32_t none;
+  size_t follow = 0;
+  uint32_t none, answer;
   if (!endpoint || !endpoint->at) return H3_NO_ENDPOINT;
   if (!n) return H3_ARGUMENT;
-  return h3_raw_outgoing(*endpoint, id, buffer ? (uint8_t *)buffer : &nothing, buffer ? room : 0, n, fin ? fin : &none, endpoint);
+  answer = h3_raw_outgoing(*endpoint, id, buffer ? (uint8_t *)buffer : &nothing, buffer ? room : 0, n, past ? past : &follow, fin ? fin : &none, endpoint);
+  return answer == H3_OK && follow ? (uint32_t)H3_ARGUMENT : answer;
 }
 static inline uint32_t h3_advance(h3_endpoint *endpoint, uint64_t id, size_t n) {
   if (!endpoint || !endpoint->at) return H3_NO_ENDPOINT;
@@ -986,23 +1025,24 @@ static inline uint32_t h3_pull(h3_endpoint *endpoint, uint64_t id, h3_item *item
   if (!item) return H3_ARGUMENT;
   return h3_raw_pull(*endpoint, id, item, endpoint);
 }
-static inline uint32_t h3_pull_fields(h3_endpoint *endpoint, uint64_t id, h3_item *item) {
+static inline uint32_t h3_read(h3_endpoint *endpoint, uint64_t id, const void *bytes, size_t len, int fin, size_t *used,
+                               h3_item *item, uint64_t *detail) {
+  uint64_t none; uint32_t told; size_t n, at = 0;
   if (!endpoint || !endpoint->at) return H3_NO_ENDPOINT;
-  if (!item) return H3_ARGUMENT;
-  return h3_raw_pull_fields(*endpoint, id, item, endpoint);
+  if (!used || !item || (!bytes && len)) return H3_ARGUMENT;
+  do {
+    n = 0;
+    told = h3_raw_read(*endpoint, id, h3_in_(bytes) + at, len - at, fin != 0, &n, item, detail ? detail : &none, endpoint);
+    if (told == H3_OK && item->kind == H3_BODY_GIVEN) item->number += at;
+    at += n;
+  } while (told == H3_OK && (item->kind == H3_PENDING || item->kind == H3_WAITING) && at < len);
+  *used = at;
+  return told;
 }
 static inline uint32_t h3_item_fields(h3_endpoint *endpoint, h3_field_size *sizes, size_t most, void *bytes, size_t room) {
   h3_field_size no_size; uint8_t nothing;
   if (!endpoint || !endpoint->at) return H3_NO_ENDPOINT;
   return h3_raw_item_fields(*endpoint, sizes ? sizes : &no_size, sizes ? most : 0, bytes ? (uint8_t *)bytes : &nothing, bytes ? room : 0, endpoint);
-}
-static inline uint32_t h3_item_field(h3_endpoint *endpoint, size_t index, void *name, size_t name_room, size_t *name_len, void *value,
-                                     size_t value_room, size_t *value_len) {
-  uint8_t no_name, no_value;
-  if (!endpoint || !endpoint->at) return H3_NO_ENDPOINT;
-  if (!name_len || !value_len) return H3_ARGUMENT;
-  return h3_raw_item_field(*endpoint, index, name ? (uint8_t *)name : &no_name, name ? name_room : 0, name_len,
-      value ? (uint8_t *)value : &no_value, value ? value_room : 0, value_len, endpoint);
 }
 static inline uint32_t h3_item_bytes(h3_endpoint *endpoint, size_t from, void *buffer, size_t room, size_t *n) {
   uint8_t nothing;

@@ -194,8 +194,8 @@ class endpoint {
   result open_request(std::uint64_t &id) noexcept { return call(h3_open_request, &id); }
   result next_request_id(std::uint64_t &id) noexcept { return call(h3_next_request_id, &id); }
   /* Pseudo-header fields stand in front. */
-  result send_head(std::uint64_t id, const field_list &list) noexcept { return send(h3_send_fields, id, list); }
-  result send_trailer(std::uint64_t id, const field_list &list) noexcept { return send(h3_send_trailer_fields, id, list); }
+  result send_head(std::uint64_t id, const field_list &list) noexcept { return send(h3_send_head, id, list); }
+  result send_trailer(std::uint64_t id, const field_list &list) noexcept { return send(h3_send_trailer, id, list); }
   /* The bytes are copied. */
   result send_body(std::uint64_t id, bytes piece) noexcept { return call(h3_send_body, id, piece.data(), piece.size()); }
   result send_body(std::uint64_t id, std::string_view piece) noexcept { return call(h3_send_body, id, piece.data(), piece.size()); }
@@ -203,6 +203,20 @@ class endpoint {
   result reset(std::uint64_t id) noexcept { return call(h3_reset, id); }
   result cancel(std::uint64_t id) noexcept { return call(h3_cancel, id); }
   result goaway(std::uint64_t id) noexcept { return call(h3_goaway, id); }
+  /* The two steps of a shutdown (SHUT DOWN of h3.h). */
+  result shutdown_notice() noexcept { return call(h3_shutdown_notice); }
+  result shutdown() noexcept { return call(h3_shutdown); }
+  /* The first id of a request stream of which nothing came. */
+  std::uint64_t first_unseen() noexcept {
+    std::uint64_t id = 0;
+    h3_first_unseen(&raw_, &id);
+    return id;
+  }
+  /* Nothing is left to be done: the connection can be closed without losing a request. */
+  bool is_drained() noexcept {
+    std::uint32_t drained = 0;
+    return h3_is_drained(&raw_, &drained) == H3_OK && drained == 1;
+  }
 
   /* ---- what waits to be sent ---- */
 
@@ -216,7 +230,7 @@ class endpoint {
   outgoing peek(std::uint64_t id, span<std::uint8_t> room) noexcept {
     std::size_t count = 0;
     std::uint32_t fin = 0;
-    if (h3_outgoing(&raw_, id, room.data(), room.size(), &count, &fin) != H3_OK) return {};
+    if (h3_outgoing(&raw_, id, room.data(), room.size(), &count, nullptr, &fin) != H3_OK) return {};
     return {count, fin == 1};
   }
   result advance(std::uint64_t id, std::size_t count) noexcept { return {h3_advance(&raw_, id, count), 0}; }
@@ -234,7 +248,7 @@ class endpoint {
     h3_item raw;
     into.fields.clear();
     into.body.clear();
-    if (std::uint32_t answer = h3_pull_fields(&raw_, id, &raw); answer != H3_OK) return {answer, 0};
+    if (std::uint32_t answer = h3_pull(&raw_, id, &raw); answer != H3_OK) return {answer, 0};
     into.kind = static_cast<h3_kind>(raw.kind);
     into.status = raw.status;
     into.number = raw.number;

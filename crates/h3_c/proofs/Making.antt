@@ -3,8 +3,7 @@ use Rattle.std.proofs.Common.{◌≡◌, ◌≤◌, ◌<◌, Option, Some, None,
 use Rattle.h3_proto.specs.declared.stream.Side.{Side}
 use Rattle.h3_connection.specs.SendingContracts.{Creates}
 use Rattle.h3_connection.specs.State.{EndpointState}
-use Rattle.h3_connection.specs.declared.event.Pull.TheVariants.{Pending}
-use Rattle.h3_c.specs.declared.last.Last.TheVariants.{Pulled}
+use Rattle.h3_incoming.specs.declared.fields.FieldsPull.TheVariants.{Pending}
 use Rattle.h3_connection.specs.declared.setup.Announced.{Announced}
 use Rattle.h3_connection.specs.declared.setup.NewError.{NewError}
 use Rattle.h3_connection.specs.declared.setup.NewError.TheVariants.{OutOfMemory}
@@ -25,7 +24,7 @@ lacks_memory given s h = record { answer = OutOfMemory; is = refl; refused = com
 pub refused : (given : GivenConfig) (e : NewError) (n : Told) → n ≡ new_told e → Creates (side_of given) (announced_of given) (Err e) → Unmakes given n
 refused given e n is h = record { answer = e; is = is; refused = h }
 
-pub made : (given : GivenConfig) (v : Seen) (before after : Option Seen) (n : Told) → n ≡ ok → after ≡ Some v → v.last ≡ Pulled Pending → Creates (side_of given) (announced_of given) (Ok v.endpoint) → Makes given n before after
+pub made : (given : GivenConfig) (v : Seen) (before after : Option Seen) (n : Told) → n ≡ ok → after ≡ Some v → v.last ≡ Pending → Creates (side_of given) (announced_of given) (Ok v.endpoint) → Makes given n before after
 made given v before after n is there last h =
     record { answer = Ok v.endpoint; is = is; done = h; made = there ∙ ap (λ p. let w : Seen = record { endpoint = v.endpoint; last = p } in Some w) last }
 

@@ -7,8 +7,7 @@ use Rattle.h3_proto.specs.declared.stream.Side.TheVariants.{Client, Server}
 use Rattle.h3_connection.specs.Announcing.{announced_by}
 use Rattle.h3_connection.specs.SendingContracts.{Creates}
 use Rattle.h3_connection.specs.State.{EndpointState}
-use Rattle.h3_connection.specs.declared.event.Pull.TheVariants.{Pending}
-use Rattle.h3_c.specs.declared.last.Last.TheVariants.{Pulled}
+use Rattle.h3_incoming.specs.declared.fields.FieldsPull.TheVariants.{Pending}
 use Rattle.h3_connection.specs.declared.setup.Announced.{Announced}
 use Rattle.h3_connection.specs.declared.setup.Limits.{Limits}
 use Rattle.h3_connection.specs.declared.setup.NewError.{NewError}
@@ -37,12 +36,14 @@ default_config =
       encoder_table = 4096;
       economical_table = 1;
       unfinished_limit = 0;
+      kept_ids = 1000;
+      reject_requests = 1;
     }
 
 -- the numbers of `h3_config`: its size, and the others in its order
 abbrev pub numbers_of : ℕ → GivenConfig → List ℕ
 numbers_of size c =
-    size ∷ c.max_field_section_size ∷ c.max_webtransport_sessions ∷ c.table ∷ c.blocked ∷ c.grease ∷ c.server ∷ c.send_grease ∷ c.webtransport ∷ c.extended_connect ∷ c.datagram ∷ c.strict ∷ c.count_acknowledgments ∷ c.encoder_table ∷ c.economical_table ∷ c.unfinished_limit ∷ []
+    size ∷ c.max_field_section_size ∷ c.max_webtransport_sessions ∷ c.table ∷ c.blocked ∷ c.grease ∷ c.server ∷ c.send_grease ∷ c.webtransport ∷ c.extended_connect ∷ c.datagram ∷ c.strict ∷ c.count_acknowledgments ∷ c.encoder_table ∷ c.economical_table ∷ c.unfinished_limit ∷ c.kept_ids ∷ c.reject_requests ∷ []
 
 -- one of the numbers that a caller gave, or what it is where the caller has fewer
 abbrev pub number_at : List ℕ → ℕ → ℕ → ℕ
@@ -67,13 +68,15 @@ config_in numbers =
       encoder_table = number_at numbers 13 default_config.encoder_table;
       economical_table = number_at numbers 14 default_config.economical_table;
       unfinished_limit = number_at numbers 15 default_config.unfinished_limit;
+      kept_ids = number_at numbers 16 default_config.kept_ids;
+      reject_requests = number_at numbers 17 default_config.reject_requests;
     }
 
 -- what a caller asks for, whose first number is the size of all in bytes: of none but as many as are known here
 abbrev pub config_given : List ℕ → Option GivenConfig
 config_given [] = None
 config_given (size ∷ others) =
-    if (size == 8 * length (size ∷ others)) && nat_le (length (size ∷ others)) 16 then Some (config_in (size ∷ others)) else None
+    if (size == 8 * length (size ∷ others)) && nat_le (length (size ∷ others)) 18 then Some (config_in (size ∷ others)) else None
 
 -- a number other than 0 means yes
 abbrev pub is_on : ℕ → Bool
@@ -100,7 +103,14 @@ config_of given =
         enable_datagram = is_on given.datagram;
         max_webtransport_sessions = given.max_webtransport_sessions;
       };
-      choices = record { strict_messages = is_on given.strict; acknowledgments_counted = is_on given.count_acknowledgments; encoder_table = given.encoder_table; economical_table = is_on given.economical_table; unfinished_limit = limit_of_given given };
+      choices = record {
+        strict_messages = is_on given.strict;
+        acknowledgments_counted = is_on given.count_acknowledgments;
+        encoder_table = given.encoder_table;
+        economical_table = is_on given.economical_table;
+        unfinished_limit = limit_of_given given;
+        extensions = record { kept_ids = given.kept_ids; requests_rejected = is_on given.reject_requests };
+      };
     }
 
 abbrev pub limits_of : GivenConfig → Limits
@@ -116,7 +126,7 @@ made_told (Err e) = new_told e
 
 -- the handle owns the endpoint that was made, of which nothing was pulled; and what it owned before where none was made
 abbrev pub IsMade : Result EndpointState NewError → Option Seen → Option Seen → Type 0
-IsMade (Ok s) before after = after ≡ Some (record { endpoint = s; last = Pulled Pending })
+IsMade (Ok s) before after = after ≡ Some (record { endpoint = s; last = Pending })
 IsMade (Err e) before after = after ≡ before
 
 -- why none is made

@@ -1,7 +1,6 @@
--- The head that C hands in: sizes, and all bytes in one row.
+-- The list of fields that C gives: sizes, and all bytes in one buffer.
 use Rattle.std.specs.Prelude.{ℕ, ◌+◌, nat_lt, List, [], ◌∷◌, length, take, drop, if◌then◌else◌, Option, Some, None, option_map}
 use Rattle.h3_field.specs.Field.{Field}
-use Rattle.h3_header.specs.HeadRead.{HeadRead, head_of}
 use Rattle.h3_c.specs.declared.fields.FieldSize.{FieldSize}
 
 -- a name and a value at the front of the bytes
@@ -17,7 +16,3 @@ fields_cut [] [] = Some []
 fields_cut [] (byte ∷ bytes) = None
 fields_cut (size ∷ sizes) bytes =
     if nat_lt (length bytes) (size.name + size.value) then None else option_map (λ fields. field_at_front size bytes ∷ fields) (fields_cut sizes (behind size bytes))
-
--- what they read as
-abbrev pub head_given : List FieldSize → List ℕ → Option HeadRead
-head_given sizes bytes = option_map head_of (fields_cut sizes bytes)

@@ -1,7 +1,6 @@
 -- What C gets of the item that was pulled last.
-use Rattle.std.specs.Prelude.{◌≡◌, ℕ, ◌-◌, ◌^◌, List, [], length, min, unwrap_or, Option, Some, None}
+use Rattle.std.specs.Prelude.{ℕ, List, [], length, unwrap_or}
 use Rattle.h3_field.specs.Field.{Field}
-use Rattle.h3_header.specs.Head.{Head, head_fields}
 use Rattle.h3_connection.specs.declared.event.Fault.TheVariants as fault
 use Rattle.h3_connection.specs.declared.event.Item.TheVariants as item
 use Rattle.h3_connection.specs.declared.event.Malformation.{Malformation}
@@ -17,21 +16,19 @@ use Rattle.h3_incoming.specs.declared.fields.FieldsPull.{FieldsPull}
 use Rattle.h3_incoming.specs.declared.fields.FieldsPull.TheVariants as answer
 use Rattle.h3_c.specs.Rows.{row_len}
 use Rattle.h3_c.specs.declared.items.PulledItem.{PulledItem}
-use Rattle.h3_c.specs.declared.last.Last.{Last}
-use Rattle.h3_c.specs.declared.last.Last.TheVariants as last
 
--- the fields of a head or trailer, and none of anything else
-abbrev pub fields_of : Pull → List Field
-fields_of (pull.Item (item.Interim h)) = head_fields h
-fields_of (pull.Item (item.Head h)) = head_fields h
-fields_of (pull.Item (item.Trailer h)) = head_fields h
-fields_of _ = []
+-- the fields of a header or trailer section, and none of anything else
+abbrev pub fields_of : FieldsPull → List Field
+fields_of p = unwrap_or (list_of p) []
 
 -- the bytes of a body or of a session
-abbrev pub bytes_of : Pull → List ℕ
-bytes_of (pull.Item (item.Body bytes)) = bytes
-bytes_of (pull.Item (item.Raw bytes)) = bytes
-bytes_of _ = []
+abbrev pub bytes_in : Pull → List ℕ
+bytes_in (pull.Item (item.Body bytes)) = bytes
+bytes_in (pull.Item (item.Raw bytes)) = bytes
+bytes_in _ = []
+
+abbrev pub bytes_of : FieldsPull → List ℕ
+bytes_of p = bytes_in (pull_of p)
 
 -- `h3_kind` alone, or with a number
 abbrev pub plain : ℕ → PulledItem
@@ -39,10 +36,6 @@ plain kind = record { kind = kind; status = 0; number = 0; fields = 0; len = 0 }
 
 abbrev pub numbered : ℕ → ℕ → PulledItem
 numbered kind n = record { kind = kind; status = 0; number = n; fields = 0; len = 0 }
-
--- a head: its status, and how many fields it has
-abbrev pub head_shown : ℕ → Head → PulledItem
-head_shown kind h = record { kind = kind; status = unwrap_or h.status 0; number = 0; fields = min (length (head_fields h)) (2 ^ 64 - 1); len = 0 }
 
 abbrev pub bytes_shown : ℕ → List ℕ → PulledItem
 bytes_shown kind bytes = record { kind = kind; status = 0; number = 0; fields = 0; len = length bytes }
@@ -74,44 +67,23 @@ fault_shown (stream_fault.Malformed why) = numbered 13 (malformation_number why)
 fault_shown (stream_fault.Reset code) = numbered 14 code
 fault_shown stream_fault.Canceled = plain 15
 
--- `h3_item`
-abbrev pub shown : Pull → PulledItem
-shown (pull.Item (item.Interim h)) = head_shown 1 h
-shown (pull.Item (item.Head h)) = head_shown 2 h
-shown (pull.Item (item.Body bytes)) = bytes_shown 3 bytes
-shown (pull.Item (item.Trailer h)) = head_shown 4 h
-shown (pull.Item (item.TooLarge size)) = numbered 5 size
-shown (pull.Item (item.Session id)) = numbered 6 id
-shown (pull.Item (item.Raw bytes)) = bytes_shown 7 bytes
-shown (pull.Item item.End) = plain 8
-shown pull.Pending = plain 9
-shown (pull.Waiting count) = numbered 10 count
-shown pull.NoMessages = plain 11
-shown (pull.Fault (fault.Connection code)) = numbered 12 code
-shown (pull.Fault (fault.Stream f)) = fault_shown f
-shown (pull.Fault fault.Memory) = plain 16
-
--- a head or trailer that was pulled as its list: its status, and how many fields and how many bytes of names and values it has
+-- a header or trailer section: its status, and how many fields and how many bytes of names and values it has
 abbrev pub list_shown : ℕ → List Field → PulledItem
 list_shown kind fields = record { kind = kind; status = unwrap_or (head_of_fields fields).status 0; number = 0; fields = length fields; len = row_len fields }
 
-abbrev pub listed_shown : FieldsPull → PulledItem
-listed_shown (answer.Item (listed.Interim fields)) = list_shown 1 fields
-listed_shown (answer.Item (listed.Head fields)) = list_shown 2 fields
-listed_shown (answer.Item (listed.Trailer fields)) = list_shown 4 fields
-listed_shown p = shown (pull_of p)
-
--- The item of the last pull, of either kind: its fields, in their order,
-abbrev pub last_fields : Last → List Field
-last_fields (last.Pulled p) = fields_of p
-last_fields (last.Listed p) = unwrap_or (list_of p) []
-
--- and its bytes.
-abbrev pub last_bytes : Last → List ℕ
-last_bytes (last.Pulled p) = bytes_of p
-last_bytes (last.Listed p) = bytes_of (pull_of p)
-
--- what is kept for later is these fields
-abbrev pub AreFields : Option (List Field) → Last → Type 0
-AreFields None last = Unit {0}
-AreFields (Some fields) last = fields ≡ last_fields last
+-- `h3_item`
+abbrev pub shown : FieldsPull → PulledItem
+shown (answer.Item (listed.Interim fields)) = list_shown 1 fields
+shown (answer.Item (listed.Head fields)) = list_shown 2 fields
+shown (answer.Item (listed.Body bytes)) = bytes_shown 3 bytes
+shown (answer.Item (listed.Trailer fields)) = list_shown 4 fields
+shown (answer.Item (listed.TooLarge size)) = numbered 5 size
+shown (answer.Item (listed.Session id)) = numbered 6 id
+shown (answer.Item (listed.Raw bytes)) = bytes_shown 7 bytes
+shown (answer.Item listed.End) = plain 8
+shown answer.Pending = plain 9
+shown (answer.Waiting count) = numbered 10 count
+shown answer.NoMessages = plain 11
+shown (answer.Fault (fault.Connection code)) = numbered 12 code
+shown (answer.Fault (fault.Stream f)) = fault_shown f
+shown (answer.Fault fault.Memory) = plain 16

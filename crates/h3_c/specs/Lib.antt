@@ -10,4 +10,6 @@ pub mod Rows
 pub mod Numbers
 pub mod Priorities
 pub mod Seen
+pub mod Shutdown
 pub mod Showing
+pub mod Reads

@@ -1,6 +1,5 @@
 -- The numbers of `include/h3.h`.
-use Rattle.std.specs.Prelude.{ℕ, List, Result, Ok, Err}
-use Rattle.h3_header.specs.HeadRead.{HeadRefusal, Name, Value, TooMany}
+use Rattle.std.specs.Prelude.{ℕ, List, Option, Some, None, Result, Ok, Err}
 use Rattle.h3_proto.specs.declared.frame.SettingsError.{SettingsError}
 use Rattle.h3_proto.specs.declared.frame.SettingsError.TheVariants as settings_error
 use Rattle.h3_connection.specs.declared.event.DeliverError.{DeliverError}
@@ -67,6 +66,15 @@ room = number 26 0
 abbrev pub argument : Told
 argument = number 32 0
 
+-- what a call tells that there was no memory for
+abbrev pub told_or_memory : Option Refusal → Told
+told_or_memory (Some r) = refusal_told r
+told_or_memory None = memory
+
+-- `H3_REJECTED`, with H3_REQUEST_REJECTED (RFC 9114, section 8.1)
+abbrev pub rejected : Told
+rejected = number 30 0x10b
+
 -- what a call tells that may be refused
 abbrev pub call_told : {X : Type 0} → Result X Refusal → Told
 call_told (Ok done) = ok
@@ -100,13 +108,7 @@ new_told (new_error.Settings e) = number 21 (setting_of e)
 new_told new_error.UnfinishedLimit = number 28 0
 new_told new_error.OutOfMemory = memory
 
--- why a list of fields is no head
-abbrev pub head_told : HeadRefusal → Told
-head_told Name = number 22 0
-head_told Value = number 23 0
-head_told TooMany = number 24 0
-
--- why a list that is to be sent is malformed: as `head_told`, or by the rule of strict messages that it breaks
+-- why a list that is to be sent is malformed: by a field's name or value, by their count, or by the rule of strict messages that it breaks
 abbrev pub malformed_told : Malformation → Told
 malformed_told malformation.Name = number 22 0
 malformed_told malformation.Value = number 23 0

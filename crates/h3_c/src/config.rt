@@ -1,7 +1,7 @@
 //! What an endpoint is made of: `h3_config` of the header.
-ghost use Rattle.std.specs.Prelude.{◌≡◌, ◌≤◌, ◌<◌, slice_get, unwrap_or};
+ghost use Rattle.std.specs.Prelude.{◌≡◌, ◌<◌, slice_get, unwrap_or};
 ghost use Rattle.h3_connection.specs.SendingContracts.{Creates};
-ghost use Rattle.h3_c.specs.Configs.{default_config, side_of, config_of, config_given, least_for, limit_of_given, limits_of, announced_of, numbers_of};
+ghost use Rattle.h3_c.specs.Configs.{default_config, side_of, config_of, config_given, least_for, limit_of_given, announced_of, numbers_of};
 
 use h3_coding::varint::VarInt;
 use h3_connection::setup::{Limits, NewError};
@@ -11,7 +11,7 @@ use h3_session::endpoint::Endpoint;
 use std::alloc::Global;
 
 /// How many numbers `h3_config` has: its size in bytes, and those of `GivenConfig`.
-const NUMBERS: usize = 16;
+const NUMBERS: usize = 18;
 
 /// The numbers of `h3_config` behind its size, in its order. One other than 0 means yes.
 #[derive(Copy, Clone)]
@@ -31,6 +31,8 @@ pub struct GivenConfig {
     pub encoder_table: u64,
     pub economical_table: u64,
     pub unfinished_limit: u64,
+    pub kept_ids: u64,
+    pub reject_requests: u64,
 }
 
 impl Default for GivenConfig {
@@ -53,6 +55,8 @@ impl Default for GivenConfig {
             encoder_table: 4096,
             economical_table: 1,
             unfinished_limit: 0,
+            kept_ids: 1000,
+            reject_requests: 1,
         }
     }
 }
@@ -84,6 +88,8 @@ impl GivenConfig {
             encoder_table: number_or(numbers, 13, default.encoder_table),
             economical_table: number_or(numbers, 14, default.economical_table),
             unfinished_limit: number_or(numbers, 15, default.unfinished_limit),
+            kept_ids: number_or(numbers, 16, default.kept_ids),
+            reject_requests: number_or(numbers, 17, default.reject_requests),
         })
     }
 
@@ -108,6 +114,8 @@ impl GivenConfig {
             self.encoder_table,
             self.economical_table,
             self.unfinished_limit,
+            self.kept_ids,
+            self.reject_requests,
         ]
     }
 
@@ -168,6 +176,8 @@ fn config_of(given: &GivenConfig) -> Config
         .with_encoder_table(given.encoder_table)
         .with_economical_table(given.economical_table != 0)
         .with_unfinished_limit(given.limit())
+        .with_kept_ids(given.kept_ids)
+        .with_requests_rejected(given.reject_requests != 0)
 }
 
 /// The endpoint that is asked for.

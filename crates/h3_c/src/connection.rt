@@ -3,13 +3,13 @@ ghost use Rattle.std.specs.Prelude.{◌≡◌, ◌<◌, ◌≤◌, IfOk, IfErr, 
 ghost use Rattle.h3_connection.specs.SendingContracts.{Creates};
 ghost use Rattle.h3_c.specs.Configs.{side_of, announced_of, Unmakes};
 ghost use Rattle.h3_c.specs.Numbers.{argument};
+ghost use Rattle.h3_incoming.specs.declared.fields.FieldsPull.TheVariants as answer;
 
 use crate::config::{GivenConfig, endpoint_of};
-use crate::last::Last;
 use crate::numbers::{ARGUMENT, MEMORY, Told, unmade};
 use crate::owned::boxed;
-use h3_connection::event::Pull;
-use h3_field::{FieldBlock, HeaderField};
+use h3_field::HeaderField;
+use h3_incoming::BlockPull;
 use h3_proto::frame::RESERVED_NUMBERS;
 use h3_session::endpoint::Endpoint;
 use std::alloc::Global;
@@ -19,44 +19,41 @@ mod ending;
 mod heads;
 mod items;
 mod lending;
-mod lists;
 mod outgoing;
+mod reading;
 mod receiving;
 mod sending;
 mod showing;
+mod shutdown;
 
 /// An endpoint, and what the last pull answered. A contract sees both as they are.
 #[derive(Drop)]
 pub struct Connection {
     endpoint: Endpoint,
-    last: Last,
-    // the fields of the header that was pulled, once they were asked for
-    fields: Option<FieldBlock>,
+    last: BlockPull,
     // memory for the list that is sent: no field is in it between two calls
     spare: Vec<HeaderField>,
 }
 
 impl Model for Connection {
     ghost use Rattle.h3_c.specs.Seen.{Seen};
-    ghost use Rattle.h3_c.specs.Items.{AreFields};
     ghost use Rattle.std.specs.Prelude.{◌≡◌, []};
 
     ghost Value = { Seen };
 
     ghost view = { λ c. record { endpoint = c.endpoint; last = c.last } };
 
-    ghost invariant = { λ c. AreFields c.fields c.last × (c.spare.items ≡ []) };
+    ghost invariant = { λ c. c.spare.items ≡ [] };
 }
 
 impl Connection {
     /// Nothing was pulled yet.
     pub(crate) fn of(alloc: Global, endpoint: Endpoint) -> Connection
-        ensures { result ≡ record { endpoint = endpoint; last = Last.Pulled Pull.Pending } }
+        ensures { result ≡ record { endpoint = endpoint; last = answer.Pending } }
     {
         Connection {
             endpoint,
-            last: Last::Pulled(Pull::Pending),
-            fields: None,
+            last: BlockPull::new(alloc),
             spare: Vec::new(alloc),
         }
     }
@@ -66,7 +63,7 @@ impl Connection {
 pub(crate) fn made(alloc: Global, given: &GivenConfig) -> Result<Box<Connection>, Told>
     ensures near { IfOk result (λ b. given.now.grease < 0x210842108421083) }
     ensures made { IfOk result (λ b. Creates (side_of given.now) (announced_of given.now) (Ok b.value.endpoint)) }
-    ensures last { IfOk result (λ b. b.value.last ≡ Last.Pulled Pull.Pending) }
+    ensures last { IfOk result (λ b. b.value.last ≡ answer.Pending) }
     ensures far { IfErr result (λ told. 0x210842108421083 ≤ given.now.grease → told ≡ argument) }
     ensures refused { IfErr result (λ told. given.now.grease < 0x210842108421083 → Unmakes given.now told) }
 {
@@ -80,7 +77,7 @@ pub(crate) fn made(alloc: Global, given: &GivenConfig) -> Result<Box<Connection>
 fn made_in_range(alloc: Global, given: &GivenConfig) -> Result<Box<Connection>, Told>
     requires { given.now.grease < 0x210842108421083 }
     ensures made { IfOk result (λ b. Creates (side_of given.now) (announced_of given.now) (Ok b.value.endpoint)) }
-    ensures last { IfOk result (λ b. b.value.last ≡ Last.Pulled Pull.Pending) }
+    ensures last { IfOk result (λ b. b.value.last ≡ answer.Pending) }
     ensures refused { IfErr result (Unmakes given.now) }
 {
     match endpoint_of(alloc, given) {

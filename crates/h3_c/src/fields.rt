@@ -1,15 +1,12 @@
-//! Heads as C hands them in: the sizes of each name and value, and all their bytes in one row.
-ghost use Rattle.std.specs.Prelude.{◌≡◌, ◌<◌, ◌≤◌, ◌+◌, ◌++◌, ◌∷◌, [], length, take, drop, IfOk, IfErr, OnOk, Some};
+//! Lists of fields as C gives them: the sizes of each name and value, and all their bytes in one buffer.
+ghost use Rattle.std.specs.Prelude.{◌≡◌, ◌<◌, ◌≤◌, ◌+◌, ◌++◌, ◌∷◌, [], length, take, drop, IfErr, OnOk, OnErr, Some, is_some};
 ghost use Rattle.std.specs.Vec.{vec_len, vec_capacity};
-ghost use Rattle.h3_header.specs.HeadRead.{IsHead};
-ghost use Rattle.h3_c.specs.Given.{field_at_front, fields_cut, head_given};
-ghost use Rattle.h3_c.specs.Giving.{RefusesFields, RefusesHead};
-ghost use Rattle.h3_c.specs.Numbers.{memory};
+ghost use Rattle.h3_c.specs.Given.{field_at_front, fields_cut};
+ghost use Rattle.h3_c.specs.Giving.{RefusesFields};
 
-use crate::numbers::{ARGUMENT, MEMORY, Told, unread};
+use crate::numbers::{ARGUMENT, MEMORY, Told};
 use h3_field::HeaderField;
-use h3_header::Header;
-use std::alloc::Global;
+use std::alloc::{AllocError, Global};
 
 /// So many fields have room between two calls, at most.
 const MOST_SPARE: usize = 32;
@@ -58,22 +55,56 @@ fn push_field(fields: &mut Vec<HeaderField>, size: FieldSize, rest: &'static [u8
 }
 
 // Room for so many in an empty list.
-fn make_room(fields: &mut Vec<HeaderField>, count: usize) -> Result<(), Told>
+fn make_room(fields: &mut Vec<HeaderField>, count: usize) -> Result<(), AllocError>
     requires { fields.old.items ≡ [] }
     ensures same { fields.new.items ≡ [] }
     ensures len { vec_len fields.new ≡ 0 }
     ensures ok { OnOk result (count ≤ vec_capacity fields.new) }
-    ensures err { IfErr result (λ told. told ≡ memory) }
+    ensures err { OnErr result (0 < count) }
 {
+    if count <= fields.capacity() {
+        return Ok(());
+    }
     match fields.reserve(count) {
         Ok(()) => Ok(()),
-        Err(_) => Err(MEMORY),
+        Err(_) => Err(AllocError),
     }
+}
+
+// Whether the sizes are those of all bytes.
+fn are_sizes_of(sizes: &[FieldSize], bytes: &'static [u8]) -> bool
+    ensures { result ≡ is_some (fields_cut sizes.now bytes.now) }
+{
+    let mut rest = bytes;
+    for at in 0..sizes.len() {
+        let size = sizes[at];
+        let len = size.name as usize + size.value as usize;
+        if rest.len() < len {
+            return false;
+        }
+        rest = behind(rest, len);
+    }
+    if rest.len() > 0 {
+        return false;
+    }
+    true
+}
+
+// Why a list of one field or more is not made for which there is no room.
+#[tactic(auto, using(crate::proofs::Cuts::lacks, crate::proofs::Cuts::no_sizes))]
+fn without_room(sizes: &[FieldSize], bytes: &'static [u8]) -> Told
+    requires { 0 < length sizes.now }
+    ensures { RefusesFields (fields_cut sizes.now bytes.now) result }
+{
+    if are_sizes_of(sizes, bytes) {
+        return MEMORY;
+    }
+    ARGUMENT
 }
 
 /// The fields go to an empty list, where the sizes are those of all bytes. Names and values stay where they lie: no field may outlive the
 /// call of C. After a refusal some may be in the list.
-#[tactic(auto, using(crate::proofs::Cuts::start, crate::proofs::Cuts::lacks))]
+#[tactic(auto, using(crate::proofs::Cuts::start))]
 pub(crate) fn cut_fields(
     fields: &mut Vec<HeaderField>,
     sizes: &[FieldSize],
@@ -83,9 +114,9 @@ pub(crate) fn cut_fields(
     ensures ok { OnOk result (fields_cut sizes.now bytes.now ≡ Some fields.new.items) }
     ensures err { IfErr result (RefusesFields (fields_cut sizes.now bytes.now)) }
 {
-    if let Err(told) = make_room(fields, sizes.len()) {
-        return Err(told);
-    }
+    let Ok(()) = make_room(fields, sizes.len()) else {
+        return Err(without_room(sizes, bytes));
+    };
     let mut rest = bytes;
     for at in 0..sizes.len() {
         let size = sizes[at];
@@ -111,25 +142,4 @@ pub(crate) fn let_go(alloc: Global, fields: &mut Vec<HeaderField>)
         return;
     }
     fields.clear();
-}
-
-/// The head of what C gave, whose values stay where they lie: it may not outlive the call of C.
-#[tactic(auto, using(crate::proofs::Heads::is_head, crate::proofs::Heads::no_fields, crate::proofs::Heads::no_head))]
-pub(crate) fn given_head(
-    alloc: Global,
-    sizes: &[FieldSize],
-    bytes: &'static [u8],
-) -> Result<Header, Told>
-    ensures ok { IfOk result (λ h. head_given sizes.now bytes.now ≡ Some (IsHead h)) }
-    ensures err { IfErr result (RefusesHead (head_given sizes.now bytes.now)) }
-{
-    let mut fields = Vec::new(alloc);
-    if let Err(told) = cut_fields(&mut fields, sizes, bytes) {
-        return Err(told);
-    }
-    h3_header::laws::lists_are_their_value();
-    match Header::try_from(alloc, fields) {
-        Ok(header) => Ok(header),
-        Err(e) => Err(unread(&e)),
-    }
 }

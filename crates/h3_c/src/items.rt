@@ -1,12 +1,16 @@
 //! The item that was pulled last, as C sees it: `h3_item` of the header.
-ghost use Rattle.std.specs.Prelude.{◌≡◌, IfOk, []};
-ghost use Rattle.h3_c.specs.Items.{shown, plain, numbered, head_shown, bytes_shown, fault_shown, malformation_number, fields_of, bytes_of};
+ghost use Rattle.std.specs.Prelude.{◌≡◌, unwrap_or, IfSome, IfNone, Some, None};
+ghost use Rattle.h3_header.specs.Reads.{head_of_fields};
+ghost use Rattle.h3_incoming.specs.FieldsPulls.{list_of, listed_as, plain_answer};
+ghost use Rattle.h3_incoming.specs.declared.fields.FieldsPull.TheVariants as answer;
+ghost use Rattle.h3_c.specs.Items.{shown, plain, numbered, bytes_shown, fault_shown, malformation_number, bytes_of};
 
+use crate::rows::bytes_in;
 use bytes::Bytes;
-use h3_connection::event::{Fault, Item, Malformation, Pull, StreamFault};
-use h3_field::HeaderField;
-use h3_header::Header;
-use std::alloc::{AllocError, Global};
+use h3_connection::event::{Fault, Malformation, StreamFault};
+use h3_field::FieldBlock;
+use h3_incoming::answer::{MessageKind, Plain};
+use h3_incoming::{BlockPull, Told};
 
 /// A kind, and what it says.
 #[repr(C)]
@@ -19,13 +23,13 @@ pub struct PulledItem {
     pub len: usize,
 }
 
-pub(crate) fn plain(kind: u32) -> PulledItem
+fn plain(kind: u32) -> PulledItem
     ensures { result ≡ plain kind }
 {
     numbered(kind, 0)
 }
 
-pub(crate) fn numbered(kind: u32, number: u64) -> PulledItem
+fn numbered(kind: u32, number: u64) -> PulledItem
     ensures { result ≡ numbered kind number }
 {
     PulledItem {
@@ -37,23 +41,7 @@ pub(crate) fn numbered(kind: u32, number: u64) -> PulledItem
     }
 }
 
-fn head_shown(kind: u32, head: &Header) -> PulledItem
-    ensures { result ≡ head_shown kind head.now }
-{
-    let status = match head.status() {
-        Some(status) => status.as_u16() as u32,
-        None => 0,
-    };
-    PulledItem {
-        kind,
-        status,
-        number: 0,
-        fields: head.len(),
-        len: 0,
-    }
-}
-
-pub(crate) fn bytes_shown(kind: u32, bytes: &Bytes) -> PulledItem
+fn bytes_shown(kind: u32, bytes: &Bytes) -> PulledItem
     ensures { result ≡ bytes_shown kind bytes.now }
 {
     PulledItem {
@@ -103,36 +91,58 @@ fn fault_shown(fault: StreamFault) -> PulledItem
     }
 }
 
-fn item_shown(item: &Item) -> PulledItem
-    ensures { result ≡ shown (Pull.Item item.now) }
+/// Writes what a pull answered, as C sees it.
+pub(crate) fn show(answer: &BlockPull, item: &mut PulledItem)
+    ensures { item.new ≡ shown answer.now }
 {
-    match item {
-        Item::Interim(head) => head_shown(1, head),
-        Item::Head(head) => head_shown(2, head),
-        Item::Body(bytes) => bytes_shown(3, bytes),
-        Item::Trailer(head) => head_shown(4, head),
-        Item::TooLarge(size) => numbered(5, *size),
-        Item::Session(id) => numbered(6, id.into_inner()),
-        Item::Raw(bytes) => bytes_shown(7, bytes),
-        Item::End => plain(8),
+    match answer.told() {
+        Told::Message(kind, status) => {
+            let status = match status {
+                Some(status) => status.as_u16() as u32,
+                None => 0,
+            };
+            show_message(*kind, status, answer.block(), item);
+        }
+        Told::Plain(said) => *item = plain_shown(said),
     }
 }
 
-/// What a pull answered.
-pub(crate) fn shown(answer: &Pull) -> PulledItem
-    ensures { result ≡ shown answer.now }
+fn show_message(kind: MessageKind, status: u32, fields: &FieldBlock, item: &mut PulledItem)
+    requires { status ≡ unwrap_or (head_of_fields fields.now).status 0 }
+    ensures { item.new ≡ shown (answer.Item (listed_as kind fields.now)) }
 {
-    match answer {
-        Pull::Item(item) => item_shown(item),
-        Pull::Pending => plain(9),
-        Pull::Waiting(count) => numbered(10, *count as u64),
-        Pull::NoMessages => plain(11),
-        Pull::Fault(fault) => fault_given(fault),
+    let kind = match kind {
+        MessageKind::Interim => 1,
+        MessageKind::Head => 2,
+        MessageKind::Trailer => 4,
+    };
+    *item = PulledItem {
+        kind,
+        status,
+        number: 0,
+        fields: fields.len(),
+        len: bytes_in(fields),
+    };
+}
+
+fn plain_shown(said: &Plain) -> PulledItem
+    ensures { result ≡ shown (plain_answer said.now) }
+{
+    match said {
+        Plain::Body(bytes) => bytes_shown(3, bytes),
+        Plain::TooLarge(size) => numbered(5, *size),
+        Plain::Session(id) => numbered(6, id.into_inner()),
+        Plain::Raw(bytes) => bytes_shown(7, bytes),
+        Plain::End => plain(8),
+        Plain::Pending => plain(9),
+        Plain::Waiting(count) => numbered(10, *count as u64),
+        Plain::NoMessages => plain(11),
+        Plain::Fault(fault) => fault_given(fault),
     }
 }
 
-pub(crate) fn fault_given(fault: &Fault) -> PulledItem
-    ensures { result ≡ shown (Pull.Fault fault.now) }
+fn fault_given(fault: &Fault) -> PulledItem
+    ensures { result ≡ shown (answer.Fault fault.now) }
 {
     match fault {
         Fault::Connection(code) => numbered(12, code.value()),
@@ -141,25 +151,24 @@ pub(crate) fn fault_given(fault: &Fault) -> PulledItem
     }
 }
 
-/// The fields of a head or trailer, and none of anything else.
-pub(crate) fn fields_of(alloc: Global, answer: &Pull) -> Result<Vec<HeaderField>, AllocError>
-    ensures { IfOk result (λ v. v.items ≡ fields_of answer.now) }
+/// The fields of a header or trailer section, and nothing of anything else.
+pub(crate) fn fields_of(answer: &BlockPull) -> Option<&FieldBlock>
+    ensures some { IfSome result (λ fields. list_of answer.now ≡ Some fields.now) }
+    ensures none { IfNone result (list_of answer.now ≡ None) }
 {
-    match answer {
-        Pull::Item(Item::Interim(head)) => head.fields(alloc),
-        Pull::Item(Item::Head(head)) => head.fields(alloc),
-        Pull::Item(Item::Trailer(head)) => head.fields(alloc),
-        _ => Ok(Vec::new(alloc)),
+    match answer.told() {
+        Told::Message(_, _) => Some(answer.block()),
+        Told::Plain(_) => None,
     }
 }
 
-/// The bytes of a body or of a session, and none of anything else.
-pub(crate) fn bytes_of(answer: &Pull) -> &[u8]
+/// The bytes of a body or of a session, and nothing of anything else.
+pub(crate) fn bytes_of(answer: &BlockPull) -> &[u8]
     ensures { result.now ≡ bytes_of answer.now }
 {
-    match answer {
-        Pull::Item(Item::Body(bytes)) => bytes.as_slice(),
-        Pull::Item(Item::Raw(bytes)) => bytes.as_slice(),
+    match answer.told() {
+        Told::Plain(Plain::Body(bytes)) => bytes.as_slice(),
+        Told::Plain(Plain::Raw(bytes)) => bytes.as_slice(),
         _ => &[],
     }
 }

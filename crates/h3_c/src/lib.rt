@@ -9,7 +9,6 @@ mod exports;
 mod fields;
 mod handle;
 mod items;
-mod last;
 mod loose;
 mod numbers;
 mod owned;

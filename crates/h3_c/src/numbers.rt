@@ -1,13 +1,11 @@
 //! The numbers that C sees: `enum h3_answer` of the header.
 ghost use Rattle.std.specs.Prelude.{◌≡◌};
-ghost use Rattle.h3_c.specs.Giving.{error_told};
-ghost use Rattle.h3_c.specs.Numbers.{refusal_told, call_told, body_told, delivery_told, list_told, malformed_told, setting_of, new_told};
+ghost use Rattle.h3_c.specs.Numbers.{refusal_told, call_told, body_told, delivery_told, list_told, malformed_told, setting_of, new_told, told_or_memory};
 
 use crate::items::malformation_number;
 use bytes::Bytes;
 use h3_connection::event::{DeliverError, Malformation, Refusal};
 use h3_connection::setup::NewError;
-use h3_header::HeaderError;
 use h3_proto::frame::SettingsError;
 use h3_session::endpoint::FieldsError;
 
@@ -46,6 +44,12 @@ pub(crate) const NONE: Told = Told {
 pub(crate) const ROOM: Told = Told {
     number: 26,
     detail: 0,
+};
+
+/// `H3_REJECTED`, with H3_REQUEST_REJECTED (RFC 9114, section 8.1).
+pub(crate) const REJECTED: Told = Told {
+    number: 30,
+    detail: 0x10b,
 };
 
 /// `H3_ARGUMENT`.
@@ -90,6 +94,16 @@ pub(crate) fn refused(refusal: Refusal) -> Told
         Refusal::NotRequestId => plain(16),
         Refusal::Raised(id) => with(17, id),
         Refusal::OutOfMemory => plain(18),
+    }
+}
+
+/// What a call tells that there was no memory for: what refuses it else comes first.
+pub(crate) fn or_memory(refusal: Option<Refusal>) -> Told
+    ensures { result ≡ told_or_memory refusal }
+{
+    match refusal {
+        Some(refusal) => refused(refusal),
+        None => MEMORY,
     }
 }
 
@@ -186,22 +200,5 @@ fn setting_of(e: &SettingsError) -> u64
         SettingsError::Repeated(id) => id.0,
         SettingsError::InvalidSettingId(id) => *id,
         SettingsError::InvalidSettingValue(id, _) => id.0,
-    }
-}
-
-/// Why a list of fields is no head.
-pub(crate) fn unread(e: &HeaderError) -> Told
-    ensures { result ≡ error_told e.now }
-{
-    match e {
-        HeaderError::InvalidHeaderName(_) => plain(22),
-        HeaderError::InvalidHeaderValue(_) => plain(23),
-        HeaderError::TooManyFields => plain(24),
-        HeaderError::InvalidRequest
-        | HeaderError::MissingMethod
-        | HeaderError::MissingStatus
-        | HeaderError::MissingAuthority
-        | HeaderError::ContradictedAuthority
-        | HeaderError::OutOfMemory => MEMORY,
     }
 }

@@ -1,5 +1,5 @@
 //! Steps that drop a value of any type: where the type is not named, a proof does not open what a drop of it is.
-ghost use Rattle.std.specs.Prelude.{◌≡◌, IfOk, None};
+ghost use Rattle.std.specs.Prelude.{◌≡◌, IfOk};
 
 use std::alloc::{AllocError, Global};
 
@@ -8,15 +8,6 @@ pub(crate) fn put<T: Drop>(place: &mut T, value: T)
     ensures { place.new ≡ value }
 {
     *place = value;
-}
-
-/// Lets go of a value, where there is one.
-pub(crate) fn empty<T: Drop>(place: &mut Option<T>)
-    ensures { place.new ≡ None }
-{
-    if place.is_some() {
-        put(place, None);
-    }
 }
 
 /// The value in a box. Where memory is refused it is dropped.

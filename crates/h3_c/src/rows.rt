@@ -1,13 +1,12 @@
 //! All fields of a head or trailer, as C gets them at once: their sizes, and their names and values one behind another.
-ghost use Rattle.std.specs.Prelude.{◌≡◌, ◌≤◌, ◌++◌, true, length, drop, IfOk};
+ghost use Rattle.std.specs.Prelude.{◌≡◌, ◌≤◌, ◌++◌, true, length, drop};
 ghost use Rattle.std.specs.List.{list_all};
 ghost use Rattle.h3_c.specs.Exported.{GivesFields};
 ghost use Rattle.h3_c.specs.Rows.{is_short, row_len, size_of, sizes_of};
 
 use crate::fields::FieldSize;
 use crate::numbers::{OK, ROOM, Told};
-use h3_field::{FieldBlock, FieldRef, Fields, HeaderField};
-use std::alloc::{AllocError, Global};
+use h3_field::{FieldBlock, FieldRef, Fields};
 
 /// Hands out all fields, if there is room for all of them.
 #[tactic(auto, using(crate::proofs::RowLaws::row_is_end_to_end))]
@@ -93,16 +92,4 @@ fn put_row(row: &[u8], bytes: &mut [u8])
     ensures { bytes.new ≡ row.now ++ drop (length row.now) bytes.old }
 {
     bytes[..row.len()].copy_from_slice(row);
-}
-
-/// A block with copies of fields.
-pub(crate) fn block_of(alloc: Global, list: &[HeaderField]) -> Result<FieldBlock, AllocError>
-    ensures { IfOk result (λ block. block ≡ list.now) }
-{
-    let mut block = FieldBlock::new(alloc);
-    for at in 0..list.len() {
-        let field = &list[at];
-        block.push(field.name(), field.value())?;
-    }
-    Ok(block)
 }

@@ -1,5 +1,5 @@
 -- How much of what came on a stream is held: what is stored of it, as the definitions count it.
-use Rattle.std.proofs.Common.{arith, ◌≡◌, ℕ, ◌+◌, Bool, true, false, if◌then◌else◌, List, ap, sym, subst, ◌∙◌}
+use Rattle.std.proofs.Common.{arith, ◌≡◌, ℕ, ◌+◌, true, false, if◌then◌else◌, List, ap, sym, subst, ◌∙◌}
 use Rattle.std.specs.Prelude.{◌-◌, ◌^◌, min, is_some, option_map, unwrap_or}
 use Rattle.std.specs.List.{sum_by}
 use Rattle.h3_connection.specs.declared.arrival.Arrival.{Arrival}

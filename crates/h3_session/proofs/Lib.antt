@@ -8,6 +8,9 @@ pub mod SendingBodies
 pub mod Taking
 pub mod Next
 pub mod NextRequest
+pub mod Draining
+pub mod Starting
+pub mod SectionsSent
 pub mod Endings
 pub mod Held
 pub mod Inserting
@@ -44,6 +47,7 @@ pub mod Messages
 pub mod Strict
 pub mod LentFrames
 pub mod WellSentLists
+pub mod Lacking
 pub mod MemoryTells
 pub mod MemoryUnchanged
 pub mod ListedBounds
@@ -52,3 +56,4 @@ pub mod MemoryPulls
 pub mod MemoryDeliveries
 pub mod MemorySteps
 pub mod Opened
+pub mod ReadingBodies

@@ -245,6 +245,12 @@ module _ (s : EndpointState) (id : ℕ) (fields : List Field) where
       (λ e stands. head_first (head_of fields) e (refusal.Closed code)
       (ap (λ c. closed_or c (first_of ((not (is_open e id), refusal.NotOpen) ∷ (not (takes_head (outgoing_at e id)), refusal.OutOfOrder) ∷ []))) (sym stands.closed ∙ closed))) (λ same. absurd (cc))
 
+  pub head_list_early : (r : Refusal) → s.closed ≡ None → head_refused_at (kept_at s.requests id) ≡ Some r → SendsFieldList s s id fields (Err (error.Refused r))
+  head_list_early r closed is =
+      refuses (λ e. send_fields e id fields) s id fields (error.Refused r)
+      (λ e stands. head_first (head_of fields) e r (sym (place_refusal_is s e id stands) ∙ ap (λ c. closed_or c (head_refused_at (kept_at s.requests id))) closed ∙ is))
+      (λ same. head_not_memory (kept_at s.requests id) (is ∙ (let memory : r ≡ refusal.OutOfMemory = cc in ap Some memory)))
+
   pub head_list_refused : (later told : FieldsError) → s.closed ≡ None → (later ≢ no_memory → head_list_error s.side (head_of fields) ≡ Some later) → (later ≡ no_memory → 24576 < length fields)
       → told ≡ error_after (head_refused_at (kept_at s.requests id)) later → SendsFieldList s s id fields (Err told)
   head_list_refused later told closed errs many is =
@@ -305,6 +311,12 @@ module _ (s : EndpointState) (id : ℕ) (fields : List Field) where
       refuses (λ e. send_trailer_fields e id fields) s id fields (error.Refused (refusal.Closed code))
       (λ e stands. trailer_first (head_of fields) e (refusal.Closed code)
       (ap (λ c. closed_or c (first_of ((not (is_open e id), refusal.NotOpen) ∷ (not (takes_body (outgoing_at e id)), refusal.OutOfOrder) ∷ []))) (sym stands.closed ∙ closed))) (λ same. absurd (cc))
+
+  pub trailer_list_early : (r : Refusal) → s.closed ≡ None → body_refused_at (kept_at s.requests id) ≡ Some r → SendsTrailerList s s id fields (Err (error.Refused r))
+  trailer_list_early r closed is =
+      refuses (λ e. send_trailer_fields e id fields) s id fields (error.Refused r)
+      (λ e stands. trailer_first (head_of fields) e r (sym (order_refusal_is s e id stands) ∙ ap (λ c. closed_or c (body_refused_at (kept_at s.requests id))) closed ∙ is))
+      (λ same. body_not_memory (kept_at s.requests id) (is ∙ (let memory : r ≡ refusal.OutOfMemory = cc in ap Some memory)))
 
   pub trailer_list_refused : (later told : FieldsError) → s.closed ≡ None → (later ≢ no_memory → trailer_list_error (head_of fields) ≡ Some later) → (later ≡ no_memory → 24576 < length fields)
       → told ≡ error_after (body_refused_at (kept_at s.requests id)) later → SendsTrailerList s s id fields (Err told)

@@ -2,6 +2,8 @@
 use Rattle.std.proofs.Common.{◌≡◌, ℕ, ◌+◌, Bool, true, false, List, [], ◌∷◌, length, Option, Some, None, Result, Ok, Err, refl, ap, sym, subst, ◌∙◌}
 use Rattle.std.specs.Prelude.{not, IfSome, OnOk, OnErr, IfErr, unwrap_or}
 use Rattle.h3_outgoing.specs.HistoryLaws.{body_appended}
+use Rattle.std.proofs.lemmas.List.{length-replicate}
+use Rattle.h3_outgoing.specs.Held.{held}
 use Rattle.h3_outgoing.specs.Sent as sent
 use Rattle.h3_connection.specs.Calls.{Sets, AllSame}
 use Rattle.h3_connection.specs.Endpoint.{EndpointHistory}
@@ -17,6 +19,7 @@ use Rattle.h3_connection.specs.declared.event.Refusal.{Refusal}
 use Rattle.h3_connection.specs.declared.event.Refusal.TheVariants as refusal
 use Rattle.h3_session.proofs.Opened.{stands_same}
 use Rattle.h3_requests.specs.Refused.{data_refused_at}
+use Rattle.h3_session.specs.Held.{SendsBodyOf}
 use Rattle.h3_session.specs.Refused.{body_refused}
 use Rattle.h3_session.proofs.Parts.{in_body, body_stays}
 use Rattle.h3_session.proofs.SendingCalls.{sender_of, refuses, acts, alike, lacks, all_same}
@@ -122,3 +125,24 @@ sends_body s n id bytes total (Err (r, handed)) closed sum rest same sets taken 
     subst (λ v. SendsBody s v id bytes (Err (r, handed))) (sym same)
     (subst (λ l. SendsBody s (record s { requests = n.requests }) id bytes (Err (r, l))) (sym back.0)
     (body_alike s n.requests id bytes r back.1 (body_uncounted s id bytes (length bytes) r closed refl why)))
+
+-- the same of a body that the caller holds
+pub held_closed : (s : EndpointState) (id len code : ℕ) → s.closed ≡ Some code → SendsBodyOf s s id len (Err (refusal.Closed code))
+held_closed s id len code closed = (body_closed s id (held len) code closed).sends
+
+pub held_uncounted : (s : EndpointState) (id len : ℕ) (r : Refusal) → s.closed ≡ None → r ≡ unwrap_or (data_refused_at (kept_at s.requests id) len) refusal.OutOfMemory → SendsBodyOf s s id len (Err r)
+held_uncounted s id len r closed is = (body_uncounted s id (held len) len r closed (sym (length-replicate len 256)) is).sends
+
+pub sends_held : (s n : EndpointState) (id len total : ℕ) (result : Result Unit Refusal) → s.closed ≡ None → total ≡ s.sent + len + 64
+    → OnOk result (n ≡ record s { requests = n.requests; sent = total }) → OnErr result (n ≡ record s { requests = n.requests })
+    → OnOk result (IfSome (kept_at s.requests id) (λ r. Sets s.requests n.requests id (record r { outgoing = sent.has_body r.outgoing (held len) })))
+    → OnOk result (data_refused_at (kept_at s.requests id) len ≡ None)
+    → IfErr result (λ r. r ≡ unwrap_or (data_refused_at (kept_at s.requests id) len) refusal.OutOfMemory)
+    → OnErr result (AllSame s.requests n.requests) → SendsBodyOf s n id len result
+sends_held s n id len total (Ok done) closed sum rest same sets taken why back =
+    let size : len ≡ length (held len) = sym (length-replicate len 256) in
+    (sends_body s n id (held len) total (Ok done) closed (sum ∙ ap (λ k. s.sent + k + 64) size) rest same sets (subst (λ k. data_refused_at (kept_at s.requests id) k ≡ None) size taken) why back).sends
+sends_held s n id len total (Err r) closed sum rest same sets taken why back =
+    let size : len ≡ length (held len) = sym (length-replicate len 256) in
+    (sends_body s n id (held len) total (Err (r, held len)) closed (sum ∙ ap (λ k. s.sent + k + 64) size) rest same sets taken
+    (why ∙ ap (λ k. unwrap_or (data_refused_at (kept_at s.requests id) k) refusal.OutOfMemory) size) (refl, back)).sends

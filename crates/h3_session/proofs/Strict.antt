@@ -5,7 +5,7 @@ use Rattle.h3_connection.specs.State.{EndpointState}
 use Rattle.h3_world.specs.declared.event.Answer.{Answer}
 use Rattle.h3_world.specs.declared.event.Event.{Event}
 use Rattle.h3_world.specs.declared.setup.Setup.{Setup}
-use Rattle.h3_world.specs.Ends.{Ends, answers_of_ends, ends_after, new_ends}
+use Rattle.h3_world.specs.Ends.{answers_of_ends, ends_after, new_ends}
 use Rattle.h3_world.specs.Few.{AreFew}
 use Rattle.h3_world.specs.Headline.{Happens, is_memory}
 use Rattle.h3_world.specs.Run.{Run}
@@ -33,8 +33,8 @@ LawOfWorlds setup = (events : List Event) → AllByRecursion IsSendable events �
 abbrev pub LawOfMessages : Setup → Type 0
 LawOfMessages setup = (events : List Event) → AllByRecursion IsSendable events → RunsPlainly (new_ends setup) events → HandsOutWhatWasSent setup events (answers_of_ends (new_ends setup) events)
 
-abbrev pub LawOfAnswers : Type 0
-LawOfAnswers = (ends : Ends) (events : List Event) → list_any finds_fault (answers_of_ends ends events) ≡ false → RunsPlainly ends events
+abbrev pub LawOfAnswers : Setup → Type 0
+LawOfAnswers setup = (events : List Event) → list_any finds_fault (answers_of_ends (new_ends setup) events) ≡ false → RunsPlainly (new_ends setup) events
 
 module _ (setup : Setup) (in_world : LawOfWorlds setup) (hands_out : LawOfMessages setup) where
   -- by what two endpoints answer
@@ -50,17 +50,17 @@ module _ (setup : Setup) (in_world : LawOfWorlds setup) (hands_out : LawOfMessag
       subst (RunsWithoutMalformed setup (take n events)) (sym is) (runs_by_ends (take n events) (front_of_all IsSendable n events (few_are_sendable events typed few)) plainly)
 
   pub runs_until_fault : (events : List Event) (answers : List Answer)
-      → LawOfAnswers → AllByRecursion IsTyped events → AnswersEach (new_ends setup) events answers → AreFew events → RunsUntilFault setup events answers
+      → LawOfAnswers setup → AllByRecursion IsTyped events → AnswersEach (new_ends setup) events answers → AreFew events → RunsUntilFault setup events answers
   runs_until_fault events answers faultless typed h few = λ n not_memory none.
       let is = h.until_memory n not_memory in
-      runs_front events answers typed h few n is (faultless (new_ends setup) (take n events) (subst (λ given. list_any finds_fault given ≡ false) is none))
+      runs_front events answers typed h few n is (faultless (take n events) (subst (λ given. list_any finds_fault given ≡ false) is none))
 
   -- and over all of them
-  pub runs_faultless : (events : List Event) (answers : List Answer) (client server : EndpointState) → LawOfAnswers
+  pub runs_faultless : (events : List Event) (answers : List Answer) (client server : EndpointState) → LawOfAnswers setup
       → AllByRecursion IsTyped events → RunsTo (new_ends setup) events answers client server → list_any finds_fault answers ≡ false → AreFew events → RunsFaultless setup events answers client server
   runs_faultless events answers client server faultless typed h none few =
       let sendable = few_are_sendable events typed few in
-      let plainly = faultless (new_ends setup) events (subst (λ given. list_any finds_fault given ≡ false) h.answered_so none) in
+      let plainly = faultless events (subst (λ given. list_any finds_fault given ≡ false) h.answered_so none) in
       let on = in_world events sendable plainly in
       subst (λ given. RunsFaultless setup events given client server) (sym h.answered_so) (record {
         runs = record { world = on.0; run = on.1; hands_out = hands_out events sendable plainly };

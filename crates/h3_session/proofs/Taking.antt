@@ -2,12 +2,15 @@
 use Rattle.std.proofs.Common.{arith, ◌≡◌, ℕ, zero, suc, ◌+◌, ◌-◌, ◌<◌, ◌≤◌, if◌then◌else◌, Bool, true, false, List, [], ◌∷◌, ◌++◌, length, Option, Some, None, refl, ap, sym, subst, ◌∙◌, inl, inr, append-nil, append_assoc, length-append}
 use Rattle.std.specs.Prelude.{◌^◌, count_by, nat_lt, min, map, IfSome, is_some, option_map}
 use Rattle.std.proofs.lemmas.List.{length-drop}
-use Rattle.std.proofs.lemmas.Bool.{cases_lt}
-use Rattle.h3_coding.specs.Encodings.{encoding}
+use Rattle.std.proofs.lemmas.Bool.{cases_Bool, cases_lt}
+use Rattle.std.specs.List.{AllByRecursion}
+use Rattle.h3_coding.specs.Encodings.{IsByte, encoding}
 use Rattle.h3_coding.specs.EncodingLaws.{opened, encoding_is_valid}
 use Rattle.h3_coding.specs.Opened.{Opened}
 use Rattle.h3_wire.specs.Outgoing.{Outgoing as Piece, all_of, first_of_both}
 use Rattle.h3_outgoing.specs.HistoryLaws.{waits, advanced}
+use Rattle.h3_outgoing.specs.Held.{AreApart, front_of, past_of}
+use Rattle.h3_outgoing.specs.HeldLaws.{begins, cut, front_bytes, front_in, front_out}
 use Rattle.h3_outgoing.specs.Sent as sent
 use Rattle.h3_unidirectional.specs.Owned.{waiting_on, having_taken}
 use Rattle.h3_unidirectional.specs.OwnLaws.{waiting_is}
@@ -25,6 +28,7 @@ use Rattle.h3_connection.specs.State.{EndpointState, RequestState, OutgoingState
 use Rattle.h3_connection.specs.StreamSets.{Streams, stream_at}
 use Rattle.h3_connection.specs.WaitingPieces.{piece_of, frame_piece, bytes_of, lent, without_front, pieces_waiting}
 use Rattle.h3_connection.specs.WaitingPieceLaws.{without-within, without-past, first-bytes}
+use Rattle.h3_session.specs.Held.{HoldsNone, LendsFront}
 use Rattle.h3_session.specs.Refused.{streams_of, sender_in}
 use Rattle.h3_session.proofs.SendingStands.{own_taken_stands}
 
@@ -147,21 +151,67 @@ front_by : (head payload rest : List ℕ) → 0 < length (head ++ payload) → I
 front_by [] payload rest h = record { rest = rest; all_is = refl; some = λ none. absurd (omega (arith, h, ap length none)) }
 front_by (byte ∷ head) payload rest h = record { rest = payload ++ rest; all_is = append_assoc (byte ∷ head) payload rest; some = λ none. absurd (cc) }
 
-front_of : (pieces : List Piece) → FirstHas pieces → IsSomeFront (lent pieces) (bytes_of pieces)
-front_of [] h = record { rest = []; all_is = refl; some = λ none. refl }
-front_of (p ∷ pieces) h = front_by p.head p.payload (bytes_of pieces) h
+first_piece : (pieces : List Piece) → FirstHas pieces → IsSomeFront (lent pieces) (bytes_of pieces)
+first_piece [] h = record { rest = []; all_is = refl; some = λ none. refl }
+first_piece (p ∷ pieces) h = front_by p.head p.payload (bytes_of pieces) h
 
-pub lends_request : (s : EndpointState) (id : ℕ) (w : OutgoingState) (bytes : List ℕ) → sender_in s id ≡ Some w → bytes ≡ lent w.pieces → LendsOutgoing s id bytes
+-- what is in front of the first place of the caller's
+placed_first : (b : ℕ) (front all : List ℕ) → IsSomeFront (b ∷ front) all → front_of (b ∷ front) ≡ [] → front_of all ≡ []
+placed_first b front all h none = elim (cases_Bool (nat_lt b 256)) [
+  | inl e ↦ absurd (omega (arith, ap length (sym (front_in b front e) ∙ none)))
+  | inr e ↦ ap front_of h.all_is ∙ front_out b (front ++ h.rest) e
+]
+
+front_before : (front all : List ℕ) → IsSomeFront front all → IsSomeFront (front_of front) (front_of all)
+front_before [] all h = record { rest = []; all_is = ap front_of (h.some refl); some = λ none. ap front_of (h.some refl) }
+front_before (b ∷ front) all h = elim (cut (b ∷ front) h.rest) [
+  | inl same ↦ record { rest = []; all_is = ap front_of h.all_is ∙ same ∙ sym (append-nil (front_of (b ∷ front))); some = placed_first b front all h }
+  | inr more ↦ record { rest = front_of h.rest; all_is = ap front_of h.all_is ∙ more; some = placed_first b front all h }
+]
+
+pub lends_request : (s : EndpointState) (id : ℕ) (w : OutgoingState) (bytes : List ℕ) → sender_in s id ≡ Some w → bytes ≡ front_of (lent w.pieces) → LendsFront s id bytes
 lends_request s id w bytes was is e h =
     let f = found s e id w h was in
     let has : FirstHas w.pieces = subst FirstHas (sym f.is.pieces) (waiting_has f.o) in
-    subst (λ all. IsSomeFront bytes all) (request_waits s e id w h was) (subst (λ front. IsSomeFront front (bytes_of w.pieces)) (sym is) (front_of w.pieces has))
+    subst (λ all. IsSomeFront bytes (front_of all)) (request_waits s e id w h was)
+    (subst (λ front. IsSomeFront front (front_of (bytes_of w.pieces))) (sym is) (front_before (lent w.pieces) (bytes_of w.pieces) (first_piece w.pieces has)))
 
-pub lends_own : (s : EndpointState) (id : ℕ) (bytes : List ℕ) → sender_in s id ≡ None → bytes ≡ waiting_on s.own s.side id → LendsOutgoing s id bytes
-lends_own s id bytes was is e h =
+pub lends_own : (s : EndpointState) (id : ℕ) (bytes : List ℕ) → sender_in s id ≡ None → bytes ≡ waiting_on s.own s.side id → AllByRecursion IsByte bytes → LendsFront s id bytes
+lends_own s id bytes was is each e h =
     let all = bytes_waiting e id in
-    let same : bytes ≡ all = is ∙ own_waits s e id h was in
-    record { rest = []; all_is = sym (append-nil all) ∙ ap (λ l. l ++ []) (sym same); some = λ none. sym same ∙ none }
+    let same : bytes ≡ front_of all = sym (front_bytes bytes each) ∙ ap front_of (is ∙ own_waits s e id h was) in
+    record { rest = []; all_is = sym (append-nil (front_of all)) ∙ ap (λ l. l ++ []) (sym same); some = λ none. sym same ∙ none }
+
+-- where no place is among what waits
+pub lends_all : (s : EndpointState) (id : ℕ) (bytes : List ℕ) → LendsFront s id bytes → HoldsNone s id → LendsOutgoing s id bytes
+lends_all s id bytes lends none e h = subst (λ all. IsSomeFront bytes all) (none e h) (lends e h)
+
+-- nothing was taken of any piece but the first
+starts : (parts : List OwnPart) → past_of (bytes_of (map piece_of parts)) ≡ 0
+starts [] = refl
+starts (OwnInterim section ∷ parts) = begins 1 section (bytes_of (map piece_of parts)) (omega arith)
+starts (OwnHead section ∷ parts) = begins 1 section (bytes_of (map piece_of parts)) (omega arith)
+starts (OwnBody bytes ∷ parts) = begins 0 bytes (bytes_of (map piece_of parts)) (omega arith)
+starts (OwnTrailer section ∷ parts) = begins 1 section (bytes_of (map piece_of parts)) (omega arith)
+
+apart : (parts : List OwnPart) → AreApart (map piece_of parts)
+apart [] = tt
+apart (p ∷ parts) = (starts parts, apart parts)
+
+left_apart : (n : ℕ) (parts : List OwnPart) → AreApart (without_front n (map piece_of parts))
+left_apart n [] = tt
+left_apart zero (p ∷ parts) = (starts parts, apart parts)
+left_apart (suc n) (p ∷ parts) = elim (cases_lt (suc n) (length (all_of (piece_of p)))) [
+  | inl h ↦ subst AreApart (sym (without-within (suc n) (piece_of p) (map piece_of parts) (omega arith) h)) (starts parts, apart parts)
+  | inr h ↦ subst AreApart (sym (without-past (suc n) (piece_of p) (map piece_of parts) (omega arith) h)) (left_apart (suc n - length (all_of (piece_of p))) parts)
+]
+
+pub waiting_apart : (o : Outgoing) → AreApart (pieces_waiting o)
+waiting_apart o = by o.is_reset
+  where
+    by : (reset : Bool) → AreApart (if reset then [] else without_front o.taken (map piece_of o.parts))
+    by true = tt
+    by false = left_apart o.taken o.parts
 
 -- `waiting`
 pub shows_request : (s : EndpointState) (id : ℕ) (w : OutgoingState) (count : ℕ) → sender_in s id ≡ Some w → count ≡ length (bytes_of w.pieces) → ShowsWaiting s id count

@@ -11,6 +11,8 @@ pub mod Listing
 pub mod Running
 pub mod Acting
 pub mod Copied
+pub mod Held
+pub mod Shutdown
 pub mod Typed
 pub mod Headlines
 pub mod Messages
@@ -18,5 +20,7 @@ pub mod SentHeads
 pub mod Strict
 pub mod Frames
 pub mod SendingLists
+pub mod Lacking
 pub mod JudgedLists
 pub mod StrictLists
+pub mod ReadingBodies

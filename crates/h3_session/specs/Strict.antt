@@ -21,7 +21,7 @@ pub record RunsWithoutMalformed (setup : Setup) (events : List Event) (answers :
   pub run : Run (Happens (plain_setup setup)) (empty_world (plain_setup setup)) (without_malformed events answers) (answers_without_malformed answers) world
   pub hands_out : HandsOutWhatWasSent setup events answers
 
--- So it is up to the first answer that tells of refused memory, or of a pull that found a message malformed or a fault of the connection.
+-- So it is up to the first answer that tells of refused memory, or that a message was found malformed, a frame at the wrong place or too long.
 abbrev pub RunsUntilFault : Setup → List Event → List Answer → Type 0
 RunsUntilFault setup events answers =
     (n : ℕ) → list_any is_memory (take n answers) ≡ false → list_any finds_fault (take n answers) ≡ false → RunsWithoutMalformed setup (take n events) (take n answers)
@@ -34,7 +34,8 @@ pub record RunsFaultless (setup : Setup) (events : List Event) (answers : List A
   pub client_stands : StandsFor client ends.client
   pub server_stands : StandsFor server ends.server
 
--- Where the server knows what was asked before it answers, no pull finds a fault, up to the first answer that tells of refused memory.
-abbrev pub FindsNoFault : List Event → List Answer → Type 0
-FindsNoFault events answers =
-    (n : ℕ) → list_any is_memory (take n answers) ≡ false → ServerKnows (take n events) (take n answers) → list_any finds_fault (take n answers) ≡ false
+-- Where the server knows what was asked before it answers, no answer finds such a fault, and so it is, up to the first that tells of refused memory.
+abbrev pub FindsNoFault : Setup → List Event → List Answer → Type 0
+FindsNoFault setup events answers =
+    (n : ℕ) → list_any is_memory (take n answers) ≡ false → ServerKnows (take n events) (take n answers) →
+    (list_any finds_fault (take n answers) ≡ false) × RunsWithoutMalformed setup (take n events) (take n answers)

@@ -18,9 +18,11 @@ use std::alloc::{AllocError, Global};
 use std::collections::VecDeque;
 use std::marker::Model;
 
+mod bodies;
 mod copying;
 mod ending;
 mod heads;
+mod lacking;
 mod lists;
 mod next;
 mod owning;
@@ -29,6 +31,7 @@ mod reading;
 mod receiving;
 mod sending;
 mod showing;
+mod shutdown;
 mod strict;
 mod unread;
 

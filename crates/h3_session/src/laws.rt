@@ -31,6 +31,7 @@
 //!   world (`two_limited_endpoints_run_in_a_world`, `two_strict_limited_endpoints_run_in_a_world`).
 //! - What `Setup::new` answers may be given to `run` (`setups_are_made`).
 //! - Lists: a head and a trailer are sent as the lists of their fields are (`heads_are_sent_as_their_lists`).
+//! - Shutting down: no request below the last GOAWAY is rejected (`nothing_below_a_goaway_is_rejected`).
 ghost use Rattle.std.specs.Prelude.{◌≡◌, ℕ, List};
 ghost use Rattle.h3_header.specs.Head.{head_fields};
 ghost use Rattle.h3_connection.specs.Endpoint.{EndpointHistory};
@@ -118,3 +119,12 @@ pub fn lists_leave_endpoints_bounded()
 {
     h3_connection::laws::tries_and_waiting_streams_are_bounded();
 }
+
+ghost use Rattle.std.specs.Prelude.{false};
+ghost use Rattle.h3_connection.specs.Lasts.{last_id};
+ghost use Rattle.h3_session.specs.Shutdown.{is_named, is_rejected};
+
+/// Nothing below the last GOAWAY is rejected (RFC 9114, section 5.2), in every history: so what was announced to be processed is delivered.
+pub fn nothing_below_a_goaway_is_rejected()
+    ensures { (e : EndpointHistory) (id : ℕ) → is_named (last_id e.own.goaways) id ≡ false → is_rejected e id ≡ false }
+{}

@@ -27,8 +27,8 @@ use h3_memory::laws::{
 };
 use h3_proto::stream::Side;
 use h3_strict::laws::{
-    schedules_that_judge_nothing_find_no_fault, strict_endpoints_hand_out_what_was_sent,
-    strict_endpoints_run_in_a_world, whole_runs_are_plain,
+    ends_stay_bounded, schedules_that_judge_nothing_find_no_fault,
+    strict_endpoints_hand_out_what_was_sent, strict_endpoints_run_in_a_world, whole_runs_are_plain,
 };
 use h3_strict::strict::strict_endpoints_take_what_they_send;
 use h3_world::event::{Answer, Event};
@@ -112,15 +112,16 @@ fn beside<A: Drop, B: Drop>(first: A, second: Result<B, AllocError>) -> Result<(
 ///   and no more heads wait than were announced.
 ///
 /// In every setup, with both sides strict, one or none, with limits or without, and the bounds of numbers of `headline`:
-/// - `faultless_front`: up to the first answer that tells of refused memory, of a malformed message or of a connection fault, and without the
-///   sends that were refused as malformed, the answers are a run of the world of the setup that asks for no strict messages; and each side is
-///   handed what the other side sent.
+/// - `faultless_front`: up to the first answer that tells of refused memory, or that a pull found a message malformed, a frame at the wrong
+///   place or one too long (`finds_fault`: a malformed message, H3_FRAME_UNEXPECTED, or H3_EXCESSIVE_LOAD, which a delivery may tell too), and
+///   without the sends that were refused as malformed, the answers are a run of the world of the setup that asks for no strict messages; and
+///   each side is handed what the other side sent. No answer tells of a connection fault of another code either.
 /// - `faultless`: where no answer tells of these, so it is of all of them, and the endpoints handed back stand in the last world, once they are
 ///   taken for ones without strict messages.
 ///
 /// Between two strict sides without limits, where the server was handed the head of a request before it sends the final head of its
 /// response (`ServerKnows`):
-/// - `strict_front`: no answer tells of a malformed message or of a connection fault, up to the first that tells of refused memory. So what
+/// - `strict_front`: no answer tells of a malformed message or of a connection fault, up to the first that tells of refused memory, and what
 ///   `faultless_front` says holds up to there.
 /// - `strict`: where no answer tells of refused memory none tells of these, and all that `faultless` says holds.
 ///
@@ -139,7 +140,7 @@ pub fn run(alloc: Global, setup: Setup, events: &[Event]) -> Result<Outcome, All
     ensures faultless_front { IfOk result (λ out. AreFew events.now → RunsUntilFault setup events.now out.answers.items) }
     ensures faultless { IfOk result (λ out. list_any is_memory out.answers.items ≡ false → list_any finds_fault out.answers.items ≡ false → AreFew events.now →
         RunsFaultless setup events.now out.answers.items out.client out.server) }
-    ensures strict_front { IfOk result (λ out. AreFew events.now → JudgesStrictly setup → FindsNoFault events.now out.answers.items) }
+    ensures strict_front { IfOk result (λ out. AreFew events.now → JudgesStrictly setup → FindsNoFault setup events.now out.answers.items) }
     ensures strict { IfOk result (λ out. list_any is_memory out.answers.items ≡ false → AreFew events.now → JudgesStrictly setup → ServerKnows events.now out.answers.items →
         (list_any finds_fault out.answers.items ≡ false) × RunsFaultless setup events.now out.answers.items out.client out.server) }
 {
@@ -147,6 +148,7 @@ pub fn run(alloc: Global, setup: Setup, events: &[Event]) -> Result<Outcome, All
     two_endpoints_run_with_memory();
     what_is_pulled_with_memory_refused_is_what_was_sent();
     whole_runs_are_plain();
+    ends_stay_bounded();
     schedules_that_judge_nothing_find_no_fault();
     strict_endpoints_take_what_they_send();
     strict_endpoints_run_in_a_world();

@@ -35,7 +35,7 @@ use Rattle.h3_world.specs.declared.event.Event.{Event}
 use Rattle.h3_world.specs.declared.event.Event.TheVariants as event
 use Rattle.h3_world.specs.declared.setup.Setup.{Setup}
 use Rattle.h3_strict.specs.PlainEnds.{NoneJudges, finds_fault, judges}
-use Rattle.h3_strict.specs.Plainly.{exceeds, is_judged, judged_as, judged_at, judged_open, tells_fault, tells_malformed}
+use Rattle.h3_strict.specs.Plainly.{exceeds, is_judged, judged_as, judged_at, judged_open, tells_malformed}
 use Rattle.h3_strict.proofs.PlainHeadlines.{RunInWorlds, runs_in_a_world}
 use Rattle.h3_strict.proofs.PlainRuns.{neither, none_more, runs_plainly}
 
@@ -61,27 +61,27 @@ tested_finds ends false true instead x h k = λ whole. h
 tested_finds ends false false instead x h k = k
 
 -- streams of the other kinds
-if_finds : (b : Bool) (x y : Pull × Unidirectional) → tells_fault x.0 ≡ false → tells_fault y.0 ≡ false → tells_fault (if b then x else y).0 ≡ false
+if_finds : (b : Bool) (x y : Pull × Unidirectional) → tells_malformed x.0 ≡ false → tells_malformed y.0 ≡ false → tells_malformed (if b then x else y).0 ≡ false
 if_finds true x y h k = h
 if_finds false x y h k = k
 
-either_finds : (b : Bool) (x y : Pull) → tells_fault x ≡ false → tells_fault y ≡ false → tells_fault (if b then x else y) ≡ false
+either_finds : (b : Bool) (x y : Pull) → tells_malformed x ≡ false → tells_malformed y ≡ false → tells_malformed (if b then x else y) ≡ false
 either_finds true x y h k = h
 either_finds false x y h k = k
 
-raw_finds : (o : Unidirectional) (pieces : List (List ℕ)) → tells_fault (raw o pieces).0 ≡ false
+raw_finds : (o : Unidirectional) (pieces : List (List ℕ)) → tells_malformed (raw o pieces).0 ≡ false
 raw_finds o [] = if_finds o.ended _ _ refl refl
 raw_finds o (piece ∷ pieces) = refl
 
-session_finds : (id : ℕ) (o : Unidirectional) (code : Option ℕ) → tells_fault (pull_session id o code).0 ≡ false
+session_finds : (id : ℕ) (o : Unidirectional) (code : Option ℕ) → tells_malformed (pull_session id o code).0 ≡ false
 session_finds id o (Some code) = refl
 session_finds id o None = if_finds o.is_told _ _ (raw_finds o o.unread) refl
 
-over_finds : (b : Bool) (o : Unidirectional) (id : ℕ) → tells_fault (if_over b o id).0 ≡ false
+over_finds : (b : Bool) (o : Unidirectional) (id : ℕ) → tells_malformed (if_over b o id).0 ≡ false
 over_finds true o id = refl
 over_finds false o id = session_finds id o o.reset_code
 
-role_finds : (o : Unidirectional) (role : Role) → tells_fault (pull_unidirectional o role).0 ≡ false
+role_finds : (o : Unidirectional) (role : Role) → tells_malformed (pull_unidirectional o role).0 ≡ false
 role_finds o (Untold front) = either_finds (is_closed o) _ _ refl (either_finds (may_be_session (varint_at front)) _ _ refl refl)
 role_finds o (Session id) = over_finds o.is_over o id
 role_finds o Control = refl
@@ -90,16 +90,16 @@ role_finds o Decoder = refl
 role_finds o (Push id) = refl
 role_finds o Ignored = refl
 
-told_finds : (e : EndpointHistory) (id : ℕ) (x : Pull × Unidirectional) → tells_fault x.0 ≡ false → tells_fault (pulled_unidirectional e id x).0 ≡ false
+told_finds : (e : EndpointHistory) (id : ℕ) (x : Pull × Unidirectional) → tells_malformed x.0 ≡ false → tells_malformed (pulled_unidirectional e id x).0 ≡ false
 told_finds e id (a, o) h = h
 
-peer_finds : (e : EndpointHistory) (id : ℕ) (o : Option Unidirectional) → tells_fault (pull_peer e id o).0 ≡ false
+peer_finds : (e : EndpointHistory) (id : ℕ) (o : Option Unidirectional) → tells_malformed (pull_peer e id o).0 ≡ false
 peer_finds e id None = refl
 peer_finds e id (Some o) = told_finds e id (pull_unidirectional o o.role) (role_finds o o.role)
 
 -- a request stream
 abbrev FindsNone : Pull × EndpointHistory → Type 0
-FindsNone x = is_connection_fault (answer.Pulled x.0) ≡ false → tells_fault x.0 ≡ false
+FindsNone x = is_connection_fault (answer.Pulled x.0) ≡ false → tells_malformed x.0 ≡ false
 
 answer_finds : (a : Pull) (e : EndpointHistory) → tells_malformed a ≡ false → FindsNone (after_answer a e)
 answer_finds (pull.Fault (fault.Connection code)) e none h = absurd (cc)

@@ -14,6 +14,7 @@ mod SameWorlds
 mod KeepsCounts
 mod SentLaws
 mod PlainRuns
+mod BoundedEnds
 mod PlainMessages
 mod PlainSetups
 mod PlainHeadlines

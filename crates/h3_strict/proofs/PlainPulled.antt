@@ -1,5 +1,6 @@
 -- A pull of any stream: it judges a message, or is answered as without strict messages.
-use Rattle.std.proofs.Common.{◌≡◌, ℕ, Bool, true, false, if◌then◌else◌, List, [], ◌∷◌, refl, ap, sym, ◌∙◌, subst, Option, Some, None}
+use Rattle.std.proofs.Common.{arith, ◌≡◌, ◌≤◌, ℕ, Bool, true, false, if◌then◌else◌, List, [], ◌∷◌, refl, ap, sym, ◌∙◌, subst, Option, Some, None}
+use Rattle.std.proofs.lemmas.Bool.{le-ltb}
 use Rattle.std.specs.Prelude.{◌||◌, is_some, nat_lt, option_map}
 use Rattle.h3_proto.specs.Config.{is_limit}
 use Rattle.h3_connection.specs.Codes.{excessive_load}
@@ -19,15 +20,22 @@ use Rattle.h3_connection.specs.declared.event.Item.TheVariants as item
 use Rattle.h3_connection.specs.declared.event.Pull.{Pull}
 use Rattle.h3_connection.specs.declared.event.Pull.TheVariants as answer
 use Rattle.h3_connection.specs.declared.event.StreamFault.{StreamFault}
-use Rattle.h3_strict.specs.Plainly.{exceeds, is_judged, judged_as, judged_at, judged_open, plain, plain_incoming, plainly, tells_fault, tells_malformed}
+use Rattle.h3_strict.specs.PlainEnds.{FewWait, FewWaitBehind, FewWaitIn}
+use Rattle.h3_strict.specs.Plainly.{exceeds, is_judged, judged_as, judged_at, judged_open, plain, plain_incoming, plainly, tells_malformed}
 use Rattle.h3_strict.proofs.PlainCalls.{plain_result}
 use Rattle.h3_strict.proofs.PlainPulls.{PullsPlainly, Judged, Same, plain_pulled, pull_plain}
 use Rattle.h3_strict.proofs.PlainReading.{IsTooLong, ReadsAlike, ReadsPlainly, all_plain, plain_found}
-use Rattle.h3_strict.proofs.PlainStreams.{at_each, set_each, count_each}
+use Rattle.h3_strict.proofs.PlainStreams.{at_each, set_each, count_each, count_set, waits_at}
 
-pub data PulledPlainly (judged : Bool) (x y : Pull × EndpointHistory) : Type 0 where
-  IsJudged : judged ≡ true → tells_fault x.0 ≡ true → PulledPlainly judged x y
-  IsAlike : y ≡ plain_result x → PulledPlainly judged x y
+-- It judges, and tells so where no more streams wait than may.
+pub data PulledPlainly (few : Type 0) (judged : Bool) (x y : Pull × EndpointHistory) : Type 0 where
+  IsJudged : judged ≡ true → (few → tells_malformed x.0 ≡ true) → PulledPlainly few judged x y
+  IsAlike : y ≡ plain_result x → PulledPlainly few judged x y
+
+-- where more is known
+where_more : (few more : Type 0) (judged : Bool) (x y : Pull × EndpointHistory) → (more → few) → PulledPlainly few judged x y → PulledPlainly more judged x y
+where_more few more judged x y gives (IsJudged is told) = IsJudged is (λ known. told (gives known))
+where_more few more judged x y gives (IsAlike same) = IsAlike same
 
 after_plain : (a : Pull) (e : EndpointHistory) → after_answer a (plainly e) ≡ plain_result (after_answer a e)
 after_plain (answer.Fault (fault.Connection code)) e = refl
@@ -38,8 +46,8 @@ after_plain answer.Pending e = refl
 after_plain (answer.Waiting n) e = refl
 after_plain answer.NoMessages e = refl
 
-fault_told : (a : Pull) (e : EndpointHistory) → tells_malformed a ≡ true → tells_fault (after_answer a e).0 ≡ true
-fault_told (answer.Fault (fault.Connection code)) e is = refl
+fault_told : (a : Pull) (e : EndpointHistory) → tells_malformed a ≡ true → tells_malformed (after_answer a e).0 ≡ true
+fault_told (answer.Fault (fault.Connection code)) e is = is
 fault_told (answer.Fault (fault.Stream f)) e is = is
 fault_told (answer.Fault fault.Memory) e is = absurd (cc)
 fault_told (answer.Item i) e is = absurd (cc)
@@ -48,9 +56,19 @@ fault_told (answer.Waiting n) e is = absurd (cc)
 fault_told answer.NoMessages e is = absurd (cc)
 
 module _ (e : EndpointHistory) (id : ℕ) where
-  given_told : (b : Bool) (p : Pulled) → tells_malformed p.answer ≡ true → tells_fault (pulled e id (if_too_many b p)).0 ≡ true
-  given_told true p is = refl
-  given_told false p is = fault_told p.answer (replied (with_incoming e id p.incoming) p.replies) is
+  given_told : (b : Bool) (p : Pulled) → b ≡ false → tells_malformed p.answer ≡ true → tells_malformed (pulled e id (if_too_many b p)).0 ≡ true
+  given_told true p none is = absurd (cc)
+  given_told false p none is = fault_told p.answer (replied (with_incoming e id p.incoming) p.replies) is
+
+  abbrev too_many : Pulled → Bool
+  too_many p = nat_lt e.announced.limits.blocked (heads_waiting e.decoding.decoder (set_stream e.incoming id p.incoming))
+
+  -- a stream that waits for no more than before is none too many
+  none_too_many : (i : Incoming) (p : Pulled) → stream_at e.incoming id ≡ Some i → p.incoming.waits_for ≤ i.waits_for → FewWait e → too_many p ≡ false
+  none_too_many i p here waits few =
+      let less : p.incoming.waits_for ≤ waits_at (stream_at e.incoming id) = rw here waits in
+      le-ltb e.announced.limits.blocked (heads_waiting e.decoding.decoder (set_stream e.incoming id p.incoming))
+      (omega (arith, count_set e.decoding.decoder.table.inserted e.incoming id p.incoming less, few))
 
   given_plain : (p : Pulled) → pulled (plainly e) id (plain_pulled p) ≡ plain_result (pulled e id p)
   given_plain p =
@@ -68,9 +86,9 @@ module _ (e : EndpointHistory) (id : ℕ) where
       (ap (heads_waiting e.decoding.decoder) (set_each plain_incoming e.incoming id p.incoming) ∙ count_each most (set_stream e.incoming id p.incoming))
       ∙ too_many_plain (nat_lt e.announced.limits.blocked (heads_waiting e.decoding.decoder (set_stream e.incoming id p.incoming))) p
 
-  request_plain : (o : Option Incoming) → PulledPlainly (judged_at e id o) (pull_request e id o) (pull_request (plainly e) id (option_map plain_incoming o))
-  request_plain None = IsAlike refl
-  request_plain (Some i) = of (pull_plain e.side e.announced id e.decoding.decoder i)
+  request_plain : (o : Option Incoming) → stream_at e.incoming id ≡ o → PulledPlainly (FewWait e) (judged_at e id o) (pull_request e id o) (pull_request (plainly e) id (option_map plain_incoming o))
+  request_plain None here = IsAlike refl
+  request_plain (Some i) here = of (pull_plain e.side e.announced id e.decoding.decoder i)
     where
       p : Pulled
       p = pull_stream e.side e.announced id e.decoding.decoder i
@@ -78,8 +96,8 @@ module _ (e : EndpointHistory) (id : ℕ) where
       q : Pulled
       q = pull_stream e.side (plain e.announced) id e.decoding.decoder (plain_incoming i)
 
-      of : PullsPlainly p q → PulledPlainly (tells_malformed p.answer) (pulled e id (within_limit e id p)) (pulled (plainly e) id (within_limit (plainly e) id q))
-      of (Judged told) = IsJudged told (given_told _ p told)
+      of : PullsPlainly i.waits_for p q → PulledPlainly (FewWait e) (tells_malformed p.answer) (pulled e id (within_limit e id p)) (pulled (plainly e) id (within_limit (plainly e) id q))
+      of (Judged told waits) = IsJudged told (λ few. given_told (too_many p) p (none_too_many i p here waits few) told)
       of (Same is) = IsAlike (ap (λ x. pulled (plainly e) id (within_limit (plainly e) id x)) is ∙ ap (pulled (plainly e) id) (limit_plain p) ∙ given_plain (within_limit e id p))
 
   told_plain : (x : Pull × Unidirectional) → pulled_unidirectional (plainly e) id x ≡ plain_result (pulled_unidirectional e id x)
@@ -89,9 +107,9 @@ module _ (e : EndpointHistory) (id : ℕ) where
   peer_plain None = refl
   peer_plain (Some o) = told_plain (pull_unidirectional o o.role)
 
-  kind_plain : (k : Kind) → PulledPlainly (judged_as e id k) (pull_at e id k) (pull_at (plainly e) id k)
+  kind_plain : (k : Kind) → PulledPlainly (FewWait e) (judged_as e id k) (pull_at e id k) (pull_at (plainly e) id k)
   kind_plain Request =
-      subst (λ o. PulledPlainly (judged_as e id Request) (pull_at e id Request) (pull_request (plainly e) id o)) (sym (at_each plain_incoming e.incoming id)) (request_plain (stream_at e.incoming id))
+      subst (λ o. PulledPlainly (FewWait e) (judged_as e id Request) (pull_at e id Request) (pull_request (plainly e) id o)) (sym (at_each plain_incoming e.incoming id)) (request_plain (stream_at e.incoming id) refl)
   kind_plain ServerOpened = IsAlike refl
   kind_plain OwnUnidirectional = IsAlike refl
   kind_plain PeerUnidirectional = IsAlike (peer_plain (stream_at e.unidirectional id))
@@ -137,36 +155,39 @@ module _ (e : EndpointHistory) (id : ℕ) where
   settles_alike PeerUnidirectional = refl
 
 -- behind what was read
-found_plain : (id : ℕ) (x : Found) → PulledPlainly (judged_as x.0 id (kind_of x.0.side id)) (pulled_after x id) (pulled_after (plain_found x) id)
+found_plain : (id : ℕ) (x : Found) → PulledPlainly (FewWaitIn x) (judged_as x.0 id (kind_of x.0.side id)) (pulled_after x id) (pulled_after (plain_found x) id)
 found_plain id (f, Some code) = IsAlike refl
-found_plain id (f, None) = kind_plain f id (kind_of f.side id)
+found_plain id (f, None) = where_more (FewWait f) _ _ _ _ (λ few. few f refl) (kind_plain f id (kind_of f.side id))
 
-open_plain : (closed : Option ℕ) (long : Bool) (e f : EndpointHistory) (id : ℕ) (x y : Pull × EndpointHistory) → PulledPlainly (long || judged_as f id (kind_of f.side id)) x y
-    → PulledPlainly (long || judged_open closed f id) (pull_unless closed e x) (pull_unless closed (plainly e) y)
-open_plain (Some code) long e f id x y h = IsAlike refl
-open_plain None long e f id x y h = h
+open_plain : (few : Type 0) (closed : Option ℕ) (long : Bool) (e f : EndpointHistory) (id : ℕ) (x y : Pull × EndpointHistory) → PulledPlainly few (long || judged_as f id (kind_of f.side id)) x y
+    → PulledPlainly few (long || judged_open closed f id) (pull_unless closed e x) (pull_unless closed (plainly e) y)
+open_plain few (Some code) long e f id x y h = IsAlike refl
+open_plain few None long e f id x y h = h
 
 -- what is kept may be too long, too
-or_judged : (long b : Bool) (x y : Pull × EndpointHistory) → PulledPlainly b x y → PulledPlainly (long || b) x y
-or_judged true b x y (IsJudged judged told) = IsJudged refl told
-or_judged false b x y (IsJudged judged told) = IsJudged judged told
-or_judged long b x y (IsAlike same) = IsAlike same
+or_judged : (few : Type 0) (long b : Bool) (x y : Pull × EndpointHistory) → PulledPlainly few b x y → PulledPlainly few (long || b) x y
+or_judged few true b x y (IsJudged judged told) = IsJudged refl told
+or_judged few false b x y (IsJudged judged told) = IsJudged judged told
+or_judged few long b x y (IsAlike same) = IsAlike same
 
-long_told : (id : ℕ) (x : Found) → x.1 ≡ Some excessive_load → tells_fault (pulled_after x id).0 ≡ true
-long_told id (f, fault) is = ap (λ o. tells_fault (pulled_after (let x : Found = (f, o) in x) id).0) is
+long_told : (id : ℕ) (x : Found) → x.1 ≡ Some excessive_load → tells_malformed (pulled_after x id).0 ≡ true
+long_told id (f, fault) is = ap (λ o. tells_malformed (pulled_after (let x : Found = (f, o) in x) id).0) is
 
 is_long : (e : EndpointHistory) (fault : Option ℕ) (b : Bool) → fault ≡ Some excessive_load → is_limit (limit_of e) ≡ true → (exceeds e fault || b) ≡ true
 is_long e fault b is limit = ap (λ o. exceeds e o || b) is ∙ ap (λ on. on || b) limit
 
-kept_plain : (kept : List Arrival) (e : EndpointHistory) (id : ℕ) → PulledPlainly (exceeds e (read_all kept (unkept e)).1 || judged_open e.closed (read_all kept (unkept e)).0 id) (pulls_behind kept e id) (pulls_behind kept (plainly e) id)
-kept_plain [] e id = open_plain e.closed false e (unkept e) id _ _ (kind_plain e id (kind_of e.side id))
-kept_plain (k ∷ kept) e id = open_plain e.closed (exceeds e (read_all (k ∷ kept) (unkept e)).1) e (read_all (k ∷ kept) (unkept e)).0 id _ _ (subst If (sym (settles_alike e id kind)) (by_test (settles e id) refl))
+kept_plain : (kept : List Arrival) (e : EndpointHistory) (id : ℕ) → PulledPlainly (FewWaitIn (read_all kept (unkept e))) (exceeds e (read_all kept (unkept e)).1 || judged_open e.closed (read_all kept (unkept e)).0 id) (pulls_behind kept e id) (pulls_behind kept (plainly e) id)
+kept_plain [] e id = open_plain (FewWaitIn (unkept e, None)) e.closed false e (unkept e) id _ _ (where_more (FewWait e) (FewWaitIn (unkept e, None)) _ _ _ (λ few. few (unkept e) refl) (kind_plain e id (kind_of e.side id)))
+kept_plain (k ∷ kept) e id = open_plain few e.closed (exceeds e (read_all (k ∷ kept) (unkept e)).1) e (read_all (k ∷ kept) (unkept e)).0 id _ _ (subst If (sym (settles_alike e id kind)) (by_test (settles e id) refl))
   where
     kind : Kind
     kind = kind_of e.side id
 
     x : Found
     x = read_all (k ∷ kept) (unkept e)
+
+    few : Type 0
+    few = FewWaitIn (read_all (k ∷ kept) (unkept e))
 
     judged : Bool
     judged = exceeds e x.1 || judged_as x.0 id (kind_of x.0.side id)
@@ -175,18 +196,18 @@ kept_plain (k ∷ kept) e id = open_plain e.closed (exceeds e (read_all (k ∷ k
     y = read_all (k ∷ kept) (unkept (plainly e))
 
     If : Bool → Type 0
-    If b = PulledPlainly judged (if settles e id then pull_at e id kind else pulled_after x id) (if b then pull_at (plainly e) id kind else pulled_after y id)
+    If b = PulledPlainly few judged (if settles e id then pull_at e id kind else pulled_after x id) (if b then pull_at (plainly e) id kind else pulled_after y id)
 
-    by_reading : ReadsPlainly (limit_of (unkept e)) x y → PulledPlainly judged (pulled_after x id) (pulled_after y id)
-    by_reading (IsTooLong limit long) = IsJudged (is_long e x.1 (judged_as x.0 id (kind_of x.0.side id)) long limit) (long_told id x long)
+    by_reading : ReadsPlainly (limit_of (unkept e)) x y → PulledPlainly few judged (pulled_after x id) (pulled_after y id)
+    by_reading (IsTooLong limit long) = IsJudged (is_long e x.1 (judged_as x.0 id (kind_of x.0.side id)) long limit) (λ known. long_told id x long)
     by_reading (ReadsAlike same) =
-        subst (λ z. PulledPlainly judged (pulled_after x id) (pulled_after z id)) (sym same)
-        (or_judged (exceeds e x.1) (judged_as x.0 id (kind_of x.0.side id)) (pulled_after x id) (pulled_after (plain_found x) id) (found_plain id x))
+        subst (λ z. PulledPlainly few judged (pulled_after x id) (pulled_after z id)) (sym same)
+        (or_judged few (exceeds e x.1) (judged_as x.0 id (kind_of x.0.side id)) (pulled_after x id) (pulled_after (plain_found x) id) (found_plain id x))
 
-    by_test : (b : Bool) → settles e id ≡ b → PulledPlainly judged (if b then pull_at e id kind else pulled_after x id) (if b then pull_at (plainly e) id kind else pulled_after y id)
+    by_test : (b : Bool) → settles e id ≡ b → PulledPlainly few judged (if b then pull_at e id kind else pulled_after x id) (if b then pull_at (plainly e) id kind else pulled_after y id)
     by_test true is = IsAlike (settled_kind e id kind is)
     by_test false is = by_reading (all_plain (k ∷ kept) (unkept e))
 
 -- what comes next on a stream
-pub pulls_plainly : (e : EndpointHistory) (id : ℕ) → PulledPlainly (is_judged e id) (pulls e id) (pulls (plainly e) id)
+pub pulls_plainly : (e : EndpointHistory) (id : ℕ) → PulledPlainly (FewWaitBehind e) (is_judged e id) (pulls e id) (pulls (plainly e) id)
 pulls_plainly e id = kept_plain e.kept e id

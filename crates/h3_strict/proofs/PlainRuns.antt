@@ -5,7 +5,7 @@ use Rattle.std.specs.List.{list_any}
 use Rattle.h3_world.specs.Ends.{Ends, answered, answers_of_ends, ends_after}
 use Rattle.h3_world.specs.declared.event.Answer.{Answer}
 use Rattle.h3_world.specs.declared.event.Event.{Event}
-use Rattle.h3_strict.specs.PlainEnds.{IsFront, NoneJudges, RunsPlainly, StepsPlainly, Alike, Judges, RefusesMalformed, answers_without_malformed, before_judged, finds_fault, is_malformed_refusal, judges, plain_ends, without_malformed}
+use Rattle.h3_strict.specs.PlainEnds.{AreBounded, FewWaitAt, IsFront, NoneJudges, RunsPlainly, StepsPlainly, Alike, Judges, RefusesMalformed, answers_without_malformed, before_judged, finds_fault, is_malformed_refusal, judges, plain_ends, without_malformed}
 use Rattle.h3_strict.proofs.PlainSteps.{every_step}
 
 -- an event of a schedule, before others
@@ -47,7 +47,7 @@ alike_on ends e events told same h = record {
     events_are : without_malformed (e ∷ events) (a ∷ later) ≡ e ∷ others
     events_are = ap (λ b. if b then others else e ∷ others) told
 
-step_on : (ends : Ends) (e : Event) (events : List Event) → (judges ends e ≡ true → finds_fault (answered ends e).0 ≡ true → ⊥) → StepsPlainly ends e → RunsPlainly (answered ends e).1 events → RunsPlainly ends (e ∷ events)
+step_on : (ends : Ends) (e : Event) (events : List Event) → (judges ends e ≡ true → (FewWaitAt ends → finds_fault (answered ends e).0 ≡ true) → ⊥) → StepsPlainly ends e → RunsPlainly (answered ends e).1 events → RunsPlainly ends (e ∷ events)
 step_on ends e events none (RefusesMalformed told same) h = refused_on ends e events told same h
 step_on ends e events none (Judges judged told) h = absurd (none judged told)
 step_on ends e events none (Alike told same) h = alike_on ends e events told same h
@@ -63,11 +63,13 @@ neither true rest h = absurd (cc)
 neither false rest h = (refl, h)
 
 -- a schedule in which no pull finds a fault
-pub runs_faultless : (ends : Ends) (events : List Event) → list_any finds_fault (answers_of_ends ends events) ≡ false → RunsPlainly ends events
-runs_faultless ends [] h = record { answers = refl; leads = refl }
-runs_faultless ends (e ∷ events) h =
-    let parts = neither (finds_fault (answered ends e).0) (list_any finds_fault (answers_of_ends (answered ends e).1 events)) h in
-    step_on ends e events (λ judged told. not_both (finds_fault (answered ends e).0) parts.0 told) (every_step ends e) (runs_faultless (answered ends e).1 events parts.1)
+module _ (few : (ends : Ends) → AreBounded ends → FewWaitAt ends) (keeps : (ends : Ends) (e : Event) → AreBounded ends → AreBounded (answered ends e).1) where
+  pub runs_faultless : (ends : Ends) (events : List Event) → AreBounded ends → list_any finds_fault (answers_of_ends ends events) ≡ false → RunsPlainly ends events
+  runs_faultless ends [] bounded h = record { answers = refl; leads = refl }
+  runs_faultless ends (e ∷ events) bounded h =
+      let parts = neither (finds_fault (answered ends e).0) (list_any finds_fault (answers_of_ends (answered ends e).1 events)) h in
+      step_on ends e events (λ judged told. not_both (finds_fault (answered ends e).0) parts.0 (told (few ends bounded))) (every_step ends e)
+      (runs_faultless (answered ends e).1 events (keeps ends e bounded) parts.1)
 
 -- a schedule in which no event judges
 pub runs_plainly : (ends : Ends) (events : List Event) → NoneJudges ends events → RunsPlainly ends events

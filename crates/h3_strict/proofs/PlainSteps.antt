@@ -24,7 +24,7 @@ use Rattle.h3_world.specs.declared.event.Answer.{Answer}
 use Rattle.h3_world.specs.declared.event.Answer.TheVariants as answer
 use Rattle.h3_world.specs.declared.event.Event.{Event}
 use Rattle.h3_world.specs.declared.event.Event.TheVariants as event
-use Rattle.h3_strict.specs.PlainEnds.{StepsPlainly, Alike, Judges, RefusesMalformed, finds_fault, is_malformed_refusal, judges, plain_ends, refused_by, was_too_long}
+use Rattle.h3_strict.specs.PlainEnds.{FewWaitBehind, StepsPlainly, Alike, Judges, RefusesMalformed, finds_fault, is_malformed_refusal, judges, plain_ends, refused_by, was_too_long}
 use Rattle.h3_strict.specs.Plainly.{exceeds, is_excess, is_judged, plain_outgoing, plainly}
 use Rattle.h3_strict.proofs.PlainCalls.{CallsPlainly, Malforms, Does, tells}
 use Rattle.h3_strict.proofs.PlainPulled.{IsAlike, IsJudged, PulledPlainly, pulls_plainly}
@@ -80,8 +80,8 @@ module _ (ends : Ends) (side : Side) where
       (done_beside (success (end_at ends side)) _ _ plain (h (end_at ends side))))
 
   pulled_steps : (id : ℕ) (x y : Pull × EndpointHistory) → answered ends (event.Pull side id) ≡ was_pulled ends side x → answered (plain_ends ends) (event.Pull side id) ≡ was_pulled (plain_ends ends) side y
-      → PulledPlainly (is_judged (end_at ends side) id) x y → StepsPlainly ends (event.Pull side id)
-  pulled_steps id x y is plain_is (IsJudged judged told) = Judges judged (ap (λ z. finds_fault z.0) is ∙ told)
+      → PulledPlainly (FewWaitBehind (end_at ends side)) (is_judged (end_at ends side) id) x y → StepsPlainly ends (event.Pull side id)
+  pulled_steps id x y is plain_is (IsJudged judged told) = Judges judged (λ few. ap (λ z. finds_fault z.0) is ∙ told (few side))
   pulled_steps id (a, e) y is plain_is (IsAlike same) =
       Alike (ap (λ z. is_malformed_refusal z.0) is)
       (plain_is ∙ ap (was_pulled (plain_ends ends) side) same ∙ ap (λ v. let z : Answer × Ends = (answer.Pulled a, v) in z) (sets_end ends side e) ∙ sym (ap (λ z. let w : Answer × Ends = (z.0, plain_ends z.1) in w) is))
@@ -134,7 +134,7 @@ excess_told (answer.Pulled p) is = absurd (cc)
 excess_told a is = is
 
 delivers_steps : (ends : Ends) (reader : Side) (e : Event) → judges ends e ≡ was_too_long ends reader (answered ends e).0 → Delivers ends reader (answered ends e) (answered (plain_ends ends) e) → StepsPlainly ends e
-delivers_steps ends reader e judged (IsExcess long) = Judges (judged ∙ long) (excess_told (answered ends e).0 (and_parts (is_excess (refused_by (answered ends e).0)) (is_limit (limit_of (end_at ends reader))) long).0)
+delivers_steps ends reader e judged (IsExcess long) = Judges (judged ∙ long) (λ few. excess_told (answered ends e).0 (and_parts (is_excess (refused_by (answered ends e).0)) (is_limit (limit_of (end_at ends reader))) long).0)
 delivers_steps ends reader e judged (IsBeside h) = steps ends e h
 
 -- the fault of an end that limits it

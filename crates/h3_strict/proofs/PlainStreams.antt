@@ -1,6 +1,8 @@
 -- Streams without what strict messages know of them: each is found, set and counted as before.
-use Rattle.std.proofs.Common.{◌≡◌, ℕ, ◌+◌, Bool, true, false, if◌then◌else◌, [], ◌∷◌, refl, ap, sym, ◌∙◌, Option, Some, None}
+use Rattle.std.proofs.Common.{arith, ◌≡◌, ◌≤◌, ℕ, ◌+◌, Bool, true, false, if◌then◌else◌, [], ◌∷◌, refl, ap, sym, ◌∙◌, Option, Some, None, inl, inr}
 use Rattle.std.specs.Prelude.{count_by, ◌==◌, nat_lt, option_map, unwrap_or}
+use Rattle.std.proofs.lemmas.Bool.{cases_eq, cases_lt, lt-ltb, le-ltb}
+use Rattle.std.proofs.lemmas.Grind.{common_steps}
 use Rattle.std.proofs.lemmas.List.Sums.{sum_by-cons}
 use Rattle.h3_connection.specs.Delivering.{incoming_at}
 use Rattle.h3_connection.specs.Endpoint.{EndpointHistory}
@@ -46,6 +48,36 @@ pub count_each : (n : ℕ) (streams : Streams Incoming) → waiting_above n (eac
 count_each n [] = refl
 count_each n ((q, i) ∷ streams) =
     count_more n q (plain_incoming i) (each_stream plain_incoming streams) ∙ ap (λ m. (if nat_lt n i.waits_for then 1 else 0) + m) (count_each n streams) ∙ sym (count_more n q i streams)
+
+abbrev one_if : Bool → ℕ
+one_if b = if b then 1 else 0
+
+one_less : (n a b : ℕ) → a ≤ b → one_if (nat_lt n a) ≤ one_if (nat_lt n b)
+one_less n a b h = elim (cases_lt n a) [
+  | inl less ↦ rw (lt-ltb n a less, lt-ltb n b (omega (arith, h, less))) (omega arith)
+  | inr more ↦ rw (le-ltb n a more) (omega arith)
+]
+
+-- what a stream that is not there waits for is nothing
+abbrev pub waits_at : Option Incoming → ℕ
+waits_at None = 0
+waits_at (Some i) = i.waits_for
+
+-- no more wait where one of them waits for no more than before
+pub count_set : (n : ℕ) (streams : Streams Incoming) (id : ℕ) (i : Incoming) → i.waits_for ≤ waits_at (stream_at streams id) → waiting_above n (set_stream streams id i) ≤ waiting_above n streams
+count_set n [] id i h =
+    let none : nat_lt n i.waits_for ≡ false = le-ltb n i.waits_for (omega (arith, h)) in
+    omega (arith, count_more n id i [], ap one_if none)
+count_set n ((q, y) ∷ streams) id i h = elim (cases_eq q id) [
+  | inl same ↦
+      let here : (q == id) ≡ true = grind (arith, common_steps) in
+      let few : i.waits_for ≤ y.waits_for = rw here at h in
+      rw here (omega (arith, count_more n id i streams, count_more n q y streams, one_less n i.waits_for y.waits_for few))
+  | inr differs ↦
+      let there : (q == id) ≡ false = grind (arith, common_steps) in
+      let behind : i.waits_for ≤ waits_at (stream_at streams id) = rw there at h in
+      rw there (omega (arith, count_more n q y (set_stream streams id i), count_more n q y streams, count_set n streams id i behind))
+]
 
 -- a stream of which nothing came is as it was
 or_nothing : (o : Option Incoming) → unwrap_or (option_map plain_incoming o) nothing_came ≡ plain_incoming (unwrap_or o nothing_came)

@@ -59,12 +59,6 @@ abbrev pub tells_malformed : Pull → Bool
 tells_malformed (pull.Fault f) = faults_message f
 tells_malformed _ = false
 
--- Its answer tells of a malformed message, or of any fault of the connection.
-abbrev pub tells_fault : Pull → Bool
-tells_fault (pull.Fault (fault.Stream f)) = is_malformation f
-tells_fault (pull.Fault (fault.Connection code)) = true
-tells_fault _ = false
-
 -- a pull of this receiver would
 abbrev pub judged_at : EndpointHistory → ℕ → Option Incoming → Bool
 judged_at e id None = false

@@ -4,11 +4,11 @@ ghost use Rattle.std.specs.List.{list_any};
 ghost use Rattle.h3_proto.specs.declared.stream.Side.{Side};
 ghost use Rattle.h3_connection.specs.Endpoint.{new_endpoint};
 ghost use Rattle.h3_connection.specs.declared.setup.Announced.{Announced};
-ghost use Rattle.h3_world.specs.Ends.{Ends, answers_of_ends, new_ends};
+ghost use Rattle.h3_world.specs.Ends.{Ends, answered, answers_of_ends, new_ends};
 ghost use Rattle.h3_world.specs.Setup.{IsMadeSetup, JudgesPlainly};
 ghost use Rattle.h3_world.specs.declared.event.Event.{Event};
 ghost use Rattle.h3_world.specs.declared.setup.Setup.{Setup};
-ghost use Rattle.h3_strict.specs.PlainEnds.{IsFront, NoneJudges, RunsPlainly, StepsPlainly, before_judged, finds_fault, plain_ends, plain_setup};
+ghost use Rattle.h3_strict.specs.PlainEnds.{AreBounded, FewWaitAt, IsFront, NoneJudges, RunsPlainly, StepsPlainly, before_judged, finds_fault, plain_ends, plain_setup};
 ghost use Rattle.h3_strict.specs.Plainly.{plain, plainly};
 
 /// Without strict messages a new endpoint, and two new ends, are those of the setup that asks for none. That setup is made where the other
@@ -27,17 +27,29 @@ pub fn each_event_steps_plainly()
     ensures { (ends : Ends) (e : Event) → StepsPlainly ends e }
 {}
 
+/// No more streams of new ends wait for insertions than each announced, and each event keeps them so: an event that judges there tells so.
+pub fn ends_stay_bounded()
+    ensures made { (setup : Setup) → AreBounded (new_ends setup) }
+    ensures kept { (ends : Ends) (e : Event) → AreBounded ends → AreBounded (answered ends e).1 }
+    ensures few { (ends : Ends) → AreBounded ends → FewWaitAt ends }
+{
+    h3_connection::laws::tries_and_waiting_streams_are_bounded();
+}
+
 /// A schedule in which no event judges so is answered, without the sends that were refused as malformed, as by the ends without
-/// strict messages over the other events (`all`). By its answers alone: so is each in which no pull was answered by a malformed message or a
-/// fault of the connection, and no delivery by that of what is too long (`faultless`). So is every schedule up to the first event that
-/// judges (`front`): these events are a front of it, and their answers one of its answers.
+/// strict messages over the other events (`all`). By its answers alone: so is each in which no pull was answered by a malformed message, a
+/// frame at the wrong place or one too long, and no delivery by the fault of what is too long (`faultless`), where no more
+/// streams wait than may. So that no pull is answered by another fault of the connection is no premise, and follows. So is every schedule up
+/// to the first event that judges (`front`): these events are a front of it, and their answers one of its answers.
 pub fn whole_runs_are_plain()
     ensures all { (ends : Ends) (events : List Event) → NoneJudges ends events → RunsPlainly ends events }
-    ensures faultless { (ends : Ends) (events : List Event) → list_any finds_fault (answers_of_ends ends events) ≡ false → RunsPlainly ends events }
+    ensures faultless { (ends : Ends) (events : List Event) → AreBounded ends → list_any finds_fault (answers_of_ends ends events) ≡ false → RunsPlainly ends events }
     ensures front { (ends : Ends) (events : List Event) → IsFront ends events (before_judged ends events) × RunsPlainly ends (before_judged ends events) }
     ensures none { (ends : Ends) (events : List Event) → NoneJudges ends (before_judged ends events) }
     ensures whole { (ends : Ends) (events : List Event) → NoneJudges ends events → before_judged ends events ≡ events }
-{}
+{
+    ends_stay_bounded();
+}
 
 ghost use Rattle.std.specs.List.{AllByRecursion};
 ghost use Rattle.h3_world.specs.Ends.{ends_after};
@@ -80,7 +92,7 @@ pub fn strict_endpoints_hand_out_what_was_sent()
     h3_headline::parts::endpoints_hand_out_what_was_sent();
 }
 
-/// In such a schedule of new ends, where no event judges, no pull is answered by a malformed message or a fault of the connection: so
+/// In such a schedule of new ends, where no event judges, no answer finds a message malformed, a frame at the wrong place or one too long: so
 /// what is judged is told by the answers alone.
 pub fn schedules_that_judge_nothing_find_no_fault()
     ensures { (setup : Setup) (events : List Event) → IsMadeSetup setup → AllByRecursion IsSendable events → NoneJudges (new_ends setup) events → list_any finds_fault (answers_of_ends (new_ends setup) events) ≡ false }

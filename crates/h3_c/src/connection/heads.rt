@@ -1,20 +1,19 @@
-//! The heads and trailers that C sends.
-ghost use Rattle.std.specs.Prelude.{◌≡◌};
-ghost use Rattle.h3_connection.specs.SendingContracts.{SendsHead, SendsTrailer};
-ghost use Rattle.h3_session.specs.SendingLists.{SendsFieldList, SendsTrailerList};
-ghost use Rattle.h3_c.specs.Exported.{Calls, OnStream, OrMemory, SendsCut, SendsGiven};
-ghost use Rattle.h3_c.specs.Given.{fields_cut, head_given};
-ghost use Rattle.h3_c.specs.Numbers.{call_told};
+//! The header and trailer sections that C sends.
+ghost use Rattle.std.specs.Prelude.{List, Option};
+ghost use Rattle.h3_field.specs.Field.{Field};
+ghost use Rattle.h3_session.specs.SendingLists.{SendsFieldList, SendsTrailerList, order_refusal, place_refusal};
+ghost use Rattle.h3_c.specs.Exported.{OnStream, SendsCut};
+ghost use Rattle.h3_c.specs.Given.{fields_cut};
+ghost use Rattle.h3_c.specs.Giving.{RefusesFields};
 
 use super::Connection;
-use crate::fields::{FieldSize, cut_fields, given_head, let_go};
-use crate::numbers::{ARGUMENT, Told, called, listed};
-use h3_header::Header;
+use crate::fields::{FieldSize, cut_fields, let_go};
+use crate::numbers::{ARGUMENT, Told, listed, refused};
 use h3_proto::stream::StreamId;
 use std::alloc::Global;
 
 impl Connection {
-    /// A head goes out on a stream.
+    /// A header section goes out on a stream, as it is.
     pub(crate) fn send_head(
         &mut self,
         alloc: Global,
@@ -22,70 +21,8 @@ impl Connection {
         sizes: &[FieldSize],
         bytes: &'static [u8],
     ) -> Told
-        ensures { OnStream id result self.old self.new (OrMemory result self.old self.new
-            (SendsGiven (head_given sizes.now bytes.now) result self.old self.new (λ head call. SendsHead self.old.endpoint self.new.endpoint id head call))) }
-    {
-        let Ok(stream) = StreamId::try_from(id) else {
-            return ARGUMENT;
-        };
-        match given_head(alloc, sizes, bytes) {
-            Ok(head) => {
-                let told = self.put_head(stream, &head);
-                drop(head);
-                told
-            }
-            Err(told) => told,
-        }
-    }
-
-    // (a function of its own: each exit of one that owns the head would drop it)
-    fn put_head(&mut self, stream: StreamId, head: &Header) -> Told
-        ensures { Calls call_told result self.old self.new (λ call. SendsHead self.old.endpoint self.new.endpoint stream head.now call) }
-    {
-        called(self.endpoint.send_head(stream, head))
-    }
-
-    /// A trailer goes out on a stream.
-    pub(crate) fn send_trailer(
-        &mut self,
-        alloc: Global,
-        id: u64,
-        sizes: &[FieldSize],
-        bytes: &'static [u8],
-    ) -> Told
-        ensures { OnStream id result self.old self.new (OrMemory result self.old self.new
-            (SendsGiven (head_given sizes.now bytes.now) result self.old self.new (λ head call. SendsTrailer self.old.endpoint self.new.endpoint id head call))) }
-    {
-        let Ok(stream) = StreamId::try_from(id) else {
-            return ARGUMENT;
-        };
-        match given_head(alloc, sizes, bytes) {
-            Ok(trailer) => {
-                let told = self.put_trailer(stream, &trailer);
-                drop(trailer);
-                told
-            }
-            Err(told) => told,
-        }
-    }
-
-    // (a function of its own: each exit of one that owns the trailer would drop it)
-    fn put_trailer(&mut self, stream: StreamId, trailer: &Header) -> Told
-        ensures { Calls call_told result self.old self.new (λ call. SendsTrailer self.old.endpoint self.new.endpoint stream trailer.now call) }
-    {
-        called(self.endpoint.send_trailer(stream, trailer))
-    }
-
-    /// A list goes out on a stream in the place of a head.
-    pub(crate) fn send_fields(
-        &mut self,
-        alloc: Global,
-        id: u64,
-        sizes: &[FieldSize],
-        bytes: &'static [u8],
-    ) -> Told
-        ensures { OnStream id result self.old self.new (OrMemory result self.old self.new
-            (SendsCut (fields_cut sizes.now bytes.now) result self.old self.new (λ fields call. SendsFieldList self.old.endpoint self.new.endpoint id fields call))) }
+        ensures { OnStream id result self.old self.new
+            (SendsCut (fields_cut sizes.now bytes.now) (λ e. place_refusal e id) result self.old self.new (λ fields call. SendsFieldList self.old.endpoint self.new.endpoint id fields call)) }
     {
         let Ok(stream) = StreamId::try_from(id) else {
             return ARGUMENT;
@@ -98,21 +35,35 @@ impl Connection {
             }
             Err(told) => {
                 let_go(alloc, &mut self.spare);
-                told
+                self.head_not_cut(stream, told)
             }
         }
     }
 
-    /// A list goes out on a stream in the place of a trailer.
-    pub(crate) fn send_trailer_fields(
+    // What is told of a list that was not cut: that its stream takes none comes before want of memory.
+    #[tactic(auto, using(crate::proofs::Uncut::no_sizes, crate::proofs::Uncut::not_taken, crate::proofs::Uncut::no_room))]
+    fn head_not_cut(&self, stream: StreamId, told: Told) -> Told
+        ensures { (cut : Option (List Field)) → RefusesFields cut told → SendsCut cut (λ e. place_refusal e stream) result self.now self.now (λ fields call. SendsFieldList self.now.endpoint self.now.endpoint stream fields call) }
+    {
+        if told.number == ARGUMENT.number {
+            return told;
+        }
+        match self.endpoint.head_refusal(stream) {
+            Some(refusal) => refused(refusal),
+            None => told,
+        }
+    }
+
+    /// A trailer section goes out on a stream, as it is.
+    pub(crate) fn send_trailer(
         &mut self,
         alloc: Global,
         id: u64,
         sizes: &[FieldSize],
         bytes: &'static [u8],
     ) -> Told
-        ensures { OnStream id result self.old self.new (OrMemory result self.old self.new
-            (SendsCut (fields_cut sizes.now bytes.now) result self.old self.new (λ fields call. SendsTrailerList self.old.endpoint self.new.endpoint id fields call))) }
+        ensures { OnStream id result self.old self.new
+            (SendsCut (fields_cut sizes.now bytes.now) (λ e. order_refusal e id) result self.old self.new (λ fields call. SendsTrailerList self.old.endpoint self.new.endpoint id fields call)) }
     {
         let Ok(stream) = StreamId::try_from(id) else {
             return ARGUMENT;
@@ -129,8 +80,22 @@ impl Connection {
             }
             Err(told) => {
                 let_go(alloc, &mut self.spare);
-                told
+                self.trailer_not_cut(stream, told)
             }
+        }
+    }
+
+    // The same of a trailer.
+    #[tactic(auto, using(crate::proofs::Uncut::no_sizes, crate::proofs::Uncut::not_taken, crate::proofs::Uncut::no_room))]
+    fn trailer_not_cut(&self, stream: StreamId, told: Told) -> Told
+        ensures { (cut : Option (List Field)) → RefusesFields cut told → SendsCut cut (λ e. order_refusal e stream) result self.now self.now (λ fields call. SendsTrailerList self.now.endpoint self.now.endpoint stream fields call) }
+    {
+        if told.number == ARGUMENT.number {
+            return told;
+        }
+        match self.endpoint.trailer_refusal(stream) {
+            Some(refusal) => refused(refusal),
+            None => told,
         }
     }
 }

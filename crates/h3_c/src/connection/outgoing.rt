@@ -1,22 +1,30 @@
 //! What waits to be sent.
 ghost use Rattle.std.specs.Prelude.{◌≡◌, ◌≤◌, ◌^◌};
-ghost use Rattle.h3_c.specs.Exported.{CopiesOut, OnStream, Takes, WaitsNext};
+ghost use Rattle.h3_c.specs.Exported.{CopiesOut, OnStream, Takes};
 
 use super::Connection;
-use crate::numbers::{ARGUMENT, NONE, OK, Told};
+use crate::numbers::{ARGUMENT, OK, Told};
 use h3_proto::stream::StreamId;
 
 impl Connection {
-    /// Copies the first bytes that wait on a stream: as many as fit.
-    pub(crate) fn outgoing(&self, id: u64, out: &mut [u8], count: &mut usize, fin: &mut u32) -> Told
-        ensures copies { OnStream id result self.now self.now (CopiesOut self.now id result out.old out.new count.new fin.new) }
-        ensures unwritten { 2 ^ 62 ≤ id → (out.new ≡ out.old) × (count.new ≡ count.old) × (fin.new ≡ fin.old) }
+    /// Copies the first bytes that wait on a stream, up to a payload that C holds and as many as fit, and tells how many of that follow.
+    pub(crate) fn outgoing(
+        &self,
+        id: u64,
+        out: &mut [u8],
+        count: &mut usize,
+        past: &mut usize,
+        fin: &mut u32,
+    ) -> Told
+        ensures copies { OnStream id result self.now self.now (CopiesOut self.now id result out.old out.new count.new past.new fin.new) }
+        ensures unwritten { 2 ^ 62 ≤ id → (out.new ≡ out.old) × (count.new ≡ count.old) × (past.new ≡ past.old) × (fin.new ≡ fin.old) }
     {
         let Ok(id) = StreamId::try_from(id) else {
             return ARGUMENT;
         };
-        let (copied, is_last) = self.endpoint.copy_with_end(id, out);
+        let (copied, follow, is_last) = self.endpoint.copy_with_end(id, out);
         *count = copied;
+        *past = follow;
         *fin = is_last as u32;
         OK
     }
@@ -32,17 +40,6 @@ impl Connection {
             return ARGUMENT;
         }
         self.endpoint.advance(stream, count);
-        OK
-    }
-
-    /// The lowest id from `from` on, of a stream on which bytes wait.
-    pub(crate) fn next_waiting(&self, from: u64, id: &mut u64) -> Told
-        ensures { WaitsNext self.now from result id.old id.new }
-    {
-        let Some(next) = self.endpoint.next_waiting(from) else {
-            return NONE;
-        };
-        *id = next.into_inner();
         OK
     }
 }

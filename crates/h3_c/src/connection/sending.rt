@@ -1,11 +1,12 @@
 //! What C sends, heads and trailers aside.
-ghost use Rattle.std.specs.Prelude.{◌≡◌};
-ghost use Rattle.h3_connection.specs.SendingContracts.{Opens, SendsBody, Finishes, Resets, Cancels, GoesAway};
-ghost use Rattle.h3_c.specs.Exported.{Calls, CallsOn, OnStream, OpensRequest, OrMemory, ShowsNextId};
-ghost use Rattle.h3_c.specs.Numbers.{call_told, body_told};
+ghost use Rattle.std.specs.Prelude.{◌≡◌, ◌<◌, ◌≤◌, ◌^◌, IfErr, IfOk};
+ghost use Rattle.h3_connection.specs.SendingContracts.{SendsBody, Finishes, Resets, Cancels, GoesAway};
+ghost use Rattle.h3_c.specs.Exported.{Calls, CallsOn, OnStream, OpensRequest, ShowsNextId};
+ghost use Rattle.h3_c.specs.Numbers.{argument, call_told, body_told};
+ghost use Rattle.h3_session.specs.Held.{SendsBodyOf};
 
 use super::Connection;
-use crate::numbers::{ARGUMENT, MEMORY, OK, Told, called, refused, sent};
+use crate::numbers::{ARGUMENT, OK, Told, called, or_memory, refused, sent};
 use bytes::Bytes;
 use h3_coding::varint::VarInt;
 use h3_proto::stream::StreamId;
@@ -41,25 +42,26 @@ impl Connection {
 
     /// A piece of a body goes out on a stream.
     pub(crate) fn send_body(&mut self, alloc: Global, id: u64, body: &[u8]) -> Told
-        ensures { OnStream id result self.old self.new (OrMemory result self.old self.new (Calls body_told result self.old self.new (λ call. SendsBody self.old.endpoint self.new.endpoint id body.now call))) }
+        ensures { OnStream id result self.old self.new (Calls body_told result self.old self.new (λ call. SendsBody self.old.endpoint self.new.endpoint id body.now call)) }
     {
-        let Ok(stream) = StreamId::try_from(id) else {
-            return ARGUMENT;
+        let stream = match stream_of(id) {
+            Ok(stream) => stream,
+            Err(told) => return told,
         };
         let Ok(body) = Bytes::copy_from_slice(alloc, body) else {
-            return MEMORY;
+            return or_memory(self.endpoint.body_refusal(stream, body.len()));
         };
         sent(&self.endpoint.send_body(stream, body))
     }
 
-    /// The same of bytes that stay as they lie: they are not copied.
-    pub(crate) fn send_body_lent(&mut self, id: u64, body: &'static [u8]) -> Told
-        ensures { OnStream id result self.old self.new (Calls body_told result self.old self.new (λ call. SendsBody self.old.endpoint self.new.endpoint id body.now call)) }
+    /// A piece of a body of so many bytes goes out on a stream, which C holds.
+    pub(crate) fn send_body_of(&mut self, id: u64, len: usize) -> Told
+        ensures { CallsOn call_told id result self.old self.new (λ call. SendsBodyOf self.old.endpoint self.new.endpoint id len call) }
     {
-        let Ok(stream) = StreamId::try_from(id) else {
+        let Ok(id) = StreamId::try_from(id) else {
             return ARGUMENT;
         };
-        sent(&self.endpoint.send_body(stream, Bytes::from_static(body)))
+        called(self.endpoint.send_body_of(id, len))
     }
 
     /// The message on a stream is whole.
@@ -100,5 +102,16 @@ impl Connection {
             return ARGUMENT;
         };
         called(self.endpoint.goaway(id))
+    }
+}
+
+// The stream of this id, where there may be one.
+fn stream_of(id: u64) -> Result<StreamId, Told>
+    ensures ok { IfOk result (λ stream. (stream ≡ id) × (id < 2 ^ 62)) }
+    ensures unknown { IfErr result (λ told. (told ≡ argument) × (2 ^ 62 ≤ id)) }
+{
+    match StreamId::try_from(id) {
+        Ok(stream) => Ok(stream),
+        Err(_) => Err(ARGUMENT),
     }
 }

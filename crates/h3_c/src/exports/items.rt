@@ -1,8 +1,9 @@
 //! What C calls: items.
 ghost use Rattle.std.specs.Prelude.{◌≡◌, ◌≤◌, ◌^◌, IsSome};
-ghost use Rattle.h3_c.specs.Exported.{OnStream, Pulls, ReadsBytes, ReadsField, Steps, places};
+ghost use Rattle.h3_c.specs.Exported.{OnStream, Pulls, ReadsBytes, ReadsFields, Steps};
 ghost use Rattle.h3_c.specs.Numbers.{number};
 
+use crate::fields::FieldSize;
 use crate::handle::{Handle, kept, opened};
 use crate::items::PulledItem;
 use std::alloc::Global;
@@ -22,29 +23,26 @@ pub extern "C" fn h3_raw_pull(
     ensures unwritten { 2 ^ 62 ≤ id → item.new ≡ item.old }
 {
     let mut connection = opened(alloc, handle);
-    let told = connection.pull(id, item);
+    let told = connection.pull(alloc, id, item);
     *out = kept(connection);
     told.number
 }
 
-/// A field of the head or trailer that was pulled last.
+/// All fields of the header or trailer section that was pulled last.
 #[unsafe(no_mangle)]
-pub extern "C" fn h3_raw_item_field(
+pub extern "C" fn h3_raw_item_fields(
     alloc: Global,
     handle: Handle,
-    index: usize,
-    name: &mut [u8],
-    name_len: &mut usize,
-    value: &mut [u8],
-    value_len: &mut usize,
+    sizes: &mut [FieldSize],
+    bytes: &mut [u8],
     out: &mut Handle,
 ) -> u32
     requires { IsSome handle.value }
     ensures there { IsSome out.new.value }
-    ensures goes { Steps handle.value out.new.value (λ v w. (w ≡ v) × ReadsField v index (number result 0) (places name.old name_len.old value.old value_len.old) (places name.new name_len.new value.new value_len.new)) }
+    ensures goes { Steps handle.value out.new.value (λ v w. (w ≡ v) × ReadsFields v (number result 0) sizes.old sizes.new bytes.old bytes.new) }
 {
-    let mut connection = opened(alloc, handle);
-    let told = connection.item_field(alloc, index, name, name_len, value, value_len);
+    let connection = opened(alloc, handle);
+    let told = connection.item_fields(sizes, bytes);
     *out = kept(connection);
     told.number
 }

@@ -1,8 +1,8 @@
 //! What C calls: what came and is lent.
-ghost use Rattle.std.specs.Prelude.{◌<◌, ◌^◌, IsSome};
+ghost use Rattle.std.specs.Prelude.{IsSome};
 ghost use Rattle.h3_connection.specs.ReceivingContracts.{Delivers};
-ghost use Rattle.h3_c.specs.Exported.{Calls, OnStream, OrMemory, Steps};
-ghost use Rattle.h3_c.specs.Lending.{Keeps, TakesLent};
+ghost use Rattle.h3_c.specs.Exported.{DeliversOn, OnStream, Steps};
+ghost use Rattle.h3_c.specs.Lending.{Keeps};
 ghost use Rattle.h3_c.specs.Numbers.{number, delivery_told};
 
 use crate::handle::{Handle, kept, opened};
@@ -20,8 +20,7 @@ pub extern "C" fn h3_raw_deliver_lent(
 ) -> u32
     requires { IsSome handle.value }
     ensures there { IsSome out.new.value }
-    ensures goes { Steps handle.value out.new.value (λ v w. OnStream id (number result detail.new) v w (OrMemory (number result detail.new) v w (Calls delivery_told (number result detail.new) v w (λ call. Delivers v.endpoint w.endpoint id bytes.now call)))) }
-    ensures at_once { Steps handle.value out.new.value (λ v w. id < 2 ^ 62 → TakesLent v id → Calls delivery_told (number result detail.new) v w (λ call. Delivers v.endpoint w.endpoint id bytes.now call)) }
+    ensures goes { Steps handle.value out.new.value (λ v w. DeliversOn delivery_told id (number result detail.new) v w (λ call. Delivers v.endpoint w.endpoint id bytes.now call)) }
 {
     let mut connection = opened(alloc, handle);
     let told = connection.deliver_lent(alloc, id, bytes);

@@ -1,8 +1,9 @@
 //! What C calls: sending.
 ghost use Rattle.std.specs.Prelude.{◌≡◌, IsSome};
 ghost use Rattle.h3_connection.specs.SendingContracts.{SendsBody, Finishes, Resets, Cancels, GoesAway};
-ghost use Rattle.h3_c.specs.Exported.{Calls, CallsOn, OnStream, OpensRequest, OrMemory, ShowsNextId, Steps};
+ghost use Rattle.h3_c.specs.Exported.{Calls, CallsOn, OnStream, OpensRequest, ShowsNextId, Steps};
 ghost use Rattle.h3_c.specs.Numbers.{number, call_told, body_told};
+ghost use Rattle.h3_session.specs.Held.{SendsBodyOf};
 
 use crate::handle::{Handle, kept, opened};
 use std::alloc::Global;
@@ -59,7 +60,7 @@ pub extern "C" fn h3_raw_send_body(
 ) -> u32
     requires { IsSome handle.value }
     ensures there { IsSome out.new.value }
-    ensures goes { Steps handle.value out.new.value (λ v w. OnStream id (number result detail.new) v w (OrMemory (number result detail.new) v w (Calls body_told (number result detail.new) v w (λ call. SendsBody v.endpoint w.endpoint id bytes.now call)))) }
+    ensures goes { Steps handle.value out.new.value (λ v w. OnStream id (number result detail.new) v w (Calls body_told (number result detail.new) v w (λ call. SendsBody v.endpoint w.endpoint id bytes.now call))) }
 {
     let mut connection = opened(alloc, handle);
     let told = connection.send_body(alloc, id, bytes);
@@ -68,22 +69,22 @@ pub extern "C" fn h3_raw_send_body(
     told.number
 }
 
-/// The same of bytes that stay as they lie, in `include/h3.h` for how long.
+/// A piece of a body of so many bytes goes out on a stream, which C holds.
 #[unsafe(no_mangle)]
-pub extern "C" fn h3_raw_send_body_lent(
+pub extern "C" fn h3_raw_send_body_of(
     alloc: Global,
     handle: Handle,
     id: u64,
-    bytes: &'static [u8],
+    len: usize,
     detail: &mut u64,
     out: &mut Handle,
 ) -> u32
     requires { IsSome handle.value }
     ensures there { IsSome out.new.value }
-    ensures goes { Steps handle.value out.new.value (λ v w. OnStream id (number result detail.new) v w (Calls body_told (number result detail.new) v w (λ call. SendsBody v.endpoint w.endpoint id bytes.now call))) }
+    ensures goes { Steps handle.value out.new.value (λ v w. CallsOn call_told id (number result detail.new) v w (λ call. SendsBodyOf v.endpoint w.endpoint id len call)) }
 {
     let mut connection = opened(alloc, handle);
-    let told = connection.send_body_lent(id, bytes);
+    let told = connection.send_body_of(id, len);
     *out = kept(connection);
     *detail = told.detail;
     told.number

@@ -1,18 +1,18 @@
 //! A copy of what waits to be sent.
-ghost use Rattle.std.specs.Prelude.{◌≡◌, ◌≤◌, ◌==◌, ◌&&◌, ◌++◌, length, take, OnOk, OnErr};
+ghost use Rattle.std.specs.Prelude.{◌≡◌, ◌+◌, ◌-◌, ◌≤◌, ◌==◌, ◌&&◌, ◌++◌, length, take, OnOk, OnErr};
 ghost use Rattle.h3_connection.specs.WaitingPieces.{bytes_of};
 ghost use Rattle.h3_session.specs.Copied.{CopiesTo, TellsEnd};
 ghost use Rattle.h3_session.specs.Running.{CopiesOutgoing};
 
 use super::Endpoint;
 use h3_outgoing::OutgoingStream;
-use h3_outgoing::outgoing::put_front;
+use h3_outgoing::outgoing::put_bytes;
 use h3_proto::stream::StreamId;
 use std::alloc::AllocError;
 
 impl Endpoint {
     /// Appends the first `count` bytes that wait on a stream, at most all, to `out`, where `outgoing` lends those of the first
-    /// frame. They keep waiting. A refusal appends nothing.
+    /// frame. They keep waiting. A refusal appends nothing: memory was refused, or the caller holds some of these bytes (`send_body_of`).
     #[tactic(auto, using(crate::proofs::Copying::copies_own))]
     pub fn copy_outgoing(
         &self,
@@ -31,40 +31,30 @@ impl Endpoint {
         Ok(())
     }
 
-    /// Copies the first bytes that wait on a stream to the front of `out`, as many as fit, over frames too, and says how many. The
-    /// rest of `out` stays, and they keep waiting. It takes no memory.
-    #[tactic(auto, using(crate::proofs::Copying::puts_own))]
-    pub fn copy_to(&self, id: StreamId, out: &mut [u8]) -> usize
-        ensures copied { CopiesTo self.now id result out.old out.new }
-        ensures within { result ≤ length out.old }
-    {
-        match self.sender(id) {
-            Some(stream) => stream.copy_to(out),
-            None => put_front(self.own_outgoing(id), out),
-        }
-    }
-
-    /// The same, and whether the message on the stream was finished and all that waits of it was copied: then the end of the stream goes
-    /// out behind these bytes. With one look-up.
+    /// Copies the first bytes that wait on a stream to the front of `out`, over frames too, up to a payload that the caller holds
+    /// (`send_body_of`) and as many as fit. The rest of `out` stays, and they keep waiting. It takes no memory. Says how many bytes; how many
+    /// of that payload's follow them; and whether the message was finished and these are all that wait of it: then the end of the stream
+    /// goes out behind them. With one look-up.
     #[tactic(auto, using(crate::proofs::Copying::puts_own, crate::proofs::Copying::own_goes_on))]
-    pub fn copy_with_end(&self, id: StreamId, out: &mut [u8]) -> (usize, bool)
-        ensures copied { CopiesTo self.now id result.0 out.old out.new }
+    pub fn copy_with_end(&self, id: StreamId, out: &mut [u8]) -> (usize, usize, bool)
+        ensures copied { CopiesTo self.now id result.0 result.1 out.old out.new }
         ensures within { result.0 ≤ length out.old }
-        ensures ends { TellsEnd self.now id result.0 result.1 }
+        ensures ends { TellsEnd self.now id (result.0 + result.1) result.2 }
     {
         let Some(stream) = self.sender(id) else {
-            return (put_front(self.own_outgoing(id), out), false);
+            return (put_bytes(self.own_outgoing(id), out), 0, false);
         };
-        let count = stream.copy_to(out);
-        (count, ends_behind(stream, count))
+        let (count, past) = stream.copy_to(out);
+        (count, past, ends_behind(stream, count, past))
     }
 }
 
-/// Whether the message on a stream was finished, and so many bytes are all that wait of it.
-fn ends_behind(stream: &OutgoingStream, count: usize) -> bool
-    ensures { result ≡ (stream.now.is_finished && (length (bytes_of stream.now.pieces) == count)) }
+/// Whether the message on a stream was finished, and so many bytes and so many behind them are all that wait of it.
+fn ends_behind(stream: &OutgoingStream, count: usize, past: usize) -> bool
+    requires { count ≤ length (bytes_of stream.now.pieces) }
+    ensures { result ≡ (stream.now.is_finished && (length (bytes_of stream.now.pieces) - count == past)) }
 {
-    stream.is_finished() && stream.waiting() == count
+    stream.is_finished() && stream.waiting() - count == past
 }
 
 /// Appends the first bytes of a text, at most all. A refusal appends nothing.

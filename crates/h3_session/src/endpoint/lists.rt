@@ -123,26 +123,20 @@ impl Endpoint {
     fn head_error(&self, id: StreamId, later: FieldsError) -> FieldsError
         ensures { result ≡ error_after (head_refused_at (kept_at self.now.requests id)) later }
     {
-        let Some(stream) = self.requests.outgoing(id) else {
-            return FieldsError::Refused(Refusal::NotOpen);
-        };
-        if !stream.takes_head() {
-            return FieldsError::Refused(Refusal::OutOfOrder);
+        match self.head_order_refusal(id) {
+            Some(refusal) => FieldsError::Refused(refusal),
+            None => later,
         }
-        later
     }
 
     // The same of a trailer.
     fn trailer_error(&self, id: StreamId, later: FieldsError) -> FieldsError
         ensures { result ≡ error_after (body_refused_at (kept_at self.now.requests id)) later }
     {
-        let Some(stream) = self.requests.outgoing(id) else {
-            return FieldsError::Refused(Refusal::NotOpen);
-        };
-        if !stream.takes_body() {
-            return FieldsError::Refused(Refusal::OutOfOrder);
+        match self.trailer_order_refusal(id) {
+            Some(refusal) => FieldsError::Refused(refusal),
+            None => later,
         }
-        later
     }
 
     // A list that reads as a head of this side goes out, and the message is at this place behind it.

@@ -304,7 +304,7 @@ impl Endpoint {
 
     // Why what comes on a stream is refused, a connection fault aside. An end or a reset that is kept counts.
     #[tactic(auto, using(crate::proofs::ReceivingRefusals::arrival_refusal_is))]
-    fn arrival_refusal(&self, id: StreamId) -> Option<Refusal>
+    pub(super) fn arrival_refusal(&self, id: StreamId) -> Option<Refusal>
         ensures stored { result ≡ arrival_refused self.now id }
         ensures history { (e : EndpointHistory) → StandsFor self.now e → result ≡ arrival_refusal e id }
     {

@@ -9,8 +9,10 @@ ghost use Rattle.h3_connection.specs.SendingContracts.{Opens, SendsBody, Finishe
 ghost use Rattle.h3_unidirectional.specs.Owned.{waiting_on, having_taken};
 ghost use Rattle.h3_connection.specs.State.{kept_at};
 ghost use Rattle.h3_connection.specs.declared.event.Refusal.TheVariants.{OutOfMemory};
+ghost use Rattle.h3_outgoing.specs.Held.{held};
 ghost use Rattle.h3_outgoing.specs.Sent.{has_body, has_ended, was_cut_off};
 ghost use Rattle.h3_requests.specs.Refused.{data_refused_at, end_refused_at, reset_refused_at};
+ghost use Rattle.h3_session.specs.Held.{HoldsNone, LendsFront, SendsBodyOf};
 ghost use Rattle.h3_session.specs.NextRequest.{ShowsNextRequest};
 ghost use Rattle.h3_session.specs.Refused.{sender_in, critical_refused, goaway_refused, open_refused};
 
@@ -19,6 +21,7 @@ use bytes::Bytes;
 use h3_coding::varint::VarInt;
 use h3_connection::event::{Malformation, Refusal};
 use h3_outgoing::OutgoingStream;
+use h3_outgoing::outgoing::as_bytes;
 use h3_proto::stream::{Side, StreamId};
 use h3_streams::streams::ConnectionStreams;
 use std::alloc::{AllocError, Global};
@@ -112,8 +115,40 @@ impl Endpoint {
         }
     }
 
+    /// The same of a body of so many bytes, which the caller holds: a DATA frame of this length is announced, and none of its bytes is given.
+    /// They go out behind the bytes that are copied, where `copy_with_end` says so. Refused as a body of these bytes is.
+    pub fn send_body_of(&mut self, id: StreamId, len: usize) -> Result<(), Refusal>
+        ensures { SendsBodyOf self.old self.new id len result }
+    {
+        if let Some(code) = self.closed {
+            return Err(Refusal::Closed(code));
+        }
+        let Some(sent) = self.sent_with(len as u64) else {
+            return Err(self.uncounted_refusal(id, len));
+        };
+        self.append_body_of(id, len, sent)
+    }
+
+    // The same as `append_body`.
+    fn append_body_of(&mut self, id: StreamId, len: usize, sent: u64) -> Result<(), Refusal>
+        ensures rest { OnOk result (self.new ≡ record self.old { requests = self.new.requests; sent = sent }) }
+        ensures same { OnErr result (self.new ≡ record self.old { requests = self.new.requests }) }
+        ensures ok { OnOk result (IfSome (kept_at self.old.requests id) (λ r. Sets self.old.requests self.new.requests id (record r { outgoing = has_body r.outgoing (held len) }))) }
+        ensures taken { OnOk result (data_refused_at (kept_at self.old.requests id) len ≡ None) }
+        ensures why { IfErr result (λ r. r ≡ unwrap_or (data_refused_at (kept_at self.old.requests id) len) OutOfMemory) }
+        ensures err { OnErr result (AllSame self.old.requests self.new.requests) }
+    {
+        match self.requests.send_data_of(id, len) {
+            Ok(()) => {
+                self.sent = sent;
+                Ok(())
+            }
+            Err(refused) => Err(refused),
+        }
+    }
+
     // Why a body is refused whose bytes cannot be counted: what refuses it on its stream comes before want of memory.
-    fn uncounted_refusal(&self, id: StreamId, size: usize) -> Refusal
+    pub(super) fn uncounted_refusal(&self, id: StreamId, size: usize) -> Refusal
         ensures { result ≡ unwrap_or (data_refused_at (kept_at self.now.requests id) size) OutOfMemory }
     {
         let Some(stream) = self.requests.outgoing(id) else {
@@ -253,14 +288,15 @@ impl Endpoint {
         take_own(&mut self.streams, self.side, id, count.min(waiting));
     }
 
-    /// Some of the bytes that wait on a stream, from the first on. Empty exactly where nothing waits.
-    #[tactic(auto, using(crate::proofs::Taking::lends_request, crate::proofs::Taking::lends_own))]
+    /// Some of the bytes that wait on a stream, from the first on. Empty exactly where nothing waits, or first a payload that the caller holds.
+    #[tactic(auto, using(crate::proofs::Taking::lends_request, crate::proofs::Taking::lends_own, crate::proofs::Taking::lends_all))]
     pub fn outgoing(&self, id: StreamId) -> &[u8]
-        ensures { LendsOutgoing self.now id result.now }
+        ensures lends { HoldsNone self.now id → LendsOutgoing self.now id result.now }
+        ensures front { LendsFront self.now id result.now }
     {
         match self.sender(id) {
             Some(stream) => stream.outgoing(),
-            None => self.own_outgoing(id),
+            None => as_bytes(self.own_outgoing(id)),
         }
     }
 
@@ -290,7 +326,7 @@ impl Endpoint {
     }
 }
 
-fn is_server(side: Side) -> bool
+pub(super) fn is_server(side: Side) -> bool
     ensures { result ≡ not (is_client side) }
 {
     match side {

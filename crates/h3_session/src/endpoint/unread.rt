@@ -48,6 +48,9 @@ impl Endpoint {
     /// session; and what was kept of the stream because memory was refused. 0 of a stream that is not there or was given up, and of each stream once
     /// the connection has a fault: no byte is read then, also not by this call, so bytes that were lent may be gone. At most the greatest `u64`. It
     /// takes no memory, and one look-up; behind a `Kept` also a pass over what is kept.
+    ///
+    /// Proved is that it is what the definitions hold of all that came (`held_at`). What memory has of it no clause says here: of a frame of an
+    /// unknown type `FrameBytes` of `h3_wire` says that the bytes are let go of (`AreSpared`), and tests measure that nothing else stays.
     #[tactic(auto, using(crate::proofs::Held::shows_none, crate::proofs::Held::shows_unread))]
     pub fn unread(&self, id: StreamId) -> u64
         ensures { ShowsUnread self.now id result }

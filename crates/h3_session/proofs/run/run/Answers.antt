@@ -74,7 +74,7 @@ returns-clause-faultless_front c = λ few.
       no_connection_fault = c.strict_endpoints_hand_out_what_was_sent.ensures.fault setup front c.requires sendable plainly;
       begins = λ side id. c.strict_endpoints_hand_out_what_was_sent.ensures.front setup front side id c.requires sendable plainly;
       ends = λ side id ended. c.strict_endpoints_hand_out_what_was_sent.ensures.end setup front side id c.requires sendable plainly ended;
-    }) c.args.events.now answers c.whole_runs_are_plain.ensures.faultless c.events_are_typed.ensures
+    }) c.args.events.now answers (λ front. c.whole_runs_are_plain.ensures.faultless (new_ends setup) front (c.ends_stay_bounded.ensures.made setup)) c.events_are_typed.ensures
     (answers_each (new_ends setup) c.args.events.now answers _ _ calls) few
 
 pub returns-clause-faultless : goal.returns-clause-faultless
@@ -88,7 +88,7 @@ returns-clause-faultless c = λ whole none few.
       no_connection_fault = c.strict_endpoints_hand_out_what_was_sent.ensures.fault setup front c.requires sendable plainly;
       begins = λ side id. c.strict_endpoints_hand_out_what_was_sent.ensures.front setup front side id c.requires sendable plainly;
       ends = λ side id ended. c.strict_endpoints_hand_out_what_was_sent.ensures.end setup front side id c.requires sendable plainly ended;
-    }) c.args.events.now answers _ _ c.whole_runs_are_plain.ensures.faultless c.events_are_typed.ensures
+    }) c.args.events.now answers _ _ (λ front. c.whole_runs_are_plain.ensures.faultless (new_ends setup) front (c.ends_stay_bounded.ensures.made setup)) c.events_are_typed.ensures
     (runs_to (new_ends setup) c.args.events.now answers _ _ calls whole) none few
 
 pub returns-clause-strict_front : goal.returns-clause-strict_front
@@ -97,8 +97,17 @@ returns-clause-strict_front c = λ few strict.
     c.announcing-client.ensures c.announcing-server.ensures c.in_ok-client.ensures.0 c.in_ok-client.ensures.1 c.run_between-answers.ensures c.in_ok-client-2.ensures.0 c.in_ok-client-2.ensures.1 in
     let setup = c.args.setup in
     let answers = c.in_ok-client-2.answers.items in
-    front_finds_none setup ServerKnows (λ events sendable known. c.schedules_that_judge_nothing_find_no_fault.ensures setup events c.requires sendable (c.strict_endpoints_take_what_they_send.ensures setup events c.requires strict sendable known)) c.args.events.now answers c.events_are_typed.ensures
-    (answers_each (new_ends setup) c.args.events.now answers _ _ calls) few
+    let each = answers_each (new_ends setup) c.args.events.now answers _ _ calls in
+    let none = front_finds_none setup ServerKnows (λ events sendable known. c.schedules_that_judge_nothing_find_no_fault.ensures setup events c.requires sendable (c.strict_endpoints_take_what_they_send.ensures setup events c.requires strict sendable known)) c.args.events.now answers c.events_are_typed.ensures
+    each few in
+    let runs = runs_until_fault setup (λ front sendable plainly. c.strict_endpoints_run_in_a_world.ensures setup front c.requires sendable plainly)
+    (λ front sendable plainly. record {
+      no_connection_fault = c.strict_endpoints_hand_out_what_was_sent.ensures.fault setup front c.requires sendable plainly;
+      begins = λ side id. c.strict_endpoints_hand_out_what_was_sent.ensures.front setup front side id c.requires sendable plainly;
+      ends = λ side id ended. c.strict_endpoints_hand_out_what_was_sent.ensures.end setup front side id c.requires sendable plainly ended;
+    }) c.args.events.now answers (λ front. c.whole_runs_are_plain.ensures.faultless (new_ends setup) front (c.ends_stay_bounded.ensures.made setup)) c.events_are_typed.ensures
+    each few in
+    λ n not_memory known. (none n not_memory known, runs n not_memory (none n not_memory known))
 
 pub returns-clause-strict : goal.returns-clause-strict
 returns-clause-strict c = λ whole few strict known.
@@ -114,6 +123,6 @@ returns-clause-strict c = λ whole few strict known.
             no_connection_fault = c.strict_endpoints_hand_out_what_was_sent.ensures.fault setup front c.requires sendable plainly;
             begins = λ side id. c.strict_endpoints_hand_out_what_was_sent.ensures.front setup front side id c.requires sendable plainly;
             ends = λ side id ended. c.strict_endpoints_hand_out_what_was_sent.ensures.end setup front side id c.requires sendable plainly ended;
-          }) c.args.events.now answers _ _ c.whole_runs_are_plain.ensures.faultless c.events_are_typed.ensures
+          }) c.args.events.now answers _ _ (λ front. c.whole_runs_are_plain.ensures.faultless (new_ends setup) front (c.ends_stay_bounded.ensures.made setup)) c.events_are_typed.ensures
           (runs_to (new_ends setup) c.args.events.now answers _ _ calls whole) none few,
     )

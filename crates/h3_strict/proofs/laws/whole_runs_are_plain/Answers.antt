@@ -6,7 +6,7 @@ pub returns-clause-all : goal.returns-clause-all
 returns-clause-all c = runs_plainly
 
 pub returns-clause-faultless : goal.returns-clause-faultless
-returns-clause-faultless c = runs_faultless
+returns-clause-faultless c = runs_faultless c.ends_stay_bounded.ensures.few c.ends_stay_bounded.ensures.kept
 
 pub returns-clause-front : goal.returns-clause-front
 returns-clause-front c = λ ends events. (front_before ends events, runs_plainly ends (before_judged ends events) (none_before ends events))

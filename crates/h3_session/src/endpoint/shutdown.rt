@@ -1,0 +1,171 @@
+//! A connection is shut down (RFC 9114, section 5.2).
+ghost use Rattle.std.specs.Prelude.{◌≡◌, ◌==◌, ◌<◌, ◌^◌, length, IfSome};
+ghost use Rattle.std.specs.List.{list_all};
+ghost use Rattle.h3_connection.specs.Answers.{call_refused};
+ghost use Rattle.h3_connection.specs.Endpoint.{own_waiting};
+ghost use Rattle.h3_connection.specs.OwnIds.{control_id};
+ghost use Rattle.h3_connection.specs.ReadingContracts.{Shows};
+ghost use Rattle.h3_connection.specs.SendingContracts.{DoesOrRefuses};
+ghost use Rattle.h3_session.specs.Shutdown.{above_greatest, bounded, goaway_once, is_done, is_named, is_rejected_in, last_taken, notice_id, takes_no_more, GivesNotice, ShowsDrained, ShowsFirstUnseen, ShowsRejected, ShutsDown};
+
+use super::Endpoint;
+use super::sending::is_server;
+use h3_coding::varint::VarInt;
+use h3_connection::event::Refusal;
+use h3_proto::stream::{Side, StreamId};
+
+/// The greatest id of a stream that a client opens both ways.
+const GREATEST_REQUEST: u64 = (1 << 62) - 4;
+
+impl Endpoint {
+    /// Tells the peer that the connection will be shut down, while all that it sends meanwhile is taken: a GOAWAY with 2^62 - 4 by a server, and with
+    /// 2^62 - 1 by a client (RFC 9114, section 5.2). After a round trip `shutdown` follows. Where an earlier GOAWAY was sent it is `Ok`, and
+    /// nothing is written. Refused as `goaway` is.
+    pub fn shutdown_notice(&mut self) -> Result<(), Refusal>
+        ensures { GivesNotice self.old self.new result }
+    {
+        let id = notice_id(self.side);
+        self.goaway_once(id)
+    }
+
+    /// Takes no more: a GOAWAY by a server with the first id that was not seen (`first_unseen`), and by a client, which takes no push, with 0 (RFC
+    /// 9114, section 5.2). Where an earlier GOAWAY names that id or a lower one it is `Ok`, and nothing is written. Refused as `goaway` is, and
+    /// `IdsUsedUp` where each id was seen and no GOAWAY was sent: none is left to name.
+    pub fn shutdown(&mut self) -> Result<(), Refusal>
+        ensures { ShutsDown self.old self.new result }
+    {
+        let id = self.last_taken();
+        self.goaway_once(id)
+    }
+
+    /// The first id of a request stream above all that were seen: from there on no request was processed (RFC 9114, section 5.2). 0 where
+    /// none was seen. It takes no memory, and looks at the streams under way, and mostly at one that is over.
+    pub fn first_unseen(&self) -> u64
+        ensures { ShowsFirstUnseen self.now result }
+    {
+        above_greatest(self.requests.greatest())
+    }
+
+    /// Whether the request on this stream is rejected (RFC 9114, sections 4.1.1 and 5.2): the endpoint is a server that asks for it
+    /// (`Config::with_requests_rejected`), the stream is a request stream from the id of its last GOAWAY on, nothing of it was seen, and the
+    /// connection has no fault. Ask before each delivery on such a stream: where it is so deliver nothing, and end the stream both ways in QUIC
+    /// (RESET_STREAM and STOP_SENDING) with H3_REQUEST_REJECTED. No delivery asks by itself.
+    pub fn is_rejected(&self, id: StreamId) -> bool
+        ensures stored { result ≡ is_rejected_in self.now id }
+        ensures shown { ShowsRejected self.now id result }
+    {
+        self.rejects(id)
+    }
+
+    // The same, by what is stored.
+    fn rejects(&self, id: StreamId) -> bool
+        ensures { result ≡ is_rejected_in self.now id }
+    {
+        self.announced.choices.extensions.requests_rejected
+            && self.closed.is_none()
+            && is_server(self.side)
+            && self.names(id.into_inner())
+            && id.into_inner() % 4 == 0
+            && !self.requests.contains(id)
+    }
+
+    /// Whether nothing is left to be done, so that the connection can be closed without losing a request (RFC 9114, section 5.2). No request is to
+    /// come: a server named an id that is no higher than `first_unseen`, and to a client its server sent a GOAWAY. Each stream was pulled to its end
+    /// or given up; sending on it has ended, all bytes were taken, and `end_taken` said so of its end. And the GOAWAY was taken. A caller that never
+    /// calls `end_taken` (it goes by `next_waiting` alone) sees no connection drained on which a message was finished. It takes no memory, and looks
+    /// at the streams under way alone.
+    pub fn is_drained(&self) -> bool
+        ensures { ShowsDrained self.now result }
+    {
+        if !self.takes_no_more() {
+            return false;
+        }
+        self.are_done() && self.control_is_taken()
+    }
+
+    // Goes away, unless an earlier GOAWAY names this id or a lower one.
+    fn goaway_once(&mut self, id: u64) -> Result<(), Refusal>
+        ensures goes { DoesOrRefuses (λ e. goaway_once e id) self.old self.new (call_refused result) }
+        ensures fits { IfSome self.old.last_goaway (λ earlier. earlier < 2 ^ 62) }
+    {
+        let is_named = self.names(id);
+        if let Some(code) = self.closed {
+            return Err(Refusal::Closed(code));
+        }
+        if is_named {
+            return Ok(());
+        }
+        let Ok(id) = VarInt::from_u64(id) else {
+            return Err(Refusal::IdsUsedUp);
+        };
+        self.goaway(id)
+    }
+
+    // Whether an earlier GOAWAY names this id, or a lower one.
+    fn names(&self, id: u64) -> bool
+        ensures value { result ≡ is_named self.now.last_goaway id }
+        ensures fits { IfSome self.now.last_goaway (λ earlier. earlier < 2 ^ 62) }
+    {
+        match self.last_goaway {
+            Some(earlier) => earlier.into_inner() <= id,
+            None => false,
+        }
+    }
+
+    // What the last GOAWAY names.
+    fn last_taken(&self) -> u64
+        ensures { Shows (λ e. bounded (last_taken e.side e)) self.now result }
+    {
+        match self.side {
+            Side::Client => 0,
+            Side::Server => self.first_unseen(),
+        }
+    }
+
+    // Whether no request is still to come.
+    fn takes_no_more(&self) -> bool
+        ensures { Shows (λ e. takes_no_more e.side e) self.now result }
+    {
+        match self.side {
+            Side::Client => self.streams.peer.last_goaway().is_some(),
+            Side::Server => self.names(self.first_unseen()),
+        }
+    }
+
+    // Whether each request stream is done with.
+    fn are_done(&self) -> bool
+        ensures { Shows (λ e. list_all (λ s. is_done e s.0) e.incoming) self.now result }
+    {
+        match self.requests.unfinished() {
+            Some(_) => false,
+            None => true,
+        }
+    }
+
+    // Whether nothing waits on the own control stream.
+    fn control_is_taken(&self) -> bool
+        ensures { Shows (λ e. length (own_waiting e (control_id e.side)) == 0) self.now result }
+    {
+        self.streams.own.control.len() == 0
+    }
+}
+
+// The first id above the greatest.
+fn above_greatest(greatest: Option<u64>) -> u64
+    ensures { result ≡ bounded (above_greatest greatest) }
+{
+    match greatest {
+        Some(id) => id.saturating_add(4),
+        None => 0,
+    }
+}
+
+// What the first GOAWAY of two names.
+fn notice_id(side: Side) -> u64
+    ensures { result ≡ notice_id side }
+{
+    match side {
+        Side::Client => VarInt::MAX.into_inner(),
+        Side::Server => GREATEST_REQUEST,
+    }
+}
