@@ -3,6 +3,8 @@
 #include <stdio.h>
 #include <stdlib.h>
 #include <string.h>
+
+#include "one_by_one.h"
 #define TEST "arguments"
 #include "expect.h"
 
@@ -17,7 +19,7 @@ static void plain_config(h3_config *c) {
 
 static void of_none(h3_endpoint *e) {
   uint64_t id = 5, detail = 6;
-  size_t n = 7, m;
+  size_t n = 7;
   uint32_t fin;
   uint8_t b[4];
   h3_item item;
@@ -28,26 +30,28 @@ static void of_none(h3_endpoint *e) {
   IS(h3_next_request_id(e, &id, &detail), H3_NO_ENDPOINT);
   IS(h3_send_head(e, 0, &f, 1, "ab", 2, &detail), H3_NO_ENDPOINT);
   IS(h3_send_trailer(e, 0, &f, 1, "ab", 2, &detail), H3_NO_ENDPOINT);
-  IS(h3_send_fields(e, 0, &f, 1, "ab", 2, &detail), H3_NO_ENDPOINT);
-  IS(h3_send_trailer_fields(e, 0, &f, 1, "ab", 2, &detail), H3_NO_ENDPOINT);
+  IS(h3_send_head(e, 0, &f, 1, "ab", 2, &detail), H3_NO_ENDPOINT);
+  IS(h3_send_trailer(e, 0, &f, 1, "ab", 2, &detail), H3_NO_ENDPOINT);
   IS(h3_send_body(e, 0, "ab", 2, &detail), H3_NO_ENDPOINT);
-  IS(h3_send_body_lent(e, 0, "ab", 2, &detail), H3_NO_ENDPOINT);
+  IS(h3_send_body_of(e, 0, 2, &detail), H3_NO_ENDPOINT);
   IS(h3_deliver_lent(e, 0, "ab", 2, &detail), H3_NO_ENDPOINT);
   IS(h3_keep(e, 0), H3_NO_ENDPOINT);
   IS(h3_finish(e, 0, &detail), H3_NO_ENDPOINT);
   IS(h3_reset(e, 0, &detail), H3_NO_ENDPOINT);
   IS(h3_cancel(e, 0, &detail), H3_NO_ENDPOINT);
   IS(h3_goaway(e, 0, &detail), H3_NO_ENDPOINT);
-  IS(h3_next_waiting(e, 0, &id), H3_NO_ENDPOINT);
+  IS(h3_shutdown_notice(e, &detail), H3_NO_ENDPOINT);
+  IS(h3_shutdown(e, &detail), H3_NO_ENDPOINT);
+  IS(h3_first_unseen(e, &id), H3_NO_ENDPOINT);
+  IS(h3_is_drained(e, &fin), H3_NO_ENDPOINT);
   IS(h3_next_to_send(e, 0, &id), H3_NO_ENDPOINT);
   IS(h3_end_taken(e, 0), H3_NO_ENDPOINT);
-  IS(h3_outgoing(e, 0, b, 4, &n, &fin), H3_NO_ENDPOINT);
+  IS(h3_outgoing(e, 0, b, 4, &n, NULL, &fin), H3_NO_ENDPOINT);
   IS(h3_advance(e, 0, 0), H3_NO_ENDPOINT);
   IS(h3_deliver(e, 0, "ab", 2, &detail), H3_NO_ENDPOINT);
   IS(h3_deliver_end(e, 0, &detail), H3_NO_ENDPOINT);
   IS(h3_deliver_reset(e, 0, 0, &detail), H3_NO_ENDPOINT);
   IS(h3_pull(e, 0, &item), H3_NO_ENDPOINT);
-  IS(h3_item_field(e, 0, b, 4, &n, b, 4, &m), H3_NO_ENDPOINT);
   IS(h3_item_bytes(e, 0, b, 4, &n), H3_NO_ENDPOINT);
   IS(h3_stream(e, 0, &s), H3_NO_ENDPOINT);
   IS(h3_connection(e, &c), H3_NO_ENDPOINT);
@@ -60,7 +64,7 @@ static void of_none(h3_endpoint *e) {
 /* what may not be NULL is tested, and what may be is taken */
 static void of_pointers(h3_endpoint *e, uint64_t id) {
   uint8_t b[4];
-  size_t n = 7, m = 8;
+  size_t n = 7;
   uint32_t fin;
   h3_field_size f = {7, 3};
   h3_config c;
@@ -82,28 +86,20 @@ static void of_pointers(h3_endpoint *e, uint64_t id) {
   IS(h3_send_head(e, id, &f, 1, NULL, 10, NULL), H3_ARGUMENT);
   IS(h3_send_trailer(e, id, NULL, 1, ":methodGET", 10, NULL), H3_ARGUMENT);
   IS(h3_send_trailer(e, id, &f, 1, NULL, 10, NULL), H3_ARGUMENT);
-  IS(h3_send_fields(e, id, NULL, 1, ":methodGET", 10, NULL), H3_ARGUMENT);
-  IS(h3_send_fields(e, id, &f, 1, NULL, 10, NULL), H3_ARGUMENT);
-  IS(h3_send_trailer_fields(e, id, NULL, 1, ":methodGET", 10, NULL), H3_ARGUMENT);
-  IS(h3_send_trailer_fields(e, id, &f, 1, NULL, 10, NULL), H3_ARGUMENT);
   IS(h3_send_body(e, id, NULL, 64, NULL), H3_ARGUMENT);
-  IS(h3_send_body_lent(e, id, NULL, 64, NULL), H3_ARGUMENT);
   IS(h3_deliver_lent(e, id, NULL, 64, NULL), H3_ARGUMENT);
   IS(h3_deliver(e, id, NULL, 64, NULL), H3_ARGUMENT);
   IS(h3_deliver(e, id, NULL, 0, NULL), H3_OK);
-  IS(h3_next_waiting(e, 0, NULL), H3_ARGUMENT);
   IS(h3_next_to_send(e, 0, NULL), H3_ARGUMENT);
-  IS(h3_outgoing(e, id, b, 4, NULL, &fin), H3_ARGUMENT);
-  IS(h3_outgoing(e, id, NULL, 4, &n, NULL), H3_OK);
+  IS(h3_outgoing(e, id, b, 4, NULL, NULL, &fin), H3_ARGUMENT);
+  IS(h3_outgoing(e, id, NULL, 4, &n, NULL, NULL), H3_OK);
   HOLDS(n == 0);
   IS(h3_pull(e, id, NULL), H3_ARGUMENT);
-  IS(h3_item_field(e, 0, b, 4, NULL, b, 4, &m), H3_ARGUMENT);
-  IS(h3_item_field(e, 0, b, 4, &n, b, 4, NULL), H3_ARGUMENT);
   IS(h3_item_bytes(e, 0, b, 4, NULL), H3_ARGUMENT);
   IS(h3_stream(e, id, NULL), H3_ARGUMENT);
   IS(h3_connection(e, NULL), H3_ARGUMENT);
   IS(h3_peer_setting(e, 6, NULL), H3_ARGUMENT);
-  HOLDS(n == 0 && m == 8);
+  HOLDS(n == 0);
   HOLDS(!strcmp(h3_answer_text(H3_OK), "H3_OK") && !strcmp(h3_answer_text(H3_NO_ENDPOINT), "H3_NO_ENDPOINT"));
   HOLDS(!strcmp(h3_kind_text(H3_INTERIM), "H3_INTERIM") && !strcmp(h3_kind_text(H3_FAULT_MEMORY), "H3_FAULT_MEMORY"));
   HOLDS(!strcmp(h3_code_text(0x107), "H3_EXCESSIVE_LOAD") && !strcmp(h3_code_text(0x200), "QPACK_DECOMPRESSION_FAILED"));
@@ -168,7 +164,7 @@ static size_t announces(const h3_config *config, uint8_t *bytes, size_t room) {
   h3_endpoint e = H3_NONE_YET;
   size_t n = 0;
   IS(h3_new(&e, config, NULL), H3_OK);
-  IS(h3_outgoing(&e, h3_control_id(0), bytes, room, &n, NULL), H3_OK);
+  IS(h3_outgoing(&e, h3_control_id(0), bytes, room, &n, NULL, NULL), H3_OK);
   h3_free(&e);
   return n;
 }
@@ -225,7 +221,7 @@ static void of_shorter_tables(void) {
   h3_raw_config_default(few, KNOWN);
   IS(h3_new(&e, (const h3_config *)few, NULL), H3_OK);
   IS(h3_deliver(&e, 3, "\0\4\5\1\x50\0\7\20", 8, NULL), H3_OK);
-  IS(h3_outgoing(&e, h3_encoder_id(0), bytes, sizeof bytes, &n, NULL), H3_OK);
+  IS(h3_outgoing(&e, h3_encoder_id(0), bytes, sizeof bytes, &n, NULL, NULL), H3_OK);
   HOLDS(n == 4 && !memcmp(bytes, "\2\x3f\xe1\x1f", n));
   h3_free(&e);
 }
@@ -276,17 +272,17 @@ static void of_ids(h3_endpoint *e) {
   for (int i = 0; i < 3; i++) {
     IS(h3_send_head(e, ids[i], &f, 1, ":methodGET", 10, &detail), H3_ARGUMENT);
     IS(h3_send_trailer(e, ids[i], &f, 1, ":methodGET", 10, &detail), H3_ARGUMENT);
-    IS(h3_send_fields(e, ids[i], &f, 1, ":methodGET", 10, &detail), H3_ARGUMENT);
-    IS(h3_send_trailer_fields(e, ids[i], &f, 1, ":methodGET", 10, &detail), H3_ARGUMENT);
+    IS(h3_send_head(e, ids[i], &f, 1, ":methodGET", 10, &detail), H3_ARGUMENT);
+    IS(h3_send_trailer(e, ids[i], &f, 1, ":methodGET", 10, &detail), H3_ARGUMENT);
     IS(h3_send_body(e, ids[i], "ab", 2, &detail), H3_ARGUMENT);
-    IS(h3_send_body_lent(e, ids[i], "ab", 2, &detail), H3_ARGUMENT);
+    IS(h3_send_body_of(e, ids[i], 2, &detail), H3_ARGUMENT);
     IS(h3_deliver_lent(e, ids[i], "ab", 2, &detail), H3_ARGUMENT);
     IS(h3_keep(e, ids[i]), H3_ARGUMENT);
     IS(h3_finish(e, ids[i], &detail), H3_ARGUMENT);
     IS(h3_reset(e, ids[i], &detail), H3_ARGUMENT);
     IS(h3_cancel(e, ids[i], &detail), H3_ARGUMENT);
     IS(h3_goaway(e, ids[i], &detail), H3_ARGUMENT);
-    IS(h3_outgoing(e, ids[i], b, 4, &n, NULL), H3_ARGUMENT);
+    IS(h3_outgoing(e, ids[i], b, 4, &n, NULL, NULL), H3_ARGUMENT);
     IS(h3_advance(e, ids[i], 0), H3_ARGUMENT);
     IS(h3_deliver(e, ids[i], "ab", 2, &detail), H3_ARGUMENT);
     IS(h3_deliver_end(e, ids[i], &detail), H3_ARGUMENT);
@@ -295,10 +291,9 @@ static void of_ids(h3_endpoint *e) {
     IS(h3_stream(e, ids[i], &s), H3_ARGUMENT);
     uint64_t next = 8;
     uint32_t fin = 9;
-    IS(h3_next_waiting(e, ids[i], &next), H3_NONE);
     IS(h3_next_to_send(e, ids[i], &next), H3_NONE);
     IS(h3_end_taken(e, ids[i]), H3_ARGUMENT);
-    IS(h3_outgoing(e, ids[i], b, 4, &n, &fin), H3_ARGUMENT);
+    IS(h3_outgoing(e, ids[i], b, 4, &n, NULL, &fin), H3_ARGUMENT);
     HOLDS(detail == 0 && n == 7 && next == 8 && fin == 9);
   }
 }
@@ -328,7 +323,7 @@ static void of_fields(h3_endpoint *e, uint64_t id) {
 static void of_bytes(h3_endpoint *e, uint64_t id, const void *bytes, size_t len) {
   uint8_t buffer[64];
   size_t n = 0;
-  IS(h3_outgoing(e, id, buffer, sizeof buffer, &n, NULL), H3_OK);
+  IS(h3_outgoing(e, id, buffer, sizeof buffer, &n, NULL, NULL), H3_OK);
   HOLDS(n == len && !memcmp(buffer, bytes, len));
   IS(h3_advance(e, id, n), H3_OK);
 }
@@ -344,35 +339,35 @@ static void of_lists(void) {
   c.server = 1;
   IS(h3_new(&server, &c, NULL), H3_OK);
   /* what the stream refuses comes before what is malformed, and that before the side */
-  IS(h3_send_fields(&client, 0, &upper, 1, "X-ab", 4, NULL), H3_NOT_OPEN);
-  IS(h3_send_trailer_fields(&client, 0, &upper, 1, "X-ab", 4, NULL), H3_NOT_OPEN);
+  IS(h3_send_head(&client, 0, &upper, 1, "X-ab", 4, NULL), H3_NOT_OPEN);
+  IS(h3_send_trailer(&client, 0, &upper, 1, "X-ab", 4, NULL), H3_NOT_OPEN);
   IS(h3_open_request(&client, &id, NULL), H3_OK);
-  IS(h3_send_fields(&client, id, &get, 1, ":methodGET", 9, NULL), H3_ARGUMENT);
-  IS(h3_send_trailer_fields(&client, id, &upper, 1, "X-ab", 4, NULL), H3_OUT_OF_ORDER);
-  IS(h3_send_fields(&client, id, &upper, 1, "X-ab", 4, NULL), H3_FIELD_NAME);
-  IS(h3_send_fields(&client, id, &upper, 1, "x-a\n", 4, NULL), H3_FIELD_VALUE);
-  IS(h3_send_fields(&client, id, &get, 1, ":methodG T", 10, NULL), H3_FIELD_VALUE);
-  IS(h3_send_fields(&client, id, &status, 1, ":status200", 10, NULL), H3_WRONG_SIDE);
-  IS(h3_send_fields(&client, id, NULL, 0, NULL, 0, NULL), H3_WRONG_SIDE);
+  IS(h3_send_head(&client, id, &get, 1, ":methodGET", 9, NULL), H3_ARGUMENT);
+  IS(h3_send_trailer(&client, id, &upper, 1, "X-ab", 4, NULL), H3_OUT_OF_ORDER);
+  IS(h3_send_head(&client, id, &upper, 1, "X-ab", 4, NULL), H3_FIELD_NAME);
+  IS(h3_send_head(&client, id, &upper, 1, "x-a\n", 4, NULL), H3_FIELD_VALUE);
+  IS(h3_send_head(&client, id, &get, 1, ":methodG T", 10, NULL), H3_FIELD_VALUE);
+  IS(h3_send_head(&client, id, &status, 1, ":status200", 10, NULL), H3_WRONG_SIDE);
+  IS(h3_send_head(&client, id, NULL, 0, NULL, 0, NULL), H3_WRONG_SIDE);
   /* the pseudo-header field stays behind: entries 32 (accept-ranges: bytes) and 17 (:method: GET) of the static table */
-  IS(h3_send_fields(&client, id, behind, 2, "accept-rangesbytes:methodGET", 28, NULL), H3_OK);
+  IS(h3_send_head(&client, id, behind, 2, "accept-rangesbytes:methodGET", 28, NULL), H3_OK);
   of_bytes(&client, id, "\x01\x04\x00\x00\xe0\xd1", 6);
-  IS(h3_send_fields(&client, id, &get, 1, ":methodGET", 10, NULL), H3_OUT_OF_ORDER);
-  IS(h3_send_trailer_fields(&client, id, &get, 1, ":methodGET", 10, NULL), H3_PSEUDO_IN_TRAILER);
-  IS(h3_send_trailer_fields(&client, id, &upper, 1, "X-ab", 4, NULL), H3_FIELD_NAME);
-  IS(h3_send_trailer_fields(&client, id, NULL, 0, NULL, 0, NULL), H3_OK);
+  IS(h3_send_head(&client, id, &get, 1, ":methodGET", 10, NULL), H3_OUT_OF_ORDER);
+  IS(h3_send_trailer(&client, id, &get, 1, ":methodGET", 10, NULL), H3_PSEUDO_IN_TRAILER);
+  IS(h3_send_trailer(&client, id, &upper, 1, "X-ab", 4, NULL), H3_FIELD_NAME);
+  IS(h3_send_trailer(&client, id, NULL, 0, NULL, 0, NULL), H3_OK);
   of_bytes(&client, id, "\x01\x02\x00\x00", 4);
   /* a field that comes twice stays twice */
   IS(h3_open_request(&client, &id, NULL), H3_OK);
-  IS(h3_send_fields(&client, id, twice, 2, ":methodGET:methodPOST", 21, NULL), H3_OK);
+  IS(h3_send_head(&client, id, twice, 2, ":methodGET:methodPOST", 21, NULL), H3_OK);
   of_bytes(&client, id, "\x01\x04\x00\x00\xd1\xd4", 6);
   /* an interim head, and then the final one */
   IS(h3_deliver(&server, 0, "\x01\x03\x00\x00\xd1", 5, NULL), H3_OK);
-  IS(h3_send_fields(&server, 0, &status, 1, ":status103", 10, NULL), H3_OK);
+  IS(h3_send_head(&server, 0, &status, 1, ":status103", 10, NULL), H3_OK);
   of_bytes(&server, 0, "\x01\x03\x00\x00\xd8", 5);
-  IS(h3_send_fields(&server, 0, &status, 1, ":status200", 10, NULL), H3_OK);
+  IS(h3_send_head(&server, 0, &status, 1, ":status200", 10, NULL), H3_OK);
   of_bytes(&server, 0, "\x01\x03\x00\x00\xd9", 5);
-  IS(h3_send_fields(&server, 0, &status, 1, ":status200", 10, NULL), H3_OUT_OF_ORDER);
+  IS(h3_send_head(&server, 0, &status, 1, ":status200", 10, NULL), H3_OUT_OF_ORDER);
   h3_free(&client);
   h3_free(&server);
 }
@@ -388,22 +383,17 @@ static void of_strict_lists(void) {
   c.strict = 1;
   IS(h3_new(&client, &c, NULL), H3_OK);
   IS(h3_open_request(&client, &id, NULL), H3_OK);
-  IS(h3_send_fields(&client, id, &get, 1, ":methodGET", 10, &rule), H3_MALFORMED);
-  HOLDS(rule == H3_MISSING_PSEUDO_FIELD);
   IS(h3_send_head(&client, id, &get, 1, ":methodGET", 10, &rule), H3_MALFORMED);
   HOLDS(rule == H3_MISSING_PSEUDO_FIELD);
-  IS(h3_send_fields(&client, id, behind, 2, "x-a1:methodGET", 14, &rule), H3_MALFORMED);
+  IS(h3_send_head(&client, id, behind, 2, "x-a1:methodGET", 14, &rule), H3_MALFORMED);
   HOLDS(rule == H3_LATE_PSEUDO_FIELD);
-  IS(h3_send_fields(&client, id, request, 5, twice, 45, &rule), H3_MALFORMED);
+  IS(h3_send_head(&client, id, request, 5, twice, 45, &rule), H3_MALFORMED);
   HOLDS(rule == H3_REPEATED_PSEUDO_FIELD);
   of_bytes(&client, id, "", 0);
-  /* of a repeated one h3_send_head sends the last */
-  IS(h3_send_head(&client, id, request, 5, twice, 45, NULL), H3_OK);
-  IS(h3_send_trailer_fields(&client, id, &host, 1, "hosta", 5, &rule), H3_MALFORMED);
+  IS(h3_send_head(&client, id, request, 4, twice, 39, NULL), H3_OK);
+  IS(h3_send_trailer(&client, id, &host, 1, "hosta", 5, &rule), H3_MALFORMED);
   HOLDS(rule == H3_NO_TRAILER_FIELD);
-  IS(h3_send_trailer_fields(&client, id, &spaced, 1, "x-a b", 5, NULL), H3_FIELD_VALUE);
-  IS(h3_send_trailer(&client, id, &spaced, 1, "x-a b", 5, &rule), H3_MALFORMED);
-  HOLDS(rule == H3_BAD_VALUE);
+  IS(h3_send_trailer(&client, id, &spaced, 1, "x-a b", 5, NULL), H3_FIELD_VALUE);
   h3_free(&client);
 }
 
@@ -417,17 +407,18 @@ static void of_strict_content(void) {
   h3_config_default(&c);
   IS(h3_new(&client, &c, NULL), H3_OK);
   IS(h3_open_request(&client, &id, NULL), H3_OK);
-  IS(h3_send_fields(&client, id, post, 5, ":methodPOST:schemehttps:authoritya:path/content-length3", 55, NULL), H3_OK);
+  IS(h3_send_head(&client, id, post, 5, ":methodPOST:schemehttps:authoritya:path/content-length3", 55, NULL), H3_OK);
   IS(h3_send_body(&client, id, "ab", 2, NULL), H3_OK);
   IS(h3_send_body(&client, id, "cd", 2, &rule), H3_MALFORMED);
   HOLDS(rule == H3_BAD_CONTENT_LENGTH);
-  IS(h3_send_body_lent(&client, id, "cd", 2, &rule), H3_MALFORMED);
+  IS(h3_send_body_of(&client, id, 2, &rule), H3_MALFORMED);
+  HOLDS(rule == H3_BAD_CONTENT_LENGTH);
   IS(h3_finish(&client, id, &rule), H3_MALFORMED);
   HOLDS(rule == H3_BAD_CONTENT_LENGTH);
-  IS(h3_send_trailer_fields(&client, id, &trailer, 1, "x-a1", 4, &rule), H3_MALFORMED);
+  IS(h3_send_trailer(&client, id, &trailer, 1, "x-a1", 4, &rule), H3_MALFORMED);
   HOLDS(rule == H3_BAD_CONTENT_LENGTH);
   IS(h3_send_body(&client, id, "c", 1, NULL), H3_OK);
-  IS(h3_send_trailer_fields(&client, id, &trailer, 1, "x-a1", 4, NULL), H3_OK);
+  IS(h3_send_trailer(&client, id, &trailer, 1, "x-a1", 4, NULL), H3_OK);
   IS(h3_finish(&client, id, NULL), H3_OK);
   h3_free(&client);
 
@@ -439,7 +430,7 @@ static void of_strict_content(void) {
   for (id = 0; id <= 4; id += 4) {
     IS(h3_pull(&server, id, &item), H3_OK);
     HOLDS(item.kind == H3_HEAD && item.fields == 4);
-    IS(h3_send_fields(&server, id, ok, 2, ":status200content-length5", 25, NULL), H3_OK);
+    IS(h3_send_head(&server, id, ok, 2, ":status200content-length5", 25, NULL), H3_OK);
     IS(h3_send_body(&server, id, "abcdef", 6, &rule), H3_MALFORMED);
     HOLDS(rule == H3_BAD_CONTENT_LENGTH);
   }
@@ -459,18 +450,18 @@ static void of_counts(h3_endpoint *e, uint64_t id) {
   IS(h3_advance(e, id, s.waiting + 1), H3_ARGUMENT);
   IS(h3_advance(e, id, SIZE_MAX), H3_ARGUMENT);
   /* a buffer of no bytes gets none, and what waits goes on waiting */
-  IS(h3_outgoing(e, id, NULL, 64, &n, NULL), H3_OK);
+  IS(h3_outgoing(e, id, NULL, 64, &n, NULL, NULL), H3_OK);
   HOLDS(n == 0);
-  IS(h3_outgoing(e, id, b, 0, &n, NULL), H3_OK);
+  IS(h3_outgoing(e, id, b, 0, &n, NULL, NULL), H3_OK);
   HOLDS(n == 0);
-  IS(h3_outgoing(e, id, b, 3, &n, NULL), H3_OK);
+  IS(h3_outgoing(e, id, b, 3, &n, NULL, NULL), H3_OK);
   HOLDS(n == 3);
   memset(c, 0xee, sizeof c);
-  IS(h3_outgoing(e, id, c, 64, &m, NULL), H3_OK);
+  IS(h3_outgoing(e, id, c, 64, &m, NULL, NULL), H3_OK);
   HOLDS(m == s.waiting && !memcmp(b, c, 3) && c[m] == 0xee);
   /* what was advanced over is gone, and no more */
   IS(h3_advance(e, id, 3), H3_OK);
-  IS(h3_outgoing(e, id, b, 64, &n, NULL), H3_OK);
+  IS(h3_outgoing(e, id, b, 64, &n, NULL, NULL), H3_OK);
   HOLDS(n == m - 3 && !memcmp(b, c + 3, n));
 }
 
@@ -487,7 +478,7 @@ static void of_default(void) {
   HOLDS(c.max_webtransport_sessions == 0 && c.grease == 0 && c.server == 0 && c.send_grease == 0 && c.webtransport == 0);
   HOLDS(c.extended_connect == 0 && c.datagram == 0);
   IS(h3_new(&e, &c, NULL), H3_OK);
-  IS(h3_outgoing(&e, h3_control_id(0), b, sizeof b, &n, NULL), H3_OK);
+  IS(h3_outgoing(&e, h3_control_id(0), b, sizeof b, &n, NULL, NULL), H3_OK);
   HOLDS(n == sizeof announced && !memcmp(b, announced, n));
   h3_free(&e);
 }
@@ -496,38 +487,37 @@ static void of_items(void) {
   h3_endpoint e = H3_NONE_YET;
   h3_config config;
   h3_item item, same;
-  size_t n = 7, m = 7;
-  uint8_t b[64], c[64];
+  size_t n = 7;
+  uint8_t b[64];
+  h3_field_size sizes[4] = {{0, 0}};
   /* HEADERS with :method GET, :scheme https, :authority "a", :path / (RFC 9204, appendix A and section 4.5.4), then DATA "hi" */
   static const uint8_t request[] = {1, 7, 0, 0, 0xd1, 0xd7, 0x50, 1, 'a', 0, 2, 'h', 'i'};
   plain_config(&config);
   config.server = 1;
   IS(h3_new(&e, &config, NULL), H3_OK);
-  IS(h3_item_field(&e, 0, b, 64, &n, c, 64, &m), H3_NONE);
+  IS(h3_item_fields(&e, sizes, 4, b, 64), H3_OK); /* an item without fields: nothing is written */
   IS(h3_item_bytes(&e, 0, b, 64, &n), H3_NONE);
-  HOLDS(n == 7 && m == 7);
+  HOLDS(n == 7);
   IS(h3_deliver(&e, 0, request, sizeof request, NULL), H3_OK);
   IS(h3_pull(&e, 0, &item), H3_OK);
-  HOLDS(item.kind == H3_HEAD && item.fields == 3);
-  IS(h3_item_field(&e, 3, b, 64, &n, c, 64, &m), H3_NONE);
-  IS(h3_item_field(&e, SIZE_MAX, b, 64, &n, c, 64, &m), H3_NONE);
+  HOLDS(item.kind == H3_HEAD && item.fields == 3 && item.len == 33);
   memset(b, 0xee, sizeof b);
-  IS(h3_item_field(&e, 0, b, 3, &n, c, 64, &m), H3_ROOM);
-  HOLDS(n == 7 && m == 3 && !memcmp(b, ":me\xee", 4));
-  IS(h3_item_field(&e, 0, b, 7, &n, c, 2, &m), H3_ROOM);
-  HOLDS(!memcmp(b, ":method\xee", 8) && !memcmp(c, "GE", 2));
-  IS(h3_item_field(&e, 0, b, 7, &n, c, 3, &m), H3_OK);
-  HOLDS(!memcmp(c, "GET", 3));
+  IS(h3_item_fields(&e, sizes, 2, b, 64), H3_ROOM);
+  IS(h3_item_fields(&e, sizes, 4, b, 32), H3_ROOM);
+  HOLDS(b[0] == 0xee && !sizes[0].name);
   /* a refused pull leaves the item */
   memset(&same, 0x55, sizeof same);
   IS(h3_pull(&e, FAR, &same), H3_ARGUMENT);
   HOLDS(same.kind == 0x55555555);
-  IS(h3_item_field(&e, 1, b, 64, &n, c, 64, &m), H3_OK);
-  HOLDS(n == 7 && !memcmp(b, ":scheme", 7) && m == 5 && !memcmp(c, "https", 5));
+  IS(h3_item_fields(&e, sizes, 4, b, 64), H3_OK);
+  HOLDS(sizes[0].name == 7 && sizes[0].value == 3 && sizes[1].name == 7 && sizes[1].value == 5 && sizes[2].name == 10 && sizes[2].value == 1);
+  HOLDS(!memcmp(b, ":methodGET:schemehttps:authoritya\xee", 34) && !sizes[3].name);
   IS(h3_item_bytes(&e, 0, b, 64, &n), H3_NONE);
   IS(h3_pull(&e, 0, &item), H3_OK);
   HOLDS(item.kind == H3_BODY && item.len == 2);
-  IS(h3_item_field(&e, 0, b, 64, &n, c, 64, &m), H3_NONE);
+  b[0] = 0xee;
+  IS(h3_item_fields(&e, sizes, 4, b, 64), H3_OK);
+  HOLDS(b[0] == 0xee);
   IS(h3_item_bytes(&e, 0, b, 1, &n), H3_OK);
   HOLDS(n == 1 && b[0] == 'h');
   IS(h3_item_bytes(&e, 1, b, 64, &n), H3_OK);
@@ -546,13 +536,15 @@ static void of_items(void) {
   IS(h3_deliver(&e, 2, "x", 1, &detail), H3_CONNECTION);
   HOLDS(detail == 0x10a);
   IS(h3_goaway(&e, 0, &detail), H3_CLOSED);
+  IS(h3_first_unseen(&e, NULL), H3_ARGUMENT);
+  IS(h3_is_drained(&e, NULL), H3_ARGUMENT);
   HOLDS(detail == 0x10a);
   IS(h3_pull(&e, 0, &item), H3_OK);
   HOLDS(item.kind == H3_FAULT_CONNECTION && item.number == 0x10a);
   h3_free(&e);
 }
 
-/* a sweep of h3_next_waiting names the streams on which bytes wait, in order, and no others; where there is none no id is written */
+/* a sweep finds the streams on which bytes wait, in order, and no others; where there is none no id is written */
 static void of_sweep(h3_endpoint *e, uint64_t end, unsigned count) {
   uint64_t next = 0, found;
   unsigned seen = 0;
@@ -561,16 +553,16 @@ static void of_sweep(h3_endpoint *e, uint64_t end, unsigned count) {
     IS(h3_stream(e, id, &s), H3_OK);
     if (!s.waiting) continue;
     found = 1;
-    IS(h3_next_waiting(e, next, &found), H3_OK);
+    IS(next_with_bytes(e, next, &found), H3_OK);
     HOLDS(found == id);
     found = 1;
-    IS(h3_next_waiting(e, id, &found), H3_OK);
+    IS(next_with_bytes(e, id, &found), H3_OK);
     HOLDS(found == id);
     next = id + 1;
     seen++;
   }
   found = 1;
-  IS(h3_next_waiting(e, next, &found), H3_NONE);
+  IS(next_with_bytes(e, next, &found), H3_NONE);
   HOLDS(found == 1 && seen == count);
 }
 
@@ -598,7 +590,7 @@ static void of_ends(void) {
     IS(h3_finish(&e, id, NULL), H3_OK);
     IS(h3_end_taken(&e, id), H3_NONE);
     IS(h3_advance(&e, id, 1), H3_OK);
-    IS(h3_next_waiting(&e, 0, &found), H3_NONE);
+    IS(next_with_bytes(&e, 0, &found), H3_NONE);
     if (i % 2) IS(h3_deliver_end(&e, id, NULL), H3_OK);
     if (i % 4 == 3) {
       IS(h3_cancel(&e, id, NULL), H3_OK);
@@ -722,7 +714,7 @@ static void of_encoder_tables(void) {
     c.encoder_table = of[i].most;
     IS(h3_new(&e, &c, NULL), H3_OK);
     IS(h3_deliver(&e, 3, "\0\4\5\1\x50\0\7\20", 8, NULL), H3_OK);
-    IS(h3_outgoing(&e, h3_encoder_id(0), bytes, sizeof bytes, &n, &fin), H3_OK);
+    IS(h3_outgoing(&e, h3_encoder_id(0), bytes, sizeof bytes, &n, NULL, &fin), H3_OK);
     HOLDS(n == of[i].len && !memcmp(bytes, of[i].wrote, n));
     h3_free(&e);
   }

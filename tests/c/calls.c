@@ -1,6 +1,7 @@
 /* Makes calls of an endpoint through h3.h, a line each, and prints what they answer: the lines `call ..` of crates/h3_cases, whose rows have
  * their answers beside them. Lines that ask for what the header does not show (`lends`, `goaways`) are left out of the answers. */
 #include "h3.h"
+#include <stddef.h>
 #include <stdio.h>
 #include <stdlib.h>
 #include <string.h>
@@ -81,20 +82,61 @@ static void *room_for(size_t n) {
   return p;
 }
 
-static void print_fields(const char *name, size_t fields) {
-  printf("%s", name);
-  for (size_t i = 0; i < fields; i++) {
-    size_t nl, vl;
-    uint32_t n = h3_item_field(&endpoint, i, NULL, 0, &nl, NULL, 0, &vl);
-    if (n != H3_OK && n != H3_ROOM) exit(3);
-    uint8_t *field = room_for(nl + vl);
-    if (h3_item_field(&endpoint, i, field, nl, &nl, field + nl, vl, &vl) != H3_OK) exit(3);
-    putchar(' ');
-    print_escaped(field, nl);
-    putchar('=');
-    print_escaped(field + nl, vl);
-    free(field);
+/* A field, and whether its name is this one. */
+typedef struct {
+  const uint8_t *name, *value;
+  uint32_t name_len, value_len;
+} field;
+
+static int is_named(const field *f, const field *as) { return f->name_len == as->name_len && !memcmp(f->name, as->name, f->name_len); }
+
+/* The fields in the order of the program's rows, which are of headers: pseudo-header fields first, of a repeated one the last, then the others by
+ * the first coming of their names. It says how many these are. */
+static size_t in_order(const field *given, size_t count, field *out) {
+  static const char *const pseudo[] = {":method", ":scheme", ":authority", ":path", ":status", ":protocol"};
+  size_t n = 0;
+  for (size_t p = 0; p < sizeof pseudo / sizeof *pseudo; p++) {
+    field wanted = {(const uint8_t *)pseudo[p], NULL, (uint32_t)strlen(pseudo[p]), 0};
+    for (size_t i = count; i-- > 0;)
+      if (is_named(&given[i], &wanted)) {
+        out[n++] = given[i];
+        break;
+      }
   }
+  for (size_t i = 0, first = n; i < count; i++) {
+    int is_there = given[i].name_len && given[i].name[0] == ':';
+    for (size_t j = first; j < n && !is_there; j++) is_there = is_named(&out[j], &given[i]);
+    for (size_t j = i; j < count && !is_there; j++)
+      if (is_named(&given[j], &given[i])) out[n++] = given[j];
+  }
+  return n;
+}
+
+/* fields that stand one after another */
+static field *cut(const h3_field_size *sizes, size_t count, const uint8_t *bytes) {
+  field *fields = room_for(count * sizeof *fields);
+  for (size_t i = 0; i < count; bytes += sizes[i].name + sizes[i].value, i++)
+    fields[i] = (field){bytes, bytes + sizes[i].name, sizes[i].name, sizes[i].value};
+  return fields;
+}
+
+static void print_fields(const char *name, const h3_item *item) {
+  printf("%s", name);
+  h3_field_size *sizes = room_for(item->fields * sizeof *sizes);
+  uint8_t *bytes = room_for(item->len);
+  if (h3_item_fields(&endpoint, sizes, item->fields, bytes, item->len) != H3_OK) exit(3);
+  field *came = cut(sizes, item->fields, bytes), *fields = room_for(item->fields * sizeof *fields);
+  size_t count = in_order(came, item->fields, fields);
+  for (size_t i = 0; i < count; i++) {
+    putchar(' ');
+    print_escaped(fields[i].name, fields[i].name_len);
+    putchar('=');
+    print_escaped(fields[i].value, fields[i].value_len);
+  }
+  free(fields);
+  free(came);
+  free(sizes);
+  free(bytes);
   putchar('\n');
 }
 
@@ -122,9 +164,9 @@ static void pull(uint64_t id) {
   }
   unsigned long long number = item.number;
   switch (item.kind) {
-  case H3_INTERIM: print_fields("interim", item.fields); break;
-  case H3_HEAD: print_fields("head", item.fields); break;
-  case H3_TRAILER: print_fields("trailer", item.fields); break;
+  case H3_INTERIM: print_fields("interim", &item); break;
+  case H3_HEAD: print_fields("head", &item); break;
+  case H3_TRAILER: print_fields("trailer", &item); break;
   case H3_BODY: print_bytes("body", item.len); break;
   case H3_RAW: print_bytes("raw", item.len); break;
   case H3_TOO_LARGE_HEAD: printf("too large %llu\n", number); break;
@@ -146,7 +188,7 @@ static void waits(uint64_t id) {
   size_t n = 0;
   if (h3_stream(&endpoint, id, &state)) exit(3);
   uint8_t *bytes = room_for(state.waiting);
-  if (h3_outgoing(&endpoint, id, bytes, state.waiting, &n, NULL) || n != state.waiting) exit(3);
+  if (h3_outgoing(&endpoint, id, bytes, state.waiting, &n, NULL, NULL) || n != state.waiting) exit(3);
   print_hex("waits", bytes, n);
   free(bytes);
 }
@@ -167,6 +209,29 @@ static void show(void) {
   printf(" %llu %llu %llu\n", (unsigned long long)s.sending_table, (unsigned long long)s.receiving_table, (unsigned long long)s.waiting_heads);
 }
 
+/* a choice by its name in h3_config: `name=number`, or `name` for 1 */
+static void choose(h3_config *config, const char *word) {
+  static const struct {
+    const char *name;
+    size_t at;
+  } choices[] = {
+      {"strict", offsetof(h3_config, strict)},
+      {"extended_connect", offsetof(h3_config, extended_connect)},
+      {"count_acknowledgments", offsetof(h3_config, count_acknowledgments)},
+      {"encoder_table", offsetof(h3_config, encoder_table)},
+      {"economical_table", offsetof(h3_config, economical_table)},
+      {"unfinished_limit", offsetof(h3_config, unfinished_limit)},
+  };
+  size_t len = strcspn(word, "=");
+  uint64_t value = word[len] ? strtoull(word + len + 1, NULL, 10) : 1;
+  for (size_t i = 0; i < sizeof choices / sizeof *choices; i++)
+    if (strlen(choices[i].name) == len && memcmp(choices[i].name, word, len) == 0) {
+      memcpy((char *)config + choices[i].at, &value, sizeof value);
+      return;
+    }
+  exit(3);
+}
+
 static void begin(char **words, size_t count) {
   h3_config c;
   uint64_t detail;
@@ -176,18 +241,13 @@ static void begin(char **words, size_t count) {
   c.encoder_table = UINT32_MAX;
   c.economical_table = 0;
   c.unfinished_limit = UINT64_MAX;
+  c.kept_ids = UINT64_MAX;
+  c.reject_requests = 0;
   c.server = words[1][0] == 's';
   c.max_field_section_size = strtoull(words[2], NULL, 10);
   c.table = strtoull(words[3], NULL, 10);
   c.blocked = strtoull(words[4], NULL, 10);
-  for (size_t i = 5; i < count; i++) {
-    c.strict |= !strcmp(words[i], "strict");
-    c.extended_connect |= !strcmp(words[i], "connect");
-    c.count_acknowledgments |= !strcmp(words[i], "counted");
-    if (!strcmp(words[i], "small")) c.encoder_table = 40;
-    c.economical_table |= !strcmp(words[i], "economical");
-    if (!strcmp(words[i], "limited")) c.unfinished_limit = 1000;
-  }
+  for (size_t i = 5; i < count; i++) choose(&c, words[i]);
   h3_endpoint made = H3_NONE_YET;
   uint32_t n = h3_new(&made, &c, &detail);
   answer(n, detail);
@@ -207,8 +267,39 @@ static void advance(uint64_t id, uint64_t count) {
   answer(h3_advance(&endpoint, id, count), 0);
 }
 
+static int is_space(uint8_t c) { return c == ' ' || c == '\t'; }
+
+/* whether a value has white space around it */
+static int is_spaced(const field *fields, size_t count) {
+  for (size_t i = 0; i < count; i++)
+    if (fields[i].value_len && (is_space(fields[i].value[0]) || is_space(fields[i].value[fields[i].value_len - 1]))) return 1;
+  return 0;
+}
+
+/* The list goes out in the order of the rows. It frees the list. */
+static uint32_t send(uint64_t id, int is_trailer, field *given, size_t count, uint64_t *detail) {
+  field *fields = room_for(count * sizeof *fields);
+  h3_field_size *sizes = room_for(count * sizeof *sizes);
+  size_t len = 0, room = 0;
+  count = in_order(given, count, fields);
+  for (size_t i = 0; i < count; i++) room += fields[i].name_len + fields[i].value_len;
+  uint8_t *bytes = room_for(room);
+  for (size_t i = 0; i < count; i++) {
+    memcpy(bytes + len, fields[i].name, fields[i].name_len);
+    memcpy(bytes + len + fields[i].name_len, fields[i].value, fields[i].value_len);
+    len += fields[i].name_len + fields[i].value_len;
+    sizes[i] = (h3_field_size){fields[i].name_len, fields[i].value_len};
+  }
+  uint32_t n = is_trailer ? h3_send_trailer(&endpoint, id, sizes, count, bytes, len, detail) : h3_send_head(&endpoint, id, sizes, count, bytes, len, detail);
+  free(bytes);
+  free(sizes);
+  free(fields);
+  free(given);
+  return n;
+}
+
 static void section(uint64_t id, int trailer, char **words, size_t count) {
-  h3_field_size sizes[512];
+  static h3_field_size sizes[512];
   static uint8_t bytes[1 << 20];
   size_t len = 0, fields = 0;
   uint64_t detail;
@@ -236,8 +327,14 @@ static void section(uint64_t id, int trailer, char **words, size_t count) {
     }
     fields++;
   }
-  uint32_t n = trailer ? h3_send_trailer(&endpoint, id, sizes, fields, bytes, len, &detail) : h3_send_head(&endpoint, id, sizes, fields, bytes, len, &detail);
-  answer(n, detail);
+  field *given = cut(sizes, fields, bytes);
+  int spaced = is_spaced(given, fields);
+  uint32_t n = send(id, trailer, given, fields, &detail);
+  /* a header takes such a value, and a list does not: the rows are of headers, of which a strict endpoint says so */
+  if (n == H3_FIELD_VALUE && spaced)
+    puts("refused Malformed Value");
+  else
+    answer(n, detail);
 }
 
 static void on_stream(char **words, size_t count) {

@@ -1,12 +1,22 @@
-/* Requests that are opened and canceled before the settings came, and cancellations that come before the first byte of their request: none
- * is a fault, and a canceled stream is still answered. One line 'ok NAME' or 'failed NAME'. */
+/* Requests that are opened and canceled before the settings came, cancellations that come before the first byte of their request, and
+ * floods of cancellations of ids far apart: none is a fault, none costs more memory than a bound, and what counts as canceled is still
+ * answered. Linked with --wrap for malloc, realloc and free. One line 'ok NAME' or 'failed NAME'. */
+#include "counted.h"
 #include "h3.h"
 #include <string.h>
 #define TEST "cancellations"
 #include "field_list.h"
 #include "pair.h"
 
-enum { EARLY = 40000, BEFORE_THEIR_BYTES = 1500 };
+/* what is expected of the library */
+enum {
+  KEPT_IDS = 1000,                /* so many ids of canceled streams are kept by default */
+  CANCELED_BYTES = 24 * KEPT_IDS, /* and so many bytes (blocks of malloc are rounded up) */
+};
+
+enum { EARLY = 40000, BEFORE_THEIR_BYTES = 1500, FAR_IDS = 4475000, PIECE = 1024 };
+
+static uint8_t piece[PIECE + 16];
 
 static field_list request, response;
 
@@ -36,7 +46,7 @@ static int names_table(uint64_t id) {
   uint8_t head[3];
   size_t n = 0;
   IS(send_list(&ends[SERVER], id, &response), H3_OK);
-  IS(h3_outgoing(&ends[SERVER], id, head, sizeof head, &n, NULL), H3_OK);
+  IS(h3_outgoing(&ends[SERVER], id, head, sizeof head, &n, NULL, NULL), H3_OK);
   HOLDS(n == 3 && head[0] == 1 && head[1] < 64);
   return head[2] != 0;
 }
@@ -100,12 +110,107 @@ static void of_cancellations_ahead(void) {
   drop();
 }
 
+/* The bytes of a request come, of no client here: one opens its requests in turn, and that many take long. */
+static void see(uint64_t id) {
+  IS(h3_deliver(&ends[SERVER], id, "\1\x08\0\0\xd1\xd7\xc1\x50\1\x61", 10, NULL), H3_OK);
+  HOLDS(pull(SERVER, id).kind == H3_HEAD);
+}
+
+/* never more than so much was allocated beyond what was before, and four deliveries: one is copied while it is read, in room that doubles */
+static void bounded(const char *what, size_t before, size_t most) {
+  if (most_live <= before + most + 4 * PIECE) return;
+  printf("failed cancellations: %s: %zu bytes were allocated, above the bound of %zu\n", what, most_live - before, most);
+  bad = 1;
+}
+
+/* a cancellation (RFC 9204, section 4.4.2) */
+static size_t cancellation(uint8_t *to, uint64_t id) {
+  size_t n = 1;
+  if (id < 63) {
+    to[0] = (uint8_t)(0x40 | id);
+    return 1;
+  }
+  to[0] = 0x7f;
+  for (id -= 63; id >= 128; id >>= 7) to[n++] = (uint8_t)(0x80 | (id & 0x7f));
+  to[n++] = (uint8_t)id;
+  return n;
+}
+
+/* so many cancellations of streams with this distance go to the server */
+static void cancel_far(uint64_t from, uint64_t count, uint64_t distance) {
+  size_t n = 0;
+  uint32_t answer = H3_OK;
+  for (uint64_t i = 0; i < count && answer == H3_OK; i++) {
+    n += cancellation(piece + n, from + distance * i);
+    if (n < PIECE && i + 1 < count) continue;
+    answer = h3_deliver(&ends[SERVER], h3_decoder_id(0), piece, n, NULL);
+    n = 0;
+  }
+  IS(answer, H3_OK);
+}
+
+/* A stream above the canceled ones is answered by the table; one up to the lowest of those that are kept without it, unless a section
+ * of it is not yet acknowledged: so a server goes on where it is. */
+static void of_far_cancellations(void) {
+  const uint64_t distance = 1024, kept = distance * FAR_IDS, between = 4 * 102, above = distance * (FAR_IDS + 1);
+  make();
+  carry_own();
+  ask(0);
+  HOLDS(names_table(0)); /* and it is not acknowledged */
+  ask(4);
+  size_t before = live;
+  most_live = live;
+  cancel_far(distance, FAR_IDS, distance);
+  bounded("cancellations far apart", before, CANCELED_BYTES);
+  IS(h3_finish(&ends[SERVER], 0, NULL), H3_OK);
+  carry_own();
+  carry(SERVER, 0);
+  h3_item item = pull(CLIENT, 0);
+  HOLDS(item.kind == H3_HEAD && is_list(&ends[CLIENT], &item, &response));
+  HOLDS(!answers_by_table(4));
+  ask(between);
+  HOLDS(!answers_by_table(between));
+  see(kept);
+  HOLDS(!names_table(kept));
+  see(kept - 4);
+  HOLDS(names_table(kept - 4)); /* between two that are kept */
+  see(above);
+  HOLDS(names_table(above));
+  drop();
+}
+
+/* as many as are kept: those alone count as canceled. With one more the lowest is dropped, and each up to it counts */
+static void of_few_cancellations(void) {
+  make();
+  carry_own();
+  cancel_far(8, KEPT_IDS, 8);
+  ask(4);
+  HOLDS(answers_by_table(4));
+  ask(8);
+  HOLDS(!answers_by_table(8));
+  ask(12);
+  HOLDS(answers_by_table(12));
+  ask(0);
+  cancel_far(8 * (KEPT_IDS + 1), 1, 8);
+  HOLDS(!answers_by_table(0));
+  ask(16);
+  HOLDS(!answers_by_table(16));
+  ask(20);
+  HOLDS(answers_by_table(20));
+  drop();
+}
+
 int main(void) {
   begin_request(&request, "GET");
   begin_response(&response, "200");
   add_field(&response, "x-name", "a value that is inserted");
   of_early_cancellations();
   of_cancellations_ahead();
-  if (!bad) printf("ok cancellations: %d requests canceled before the settings, %d before their first byte: no fault\n", EARLY, BEFORE_THEIR_BYTES);
+  of_far_cancellations();
+  of_few_cancellations();
+  if (!bad)
+    printf("ok cancellations: %d requests canceled before the settings, %d before their first byte, %d ids far apart: no fault, and at most "
+           "%d bytes for the ids\n",
+        EARLY, BEFORE_THEIR_BYTES, FAR_IDS, CANCELED_BYTES);
   return bad;
 }

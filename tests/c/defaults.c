@@ -16,7 +16,6 @@ typedef struct {
   int from;       /* CLIENT: it is a request; SERVER: a response */
   int early;      /* no settings were delivered yet */
   int is_trailer; /* it stands after a head */
-  int as_headers; /* h3_send_head and h3_pull, which read the list as a header */
   int own_first;  /* after the settings: whether the encoder stream goes over ahead of the list */
   size_t value;   /* its values are so long, but for the last */
   size_t step;    /* the pieces in which it is delivered */
@@ -135,7 +134,7 @@ static void carry(int from, uint64_t id, size_t step) {
   uint64_t code = 0;
   do {
     if (broken) return;
-    need(h3_outgoing(&ends[from], id, bytes, step, &n, &fin) == H3_OK && h3_advance(&ends[from], id, n) == H3_OK,
+    need(h3_outgoing(&ends[from], id, bytes, step, &n, NULL, &fin) == H3_OK && h3_advance(&ends[from], id, n) == H3_OK,
         "nothing is taken: stream", id);
     if (n) need(h3_deliver(&ends[!from], id, bytes, n, &code) == H3_OK, "a delivery is refused: code", code);
   } while (n && !fin);
@@ -149,10 +148,10 @@ static void carry_own(int from) {
   carry(from, h3_decoder_id(from), ANNOUNCED);
 }
 
-static h3_item pull(int side, uint64_t id, int as_header) {
+static h3_item pull(int side, uint64_t id) {
   h3_item item = {0};
   if (broken) return item;
-  uint32_t answer = as_header ? h3_pull(&ends[side], id, &item) : h3_pull_fields(&ends[side], id, &item);
+  uint32_t answer = h3_pull(&ends[side], id, &item);
   need(answer == H3_OK, "a pull is refused: answer", answer);
   need(item.kind != H3_FAULT_CONNECTION, "a pull is H3_FAULT_CONNECTION: code", item.number);
   need(item.kind != H3_FAULT_MALFORMED, "a pull is H3_FAULT_MALFORMED: reason", item.number);
@@ -160,8 +159,8 @@ static h3_item pull(int side, uint64_t id, int as_header) {
 }
 
 /* the list comes out as this kind */
-static void take_list(int side, uint64_t id, uint32_t kind, const field_list *list, int as_header) {
-  h3_item item = pull(side, id, as_header);
+static void take_list(int side, uint64_t id, uint32_t kind, const field_list *list) {
+  h3_item item = pull(side, id);
   need(item.kind == kind, "no head or trailer comes out: kind", item.kind);
   if (!broken) need(is_list(&ends[side], &item, list), "another list comes out: fields", item.fields);
 }
@@ -170,7 +169,7 @@ static void take_list(int side, uint64_t id, uint32_t kind, const field_list *li
 static void take_content(int side, uint64_t id, size_t from) {
   uint8_t came[HALF];
   size_t n = 0;
-  h3_item item = pull(side, id, 0);
+  h3_item item = pull(side, id);
   need(item.kind == H3_BODY && item.len == HALF, "no content of the other message: kind", item.kind);
   if (!broken)
     need(!h3_item_bytes(&ends[side], 0, came, HALF, &n) && n == HALF && !memcmp(came, content + from, n), "other content: bytes", n);
@@ -190,17 +189,16 @@ static void make_pair(void) {
 /* a message of the sender's with this list, beside another one: whose first half went before it, and whose second half goes after it */
 static void send_beside(const plan *p, uint64_t id, uint64_t other, const field_list *list, const field_list *plain) {
   static field_list head; /* in front of a trailer */
-  send_call *const sends[2][2] = {{h3_send_fields, h3_send_head}, {h3_send_trailer_fields, h3_send_trailer}};
   int to = !p->from;
   begin_list(&head, p->from, "GET");
-  send_section(p->from, other, plain, h3_send_fields);
+  send_section(p->from, other, plain, h3_send_head);
   send_content(p->from, other, 0);
   if (!p->early) carry_own(p->from); /* what the plain head inserts */
   carry(p->from, other, ANNOUNCED);
-  need(pull(to, other, 0).kind == H3_HEAD, "no head of the other message: stream", other);
+  need(pull(to, other).kind == H3_HEAD, "no head of the other message: stream", other);
   take_content(to, other, 0);
-  if (p->is_trailer) send_section(p->from, id, &head, h3_send_fields);
-  send_section(p->from, id, list, sends[p->is_trailer][p->as_headers]);
+  if (p->is_trailer) send_section(p->from, id, &head, h3_send_head);
+  send_section(p->from, id, list, p->is_trailer ? h3_send_trailer : h3_send_head);
   finish(p->from, id);
   if (!p->early && p->own_first) carry_own(p->from);
   carry(p->from, id, p->step);
@@ -208,11 +206,11 @@ static void send_beside(const plan *p, uint64_t id, uint64_t other, const field_
   send_content(p->from, other, HALF);
   finish(p->from, other);
   carry(p->from, other, ANNOUNCED);
-  if (p->is_trailer) take_list(to, id, H3_HEAD, &head, 0);
-  take_list(to, id, p->is_trailer ? H3_TRAILER : H3_HEAD, list, p->as_headers);
-  need(pull(to, id, 0).kind == H3_END, "no end after the list: stream", id);
+  if (p->is_trailer) take_list(to, id, H3_HEAD, &head);
+  take_list(to, id, p->is_trailer ? H3_TRAILER : H3_HEAD, list);
+  need(pull(to, id).kind == H3_END, "no end after the list: stream", id);
   take_content(to, other, HALF);
-  need(pull(to, other, 0).kind == H3_END, "no end of the other message: stream", other);
+  need(pull(to, other).kind == H3_END, "no end of the other message: stream", other);
 }
 
 /* the requests, where the list is a response */
@@ -221,12 +219,12 @@ static void ask(uint64_t id, uint64_t other, int early) {
   begin_request(&request, "GET");
   for (int i = 0; i < 2; i++) {
     uint64_t to = i ? other : id;
-    send_section(CLIENT, to, &request, h3_send_fields);
+    send_section(CLIENT, to, &request, h3_send_head);
     finish(CLIENT, to);
     if (!early) carry_own(CLIENT);
     carry(CLIENT, to, ANNOUNCED);
-    take_list(SERVER, to, H3_HEAD, &request, 0);
-    need(pull(SERVER, to, 0).kind == H3_END, "no end of a request: stream", to);
+    take_list(SERVER, to, H3_HEAD, &request);
+    need(pull(SERVER, to).kind == H3_END, "no end of a request: stream", to);
   }
 }
 
@@ -255,7 +253,6 @@ static plan plan_of(unsigned number, const unsigned *kinds, unsigned count) {
   if (number >= count) p.size = least + (size_t)number * 6151 % (ANNOUNCED - least + 1);
   p.from = number / count % 2 ? SERVER : CLIENT;
   p.early = number / 2 % 2;
-  p.as_headers = number / 4 % 2;
   p.own_first = number / 8 % 2;
   p.is_trailer = number / 16 % 4 == 0;
   p.value = values[number % 3];

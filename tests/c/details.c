@@ -49,10 +49,9 @@ static void of_nothing_done(void) {
   TELLS(h3_send_head(&client, 0, NULL, 1, ":methodGET", 10, &detail), H3_ARGUMENT, UNTOUCHED);
   TELLS(h3_send_head(&client, 0, &size, 1, NULL, 10, &detail), H3_ARGUMENT, UNTOUCHED);
   TELLS(h3_send_trailer(&client, 0, NULL, 1, ":methodGET", 10, &detail), H3_ARGUMENT, UNTOUCHED);
-  TELLS(h3_send_fields(&client, 0, &size, 1, NULL, 10, &detail), H3_ARGUMENT, UNTOUCHED);
-  TELLS(h3_send_trailer_fields(&client, 0, NULL, 1, ":methodGET", 10, &detail), H3_ARGUMENT, UNTOUCHED);
+  TELLS(h3_send_head(&client, 0, &size, 1, NULL, 10, &detail), H3_ARGUMENT, UNTOUCHED);
+  TELLS(h3_send_trailer(&client, 0, NULL, 1, ":methodGET", 10, &detail), H3_ARGUMENT, UNTOUCHED);
   TELLS(h3_send_body(&client, 0, NULL, 64, &detail), H3_ARGUMENT, UNTOUCHED);
-  TELLS(h3_send_body_lent(&client, 0, NULL, 64, &detail), H3_ARGUMENT, UNTOUCHED);
   TELLS(h3_deliver(&client, 0, NULL, 64, &detail), H3_ARGUMENT, UNTOUCHED);
   TELLS(h3_deliver_lent(&client, 0, NULL, 64, &detail), H3_ARGUMENT, UNTOUCHED);
 }
@@ -62,8 +61,8 @@ static void of_refusals(void) {
   h3_field_size size = {7, 3};
   uint64_t detail;
   TELLS(h3_send_head(&client, FAR, &size, 1, ":methodGET", 10, &detail), H3_ARGUMENT, 0);
-  TELLS(h3_send_fields(&client, 0, &size, 1, ":methodGET", 9, &detail), H3_ARGUMENT, 0);
-  TELLS(h3_send_trailer_fields(&client, FAR, &size, 1, ":methodGET", 10, &detail), H3_ARGUMENT, 0);
+  TELLS(h3_send_head(&client, 0, &size, 1, ":methodGET", 9, &detail), H3_ARGUMENT, 0);
+  TELLS(h3_send_trailer(&client, FAR, &size, 1, ":methodGET", 10, &detail), H3_ARGUMENT, 0);
   TELLS(h3_send_body(&client, FAR, "a", 1, &detail), H3_ARGUMENT, 0);
   TELLS(h3_finish(&client, FAR, &detail), H3_ARGUMENT, 0);
   TELLS(h3_reset(&client, FAR, &detail), H3_ARGUMENT, 0);
@@ -83,9 +82,9 @@ static void of_numbers(void) {
   uint64_t detail, id;
   TELLS(h3_open_request(&client, &id, &detail), H3_OK, 0);
   TELLS(h3_deliver(&client, 3, "\0\4\3\6\x40\x64", 6, &detail), H3_OK, 0); /* SETTINGS that take sections of 100 bytes */
-  TELLS(h3_send_fields(&client, id, request.sizes, request.count, request.bytes, request.len, &detail), H3_TOO_LARGE, size_of(&request));
-  TELLS(h3_send_fields(&client, id, request.sizes, 1, request.bytes, 10, &detail), H3_MALFORMED, H3_MISSING_PSEUDO_FIELD);
-  TELLS(h3_send_fields(&client, id, response.sizes, response.count, response.bytes, response.len, &detail), H3_WRONG_SIDE, 0);
+  TELLS(h3_send_head(&client, id, request.sizes, request.count, request.bytes, request.len, &detail), H3_TOO_LARGE, size_of(&request));
+  TELLS(h3_send_head(&client, id, request.sizes, 1, request.bytes, 10, &detail), H3_MALFORMED, H3_MISSING_PSEUDO_FIELD);
+  TELLS(h3_send_head(&client, id, response.sizes, response.count, response.bytes, response.len, &detail), H3_WRONG_SIDE, 0);
   TELLS(h3_deliver(&client, 3, "\7\1\4", 3, &detail), H3_OK, 0); /* GOAWAY */
   TELLS(h3_open_request(&client, &id, &detail), H3_GOING_AWAY, 4);
   TELLS(h3_next_request_id(&client, &id, &detail), H3_GOING_AWAY, 4);

@@ -45,7 +45,7 @@ static void deliver(int side, uint64_t id, const void *bytes, size_t len) { IS(h
 static void waits(int side, uint64_t id, const char *bytes, size_t len) {
   uint8_t came[64];
   size_t n = 0;
-  IS(h3_outgoing(&ends[side], id, came, sizeof came, &n, NULL), H3_OK);
+  IS(h3_outgoing(&ends[side], id, came, sizeof came, &n, NULL, NULL), H3_OK);
   HOLDS(n == len && !memcmp(came, bytes, len));
   IS(h3_advance(&ends[side], id, n), H3_OK);
 }

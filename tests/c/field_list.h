@@ -1,4 +1,4 @@
-/* Lists of fields as h3_send_fields takes them. TEST is the program's name, a literal that it defines ahead. */
+/* Lists of fields as h3_send_head takes them. TEST is the program's name, a literal that it defines ahead. */
 #ifndef FIELD_LIST_H
 #define FIELD_LIST_H
 #include <h3.h>
@@ -45,7 +45,7 @@ static inline void begin_response(field_list *list, const char *status) {
 }
 
 static inline uint32_t send_list(h3_endpoint *end, uint64_t id, const field_list *list) {
-  return h3_send_fields(end, id, list->sizes, list->count, list->bytes, list->len, NULL);
+  return h3_send_head(end, id, list->sizes, list->count, list->bytes, list->len, NULL);
 }
 
 /* whether the head or trailer that was pulled last has the fields of this list, in its order */

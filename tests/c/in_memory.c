@@ -7,7 +7,6 @@
 
 enum { REQUESTS = 4, PIECE = 100, FIELDS = 16 };
 
-static const uint64_t ANY_ID = (UINT64_C(1) << 62) - 4; /* the greatest id of a request */
 
 /* One side of the connection. */
 typedef struct {
@@ -63,7 +62,7 @@ static uint64_t ask(side *client, const char *path, const char *body) {
   add(&head, ":scheme", "https");
   add(&head, ":authority", "localhost");
   add(&head, ":path", path);
-  answer = h3_send_fields(&client->h3, id, head.sizes, head.count, head.bytes, head.len, NULL);
+  answer = h3_send_head(&client->h3, id, head.sizes, head.count, head.bytes, head.len, NULL);
   if (answer == H3_OK && body) answer = h3_send_body(&client->h3, id, body, strlen(body), NULL);
   if (answer == H3_OK) answer = h3_finish(&client->h3, id, NULL);
   if (answer != H3_OK) fail(client, "a request", answer);
@@ -77,7 +76,7 @@ static void respond(side *server, uint64_t id) {
   fields head = {.count = 0};
   add(&head, ":status", "200");
   add(&head, "content-type", "text/plain");
-  uint32_t answer = h3_send_fields(&server->h3, id, head.sizes, head.count, head.bytes, head.len, NULL);
+  uint32_t answer = h3_send_head(&server->h3, id, head.sizes, head.count, head.bytes, head.len, NULL);
   if (answer == H3_OK) answer = h3_send_body(&server->h3, id, body, strlen(body), NULL);
   if (answer == H3_OK) answer = h3_finish(&server->h3, id, NULL);
   if (answer != H3_OK) fail(server, "a response", answer);
@@ -110,8 +109,8 @@ static void print_bytes(side *at, size_t len) {
 static void pull(side *at, uint64_t id) {
   h3_item item;
   for (;;) {
-    uint32_t answer = h3_pull_fields(&at->h3, id, &item);
-    if (answer != H3_OK) fail(at, "h3_pull_fields", answer);
+    uint32_t answer = h3_pull(&at->h3, id, &item);
+    if (answer != H3_OK) fail(at, "h3_pull", answer);
     at->is_waiting[id / 4] = item.kind == H3_WAITING;
     if (item.kind == H3_PENDING || item.kind == H3_WAITING) return; /* more has to come first */
     printf("%s, stream %u:", at->name, (unsigned)id);
@@ -148,7 +147,7 @@ static void carry_stream(side *from, side *to, uint64_t id) {
   size_t n;
   uint32_t fin;
   for (;;) {
-    uint32_t answer = h3_outgoing(&from->h3, id, bytes, sizeof bytes, &n, &fin);
+    uint32_t answer = h3_outgoing(&from->h3, id, bytes, sizeof bytes, &n, NULL, &fin);
     if (answer != H3_OK) fail(from, "h3_outgoing", answer);
     if (n == 0 && !fin) return;
     received(to, id, bytes, n, (int)fin);
@@ -179,9 +178,12 @@ static void cancel(side *at, side *other, uint64_t id) {
 
 /* ---- a server shuts down ---- */
 
-static void say_goaway(side *server, side *client, uint64_t id) {
-  uint32_t answer = h3_goaway(&server->h3, id, NULL);
-  if (answer != H3_OK) fail(server, "h3_goaway", answer);
+static void shut_down(side *server, side *client) {
+  uint32_t answer = h3_shutdown_notice(&server->h3, NULL); /* the client opens no more, and requests on their way are processed */
+  if (answer != H3_OK) fail(server, "h3_shutdown_notice", answer);
+  carry(server, client);
+  answer = h3_shutdown(&server->h3, NULL); /* a round trip later: no later request is processed */
+  if (answer != H3_OK) fail(server, "h3_shutdown", answer);
   carry(server, client);
 }
 
@@ -207,8 +209,7 @@ int main(void) {
   id = ask(&client, "/never", NULL);
   cancel(&client, &server, id);
 
-  say_goaway(&server, &client, ANY_ID); /* a notice: the client opens no more, and requests on their way are processed */
-  say_goaway(&server, &client, id + 4); /* a round trip later: requests from this id on are not processed */
+  shut_down(&server, &client);
   if (h3_open_request(&client.h3, &id, &detail) != H3_GOING_AWAY) fail(&client, "h3_open_request", H3_OK);
   printf("client: no request from stream %u on\n", (unsigned)detail);
 

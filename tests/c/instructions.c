@@ -142,7 +142,7 @@ static void of_the_limit(void) {
       uint8_t replies[64];
       size_t n = 0;
       uint32_t fin;
-      IS(h3_outgoing(&client, h3_decoder_id(0), replies, sizeof replies, &n, &fin), H3_OK);
+      IS(h3_outgoing(&client, h3_decoder_id(0), replies, sizeof replies, &n, NULL, &fin), H3_OK);
       if (STEPS[k] > begins) HOLDS(n == 2 && !memcmp(replies, "\3\x19", 2));
       else HOLDS(n == 26 && replies[0] == 3 && replies[1] == 1 && replies[25] == 1);
       len = insertion(bytes, MOST + more);

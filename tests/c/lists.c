@@ -1,5 +1,5 @@
-/* Heads and trailers that are pulled as the lists of fields that came (h3_pull_fields, h3_item_fields of include/h3.h): each list comes out as it went
- * in, and a twin that pulls by h3_pull answers alike. One line 'ok NAME' or 'failed NAME'. */
+/* Header and trailer sections are the lists of fields that came (h3_pull, h3_item_fields of include/h3.h): each list comes out as it went in, and
+ * what is malformed is told. One line 'ok NAME' or 'failed NAME'. */
 #include <h3.h>
 #include <stdio.h>
 #include <string.h>
@@ -28,31 +28,27 @@ static void made(h3_endpoint *e, int is_server, int is_strict) {
   IS(h3_new(e, &c, NULL), H3_OK);
 }
 
-/* all that waits at one side is delivered to others */
-static void carry(h3_endpoint *from, h3_endpoint *to, h3_endpoint *twin) {
+/* all that waits at one side is delivered to the other */
+static void carry(h3_endpoint *from, h3_endpoint *to) {
   uint8_t buffer[512];
   size_t n;
   uint32_t fin;
   for (uint64_t id = 0; h3_next_to_send(from, id, &id) == H3_OK; id++) {
-    IS(h3_outgoing(from, id, buffer, sizeof buffer, &n, &fin), H3_OK);
-    if (n) {
-      IS(h3_deliver(to, id, buffer, n, NULL), H3_OK);
-      IS(h3_deliver(twin, id, buffer, n, NULL), H3_OK);
-    }
+    IS(h3_outgoing(from, id, buffer, sizeof buffer, &n, NULL, &fin), H3_OK);
+    if (n) IS(h3_deliver(to, id, buffer, n, NULL), H3_OK);
     IS(h3_advance(from, id, n), H3_OK);
     if (fin) {
       IS(h3_deliver_end(to, id, NULL), H3_OK);
-      IS(h3_deliver_end(twin, id, NULL), H3_OK);
       IS(h3_end_taken(from, id), H3_OK);
     }
   }
 }
 
-/* the item that was pulled last has exactly this list, by both calls that read it, and is written nowhere else */
+/* the item that was pulled last has exactly this list, and is written nowhere else */
 static void is_list(h3_endpoint *e, const h3_item *item, const list *l) {
   h3_field_size sizes[MOST + 1];
-  uint8_t bytes[ROOM + 1], name[ROOM], value[ROOM];
-  size_t at = 0, len = length_of(l), name_len, value_len;
+  uint8_t bytes[ROOM + 1];
+  size_t len = length_of(l);
   HOLDS(item->fields == l->count && item->len == len);
   memset(sizes, 0xa5, sizeof sizes);
   memset(bytes, 0xa5, sizeof bytes);
@@ -63,26 +59,13 @@ static void is_list(h3_endpoint *e, const h3_item *item, const list *l) {
   IS(h3_item_fields(e, sizes, l->count, bytes, len), H3_OK);
   HOLDS(!memcmp(sizes, l->sizes, l->count * sizeof *sizes) && !memcmp(bytes, l->bytes, len));
   HOLDS(sizes[l->count].name == 0xa5a5a5a5 && bytes[len] == 0xa5);
-  for (size_t i = 0; i < l->count; i++) {
-    IS(h3_item_field(e, i, name, sizeof name, &name_len, value, sizeof value, &value_len), H3_OK);
-    HOLDS(name_len == l->sizes[i].name && value_len == l->sizes[i].value);
-    HOLDS(!memcmp(name, l->bytes + at, name_len) && !memcmp(value, l->bytes + at + name_len, value_len));
-    at += name_len + value_len;
-  }
-  IS(h3_item_field(e, l->count, name, sizeof name, &name_len, value, sizeof value, &value_len), H3_NONE);
 }
 
-/* the next item at both sides is of this kind, with this number and status; the list of one of them is this one */
-static void pulls_alike(h3_endpoint *e, h3_endpoint *twin, uint64_t id, uint32_t kind, uint32_t status, uint64_t number, const list *l) {
-  h3_item item, other;
-  h3_stream_state a, b;
-  IS(h3_pull_fields(e, id, &item), H3_OK);
-  IS(h3_pull(twin, id, &other), H3_OK);
+/* the next item is of this kind, with this number and status, and has this list */
+static void pulls(h3_endpoint *e, uint64_t id, uint32_t kind, uint32_t status, uint64_t number, const list *l) {
+  h3_item item;
+  IS(h3_pull(e, id, &item), H3_OK);
   HOLDS(item.kind == kind && item.status == status && item.number == number);
-  HOLDS(other.kind == kind && other.status == status && other.number == number);
-  IS(h3_stream(e, id, &a), H3_OK);
-  IS(h3_stream(twin, id, &b), H3_OK);
-  HOLDS(a.unread == b.unread && a.tries == b.tries);
   if (l) is_list(e, &item, l);
 }
 
@@ -95,61 +78,39 @@ static const list wrong_name = {1, {{1, 1}}, "Xa"};
 
 /* a message of each kind of item, both ways */
 static void of_messages(void) {
-  h3_endpoint client = H3_NONE_YET, server = H3_NONE_YET, client_twin = H3_NONE_YET, server_twin = H3_NONE_YET;
+  h3_endpoint client = H3_NONE_YET, server = H3_NONE_YET;
   uint64_t id;
   uint8_t bytes[8];
   size_t n;
   h3_item item;
-  made(&client, 0, 0), made(&server, 1, 0), made(&client_twin, 0, 0), made(&server_twin, 1, 0);
-  IS(h3_open_request(&client_twin, &id, NULL), H3_OK);
+  made(&client, 0, 0), made(&server, 1, 0);
   IS(h3_open_request(&client, &id, NULL), H3_OK);
-  IS(h3_send_fields(&client, id, request.sizes, request.count, request.bytes, length_of(&request), NULL), H3_OK);
+  IS(h3_send_head(&client, id, request.sizes, request.count, request.bytes, length_of(&request), NULL), H3_OK);
   IS(h3_send_body(&client, id, "body", 4, NULL), H3_OK);
   IS(h3_finish(&client, id, NULL), H3_OK);
-  pulls_alike(&server, &server_twin, id, H3_PENDING, 0, 0, NULL);
-  carry(&client, &server, &server_twin);
-  pulls_alike(&server, &server_twin, id, H3_HEAD, 0, 0, &request);
-  pulls_alike(&server, &server_twin, id, H3_BODY, 0, 0, NULL);
+  pulls(&server, id, H3_PENDING, 0, 0, NULL);
+  carry(&client, &server);
+  pulls(&server, id, H3_HEAD, 0, 0, &request);
+  pulls(&server, id, H3_BODY, 0, 0, NULL);
   IS(h3_item_bytes(&server, 1, bytes, sizeof bytes, &n), H3_OK);
   HOLDS(n == 3 && !memcmp(bytes, "ody", 3));
   IS(h3_item_fields(&server, NULL, 0, NULL, 0), H3_OK);
-  pulls_alike(&server, &server_twin, id, H3_END, 0, 0, NULL);
-  pulls_alike(&server, &server_twin, id, H3_END, 0, 0, NULL);
-  IS(h3_send_fields(&server, id, early.sizes, early.count, early.bytes, length_of(&early), NULL), H3_OK);
-  IS(h3_send_fields(&server, id, answer.sizes, answer.count, answer.bytes, length_of(&answer), NULL), H3_OK);
-  IS(h3_send_trailer_fields(&server, id, last.sizes, last.count, last.bytes, length_of(&last), NULL), H3_OK);
+  pulls(&server, id, H3_END, 0, 0, NULL);
+  pulls(&server, id, H3_END, 0, 0, NULL);
+  IS(h3_send_head(&server, id, early.sizes, early.count, early.bytes, length_of(&early), NULL), H3_OK);
+  IS(h3_send_head(&server, id, answer.sizes, answer.count, answer.bytes, length_of(&answer), NULL), H3_OK);
+  IS(h3_send_trailer(&server, id, last.sizes, last.count, last.bytes, length_of(&last), NULL), H3_OK);
   IS(h3_finish(&server, id, NULL), H3_OK);
-  carry(&server, &client, &client_twin);
-  pulls_alike(&client, &client_twin, id, H3_INTERIM, 103, 0, &early);
-  pulls_alike(&client, &client_twin, id, H3_HEAD, 200, 0, &answer);
-  pulls_alike(&client, &client_twin, id, H3_TRAILER, 0, 0, &last);
-  pulls_alike(&client, &client_twin, id, H3_END, 0, 0, NULL);
-  IS(h3_pull_fields(&client, UINT64_C(1) << 62, &item), H3_ARGUMENT);
-  IS(h3_pull_fields(&client, id, NULL), H3_ARGUMENT);
-  h3_free(&client), h3_free(&server), h3_free(&client_twin), h3_free(&server_twin);
-  IS(h3_pull_fields(&client, id, &item), H3_NO_ENDPOINT);
+  carry(&server, &client);
+  pulls(&client, id, H3_INTERIM, 103, 0, &early);
+  pulls(&client, id, H3_HEAD, 200, 0, &answer);
+  pulls(&client, id, H3_TRAILER, 0, 0, &last);
+  pulls(&client, id, H3_END, 0, 0, NULL);
+  IS(h3_pull(&client, UINT64_C(1) << 62, &item), H3_ARGUMENT);
+  IS(h3_pull(&client, id, NULL), H3_ARGUMENT);
+  h3_free(&client), h3_free(&server);
+  IS(h3_pull(&client, id, &item), H3_NO_ENDPOINT);
   IS(h3_item_fields(&client, NULL, 0, NULL, 0), H3_NO_ENDPOINT);
-}
-
-/* after h3_pull all fields come in one call too, in the order of a header */
-static void of_headers(void) {
-  h3_endpoint client = H3_NONE_YET, server = H3_NONE_YET, twin = H3_NONE_YET;
-  h3_field_size sizes[MOST];
-  uint8_t bytes[ROOM];
-  uint64_t id;
-  h3_item item;
-  static const list sorted = {5, {{7, 3}, {7, 5}, {5, 1}, {1, 1}, {1, 2}}, ":methodGET:schemehttps:path/xaxbb"};
-  made(&client, 0, 0), made(&server, 1, 0), made(&twin, 1, 0);
-  IS(h3_open_request(&client, &id, NULL), H3_OK);
-  IS(h3_send_fields(&client, id, request.sizes, request.count, request.bytes, length_of(&request), NULL), H3_OK);
-  carry(&client, &server, &twin);
-  IS(h3_pull(&server, id, &item), H3_OK);
-  HOLDS(item.kind == H3_HEAD && item.fields == 5 && item.len == 0);
-  for (int i = 0; i < 2; i++) {
-    IS(h3_item_fields(&server, sizes, MOST, bytes, ROOM), H3_OK);
-    HOLDS(!memcmp(sizes, sorted.sizes, 5 * sizeof *sizes) && !memcmp(bytes, sorted.bytes, length_of(&sorted)));
-  }
-  h3_free(&client), h3_free(&server), h3_free(&twin);
 }
 
 /* An encoded field section of literals (RFC 9204, section 4.5.6) of these fields, in a HEADERS frame. All lengths are below 7 bits of their prefix. */
@@ -168,7 +129,7 @@ static size_t literal_frame(uint8_t *out, const list *l) {
   return n;
 }
 
-/* what is malformed is so by both calls, strict or not, and leaves the same */
+/* what is malformed, strict or not */
 static void of_malformed(void) {
   static const struct {
     const list *sent;
@@ -184,23 +145,21 @@ static void of_malformed(void) {
   };
   uint8_t frame[ROOM];
   for (size_t i = 0; i < sizeof cases / sizeof *cases; i++) {
-    h3_endpoint server = H3_NONE_YET, twin = H3_NONE_YET;
+    h3_endpoint server = H3_NONE_YET;
     size_t n = literal_frame(frame, cases[i].sent);
-    made(&server, 1, cases[i].is_strict), made(&twin, 1, cases[i].is_strict);
+    made(&server, 1, cases[i].is_strict);
     for (size_t cut = 0; cut < n; cut++) {
       IS(h3_deliver(&server, 0, frame + cut, 1, NULL), H3_OK);
-      IS(h3_deliver(&twin, 0, frame + cut, 1, NULL), H3_OK);
-      if (cut + 1 < n) pulls_alike(&server, &twin, 0, H3_PENDING, 0, 0, NULL);
+      if (cut + 1 < n) pulls(&server, 0, H3_PENDING, 0, 0, NULL);
     }
-    pulls_alike(&server, &twin, 0, cases[i].kind, 0, cases[i].number, cases[i].kind == H3_HEAD ? cases[i].sent : NULL);
-    pulls_alike(&server, &twin, 0, cases[i].kind == H3_HEAD ? H3_PENDING : cases[i].kind, 0, cases[i].number, NULL);
-    h3_free(&server), h3_free(&twin);
+    pulls(&server, 0, cases[i].kind, 0, cases[i].number, cases[i].kind == H3_HEAD ? cases[i].sent : NULL);
+    pulls(&server, 0, cases[i].kind == H3_HEAD ? H3_PENDING : cases[i].kind, 0, cases[i].number, NULL);
+    h3_free(&server);
   }
 }
 
 int main(void) {
   of_messages();
-  of_headers();
   of_malformed();
   if (!bad) puts("ok lists");
   return bad;

@@ -1,10 +1,13 @@
 /* Each allocation of an exchange between two endpoints is refused in turn: the call says so, is made again, and in the end the same items come
  * out. Nothing is left allocated. And once more with a head that waits for two insertions, where each call has to give what was worked out
- * beforehand; and a delivery, of which h3_stream says what is held of it. Linked with --wrap for malloc, realloc and free. */
+ * beforehand; and a delivery, of which h3_stream says what is held of it. With no memory at all any other reason is told first.
+ * Linked with --wrap for malloc, realloc and free. */
 #include "h3.h"
 #include <stdio.h>
 #include <stdlib.h>
 #include <string.h>
+
+#include "one_by_one.h"
 
 void *__real_malloc(size_t);
 void *__real_realloc(void *, size_t);
@@ -13,8 +16,10 @@ void __real_free(void *);
 static long left = -1; /* allocations until one is refused; -1: none is */
 static long live;      /* blocks that are allocated */
 static long refused;
+static int all_refused; /* while it is set, each is */
 
 static int refuse(void) {
+  if (all_refused) return 1;
   if (left < 0 || left-- != 0) return 0;
   refused++;
   return 1;
@@ -86,11 +91,11 @@ static void head(int side, uint64_t id) {
 
 static void carry_all(int side) {
   uint64_t id;
-  while (h3_next_waiting(&ends[side], 0, &id) == H3_OK) {
+  while (next_with_bytes(&ends[side], 0, &id) == H3_OK) {
     uint8_t buffer[48];
     size_t n;
     uint32_t fin, answer;
-    if (h3_outgoing(&ends[side], id, buffer, sizeof buffer, &n, &fin)) fail("outgoing", 0);
+    if (h3_outgoing(&ends[side], id, buffer, sizeof buffer, &n, NULL, &fin)) fail("outgoing", 0);
     if (!n) fail("outgoing gives nothing", 0);
     long before = refused;
     while ((answer = h3_deliver(&ends[!side], id, buffer, n, NULL)) == H3_MEMORY) {
@@ -137,9 +142,9 @@ static void pull_all(int side, uint64_t id) {
     if (item.kind == H3_HEAD || item.kind == H3_TRAILER) {
       tell(item.kind == H3_HEAD ? "head" : "trailer", NULL, 0);
       for (size_t i = 0; i < item.fields; i++) {
-        uint8_t name[64], value[64];
+        const uint8_t *name, *value;
         size_t nl, vl;
-        AGAIN(h3_item_field(&ends[side], i, name, 64, &nl, value, 64, &vl), "item_field");
+        AGAIN(field_at(&ends[side], &item, i, &name, &nl, &value, &vl), "item_fields");
         tell("name", name, nl);
         tell("value", value, vl);
       }
@@ -201,7 +206,7 @@ static void keep(int side, uint64_t id) {
 static void carry(int side, uint64_t id) {
   size_t n;
   uint32_t fin, answer;
-  if (h3_outgoing(&ends[side], id, lent, sizeof lent, &n, &fin) || !n || n == sizeof lent) fail("outgoing", 0);
+  if (h3_outgoing(&ends[side], id, lent, sizeof lent, &n, NULL, &fin) || !n || n == sizeof lent) fail("outgoing", 0);
   int tries = 0;
   while ((answer = h3_deliver_lent(&ends[!side], id, lent, n, NULL)) == H3_MEMORY)
     if (++tries > 2) fail("deliver", answer);
@@ -245,9 +250,9 @@ static void waiting_head(void) {
   item = pulled(1, id);
   if (item.kind != H3_HEAD || item.fields != 4) fail("the head does not come", item.kind);
   for (size_t i = 0, at = 0; i < 4; i++) {
-    uint8_t both[2][16];
+    const uint8_t *both[2];
     size_t n, v;
-    AGAIN(h3_item_field(&ends[1], i, both[0], 16, &n, both[1], 16, &v), "item_field");
+    AGAIN(field_at(&ends[1], &item, i, &both[0], &n, &both[1], &v), "item_fields");
     if (n != sizes[i].name || v != sizes[i].value || memcmp(both[0], head_bytes + at, n) || memcmp(both[1], head_bytes + at + n, v))
       fail("another field", (uint32_t)i);
     at += n + v;
@@ -311,9 +316,58 @@ static long kept(void) {
   }
 }
 
+static void answers(uint32_t n, uint32_t expected, const char *what) {
+  if (n != expected) fail(what, n);
+}
+
+/* With no memory at all each call that copies tells what else refuses it, and H3_MEMORY only where nothing does. */
+static void reasons(void) {
+  static const char list[] = ":methodGET:schemehttps:authoritya:path/";
+  static const h3_field_size sizes[] = {{7, 3}, {7, 5}, {10, 1}, {5, 1}};
+  const size_t len = sizeof list - 1;
+  h3_endpoint *e = &ends[0];
+  h3_config c;
+  uint64_t id;
+  h3_config_default(&c);
+  if (h3_new(e, &c, NULL)) fail("new", 0);
+  all_refused = 1;
+  answers(h3_send_head(e, 0, sizes, 4, list, len - 1, NULL), H3_ARGUMENT, "a list whose sizes are not those of the bytes");
+  answers(h3_send_head(e, 0, sizes, 4, list, len, NULL), H3_NOT_OPEN, "a list on no stream");
+  answers(h3_send_trailer(e, 0, sizes, 4, list, len, NULL), H3_NOT_OPEN, "a trailer on no stream");
+  answers(h3_send_body(e, 0, "a", 1, NULL), H3_NOT_OPEN, "a body on no stream");
+  answers(h3_deliver(e, 2, "a", 1, NULL), H3_NOT_RECEIVING, "bytes on the local control stream");
+  all_refused = 0;
+  if (h3_open_request(e, &id, NULL)) fail("open_request", 0);
+  all_refused = 1;
+  answers(h3_send_trailer(e, id, sizes, 4, list, len, NULL), H3_OUT_OF_ORDER, "a trailer ahead of the header section");
+  answers(h3_send_body(e, id, "a", 1, NULL), H3_OUT_OF_ORDER, "a body ahead of the header section");
+  answers(h3_send_head(e, id, sizes, 4, list, len, NULL), H3_MEMORY, "a list that there is no memory for");
+  answers(h3_deliver(e, id, "a", 1, NULL), H3_MEMORY, "bytes that there is no memory for");
+  all_refused = 0;
+  if (h3_send_head(e, id, sizes, 4, list, len, NULL)) fail("send_fields", 0);
+  all_refused = 1;
+  answers(h3_send_head(e, id, sizes, 4, list, len, NULL), H3_OUT_OF_ORDER, "a second header section");
+  answers(h3_send_body(e, id, "a", 1, NULL), H3_MEMORY, "a body that there is no memory for");
+  all_refused = 0;
+  if (h3_finish(e, id, NULL) || h3_deliver_end(e, id, NULL)) fail("finish", 0);
+  all_refused = 1;
+  answers(h3_send_body(e, id, "a", 1, NULL), H3_OUT_OF_ORDER, "a body after the end");
+  answers(h3_deliver(e, id, "a", 1, NULL), H3_AFTER_END, "bytes after the end");
+  all_refused = 0;
+  answers(h3_deliver(e, 3, "\x00\x00\x00", 3, NULL), H3_CONNECTION, "a control stream without SETTINGS");
+  all_refused = 1;
+  answers(h3_send_head(e, id, sizes, 4, list, len, NULL), H3_CLOSED, "a list after a fault");
+  answers(h3_send_body(e, id, "a", 1, NULL), H3_CLOSED, "a body after a fault");
+  answers(h3_deliver(e, 0, "a", 1, NULL), H3_CONNECTION, "bytes after a fault");
+  all_refused = 0;
+  h3_free(e);
+}
+
 int main(void) {
   static char expected[sizeof story];
   long before = live;
+  reasons();
+  if (live != before) fail("something is left allocated by calls with no memory", (uint32_t)(live - before));
   exchange();
   if (live != before) fail("something is left allocated with no refusal", (uint32_t)(live - before));
   memcpy(expected, story, sizeof story);

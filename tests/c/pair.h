@@ -20,7 +20,7 @@ static inline void carry(int from, uint64_t id) {
   size_t n = 0;
   uint32_t fin = 0;
   do {
-    IS(h3_outgoing(&ends[from], id, bytes, sizeof bytes, &n, &fin), H3_OK);
+    IS(h3_outgoing(&ends[from], id, bytes, sizeof bytes, &n, NULL, &fin), H3_OK);
     IS(h3_deliver(&ends[!from], id, bytes, n, NULL), H3_OK);
     IS(h3_advance(&ends[from], id, n), H3_OK);
   } while (n && !fin);
@@ -37,7 +37,7 @@ static inline void carry_own(void) {
 
 static inline h3_item pull(int side, uint64_t id) {
   h3_item item = {0};
-  IS(h3_pull_fields(&ends[side], id, &item), H3_OK);
+  IS(h3_pull(&ends[side], id, &item), H3_OK);
   return item;
 }
 #endif

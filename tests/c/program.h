@@ -94,19 +94,6 @@ std::string last_value(const FieldList &list, const std::string &name) {
   return value;
 }
 
-// the list that a header reads as: pseudo-header fields first, of a repeated one the last, then the others by name in the order of their
-// first coming
-FieldList as_header(const FieldList &list) {
-  FieldList header;
-  for (const char *name : {":method", ":scheme", ":authority", ":path", ":status", ":protocol"})
-    if (has(list, name)) header.push_back({name, last_value(list, name)});
-  for (const Field &first : list) {
-    if (first.name[0] == ':' || has(header, first.name)) continue;
-    std::copy_if(list.begin(), list.end(), std::back_inserter(header), [&](const Field &field) { return field.name == first.name; });
-  }
-  return header;
-}
-
 bool is_interim(const FieldList &list) {
   std::string status = last_value(list, ":status");
   return status.size() == 3 && status[0] == '1';
@@ -210,8 +197,8 @@ class Program {
 
  private:
   // the clauses
-  void begins(int reader, uint64_t id, const h3_item &item, bool as_list);
-  void begins_with_list(int reader, uint64_t id, const h3_item &item, const Part &part, bool as_list);
+  void begins(int reader, uint64_t id, const h3_item &item);
+  void begins_with_list(int reader, uint64_t id, const h3_item &item, const Part &part);
   void begins_with_content(int reader, uint64_t id, const h3_item &item);
   void ends(uint64_t id, Flow &flow);
   void accepts(int sender, uint64_t id, uint32_t answer, bool in_order, uint64_t size);
@@ -237,7 +224,7 @@ class Program {
   void step_on(int side, uint64_t id, uint32_t choice);
   void last_round(int side);
   void deliver_all(int from, uint64_t id);
-  uint32_t give(int side, uint64_t id, const FieldList &list, bool is_trailer, bool as_header);
+  uint32_t give(int side, uint64_t id, const FieldList &list, bool is_trailer);
   bool is_open(int side, uint64_t id);
   bool is_sending(int side, uint64_t id);
   void violated(const char *clause, uint64_t id, const char *more);
@@ -293,7 +280,7 @@ void Program::violated(const char *clause, uint64_t id, const char *more) {
 
 // ---- the clauses ----
 
-void Program::begins_with_list(int reader, uint64_t id, const h3_item &item, const Part &part, bool as_list) {
+void Program::begins_with_list(int reader, uint64_t id, const h3_item &item, const Part &part) {
   uint64_t most = sides_[reader].config.max_field_section_size;
   counts.lists++;
   if (item.kind == H3_TOO_LARGE_HEAD) {
@@ -311,7 +298,7 @@ void Program::begins_with_list(int reader, uint64_t id, const h3_item &item, con
     return violated("begins", id, "no fields");
   for (size_t i = 0, at = 0; i < item.fields; at += sizes[i].name + sizes[i].value, i++)
     came.push_back({bytes.substr(at, sizes[i].name), bytes.substr(at + sizes[i].name, sizes[i].value)});
-  if (came != (as_list ? part.list : as_header(part.list))) violated("begins", id, as_list ? "another list" : "another header");
+  if (came != part.list) violated("begins", id, "another list");
 }
 
 void Program::begins_with_content(int reader, uint64_t id, const h3_item &item) {
@@ -327,12 +314,12 @@ void Program::begins_with_content(int reader, uint64_t id, const h3_item &item) 
 }
 
 // an item is what was sent next, and none comes after the end or after a fault of the stream
-void Program::begins(int reader, uint64_t id, const h3_item &item, bool as_list) {
+void Program::begins(int reader, uint64_t id, const h3_item &item) {
   Flow &sent = flow(!reader, id);
   if (sent.given_up || sent.ended) return violated("begins", id, "an item after a fault or the end");
   if (item.kind == H3_BODY) return begins_with_content(reader, id, item);
   if (sent.out == sent.sent.size()) return violated("begins", id, "more than was sent");
-  begins_with_list(reader, id, item, sent.sent[sent.out++], as_list);
+  begins_with_list(reader, id, item, sent.sent[sent.out++]);
 }
 
 void Program::ends(uint64_t id, Flow &sent) {
@@ -381,7 +368,7 @@ void Program::shows(int side, uint64_t id) {
   uint8_t byte;
   size_t n = 0;
   uint32_t fin = 0;
-  if (h3_outgoing(end, named, &byte, 1, &n, &fin) != H3_OK || (!n && !fin))
+  if (h3_outgoing(end, named, &byte, 1, &n, NULL, &fin) != H3_OK || (!n && !fin))
     violated("shows", named, "nothing waits on a stream that is to be sent");
 }
 
@@ -408,41 +395,37 @@ void Program::open_request() {
     violated("accepts", id, "no request is opened");
 }
 
-uint32_t Program::give(int side, uint64_t id, const FieldList &list, bool is_trailer, bool as_header) {
+uint32_t Program::give(int side, uint64_t id, const FieldList &list, bool is_trailer) {
   std::vector<h3_field_size> sizes;
   std::string bytes;
   for (const Field &field : list) {
     sizes.push_back({static_cast<uint32_t>(field.name.size()), static_cast<uint32_t>(field.value.size())});
     bytes += field.name + field.value;
   }
-  auto send = is_trailer ? (as_header ? h3_send_trailer : h3_send_trailer_fields) : (as_header ? h3_send_head : h3_send_fields);
+  auto send = is_trailer ? h3_send_trailer : h3_send_head;
   return call([&] { return send(&sides_[side].end, id, sizes.data(), sizes.size(), bytes.data(), bytes.size(), nullptr); });
 }
 
 void Program::send_head(int side, uint64_t id) {
   Flow &own = flow(side, id);
   FieldList list = random_list(side, false, is_aimed_);
-  bool header = one_in(3);
-  FieldList goes = header ? as_header(list) : list;
   bool is_of_side = has(list, side ? ":status" : ":method") && !has(list, side ? ":method" : ":status");
-  uint32_t answer = give(side, id, list, false, header);
-  accepts(side, id, answer, is_sending(side, id) && !own.head_sent && is_of_side && !has(list, BAD_NAME), size_of(goes));
+  uint32_t answer = give(side, id, list, false);
+  accepts(side, id, answer, is_sending(side, id) && !own.head_sent && is_of_side && !has(list, BAD_NAME), size_of(list));
   if (answer != H3_OK) return;
-  bool interim = side && is_interim(goes);
-  own.sent.push_back({interim ? uint32_t{H3_INTERIM} : uint32_t{H3_HEAD}, goes, 0});
+  bool interim = side && is_interim(list);
+  own.sent.push_back({interim ? uint32_t{H3_INTERIM} : uint32_t{H3_HEAD}, list, 0});
   if (!interim) own.head_sent = true;
 }
 
 void Program::send_trailer(int side, uint64_t id) {
   Flow &own = flow(side, id);
   FieldList list = random_list(side, true, is_aimed_);
-  bool header = one_in(3);
-  FieldList goes = header ? as_header(list) : list;
-  uint32_t answer = give(side, id, list, true, header);
+  uint32_t answer = give(side, id, list, true);
   bool is_next = own.head_sent && !own.trailer_sent;
-  accepts(side, id, answer, is_sending(side, id) && is_next && !has_pseudo_field(list) && !has(list, BAD_NAME), size_of(goes));
+  accepts(side, id, answer, is_sending(side, id) && is_next && !has_pseudo_field(list) && !has(list, BAD_NAME), size_of(list));
   if (answer != H3_OK) return;
-  own.sent.push_back({H3_TRAILER, goes, 0});
+  own.sent.push_back({H3_TRAILER, list, 0});
   own.trailer_sent = true;
 }
 
@@ -482,7 +465,7 @@ void Program::take(int side, uint64_t id, size_t most) {
   uint32_t fin = 0;
   if (h3_stream(&sides_[side].end, id, &stream) != H3_OK) return;
   std::vector<uint8_t> bytes(std::min<size_t>(most, stream.waiting) + 1);
-  if (h3_outgoing(&sides_[side].end, id, bytes.data(), bytes.size() - 1, &n, &fin) != H3_OK || (!n && !fin)) return;
+  if (h3_outgoing(&sides_[side].end, id, bytes.data(), bytes.size() - 1, &n, NULL, &fin) != H3_OK || (!n && !fin)) return;
   if (h3_advance(&sides_[side].end, id, n) != H3_OK) violated("accepts", id, "h3_advance is refused");
   own.flight.insert(own.flight.end(), bytes.begin(), bytes.begin() + static_cast<long>(n));
   if (fin && !own.reset) own.end_in_flight = true;
@@ -536,11 +519,9 @@ void Program::told_of_fault(int side, uint64_t id, const h3_item &item) {
 // whether it pauses
 bool Program::pull(int side, uint64_t id) {
   h3_item item = {};
-  bool as_list = !one_in(3);
   h3_endpoint *end = &sides_[side].end;
   if (sides_[side].has_fault) return true;
-  if (call([&] { return as_list ? h3_pull_fields(end, id, &item) : h3_pull(end, id, &item); }) != H3_OK)
-    violated("begins", id, "a pull is refused");
+  if (call([&] { return h3_pull(end, id, &item); }) != H3_OK) violated("begins", id, "a pull is refused");
   switch (item.kind) {
     case H3_FAULT_MEMORY: counts.memory_answers++; return false;
     case H3_FAULT_CONNECTION: no_connection_fault(side, item.number, "pull"); return true;
@@ -551,7 +532,7 @@ bool Program::pull(int side, uint64_t id) {
     case H3_WAITING:
     case H3_NO_MESSAGES: return true;
     case H3_END: ends(id, flow(!side, id)); return false;
-    default: begins(side, id, item, as_list); return false;
+    default: begins(side, id, item); return false;
   }
 }
 

@@ -41,7 +41,7 @@ static void fail(const char *what, uint64_t id, uint64_t number) {
 static h3_endpoint ends[2]; /* a client and a server */
 static uint8_t *piece;      /* of BODY + MIB bytes */
 static uint8_t *body;
-static int listed; /* heads and trailers go and come as lists, and bytes are lent */
+static int lends; /* bytes of bodies and of deliveries are lent */
 
 /* fields as h3_send_head takes them */
 typedef struct {
@@ -102,17 +102,19 @@ static uint64_t opened(void) {
   return id;
 }
 static uint32_t next(int side, uint64_t from, uint64_t *id) {
-  return listed ? h3_next_to_send(&ends[side], from, id) : h3_next_waiting(&ends[side], from, id);
+  return h3_next_to_send(&ends[side], from, id);
 }
 
 /* what waits on a stream goes over, as much as fits into `piece` at a time; answers how many bytes went in the largest delivery */
 static size_t carry(int side, uint64_t id) {
-  size_t most = 0, n;
+  size_t most = 0, n, past;
   uint32_t fin;
   for (;;) {
-    DONE(h3_outgoing(&ends[side], id, piece, BODY + MIB, &n, &fin), "h3_outgoing", id);
+    DONE(h3_outgoing(&ends[side], id, piece, BODY + MIB, &n, &past, &fin), "h3_outgoing", id);
+    memcpy(piece + n, body, past); /* such a body is taken whole */
+    n += past;
     if (!n) break;
-    if (listed) {
+    if (lends) {
       DONE(h3_deliver_lent(&ends[!side], id, piece, n, NULL), "h3_deliver_lent", id);
       DONE(h3_keep(&ends[!side], id), "h3_keep", id);
     } else {
@@ -123,7 +125,7 @@ static size_t carry(int side, uint64_t id) {
   }
   if (fin) {
     DONE(h3_deliver_end(&ends[!side], id, NULL), "h3_deliver_end", id);
-    if (listed) DONE(h3_end_taken(&ends[side], id), "h3_end_taken", id);
+    DONE(h3_end_taken(&ends[side], id), "h3_end_taken", id);
   }
   return most;
 }
@@ -138,29 +140,19 @@ static void carry_own(void) {
 /* the next item is of this kind */
 static h3_item pulled(int side, uint64_t id, uint32_t kind) {
   h3_item item;
-  DONE(listed ? h3_pull_fields(&ends[side], id, &item) : h3_pull(&ends[side], id, &item), "h3_pull", id);
+  DONE(h3_pull(&ends[side], id, &item), "h3_pull", id);
   WANT(item.kind == kind, "an item of another kind", id, item.kind);
   return item;
 }
 
 /* the item has these fields, in this order */
 static void same_fields(int side, uint64_t id, const h3_item *item, const list *l) {
-  static uint8_t name[64], value[VALUE], bytes[2 * VALUE];
+  static uint8_t bytes[2 * VALUE];
   static h3_field_size sizes[FIELDS + 8];
-  size_t at = 0;
   WANT(item->fields == l->count, "another count of fields", id, item->fields);
-  if (listed) {
-    WANT(item->len == l->len, "another length of fields", id, item->len);
-    DONE(h3_item_fields(&ends[side], sizes, FIELDS + 8, bytes, sizeof bytes), "h3_item_fields", id);
-    WANT(!memcmp(sizes, l->sizes, l->count * sizeof *sizes) && !memcmp(bytes, l->bytes, l->len), "other fields", id, l->count);
-  }
-  for (size_t i = 0; i < l->count; i++) {
-    size_t n, v;
-    DONE(h3_item_field(&ends[side], i, name, sizeof name, &n, value, sizeof value, &v), "h3_item_field", id);
-    WANT(n == l->sizes[i].name && v == l->sizes[i].value, "another size of a field", id, i);
-    WANT(!memcmp(name, l->bytes + at, n) && !memcmp(value, l->bytes + at + n, v), "another field", id, i);
-    at += n + v;
-  }
+  WANT(item->len == l->len, "another length of fields", id, item->len);
+  DONE(h3_item_fields(&ends[side], sizes, FIELDS + 8, bytes, sizeof bytes), "h3_item_fields", id);
+  WANT(!memcmp(sizes, l->sizes, l->count * sizeof *sizes) && !memcmp(bytes, l->bytes, l->len), "other fields", id, l->count);
 }
 
 /* the body comes out, in whatever pieces */
@@ -178,15 +170,10 @@ static void same_body(int side, uint64_t id, size_t len) {
 static void send(int side, uint64_t id, const list *head, size_t len, const list *trailer) {
   h3_endpoint *end = &ends[side];
   h3_stream_state s;
-  if (listed) {
-    DONE(h3_send_fields(end, id, head->sizes, head->count, head->bytes, head->len, NULL), "h3_send_fields", id);
-    if (len) DONE(h3_send_body_lent(end, id, body, len, NULL), "h3_send_body_lent", id);
-    if (trailer) DONE(h3_send_trailer_fields(end, id, trailer->sizes, trailer->count, trailer->bytes, trailer->len, NULL), "h3_send_trailer_fields", id);
-  } else {
-    DONE(h3_send_head(end, id, head->sizes, head->count, head->bytes, head->len, NULL), "h3_send_head", id);
-    if (len) DONE(h3_send_body(end, id, body, len, NULL), "h3_send_body", id);
-    if (trailer) DONE(h3_send_trailer(end, id, trailer->sizes, trailer->count, trailer->bytes, trailer->len, NULL), "h3_send_trailer", id);
-  }
+  DONE(h3_send_head(end, id, head->sizes, head->count, head->bytes, head->len, NULL), "h3_send_head", id);
+  if (len && lends) DONE(h3_send_body_of(end, id, len, NULL), "h3_send_body_of", id);
+  if (len && !lends) DONE(h3_send_body(end, id, body, len, NULL), "h3_send_body", id);
+  if (trailer) DONE(h3_send_trailer(end, id, trailer->sizes, trailer->count, trailer->bytes, trailer->len, NULL), "h3_send_trailer", id);
   DONE(h3_finish(end, id, NULL), "h3_finish", id);
   DONE(h3_stream(end, id, &s), "h3_stream", id);
   WANT(s.waiting > len && s.is_finished, "too few bytes wait", id, s.waiting);
@@ -298,6 +285,7 @@ static void insertions(void) {
 /* deliveries of 1 MiB on each kind of stream */
 static void deliveries(void) {
   uint64_t id, value, detail;
+  uint32_t drained;
   h3_state state;
   h3_item item;
   size_t n;
@@ -331,6 +319,34 @@ static void deliveries(void) {
   WANT(state.has_goaway && state.goaway == id, "another GOAWAY", 3, state.goaway);
   WANT(h3_open_request(&ends[0], &value, &detail) == H3_GOING_AWAY && detail == id, "a request is opened behind a GOAWAY", 0, detail);
   drop();
+  make();
+  DONE(h3_shutdown_notice(&ends[1], NULL), "h3_shutdown_notice", 0);
+  DONE(h3_shutdown(&ends[1], NULL), "h3_shutdown", 0);
+  carry(1, 3);
+  DONE(h3_first_unseen(&ends[1], &id), "h3_first_unseen", 0);
+  DONE(h3_is_drained(&ends[1], &drained), "h3_is_drained", 0);
+  WANT(id == 0 && drained == 1, "an endpoint without requests is not drained", 3, id);
+  drop();
+}
+
+/* a body of 16 MiB in one frame, in one piece behind its head: it is read where it lies, and nothing of it is kept */
+static void reads(void) {
+  h3_item item;
+  h3_stream_state state;
+  size_t used;
+  make();
+  memcpy(piece, "\1\10\0\0\321\301\327\120\1a", 10); /* GET, "/", https, "a" (RFC 9204, appendix A) */
+  memcpy(piece + 10, "\0\201\0\0\0", 5);                  /* DATA of 2^24 bytes (RFC 9114, section 7.2.1) */
+  memcpy(piece + 15, body, BODY);
+  DONE(h3_read(&ends[1], 0, piece, 15 + BODY, 1, &used, &item, NULL), "h3_read", 0);
+  WANT(item.kind == H3_HEAD && used == 10, "a head is not read by itself", 0, used);
+  DONE(h3_read(&ends[1], 0, piece + 10, 5 + BODY, 1, &used, &item, NULL), "h3_read", 0);
+  WANT(item.kind == H3_BODY_GIVEN && item.number == 5 && item.len == BODY && used == 5 + BODY, "another piece", 0, used);
+  DONE(h3_stream(&ends[1], 0, &state), "h3_stream", 0);
+  WANT(state.unread == 0, "a body is kept", 0, state.unread);
+  DONE(h3_read(&ends[1], 0, NULL, 0, 1, &used, &item, NULL), "h3_read", 0);
+  WANT(item.kind == H3_END, "no end", 0, item.kind);
+  drop();
 }
 
 /* a `priority` field of 1 MiB: a parameter with a long key, and the urgency */
@@ -347,13 +363,14 @@ int main(void) {
   if (!piece || !body) fail("the test itself has no memory", 0, 0);
   for (size_t i = 0; i < BODY; i++) body[i] = (uint8_t)('a' + i % 23);
   WANT((h3_version() & ~H3_UNPROVED) == H3_VERSION, "another version", 0, h3_version());
-  for (listed = 0; listed < 2; listed++) {
+  for (lends = 0; lends < 2; lends++) {
     bodies();
     streams();
     insertions();
     deliveries();
+    reads();
     priorities();
-    WANT(!refused && allocations > 100000 * (listed + 1), "allocations were refused, or not counted", listed, 0);
+    WANT(!refused && allocations > 100000 * (lends + 1), "allocations were refused, or not counted", lends, 0);
   }
   free(piece);
   free(body);

@@ -68,7 +68,7 @@ class Reader {
     static const h3_field_size sizes[] = {{7, 3}, {7, 5}, {10, 1}, {5, 1}};
     uint64_t id;
     need(h3_open_request(&end_, &id, nullptr) == H3_OK, "no request is opened");
-    need(h3_send_fields(&end_, id, sizes, 4, ":methodGET:schemehttps:authoritya:path/", 39, nullptr) == H3_OK, "no request is sent");
+    need(h3_send_head(&end_, id, sizes, 4, ":methodGET:schemehttps:authoritya:path/", 39, nullptr) == H3_OK, "no request is sent");
   }
 
   void told(uint32_t answer, uint64_t code) {
@@ -102,7 +102,7 @@ class Reader {
     uint8_t byte;
     size_t n = 0;
     uint32_t fin = 0;
-    need(h3_outgoing(&end_, named, &byte, 1, &n, &fin) == H3_OK && (n || fin), "nothing waits on a stream that is to be sent");
+    need(h3_outgoing(&end_, named, &byte, 1, &n, NULL, &fin) == H3_OK && (n || fin), "nothing waits on a stream that is to be sent");
   }
 
   // every stream: what waits on one goes on with an insertion on another
@@ -115,7 +115,7 @@ class Reader {
   // whether another item may come
   bool pull(uint64_t id) {
     h3_item item = {};
-    need(h3_pull_fields(&end_, id, &item) == H3_OK, "a pull is refused");
+    need(h3_pull(&end_, id, &item) == H3_OK, "a pull is refused");
     need(!has_fault_ || item.kind == H3_FAULT_CONNECTION, "a pull after a fault of the connection does not tell it");
     need(item.kind != H3_FAULT_MEMORY, "memory was refused");
     if (item.kind == H3_FAULT_CONNECTION) fault(item.number);

@@ -2,15 +2,17 @@
 use crate::answers::line;
 use crate::call::Call;
 use crate::case::Told;
-use crate::items::pulled;
+use crate::items::{pulled, pulled_list};
 use crate::reading::call;
 use bytes::Bytes;
 use h3_connection::event::{DeliverError, Fault, Pull, Refusal};
 use h3_connection::setup::{Limits, NewError};
+use h3_field::HeaderField;
 use h3_header::Header;
 use h3_proto::config::Config;
 use h3_proto::stream::{Side, StreamId};
-use h3_session::endpoint::Endpoint;
+use h3_session::FieldsPull;
+use h3_session::endpoint::{Endpoint, FieldsError};
 use h3_world::event::Answer;
 
 /// What a call answers. None is made of a line that cannot be read.
@@ -38,7 +40,12 @@ fn perform(told: &mut Told, endpoint: &mut Option<Endpoint>, call: Call) {
 }
 
 /// A new endpoint takes the place of the one before.
-fn begin(told: &mut Told, endpoint: &mut Option<Endpoint>, asked: (Side, Config), limits: Limits) {
+pub fn begin(
+    told: &mut Told,
+    endpoint: &mut Option<Endpoint>,
+    asked: (Side, Config),
+    limits: Limits,
+) {
     let (side, config) = asked;
     match Endpoint::new(told.alloc(), side, config, limits, 0) {
         Ok(made) => {
@@ -56,13 +63,15 @@ fn begin(told: &mut Told, endpoint: &mut Option<Endpoint>, asked: (Side, Config)
 }
 
 /// What a call answers.
-fn act(told: &mut Told, endpoint: &mut Endpoint, call: Call) {
+pub fn act(told: &mut Told, endpoint: &mut Endpoint, call: Call) {
     match call {
         Call::New(_, _, _) => told.unreadable(),
         Call::Open => opened(told, endpoint.open_request()),
         Call::Head(id, head) => send_head(told, endpoint, id, head),
+        Call::Fields(id, fields) => send_fields(told, endpoint, id, fields),
         Call::Body(id, body) => sent(told, endpoint.send_body(id, body)),
         Call::Trailer(id, trailer) => send_trailer(told, endpoint, id, trailer),
+        Call::Trailers(id, fields) => send_trailers(told, endpoint, id, fields),
         Call::Finish(id) => done(told, endpoint.finish(id)),
         Call::Reset(id) => done(told, endpoint.reset(id)),
         Call::Cancel(id) => done(told, cancel(endpoint, id)),
@@ -71,6 +80,7 @@ fn act(told: &mut Told, endpoint: &mut Endpoint, call: Call) {
         Call::End(id) => delivered(told, deliver_end(endpoint, id)),
         Call::Gone(id, code) => delivered(told, deliver_reset(endpoint, id, code)),
         Call::Pull(id) => pulled(told, pull(endpoint, id)),
+        Call::Pulls(id) => pulled_list(told, pull_fields(endpoint, id)),
         Call::Advance(id, count) => advance(told, endpoint, id, count),
         Call::Waits(id) => waits(told, endpoint, id),
         Call::Lends(id) => lends(told, endpoint, id),
@@ -94,6 +104,27 @@ fn send_trailer(told: &mut Told, endpoint: &mut Endpoint, id: StreamId, trailer:
     done(told, tried);
 }
 
+fn send_fields(told: &mut Told, endpoint: &mut Endpoint, id: StreamId, fields: Vec<HeaderField>) {
+    let tried = endpoint.send_fields(id, &fields);
+    drop(fields);
+    done(told, of_list(tried));
+}
+
+fn send_trailers(told: &mut Told, endpoint: &mut Endpoint, id: StreamId, fields: Vec<HeaderField>) {
+    let tried = endpoint.send_trailer_fields(id, &fields);
+    drop(fields);
+    done(told, of_list(tried));
+}
+
+/// Why a list is not sent, as it is told of a header.
+fn of_list(tried: Result<(), FieldsError>) -> Result<(), Refusal> {
+    match tried {
+        Ok(()) => Ok(()),
+        Err(FieldsError::Refused(refusal)) => Err(refusal),
+        Err(FieldsError::Malformed(why)) => Err(Refusal::Malformed(why)),
+    }
+}
+
 fn advance(told: &mut Told, endpoint: &mut Endpoint, id: StreamId, count: usize) {
     endpoint.advance(id, count);
     told.say("ok");
@@ -101,7 +132,7 @@ fn advance(told: &mut Told, endpoint: &mut Endpoint, id: StreamId, count: usize)
 
 /// Delivers bytes. Those that come back for want of memory are delivered once more, and where they were taken and not read no
 /// bytes are, so that they are read.
-fn deliver(endpoint: &mut Endpoint, id: StreamId, bytes: Bytes) -> Result<(), DeliverError> {
+pub fn deliver(endpoint: &mut Endpoint, id: StreamId, bytes: Bytes) -> Result<(), DeliverError> {
     match endpoint.deliver(id, bytes) {
         Err(DeliverError::OutOfMemory(bytes)) => endpoint.deliver(id, bytes),
         Err(DeliverError::Kept) => endpoint.deliver(id, Bytes::new()),
@@ -110,7 +141,7 @@ fn deliver(endpoint: &mut Endpoint, id: StreamId, bytes: Bytes) -> Result<(), De
 }
 
 /// Delivers an end, a second time where memory was refused.
-fn deliver_end(endpoint: &mut Endpoint, id: StreamId) -> Result<(), DeliverError> {
+pub fn deliver_end(endpoint: &mut Endpoint, id: StreamId) -> Result<(), DeliverError> {
     match endpoint.deliver_end(id) {
         Err(DeliverError::OutOfMemory(_)) => endpoint.deliver_end(id),
         told => told,
@@ -118,7 +149,7 @@ fn deliver_end(endpoint: &mut Endpoint, id: StreamId) -> Result<(), DeliverError
 }
 
 /// Delivers a reset, a second time where memory was refused.
-fn deliver_reset(endpoint: &mut Endpoint, id: StreamId, code: u64) -> Result<(), DeliverError> {
+pub fn deliver_reset(endpoint: &mut Endpoint, id: StreamId, code: u64) -> Result<(), DeliverError> {
     match endpoint.deliver_reset(id, code) {
         Err(DeliverError::OutOfMemory(_)) => endpoint.deliver_reset(id, code),
         told => told,
@@ -129,6 +160,14 @@ fn deliver_reset(endpoint: &mut Endpoint, id: StreamId, code: u64) -> Result<(),
 fn pull(endpoint: &mut Endpoint, id: StreamId) -> Pull {
     match endpoint.pull(id) {
         Pull::Fault(Fault::Memory) => endpoint.pull(id),
+        told => told,
+    }
+}
+
+/// Pulls a list, a second time where memory was refused.
+fn pull_fields(endpoint: &mut Endpoint, id: StreamId) -> FieldsPull {
+    match endpoint.pull_fields(id) {
+        FieldsPull::Fault(Fault::Memory) => endpoint.pull_fields(id),
         told => told,
     }
 }
@@ -155,7 +194,7 @@ fn done(told: &mut Told, tried: Result<(), Refusal>) {
     }
 }
 
-fn refused(told: &mut Told, refusal: Refusal) {
+pub fn refused(told: &mut Told, refusal: Refusal) {
     line(told, Answer::Refused(refusal));
 }
 
@@ -166,10 +205,18 @@ fn sent(told: &mut Told, tried: Result<(), (Refusal, Bytes)>) {
     }
 }
 
-fn delivered(told: &mut Told, tried: Result<(), DeliverError>) {
+pub fn delivered(told: &mut Told, tried: Result<(), DeliverError>) {
     match tried {
         Ok(()) => done(told, Ok(())),
         Err(e) => refused(told, refusal_of(&e)),
+    }
+}
+
+/// Why a delivery is not taken, or not read, where it is not.
+pub fn why(tried: &Result<(), DeliverError>) -> Option<Refusal> {
+    match tried {
+        Ok(()) => None,
+        Err(e) => Some(refusal_of(e)),
     }
 }
 

@@ -2,6 +2,7 @@
 use bytes::Bytes;
 use h3_coding::varint::VarInt;
 use h3_connection::setup::Limits;
+use h3_field::HeaderField;
 use h3_header::Header;
 use h3_proto::config::Config;
 use h3_proto::stream::{Side, StreamId};
@@ -13,8 +14,12 @@ pub enum Call {
     New(Side, Config, Limits),
     Open,
     Head(StreamId, Header),
+    /// A head as a list of fields.
+    Fields(StreamId, Vec<HeaderField>),
     Body(StreamId, Bytes),
     Trailer(StreamId, Header),
+    /// A trailer as a list of fields.
+    Trailers(StreamId, Vec<HeaderField>),
     Finish(StreamId),
     Reset(StreamId),
     Cancel(StreamId),
@@ -23,6 +28,8 @@ pub enum Call {
     End(StreamId),
     Gone(StreamId, u64),
     Pull(StreamId),
+    /// The next item, with its list of fields.
+    Pulls(StreamId),
     /// All that waits on a stream.
     Waits(StreamId),
     /// The first piece of what waits.

@@ -4,6 +4,7 @@ use h3_connection::event::{Item, Pull};
 use h3_field::HeaderField;
 use h3_header::Header;
 use h3_script::text::FaultText;
+use h3_session::{FieldsItem, FieldsPull};
 
 /// The line of what a pull answers.
 pub fn pulled(told: &mut Told, pull: Pull) {
@@ -25,6 +26,73 @@ fn tell_pull(told: &mut Told, pull: &Pull) {
         }
         Pull::NoMessages => told.say("no messages"),
     }
+}
+
+/// The line of what a pull of lists answers.
+pub fn pulled_list(told: &mut Told, pull: FieldsPull) {
+    tell_list_pull(told, &pull);
+    drop(pull);
+}
+
+fn tell_list_pull(told: &mut Told, pull: &FieldsPull) {
+    match pull {
+        FieldsPull::Item(item) => tell_list_item(told, item),
+        FieldsPull::Pending => told.say("pending"),
+        FieldsPull::Waiting(count) => {
+            told.say("waiting");
+            told.then_show(*count);
+        }
+        FieldsPull::Fault(fault) => {
+            told.say("fault");
+            told.then_show(FaultText(*fault));
+        }
+        FieldsPull::NoMessages => told.say("no messages"),
+    }
+}
+
+fn tell_list_item(told: &mut Told, item: &FieldsItem) {
+    match item {
+        FieldsItem::Interim(list) => tell_list(told, "interim", list.fields()),
+        FieldsItem::Head(list) => tell_list(told, "head", list.fields()),
+        FieldsItem::Body(bytes) => escaped(told, "body ", bytes.as_slice()),
+        FieldsItem::Trailer(list) => tell_list(told, "trailer", list.fields()),
+        FieldsItem::TooLarge(size) => {
+            told.say("too large");
+            told.then_show(*size);
+        }
+        FieldsItem::Session(id) => {
+            told.say("session");
+            told.then_show(id.into_inner());
+        }
+        FieldsItem::Raw(bytes) => escaped(told, "raw ", bytes.as_slice()),
+        FieldsItem::End => told.say("end"),
+    }
+}
+
+/// The name, and the fields behind it. A value of more than 100 bytes that are all the same is one of them, and their count.
+fn tell_list(told: &mut Told, name: &str, fields: &[HeaderField]) {
+    told.say(name);
+    for field in fields {
+        escaped(told, " ", field.name());
+        match repeated(field.value()) {
+            Some(byte) => {
+                escaped(told, "=", &[byte]);
+                told.say("*");
+                told.show(field.value().len());
+            }
+            None => escaped(told, "=", field.value()),
+        }
+    }
+}
+
+fn repeated(value: &[u8]) -> Option<u8> {
+    let first = *value.first()?;
+    for byte in value {
+        if *byte != first {
+            return None;
+        }
+    }
+    if value.len() > 100 { Some(first) } else { None }
 }
 
 fn tell_item(told: &mut Told, item: &Item) {

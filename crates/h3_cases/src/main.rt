@@ -5,6 +5,7 @@ mod acting;
 mod answers;
 mod call;
 mod case;
+mod choices;
 mod entries;
 mod examples;
 mod feed;
@@ -23,60 +24,98 @@ mod sending;
 mod settings;
 mod streams;
 mod strings;
+mod talking;
 
 use crate::case::{CaseError, Told, words};
 use h3_session::endpoint::Endpoint;
 use std::alloc::{AllocError, Global};
 use std::io;
 
+/// The endpoints that lines make: that of lines `call`, and those of a script.
+#[derive(Drop)]
+struct Ends {
+    one: Option<Endpoint>,
+    client: Option<Endpoint>,
+    server: Option<Endpoint>,
+    // whether a line `config` came
+    is_script: bool,
+}
+
 fn main(rt: HostRuntime) -> io::Result<()> {
-    let mut endpoint = None;
-    let done = answer_lines(&rt, &mut endpoint);
-    if let Some(endpoint) = endpoint {
-        endpoint.free();
-    }
+    let mut ends = Ends {
+        one: None,
+        client: None,
+        server: None,
+        is_script: false,
+    };
+    let done = answer_lines(&rt, &mut ends);
+    let Ends {
+        one,
+        client,
+        server,
+        ..
+    } = ends;
+    free(one);
+    free(client);
+    free(server);
     done
 }
 
+fn free(endpoint: Option<Endpoint>) {
+    if let Some(endpoint) = endpoint {
+        endpoint.free();
+    }
+}
+
 /// Answers each line of the standard input.
-fn answer_lines(rt: &HostRuntime, endpoint: &mut Option<Endpoint>) -> io::Result<()> {
+fn answer_lines(rt: &HostRuntime, ends: &mut Ends) -> io::Result<()> {
     let alloc = rt.alloc();
     for line in rt.lines(alloc) {
         let line = line?;
-        let text = answer(alloc, endpoint, line.as_str())?;
+        let text = answer(alloc, ends, line.as_str())?;
         println!(rt; "{text}")?;
     }
     Ok(())
 }
 
 /// The line that a line gets. An empty line and one that begins with `#` come back as they are.
-fn answer(
-    alloc: Global,
-    endpoint: &mut Option<Endpoint>,
-    line: &str,
-) -> Result<String, AllocError> {
+fn answer(alloc: Global, ends: &mut Ends, line: &str) -> Result<String, AllocError> {
     if line.is_empty() || line.starts_with('#') {
         return String::from_str(alloc, line);
     }
     let mut told = Told::new(alloc);
-    of_line(&mut told, endpoint, line);
+    of_line(&mut told, ends, line);
     match told.end() {
         Ok(text) => Ok(text),
-        Err(CaseError::Unreadable) => String::from_str(alloc, unreadable(line)),
+        Err(CaseError::Unreadable) => String::from_str(alloc, unreadable(ends, line)),
         Err(CaseError::Refused) => String::from_str(alloc, "refused"),
     }
 }
 
-fn unreadable(line: &str) -> &'static str {
-    if line.starts_with("call ") {
+fn unreadable(ends: &Ends, line: &str) -> &'static str {
+    if ends.is_script {
+        "no such line"
+    } else if line.starts_with("call ") {
         "no such call"
     } else {
         "no such case"
     }
 }
 
-/// What a line answers: its group, and what stands behind that.
-fn of_line(told: &mut Told, endpoint: &mut Option<Endpoint>, line: &str) {
+/// What a line answers. Behind a line `config` each is one of a script, else a call or a case.
+fn of_line(told: &mut Told, ends: &mut Ends, line: &str) {
+    if let Some(choices) = line.strip_prefix("config ") {
+        ends.is_script = true;
+        return talking::config(told, &mut ends.client, &mut ends.server, choices);
+    }
+    if ends.is_script {
+        return talking::answer(told, &mut ends.client, &mut ends.server, line);
+    }
+    of_group_line(told, &mut ends.one, line);
+}
+
+/// What a call or a case answers: its group, and what stands behind that.
+fn of_group_line(told: &mut Told, endpoint: &mut Option<Endpoint>, line: &str) {
     let Some((group, rest)) = line.split_once(' ') else {
         return told.unreadable();
     };

@@ -1,21 +1,28 @@
 //! Lines that are read as calls of an endpoint. Of a line that cannot be read any call comes, and none is made.
 use crate::call::Call;
 use crate::case::Told;
+use crate::choices::chosen;
 use crate::ids;
-use crate::sections::fields;
+use crate::sections::{fields, list};
 use h3_coding::varint::VarInt;
 use h3_connection::setup::Limits;
 use h3_header::Header;
-use h3_proto::config::Config;
 use h3_proto::stream::{Side, StreamId};
 use http_header::HeaderMap;
 
 /// The call that a line asks for.
 pub fn call(told: &mut Told, words: &[&str]) -> Call {
     match words {
-        [command] => plain(told, *command),
-        [command, id, more @ ..] => of_words(told, *command, *id, more),
+        [command, rest @ ..] => named(told, *command, rest),
         [] => unreadable(told),
+    }
+}
+
+/// The call of this command, with the words behind that.
+pub fn named(told: &mut Told, command: &str, words: &[&str]) -> Call {
+    match words {
+        [] => plain(told, command),
+        [id, more @ ..] => of_words(told, command, *id, more),
     }
 }
 
@@ -44,7 +51,8 @@ fn plain(told: &mut Told, command: &str) -> Call {
     }
 }
 
-fn side(told: &mut Told, word: &str) -> Side {
+/// The side of a word `c` or `s`.
+pub fn side(told: &mut Told, word: &str) -> Side {
     match word {
         "c" => Side::Client,
         "s" => Side::Server,
@@ -65,29 +73,8 @@ fn new(told: &mut Told, side_word: &str, words: &[&str]) -> Call {
         table: told.number(*table),
         blocked: told.number(*blocked),
     };
-    Call::New(side, config(told, section, choices), limits)
-}
-
-/// A setup with this section size and these choices.
-fn config(told: &mut Told, section: u64, choices: &[&str]) -> Config {
-    let mut config = Config::default()
-        .with_grease(false)
-        .with_max_field_section_size(section);
-    for choice in choices {
-        config = match *choice {
-            "strict" => config.with_strict_messages(true),
-            "connect" => config.with_extended_connect(true),
-            "counted" => config.with_acknowledgments_counted(true),
-            "small" => config.with_encoder_table(40),
-            "economical" => config.with_economical_table(true),
-            "limited" => config.with_unfinished_limit(1000),
-            _ => {
-                told.unreadable();
-                config
-            }
-        };
-    }
-    config
+    let (config, limits) = chosen(told, section, limits, choices);
+    Call::New(side, config, limits)
 }
 
 /// A call on a stream.
@@ -95,6 +82,8 @@ fn on_stream(told: &mut Told, command: &str, id: StreamId, words: &[&str]) -> Ca
     match command {
         "head" => Call::Head(id, section(told, words)),
         "trailer" => Call::Trailer(id, section(told, words)),
+        "fields" => Call::Fields(id, list(told, words)),
+        "trailers" => Call::Trailers(id, list(told, words)),
         _ => match words {
             [] => alone(told, command, id),
             [word] => with_word(told, command, id, *word),
@@ -118,6 +107,7 @@ fn with_word(told: &mut Told, command: &str, id: StreamId, word: &str) -> Call {
 fn alone(told: &mut Told, command: &str, id: StreamId) -> Call {
     match command {
         "pull" => Call::Pull(id),
+        "pulls" => Call::Pulls(id),
         "waits" => Call::Waits(id),
         "lends" => Call::Lends(id),
         "sends" => Call::Sends(id),

@@ -49,6 +49,44 @@ fn push(told: &mut Told, fields: &mut Vec<HeaderField>, word: &str) {
     told.done(fields.push(field(name, value)));
 }
 
+/// The same, but that a value `x*n` is the bytes of `x` so many times over.
+pub fn list(told: &mut Told, words: &[&str]) -> Vec<HeaderField> {
+    let mut list = Vec::new(told.alloc());
+    for word in words {
+        push_many(told, &mut list, *word);
+    }
+    list
+}
+
+fn push_many(told: &mut Told, list: &mut Vec<HeaderField>, word: &str) {
+    let (name, value) = told.pair(word);
+    let name = told.decoded(name);
+    let value = many(told, value);
+    told.done(list.push(field(name, value)));
+}
+
+fn many(told: &mut Told, value: &str) -> Vec<u8> {
+    match value.split_once('*') {
+        Some((bytes, count)) => {
+            let read: Result<u16, _> = count.parse();
+            match read {
+                Ok(count) => times(told, bytes, count),
+                Err(_) => told.decoded(value),
+            }
+        }
+        None => told.decoded(value),
+    }
+}
+
+fn times(told: &mut Told, bytes: &str, count: u16) -> Vec<u8> {
+    let bytes = told.decoded(bytes);
+    let mut value = Vec::new(told.alloc());
+    for _ in 0..count {
+        told.done(value.extend_from_slice(&bytes));
+    }
+    value
+}
+
 /// The size of a section, whether a dynamic entry is named, its fields, and how many bytes are left; or why it is refused.
 fn read(told: &mut Told, limit: u64, section: &[u8]) {
     let mut buf = SliceCursor::new(section);

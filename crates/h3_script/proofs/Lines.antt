@@ -7,7 +7,7 @@ use Rattle.h3_header.specs.Head.{Head as Fields}
 use Rattle.h3_proto.specs.declared.stream.Side.{Side}
 use Rattle.h3_script.specs.Words.{number_of, id_of, side_of}
 use Rattle.h3_script.specs.HeadText.{IsHeadText, IsTrailerText}
-use Rattle.h3_script.specs.ScriptLine.{judging_of, setup_by, setup_of, side_event, number_by, deliver_by, short_event, IsSectionEvent, SaysWords}
+use Rattle.h3_script.specs.ScriptLine.{setup_by, setup_of, side_event, number_by, deliver_by, short_event, IsSectionEvent, SaysWords}
 use Rattle.h3_world.specs.declared.event.Event.{Event}
 use Rattle.h3_world.specs.declared.event.Event.TheVariants as does
 
@@ -27,7 +27,7 @@ none_many (w ∷ x ∷ y ∷ z ∷ []) h = absurd (omega (arith, h))
 none_many (w ∷ x ∷ y ∷ z ∷ v ∷ ws) h = refl
 
 -- a setup has seven words
-pub no_setup : (ws : List (Bor (List ℕ))) → length ws < 7 → None ≡ setup_of (texts ws)
+pub no_setup : (ws : List (Bor (List ℕ))) → (length ws ≡ 7 → ⊥) → None ≡ setup_of (texts ws)
 no_setup [] h = refl
 no_setup (a ∷ []) h = refl
 no_setup (a ∷ b ∷ []) h = refl
@@ -35,10 +35,11 @@ no_setup (a ∷ b ∷ c ∷ []) h = refl
 no_setup (a ∷ b ∷ c ∷ d ∷ []) h = refl
 no_setup (a ∷ b ∷ c ∷ d ∷ e ∷ []) h = refl
 no_setup (a ∷ b ∷ c ∷ d ∷ e ∷ f ∷ []) h = refl
-no_setup (a ∷ b ∷ c ∷ d ∷ e ∷ f ∷ g ∷ ws) h = absurd (omega (arith, h))
+no_setup (a ∷ b ∷ c ∷ d ∷ e ∷ f ∷ g ∷ []) h = absurd (h refl)
+no_setup (a ∷ b ∷ c ∷ d ∷ e ∷ f ∷ g ∷ i ∷ ws) h = refl
 
--- words of another command
-pub setup_unnamed : (ws : List (Bor (List ℕ))) (d : Bor (List ℕ)) → 7 ≤ length ws → bytes_eq (get_or ws 0 d).now (codes "config") ≡ false → None ≡ setup_of (texts ws)
+-- seven words without the command
+pub setup_unnamed : (ws : List (Bor (List ℕ))) (d : Bor (List ℕ)) → length ws ≡ 7 → bytes_eq (get_or ws 0 d).now (codes "config") ≡ false → None ≡ setup_of (texts ws)
 setup_unnamed [] w seven is = absurd (omega (arith, seven))
 setup_unnamed (a ∷ []) w seven is = absurd (omega (arith, seven))
 setup_unnamed (a ∷ b ∷ []) w seven is = absurd (omega (arith, seven))
@@ -46,21 +47,22 @@ setup_unnamed (a ∷ b ∷ c ∷ []) w seven is = absurd (omega (arith, seven))
 setup_unnamed (a ∷ b ∷ c ∷ d ∷ []) w seven is = absurd (omega (arith, seven))
 setup_unnamed (a ∷ b ∷ c ∷ d ∷ e ∷ []) w seven is = absurd (omega (arith, seven))
 setup_unnamed (a ∷ b ∷ c ∷ d ∷ e ∷ f ∷ []) w seven is = absurd (omega (arith, seven))
-setup_unnamed (a ∷ b ∷ c ∷ d ∷ e ∷ f ∷ g ∷ ws) w seven is = rw is refl
+setup_unnamed (a ∷ b ∷ c ∷ d ∷ e ∷ f ∷ g ∷ []) w seven is = rw is refl
+setup_unnamed (a ∷ b ∷ c ∷ d ∷ e ∷ f ∷ g ∷ h ∷ ws) w seven is = absurd (omega (arith, seven))
 
--- the command, six numbers and the words behind them
-pub setup_read : (ws : List (Bor (List ℕ))) (d : Bor (List ℕ)) (rest : List (Bor (List ℕ))) (i j k l m n : Option ℕ) (strict : Option (Bool × Bool)) → 7 ≤ length ws → rest ≡ drop 7 ws
-    → bytes_eq (get_or ws 0 d).now (codes "config") ≡ true → i ≡ number_of (get_or ws 1 d).now → j ≡ number_of (get_or ws 2 d).now → k ≡ number_of (get_or ws 3 d).now
-    → l ≡ number_of (get_or ws 4 d).now → m ≡ number_of (get_or ws 5 d).now → n ≡ number_of (get_or ws 6 d).now → strict ≡ judging_of (texts rest)
-    → setup_by i j k l m n strict ≡ setup_of (texts ws)
-setup_read [] w rest i j k l m n strict seven drops is p q r s t u v = absurd (omega (arith, seven))
-setup_read (a ∷ []) w rest i j k l m n strict seven drops is p q r s t u v = absurd (omega (arith, seven))
-setup_read (a ∷ b ∷ []) w rest i j k l m n strict seven drops is p q r s t u v = absurd (omega (arith, seven))
-setup_read (a ∷ b ∷ c ∷ []) w rest i j k l m n strict seven drops is p q r s t u v = absurd (omega (arith, seven))
-setup_read (a ∷ b ∷ c ∷ d ∷ []) w rest i j k l m n strict seven drops is p q r s t u v = absurd (omega (arith, seven))
-setup_read (a ∷ b ∷ c ∷ d ∷ e ∷ []) w rest i j k l m n strict seven drops is p q r s t u v = absurd (omega (arith, seven))
-setup_read (a ∷ b ∷ c ∷ d ∷ e ∷ f ∷ []) w rest i j k l m n strict seven drops is p q r s t u v = absurd (omega (arith, seven))
-setup_read (a ∷ b ∷ c ∷ d ∷ e ∷ f ∷ g ∷ ws) w rest i j k l m n strict seven drops is p q r s t u v = rw (is, p, q, r, s, t, u, v, drops) refl
+-- the command and six numbers
+pub setup_read : (ws : List (Bor (List ℕ))) (d : Bor (List ℕ)) (i j k l m n : Option ℕ) → length ws ≡ 7 → bytes_eq (get_or ws 0 d).now (codes "config") ≡ true
+    → i ≡ number_of (get_or ws 1 d).now → j ≡ number_of (get_or ws 2 d).now → k ≡ number_of (get_or ws 3 d).now → l ≡ number_of (get_or ws 4 d).now
+    → m ≡ number_of (get_or ws 5 d).now → n ≡ number_of (get_or ws 6 d).now → setup_by i j k l m n ≡ setup_of (texts ws)
+setup_read [] w i j k l m n seven is p q r s t u = absurd (omega (arith, seven))
+setup_read (a ∷ []) w i j k l m n seven is p q r s t u = absurd (omega (arith, seven))
+setup_read (a ∷ b ∷ []) w i j k l m n seven is p q r s t u = absurd (omega (arith, seven))
+setup_read (a ∷ b ∷ c ∷ []) w i j k l m n seven is p q r s t u = absurd (omega (arith, seven))
+setup_read (a ∷ b ∷ c ∷ d ∷ []) w i j k l m n seven is p q r s t u = absurd (omega (arith, seven))
+setup_read (a ∷ b ∷ c ∷ d ∷ e ∷ []) w i j k l m n seven is p q r s t u = absurd (omega (arith, seven))
+setup_read (a ∷ b ∷ c ∷ d ∷ e ∷ f ∷ []) w i j k l m n seven is p q r s t u = absurd (omega (arith, seven))
+setup_read (a ∷ b ∷ c ∷ d ∷ e ∷ f ∷ g ∷ []) w i j k l m n seven is p q r s t u = rw (is, p, q, r, s, t, u) refl
+setup_read (a ∷ b ∷ c ∷ d ∷ e ∷ f ∷ g ∷ h ∷ ws) w i j k l m n seven is p q r s t u = absurd (omega (arith, seven))
 
 -- no event of a line with a side and numbers alone sends a head, a trailer or a piece of a body
 IsShort : Option Event → Type 0

@@ -1,8 +1,7 @@
 -- Scripts: a line with the settings, and then a line for each event.
-use Rattle.std.specs.Prelude.{◌≡◌, ◌⊎◌, ℕ, ◌+◌, ◌<◌, ◌≤◌, not, false, List, [], ◌∷◌, ◌++◌, length, drop, codes, sum_by, Option, Some, None}
+use Rattle.std.specs.Prelude.{◌≡◌, ℕ, ◌+◌, ◌<◌, ◌≤◌, not, false, List, [], ◌∷◌, ◌++◌, length, sum_by, Option, Some, None}
 use Rattle.std.specs.List.{filter}
 use Rattle.h3_script.specs.Pieces.{pieces}
-use Rattle.h3_script.specs.Words.{words_of}
 use Rattle.h3_script.specs.ScriptLine.{is_skipped, SaysSetup, SaysEvent}
 use Rattle.h3_world.specs.declared.setup.Setup.{Setup}
 use Rattle.h3_world.specs.declared.event.Event.{Event}
@@ -39,19 +38,6 @@ lines_length lines = sum_by (λ line. length line + 1) lines
 pub record IsScript (most : ℕ) (text : List ℕ) (setup : Setup) (events : List Event) : Type 0 where
   pub says : SaysSoFar (said (lines_of text)) (Some setup) events
   pub within : length text ≤ most
-
--- the words of the first line that says something
-abbrev pub first_words : List (List ℕ) → List (List ℕ)
-first_words [] = []
-first_words (first ∷ rest) = words_of first
-
--- the words behind the six numbers of a script's first line
-abbrev pub judging_words : List ℕ → List (List ℕ)
-judging_words text = drop 7 (first_words (said (lines_of text)))
-
--- the first line of a script asks for no strict messages: nothing stands behind its numbers, or `plain plain`
-abbrev pub AsksPlainly : List ℕ → Type 0
-AsksPlainly text = (judging_words text ≡ []) ⊎ (judging_words text ≡ codes "plain" ∷ codes "plain" ∷ [])
 
 -- Why a line is refused behind those before it.
 pub data IsRefused (most : ℕ) (before : List (List ℕ)) (line : List ℕ) : Type 0 where

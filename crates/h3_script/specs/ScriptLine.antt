@@ -2,12 +2,11 @@
 use Rattle.std.specs.Prelude.{◌≡◌, ℕ, Bool, true, false, ◌==◌, List, [], ◌∷◌, ◌++◌, codes, bytes_eq, if◌then◌else◌, Option, Some, None, option_and_then}
 use Rattle.std.specs.Result.{result_ok}
 use Rattle.h3_proto.specs.Config.{announced, default_settings, no_choices}
-use Rattle.h3_proto.specs.declared.config.Choices.{Choices}
 use Rattle.h3_proto.specs.declared.config.Config.{Config}
 use Rattle.h3_proto.specs.declared.stream.Side.{Side}
 use Rattle.h3_header.specs.Head.{Head as Fields}
 use Rattle.h3_connection.specs.Announcing.{announced_by}
-use Rattle.h3_script.specs.Words.{words_of, number_of, id_of, side_of, strict_of}
+use Rattle.h3_script.specs.Words.{words_of, number_of, id_of, side_of}
 use Rattle.h3_script.specs.HeadText.{IsHeadText, IsTrailerText}
 use Rattle.h3_world.specs.Setup.{both}
 use Rattle.h3_world.specs.declared.setup.Setup.{Setup}
@@ -21,34 +20,20 @@ abbrev pub is_skipped : List ℕ → Bool
 is_skipped [] = true
 is_skipped (first ∷ rest) = first == 35
 
--- what a side chooses that judges messages strictly, or plainly (RFC 9114, sections 4.1.2 and 4.2 to 4.5)
-abbrev pub choices_of : Bool → Choices
-choices_of strict = record no_choices { strict_messages = strict }
+-- a configuration with this section size, without a reserved setting, and with the other defaults
+abbrev pub config_of : ℕ → Config
+config_of section = record { send_grease = false; settings = record default_settings { max_field_section_size = section }; choices = no_choices }
 
--- a configuration with this section size and this way to judge messages, without a reserved setting, and with the other defaults
-abbrev pub config_of : ℕ → Bool → Config
-config_of section strict = record { send_grease = false; settings = record default_settings { max_field_section_size = section }; choices = choices_of strict }
+-- section size, table and blocked of the client, and then of the server
+abbrev pub setup_by : Option ℕ → Option ℕ → Option ℕ → Option ℕ → Option ℕ → Option ℕ → Option Setup
+setup_by (Some a) (Some b) (Some c) (Some d) (Some e) (Some f) =
+    result_ok (both (announced_by (announced (config_of a) 0) (record { table = b; blocked = c }) no_choices) (announced_by (announced (config_of d) 0) (record { table = e; blocked = f }) no_choices))
+setup_by _ _ _ _ _ _ = None
 
--- section size, table and blocked of the client, and then of the server, and whether the client and the server judge strictly
-abbrev pub setup_by : Option ℕ → Option ℕ → Option ℕ → Option ℕ → Option ℕ → Option ℕ → Option (Bool × Bool) → Option Setup
-setup_by (Some a) (Some b) (Some c) (Some d) (Some e) (Some f) (Some strict) =
-    result_ok (both (announced_by (announced (config_of a strict.0) 0) (record { table = b; blocked = c }) (choices_of strict.0)) (announced_by (announced (config_of d strict.1) 0) (record { table = e; blocked = f }) (choices_of strict.1)))
-setup_by _ _ _ _ _ _ _ = None
-
-abbrev pub judging_by : Option Bool → Option Bool → Option (Bool × Bool)
-judging_by (Some client) (Some server) = Some (client, server)
-judging_by _ _ = None
-
--- whether the client and the server judge strictly, by the words behind the numbers: neither does where there are none
-abbrev pub judging_of : List (List ℕ) → Option (Bool × Bool)
-judging_of [] = Some (false, false)
-judging_of (client ∷ server ∷ []) = judging_by (strict_of client) (strict_of server)
-judging_of _ = None
-
--- `config` and six numbers, and then nothing or a word for each side
+-- `config` and six numbers
 abbrev pub setup_of : List (List ℕ) → Option Setup
-setup_of (command ∷ a ∷ b ∷ c ∷ d ∷ e ∷ f ∷ judging) =
-    if bytes_eq command (codes "config") then setup_by (number_of a) (number_of b) (number_of c) (number_of d) (number_of e) (number_of f) (judging_of judging) else None
+setup_of (command ∷ a ∷ b ∷ c ∷ d ∷ e ∷ f ∷ []) =
+    if bytes_eq command (codes "config") then setup_by (number_of a) (number_of b) (number_of c) (number_of d) (number_of e) (number_of f) else None
 setup_of _ = None
 
 -- `open` and `show` with a side

@@ -1,5 +1,5 @@
 -- The words of a script's line.
-use Rattle.std.specs.Prelude.{ℕ, ◌+◌, ◌*◌, ◌-◌, ◌^◌, Bool, true, false, ◌&&◌, nat_lt, nat_le, List, length, fold, codes, bytes_eq, if◌then◌else◌, Option, Some, None, option_and_then}
+use Rattle.std.specs.Prelude.{ℕ, ◌+◌, ◌*◌, ◌-◌, ◌^◌, Bool, ◌&&◌, nat_lt, nat_le, List, length, fold, codes, bytes_eq, if◌then◌else◌, Option, Some, None, option_and_then}
 use Rattle.std.specs.List.{list_all}
 use Rattle.h3_script.specs.Pieces.{pieces}
 use Rattle.h3_proto.specs.declared.stream.Side.{Side}
@@ -31,7 +31,3 @@ id_of word = option_and_then below_2_62 (number_of word)
 
 abbrev pub side_of : List ℕ → Option Side
 side_of word = if bytes_eq word (codes "c") then Some Client else (if bytes_eq word (codes "s") then Some Server else None)
-
--- whether a side judges messages strictly
-abbrev pub strict_of : List ℕ → Option Bool
-strict_of word = if bytes_eq word (codes "strict") then Some true else (if bytes_eq word (codes "plain") then Some false else None)

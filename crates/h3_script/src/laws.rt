@@ -1,9 +1,8 @@
 //! What holds of scripts. These functions do nothing: their contracts are the laws.
-ghost use Rattle.std.specs.Prelude.{◌≡◌, ℕ, ◌^◌, List, Some};
+ghost use Rattle.std.specs.Prelude.{◌≡◌, ℕ, ◌^◌, List};
 ghost use Rattle.h3_script.specs.Few.{AreFew};
 ghost use Rattle.h3_world.specs.Setup.{IsMadeSetup, JudgesPlainly};
-ghost use Rattle.h3_script.specs.ScriptLine.{judging_of};
-ghost use Rattle.h3_script.specs.Script.{IsScript, RefusesLine, AsksPlainly, judging_words};
+ghost use Rattle.h3_script.specs.Script.{IsScript, RefusesLine};
 ghost use Rattle.h3_world.specs.declared.event.Event.{Event as Does};
 ghost use Rattle.h3_world.specs.declared.setup.Setup.{Setup as Made};
 
@@ -34,13 +33,7 @@ pub fn a_script_has_a_made_setup()
     ensures { (most : ℕ) (text : List ℕ) (setup : Made) (events : List Does) → IsScript most text setup events → IsMadeSetup setup }
 {}
 
-/// The sides of a script judge messages as the words behind the numbers of its first line say.
-pub fn a_script_judges_as_its_first_line_says()
-    ensures { (most : ℕ) (text : List ℕ) (setup : Made) (events : List Does) → IsScript most text setup events
-        → judging_of (judging_words text) ≡ Some (setup.client.choices.strict_messages, setup.server.choices.strict_messages) }
-{}
-
-/// A script whose first line has nothing behind its numbers, or `plain plain`, asks for no strict messages.
+/// A script asks for no strict messages, and for no limit on what is unfinished.
 pub fn a_script_judges_plainly()
-    ensures { (most : ℕ) (text : List ℕ) (setup : Made) (events : List Does) → IsScript most text setup events → AsksPlainly text → JudgesPlainly setup }
+    ensures { (most : ℕ) (text : List ℕ) (setup : Made) (events : List Does) → IsScript most text setup events → JudgesPlainly setup }
 {}

@@ -6,7 +6,7 @@ pub mod error;
 mod head;
 pub mod input;
 pub mod laws;
-mod line;
+pub mod line;
 pub mod output;
 mod pieces;
 pub mod script;

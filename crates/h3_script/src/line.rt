@@ -2,14 +2,14 @@
 ghost use Rattle.std.specs.Prelude.{◌≡◌, IfOk, IfErr, option_map};
 ghost use Rattle.h3_script.specs.Pieces.{texts};
 ghost use Rattle.h3_script.specs.BodyLine.{body_of};
-ghost use Rattle.h3_script.specs.ScriptLine.{is_skipped, config_of, judging_of, setup_by, setup_of, side_event, number_event, deliver_event, short_event, IsSectionEvent, SaysWords, SaysSetup, SaysEvent, Denies};
+ghost use Rattle.h3_script.specs.ScriptLine.{is_skipped, config_of, setup_by, setup_of, side_event, number_event, deliver_event, short_event, IsSectionEvent, SaysWords, SaysSetup, SaysEvent, Denies};
 ghost use Rattle.h3_world.specs.declared.setup.Setup.{Setup as Made};
 ghost use Rattle.h3_world.specs.declared.event.Event.{Event as Does};
 
 use crate::error::LineError;
 use crate::head::{head, trailer};
 use crate::pieces::{cut, pieces};
-use crate::words::{is, number, side, stream_id, strict, var_int};
+use crate::words::{is, number, side, stream_id, var_int};
 use bytes::Bytes;
 use h3_coding::varint::VarInt;
 use h3_connection::setup::Limits;
@@ -41,12 +41,11 @@ pub fn setup_line(alloc: Global, line: &[u8]) -> Result<Setup, LineError>
     }
 }
 
-/// `config` and six numbers, section size, table and blocked of the client and then of the server, and behind them nothing or a word for
-/// each side, `strict` or `plain`.
+/// `config` and six numbers: section size, table and blocked of the client, then of the server.
 fn setup(words: &[&[u8]]) -> Option<Setup>
     ensures { result ≡ setup_of (texts words.now) }
 {
-    let [command, a, b, c, d, e, f, words @ ..] = words else {
+    let [command, a, b, c, d, e, f] = words else {
         return None;
     };
     if !is(*command, "config") {
@@ -59,22 +58,10 @@ fn setup(words: &[&[u8]]) -> Option<Setup>
         number(*d),
         number(*e),
         number(*f),
-        judging(words),
     )
 }
 
-/// Whether the client and the server judge messages strictly, by the words behind the numbers: neither does where there are none.
-fn judging(words: &[&[u8]]) -> Option<(bool, bool)>
-    ensures { result ≡ judging_of (texts words.now) }
-{
-    match words {
-        [] => Some((false, false)),
-        [client, server] => Some((strict(*client)?, strict(*server)?)),
-        _ => None,
-    }
-}
-
-/// The setup of six numbers and the ways to judge messages, where all are there.
+/// The setup of six numbers, where all are there.
 fn setup_by(
     client: Option<u64>,
     client_table: Option<u64>,
@@ -82,17 +69,15 @@ fn setup_by(
     server: Option<u64>,
     server_table: Option<u64>,
     server_blocked: Option<u64>,
-    judging: Option<(bool, bool)>,
 ) -> Option<Setup>
-    ensures { result ≡ setup_by client client_table client_blocked server server_table server_blocked judging }
+    ensures { result ≡ setup_by client client_table client_blocked server server_table server_blocked }
 {
-    let (client_strict, server_strict) = judging?;
-    let client = config(client?, client_strict);
+    let client = config(client?);
     let client_limits = Limits {
         table: client_table?,
         blocked: client_blocked?,
     };
-    let server = config(server?, server_strict);
+    let server = config(server?);
     let server_limits = Limits {
         table: server_table?,
         blocked: server_blocked?,
@@ -100,14 +85,13 @@ fn setup_by(
     Setup::new(client, client_limits, 0, server, server_limits, 0).ok()
 }
 
-/// The configuration with a section size and a way to judge messages.
-fn config(section: u64, strict: bool) -> Config
-    ensures { result ≡ config_of section strict }
+/// The configuration with a section size.
+fn config(section: u64) -> Config
+    ensures { result ≡ config_of section }
 {
     Config::default()
         .with_grease(false)
         .with_max_field_section_size(section)
-        .with_strict_messages(strict)
 }
 
 /// The event of a later line.

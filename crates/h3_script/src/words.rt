@@ -1,6 +1,6 @@
 //! The words of a line.
 ghost use Rattle.std.specs.Prelude.{◌≡◌, ◌+◌, ◌-◌, ◌*◌, ◌^◌, ◌&&◌, nat_lt, Some, None, bytes_eq, if◌then◌else◌};
-ghost use Rattle.h3_script.specs.Words.{is_digit, number_of, side_of, id_of, strict_of};
+ghost use Rattle.h3_script.specs.Words.{is_digit, number_of, side_of, id_of};
 
 use h3_coding::varint::VarInt;
 use h3_proto::stream::{Side, StreamId};
@@ -68,17 +68,4 @@ pub fn stream_id(word: &[u8]) -> Option<StreamId>
 {
     let number = number(word)?;
     StreamId::try_from(number).ok()
-}
-
-/// `strict` or `plain`: whether a side judges messages strictly (RFC 9114, sections 4.1.2 and 4.2 to 4.5).
-pub fn strict(word: &[u8]) -> Option<bool>
-    ensures { result ≡ strict_of word.now }
-{
-    if is(word, "strict") {
-        return Some(true);
-    }
-    if is(word, "plain") {
-        return Some(false);
-    }
-    None
 }

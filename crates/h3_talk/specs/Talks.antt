@@ -8,7 +8,6 @@ use Rattle.h3_script.specs.Script.{IsScript}
 use Rattle.h3_world.specs.Ends.{new_ends, answers_of_ends}
 use Rattle.h3_world.specs.Headline.{Happens, is_memory}
 use Rattle.h3_world.specs.Run.{Run}
-use Rattle.h3_world.specs.Setup.{JudgesPlainly}
 use Rattle.h3_world.specs.World.{World, empty_world}
 use Rattle.h3_world.specs.declared.setup.Setup.{Setup}
 use Rattle.h3_world.specs.declared.event.Event.{Event}
@@ -26,11 +25,11 @@ pub record AreAnswers (setup : Setup) (events : List Event) (answers : List Answ
   pub run : Run (Happens setup) (empty_world setup) events answers world
   pub of_ends : answers ≡ answers_of_ends (new_ends setup) events
 
--- What is said of the answers to some events where neither side asks for strict messages. There is one for each; and those up to the first that
--- tells of refused memory are those of two endpoints with the bytes carried between them, and of a run from the empty world, each step of which
--- happens. Memory refused or not, all are those of a run of a world in which memory may be refused; and behind each of them no connection fault was told,
--- what a side was handed out of a stream is a front of what the other side sent, and with the end it is all of that.
-pub record AnswersPlainly (setup : Setup) (events : List Event) (answers : List Answer) : Type 0 where
+-- What is said of the answers to some events. There is one for each; and those up to the first that tells of refused memory are those of two
+-- endpoints with the bytes carried between them, and of a run from the empty world, each step of which happens. Memory refused or not, all are
+-- those of a run of a world in which memory may be refused; and after each of them no connection fault was told, what a side was given of a
+-- stream is a front of what the other side sent, and with the end it is all of that.
+pub record AnswersTo (setup : Setup) (events : List Event) (answers : List Answer) : Type 0 where
   pub each : AnswersEach (new_ends setup) events answers
   pub front : RunsUntilMemory setup events answers
   pub messages : HandsOutAlways setup events answers
@@ -38,27 +37,20 @@ pub record AnswersPlainly (setup : Setup) (events : List Event) (answers : List 
   pub world : KeepingWorld
   pub run : Run (HappensWithMemory setup) (nothing_kept (empty_world setup)) events answers world
 
--- What is said of the answers to some events. There is one for each, and those up to the first that tells of refused memory are those of two
--- endpoints with the bytes carried between them. Where neither side asks for strict messages they are those of a run of a world.
-pub record AnswersTo (setup : Setup) (events : List Event) (answers : List Answer) : Type 0 where
-  pub each : AnswersEach (new_ends setup) events answers
-  pub of_ends : list_any is_memory answers ≡ false → answers ≡ answers_of_ends (new_ends setup) events
-  pub plain : JudgesPlainly setup → AnswersPlainly setup events answers
-
--- The lines of answers to some events, of which this is said, were written.
-pub record Prints (Says : Setup → List Event → List Answer → Type 0) (setup : Setup) (events : List Event) (old new : Option (List ℕ)) : Type 0 where
+-- The lines of the answers to some events were written.
+pub record Prints (setup : Setup) (events : List Event) (old new : Option (List ℕ)) : Type 0 where
   pub answers : List Answer
-  pub answered : Says setup events answers
+  pub answered : AnswersTo setup events answers
   pub written : Appends old new (printed answers)
 
--- What was read is a script, and its answers, of which this is said, were written.
-pub record AnswersScript (Says : Setup → List Event → List Answer → Type 0) (input rest old new : Option (List ℕ)) : Type 0 where
+-- What was read is a script, and its answers were written.
+pub record AnswersScript (input rest old new : Option (List ℕ)) : Type 0 where
   pub text : List ℕ
   pub setup : Setup
   pub events : List Event
   pub read : HasRead input rest text
   pub script : IsScript (2 ^ 48) text setup events
-  pub prints : Prints Says setup events old new
+  pub prints : Prints setup events old new
 
 -- some script that was read
 pub record ReadsSomeScript (input rest : Option (List ℕ)) : Type 0 where

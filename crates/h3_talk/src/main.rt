@@ -1,7 +1,6 @@
 //! Scripts of what a client and a server do, and what comes of it.
 #![tactic(auto)]
 
-pub mod laws;
 mod talk;
 
 pub use h3_script::script;

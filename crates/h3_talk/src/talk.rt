@@ -4,7 +4,7 @@ ghost use Rattle.std.specs.Process.{exit_status};
 ghost use Rattle.h3_script.specs.Few.{AreFew};
 ghost use Rattle.h3_script.specs.Inputs.{RefusesInput};
 ghost use Rattle.h3_talk.specs.Talks.{AnswersTo, Prints, AnswersScript, Loses};
-ghost use Rattle.h3_world.specs.Setup.{IsMadeSetup};
+ghost use Rattle.h3_world.specs.Setup.{IsMadeSetup, JudgesPlainly};
 
 use h3_script::input::read_script;
 use h3_script::output::write_answers;
@@ -22,7 +22,7 @@ use std::process::ExitCode;
 /// event, or a read or a write failed. Then nothing was written, unless a line is refused or the
 /// input is a script: nothing is promised of what was written of its number or its answers.
 pub fn talk<R: Read, W: Write>(alloc: Global, reader: &mut R, writer: &mut W) -> u8
-    ensures answered { result ≡ 0 → AnswersScript AnswersTo (R.remaining reader.old) (R.remaining reader.new)
+    ensures answered { result ≡ 0 → AnswersScript (R.remaining reader.old) (R.remaining reader.new)
         (W.contents writer.old) (W.contents writer.new) }
     ensures refused { result ≡ 1 → RefusesInput (R.remaining reader.old) (R.remaining reader.new)
         (W.contents writer.old) (W.contents writer.new) }
@@ -31,6 +31,7 @@ pub fn talk<R: Read, W: Write>(alloc: Global, reader: &mut R, writer: &mut W) ->
     ensures statuses { result ≤ 2 }
 {
     h3_script::laws::a_script_has_a_made_setup();
+    h3_script::laws::a_script_judges_plainly();
     h3_script::laws::a_script_has_few_events();
     match read_script(alloc, reader, writer) {
         Ok(script) => answer(alloc, script, writer),
@@ -40,7 +41,7 @@ pub fn talk<R: Read, W: Write>(alloc: Global, reader: &mut R, writer: &mut W) ->
 
 /// What the program ends with: the status of `talk`.
 pub fn exit_code<R: Read, W: Write>(alloc: Global, reader: &mut R, writer: &mut W) -> ExitCode
-    ensures answered { exit_status result ≡ 0 → AnswersScript AnswersTo (R.remaining reader.old) (R.remaining reader.new)
+    ensures answered { exit_status result ≡ 0 → AnswersScript (R.remaining reader.old) (R.remaining reader.new)
         (W.contents writer.old) (W.contents writer.new) }
     ensures refused { exit_status result ≡ 1 → RefusesInput (R.remaining reader.old) (R.remaining reader.new)
         (W.contents writer.old) (W.contents writer.new) }
@@ -54,8 +55,9 @@ pub fn exit_code<R: Read, W: Write>(alloc: Global, reader: &mut R, writer: &mut 
 /// Writes the answers to the events of a script.
 fn answer<W: Write>(alloc: Global, script: Script, writer: &mut W) -> u8
     requires made { IsMadeSetup script.setup }
+    requires plain { JudgesPlainly script.setup }
     requires few { AreFew script.events.items }
-    ensures answered { result ≡ 0 → Prints AnswersTo script.setup script.events.items (W.contents writer.old) (W.contents writer.new) }
+    ensures answered { result ≡ 0 → Prints script.setup script.events.items (W.contents writer.old) (W.contents writer.new) }
     ensures statuses { (result ≡ 0) ⊎ (result ≡ 2) }
 {
     let Script { setup, events } = script;
@@ -72,6 +74,7 @@ fn answer<W: Write>(alloc: Global, script: Script, writer: &mut W) -> u8
 /// The answers of a run, without the endpoints that it leaves.
 fn answers_to(alloc: Global, setup: Setup, events: &[Event]) -> Result<Vec<Answer>, AllocError>
     requires made { IsMadeSetup setup }
+    requires plain { JudgesPlainly setup }
     requires few { AreFew events.now }
     ensures { IfOk result (λ answers. AnswersTo setup events.now answers.items) }
 {
