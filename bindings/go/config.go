@@ -22,6 +22,11 @@ type Config struct {
 	// UnfinishedLimit is the greatest length of a frame or instruction that is kept until it is whole. 0 is the default: 256 or four times the
 	// greater of the two announced sizes, if that is more. A lower limit is refused.
 	UnfinishedLimit uint64
+	// KeptIDs bounds the ids of canceled streams that the local encoder keeps (RFC 9204, section 4.4.2). Above the bound it drops the lowest
+	// id: sections on streams up to it use no table from then on. 2^62 - 1 or more: no bound.
+	KeptIDs uint64
+	// RejectRequests: a server refuses requests from its last GOAWAY id on.
+	RejectRequests bool
 }
 
 // DefaultConfig has the limits of h3_config_default, which are fit for a peer that is not trusted: heads and trailers of at most 65,536 bytes, a
@@ -45,6 +50,8 @@ func DefaultConfig(server bool) Config {
 		WebTransport:            raw.webtransport != 0,
 		MaxWebTransportSessions: uint64(raw.max_webtransport_sessions),
 		UnfinishedLimit:         uint64(raw.unfinished_limit),
+		KeptIDs:                 uint64(raw.kept_ids),
+		RejectRequests:          raw.reject_requests != 0,
 	}
 }
 
@@ -74,5 +81,7 @@ func (c Config) raw() C.h3_config {
 	raw.webtransport = number(c.WebTransport)
 	raw.max_webtransport_sessions = C.uint64_t(c.MaxWebTransportSessions)
 	raw.unfinished_limit = C.uint64_t(c.UnfinishedLimit)
+	raw.kept_ids = C.uint64_t(c.KeptIDs)
+	raw.reject_requests = number(c.RejectRequests)
 	return raw
 }

@@ -35,6 +35,7 @@ const (
 	FieldValue      Answer = C.H3_FIELD_VALUE       // a value is not one of its name's grammar
 	FieldCount      Answer = C.H3_FIELD_COUNT       // there are more different names than fit
 	Malformed       Answer = C.H3_MALFORMED         // a strict peer would call the message malformed; detail: the Malformation
+	Rejected        Answer = C.H3_REJECTED          // the request is rejected, nothing was delivered; detail: CodeRequestRejected
 	Argument        Answer = C.H3_ARGUMENT          // an argument is out of range
 	NoEndpoint      Answer = C.H3_NO_ENDPOINT       // the endpoint was closed
 )
@@ -68,6 +69,7 @@ var refusals = map[Answer]string{
 	FieldName:       "a field's name is none",
 	FieldValue:      "a field's value is none",
 	FieldCount:      "too many fields",
+	Rejected:        "the request is rejected",
 	Argument:        "an argument is out of range",
 	NoEndpoint:      "the endpoint was closed",
 }
@@ -87,7 +89,7 @@ type Error struct {
 
 func (e Error) Error() string {
 	switch e.Answer {
-	case Closed, ConnectionFault, Setting:
+	case Closed, ConnectionFault, Setting, Rejected:
 		return fmt.Sprintf("%s, %#x", e.Answer.Error(), e.Detail)
 	case Malformed:
 		return fmt.Sprintf("%s, %s", e.Answer.Error(), Malformation(e.Detail))

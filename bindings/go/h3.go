@@ -1,7 +1,7 @@
 // Package h3 is one endpoint of an HTTP/3 connection (RFC 9114, RFC 9204), for programs that have a QUIC library: the calls of beanwhile/h3.h.
 //
 // An Endpoint reads no socket and starts no goroutine. A program delivers what came on a stream and pulls what it is (Deliver, Pull), sends
-// messages (OpenRequest, SendFields, SendBody, SendTrailerFields, Finish), and hands to QUIC what waits (NextToSend, Outgoing, Advance, EndTaken).
+// messages (OpenRequest, SendHead, SendBody, SendTrailer, Finish), and hands to QUIC what waits (NextToSend, Outgoing, Advance, EndTaken).
 //
 // The library is found by pkg-config, as beanwhile-h3.
 package h3
@@ -94,33 +94,19 @@ func (list row) count() C.size_t { return C.size_t(len(list.sizes)) }
 
 func (list row) len() C.size_t { return C.size_t(len(list.bytes)) }
 
-// SendHead sends a head with its pseudo-header fields put in front, and the values of one name together. A response's head with a status from 100 to
-// 199 is an interim one, behind which another goes.
+// SendHead sends a header section: these fields in this order. Put pseudo-header fields in front, each once. A response with a status from 100
+// to 199 is an interim one: send a further header section after it.
 func (e *Endpoint) SendHead(id uint64, fields []Field) error {
 	var detail C.uint64_t
 	list := inARow(fields)
 	return refusal(C.h3_send_head(&e.raw, C.uint64_t(id), list.first(), list.count(), start(list.bytes), list.len(), &detail), detail)
 }
 
-// SendTrailer sends a trailer with the values of one name put together.
+// SendTrailer sends a trailer section as the list that it is given as.
 func (e *Endpoint) SendTrailer(id uint64, fields []Field) error {
 	var detail C.uint64_t
 	list := inARow(fields)
 	return refusal(C.h3_send_trailer(&e.raw, C.uint64_t(id), list.first(), list.count(), start(list.bytes), list.len(), &detail), detail)
-}
-
-// SendFields sends a head as the list that it is given as. It is faster than SendHead: put pseudo-header fields in front, each once.
-func (e *Endpoint) SendFields(id uint64, fields []Field) error {
-	var detail C.uint64_t
-	list := inARow(fields)
-	return refusal(C.h3_send_fields(&e.raw, C.uint64_t(id), list.first(), list.count(), start(list.bytes), list.len(), &detail), detail)
-}
-
-// SendTrailerFields sends a trailer as the list that it is given as.
-func (e *Endpoint) SendTrailerFields(id uint64, fields []Field) error {
-	var detail C.uint64_t
-	list := inARow(fields)
-	return refusal(C.h3_send_trailer_fields(&e.raw, C.uint64_t(id), list.first(), list.count(), start(list.bytes), list.len(), &detail), detail)
 }
 
 // SendBody sends a piece of a body. The bytes are copied.
@@ -153,11 +139,31 @@ func (e *Endpoint) Goaway(id uint64) error {
 	return refusal(C.h3_goaway(&e.raw, C.uint64_t(id), &detail), detail)
 }
 
-// NextWaiting is the lowest stream from an id on on which bytes wait; false: there is none.
-func (e *Endpoint) NextWaiting(from uint64) (uint64, bool) {
+// ShutdownNotice is the first step of a shutdown (RFC 9114, section 5.2): it sends a GOAWAY with the greatest id. After it arrives the peer
+// opens no further request. What it sent before is processed.
+func (e *Endpoint) ShutdownNotice() error {
+	var detail C.uint64_t
+	return refusal(C.h3_shutdown_notice(&e.raw, &detail), detail)
+}
+
+// Shutdown is the second step: a GOAWAY of a server with FirstUnseen, of a client with 0. A delivery of a later request is Rejected then: deliver no
+// more of its stream, and reset it both ways with CodeRequestRejected.
+func (e *Endpoint) Shutdown() error {
+	var detail C.uint64_t
+	return refusal(C.h3_shutdown(&e.raw, &detail), detail)
+}
+
+// FirstUnseen is the first id of a request stream above all of which anything came.
+func (e *Endpoint) FirstUnseen() uint64 {
 	var id C.uint64_t
-	answer := C.h3_next_waiting(&e.raw, C.uint64_t(from), &id)
-	return uint64(id), answer == C.H3_OK
+	C.h3_first_unseen(&e.raw, &id)
+	return uint64(id)
+}
+
+// IsDrained says that nothing is left to be done: the connection can be closed without losing a request. It needs EndTaken for each FIN.
+func (e *Endpoint) IsDrained() bool {
+	var drained C.uint32_t
+	return C.h3_is_drained(&e.raw, &drained) == C.H3_OK && drained == 1
 }
 
 // NextToSend is the lowest stream from an id on on which bytes wait, or an end of which EndTaken did not speak; false: there is none.
@@ -171,7 +177,7 @@ func (e *Endpoint) NextToSend(from uint64) (uint64, bool) {
 func (e *Endpoint) Outgoing(id uint64, buffer []byte) (count int, end bool) {
 	var n C.size_t
 	var fin C.uint32_t
-	if C.h3_outgoing(&e.raw, C.uint64_t(id), start(buffer), C.size_t(len(buffer)), &n, &fin) != C.H3_OK {
+	if C.h3_outgoing(&e.raw, C.uint64_t(id), start(buffer), C.size_t(len(buffer)), &n, nil, &fin) != C.H3_OK {
 		return 0, false
 	}
 	return int(n), fin == 1

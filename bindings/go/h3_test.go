@@ -97,9 +97,9 @@ func TestExchange(t *testing.T) {
 		id, err := client.OpenRequest()
 		is(t, err, nil)
 		is(t, id, next)
-		is(t, client.SendFields(id, head), nil)
+		is(t, client.SendHead(id, head), nil)
 		is(t, client.SendBody(id, sent), nil)
-		is(t, client.SendTrailerFields(id, trailer), nil)
+		is(t, client.SendTrailer(id, trailer), nil)
 		is(t, carry(t, client, server, piece), 0)
 		is(t, client.Finish(id), nil)
 		is(t, carry(t, client, server, piece), 1)
@@ -113,7 +113,7 @@ func TestExchange(t *testing.T) {
 		pull(t, server, id, End)
 
 		is(t, server.SendHead(id, []Field{{":status", "103"}}), nil)
-		is(t, server.SendHead(id, []Field{{"x-a", "b"}, {":status", "200"}}), nil)
+		is(t, server.SendHead(id, []Field{{":status", "200"}, {"x-a", "b"}}), nil)
 		is(t, server.SendTrailer(id, []Field{{"x-a", "b"}}), nil)
 		is(t, server.Finish(id), nil)
 		is(t, carry(t, server, client, piece), 1)
@@ -134,7 +134,7 @@ func TestExchange(t *testing.T) {
 func TestStates(t *testing.T) {
 	client, server := pair(t)
 	id, _ := client.OpenRequest()
-	is(t, client.SendFields(id, get), nil)
+	is(t, client.SendHead(id, get), nil)
 	is(t, client.Stream(id).Waiting > 0, true)
 	is(t, *client.Connection().Peer, PeerLimits{Table: 4096, Blocked: 16, Section: 65536})
 	is(t, client.Connection().Goaway, (*uint64)(nil))
@@ -163,7 +163,7 @@ func TestPauses(t *testing.T) {
 	id, _ := client.OpenRequest()
 	pull(t, client, id, Pending)
 	pull(t, client, 3, NoMessages)
-	is(t, client.SendFields(id, get), nil)
+	is(t, client.SendHead(id, get), nil)
 	carry(t, client, server, 100)
 	pull(t, server, id, Head)
 	is(t, pull(t, server, id, Pending).Kind.IsPause(), true)
@@ -185,7 +185,7 @@ func TestFaults(t *testing.T) {
 		fault Fault
 		code  uint64
 	}{
-		{func(id uint64) error { return client.SendFields(id, append(get[:4:4], Field{"connection", "close"})) },
+		{func(id uint64) error { return client.SendHead(id, append(get[:4:4], Field{"connection", "close"})) },
 			Fault{FaultMalformed, uint64(ConnectionField)}, MessageError},
 		{func(id uint64) error { return server.DeliverEnd(id) }, Fault{FaultMalformed, uint64(NoHead)}, RequestIncomplete},
 		{func(id uint64) error { return server.DeliverReset(id, 0x10c) }, Fault{FaultReset, 0x10c}, RequestCancelled},
@@ -221,11 +221,11 @@ func TestRefusals(t *testing.T) {
 	client, server := pair(t)
 	id, _ := client.OpenRequest()
 	is(t, client.SendBody(id, []byte("a")), Error{Answer: OutOfOrder})
-	is(t, client.SendFields(id, []Field{{"Upper", "a"}}), Error{Answer: FieldName})
-	is(t, client.SendFields(id, []Field{{":method", "G T"}}), Error{Answer: FieldValue})
-	is(t, client.SendFields(id, []Field{{":status", "200"}}), Error{Answer: WrongSide})
-	is(t, client.SendFields(id, append(get[:4:4], Field{"connection", "close"})), Error{Malformed, uint64(ConnectionField)})
-	is(t, client.SendTrailerFields(id, nil), Error{Answer: OutOfOrder})
+	is(t, client.SendHead(id, []Field{{"Upper", "a"}}), Error{Answer: FieldName})
+	is(t, client.SendHead(id, []Field{{":method", "G T"}}), Error{Answer: FieldValue})
+	is(t, client.SendHead(id, []Field{{":status", "200"}}), Error{Answer: WrongSide})
+	is(t, client.SendHead(id, append(get[:4:4], Field{"connection", "close"})), Error{Malformed, uint64(ConnectionField)})
+	is(t, client.SendTrailer(id, nil), Error{Answer: OutOfOrder})
 	is(t, client.Reset(2), Error{Answer: Critical})
 	is(t, client.Advance(id, 1), Error{Answer: Argument})
 	is(t, client.Advance(id, -1), Error{Answer: Argument})
@@ -253,7 +253,7 @@ func TestRefusals(t *testing.T) {
 	client.Close()
 	client.Close()
 	is(t, errors.Is(client.Finish(id), NoEndpoint), true)
-	_, ok := client.NextWaiting(0)
+	_, ok := client.NextToSend(0)
 	is(t, ok, false)
 	is(t, client.Stream(id), StreamState{})
 }

@@ -76,7 +76,7 @@ func (e *Endpoint) bytes(length int) ([]byte, error) {
 // Pull hands out what comes next on a stream: an item, a pause, or a Fault as the error. Where memory is refused nothing is lost: pull again.
 func (e *Endpoint) Pull(id uint64) (Item, error) {
 	var raw C.h3_item
-	if answer := C.h3_pull_fields(&e.raw, C.uint64_t(id), &raw); answer != C.H3_OK {
+	if answer := C.h3_pull(&e.raw, C.uint64_t(id), &raw); answer != C.H3_OK {
 		return Item{}, refusal(answer, 0)
 	}
 	item := Item{Kind: Kind(raw.kind), Status: int(raw.status), Number: uint64(raw.number)}

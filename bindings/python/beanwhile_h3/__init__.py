@@ -1,12 +1,12 @@
 """One endpoint of an HTTP/3 connection (RFC 9114, with QPACK, RFC 9204): the calls of h3.h.
 
 An `Endpoint` reads no socket and starts no thread. A program delivers what came on a stream and reads its items (`Endpoint.deliver`,
-`Endpoint.items`), sends messages (`Endpoint.open_request`, `send_fields`, `send_body`, `finish`), and passes what waits to QUIC
+`Endpoint.items`), sends messages (`Endpoint.open_request`, `send_head`, `send_body`, `finish`), and passes what waits to QUIC
 (`next_to_send`, `outgoing`, `advance`, `end_taken`). A request goes from a client to a server, with the bytes carried in place of QUIC:
 
     >>> client, server = Endpoint(Config.client()), Endpoint(Config.server())
     >>> id = client.open_request()
-    >>> client.send_fields(id, [(b":method", b"GET"), (b":scheme", b"https"), (b":authority", b"localhost"), (b":path", b"/a")])
+    >>> client.send_head(id, [(b":method", b"GET"), (b":scheme", b"https"), (b":authority", b"localhost"), (b":path", b"/a")])
     >>> client.finish(id)
     >>> while (stream := client.next_to_send()) is not None:
     ...     data, is_last = client.outgoing(stream)

@@ -46,6 +46,10 @@ class Config:
     """The local encoder avoids inserting fields that are not repeated."""
     unfinished_limit: int
     """The longest frame but DATA, in bytes, that is kept until it is whole; 0: the least limit. h3.h says what a longer one does."""
+    kept_ids: int
+    """How many ids of streams that the peer canceled the local encoder keeps (RFC 9204, section 4.4.2)."""
+    reject_requests: bool
+    """A server refuses requests from its last GOAWAY id on."""
 
     @classmethod
     def client(cls) -> Self:

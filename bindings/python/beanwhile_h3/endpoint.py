@@ -60,7 +60,7 @@ class Endpoint:
     """One endpoint of an HTTP/3 connection. Its settings wait on its control stream as soon as it is made.
 
     A call that is refused raises `Refused`; its documentation names the answers. Each call with an id raises `Answer.ARGUMENT` if the id
-    is 2^62 or more (`next_waiting` and `next_to_send` only if 64 bits do not hold it). One call at a time is made on an endpoint, by a
+    is 2^62 or more (`next_to_send` only if 64 bits do not hold it). One call at a time is made on an endpoint, by a
     lock: threads may share it. `close` frees it, and so do `with` and the garbage collector; every call after that raises
     `Answer.NO_ENDPOINT`."""
 
@@ -146,21 +146,21 @@ class Endpoint:
         self._call("h3_raw_next_request_id", byref(id))
         return id.value
 
-    def send_fields(self, id: int, fields: Iterable[tuple[Bytes, Bytes]]) -> None:
+    def send_head(self, id: int, fields: Iterable[tuple[Bytes, Bytes]]) -> None:
         """Sends a header section as the list that it is given as: put pseudo-header fields in front, each once. A response with a status
         from 100 to 199 is an interim one, after which another one is sent.
 
         Raises `Answer.CLOSED`, `NOT_OPEN`, `OUT_OF_ORDER`, `FIELD_NAME`, `FIELD_VALUE`, `FIELD_COUNT`, `WRONG_SIDE`, `MALFORMED` (a strict
         endpoint), `TOO_LARGE`, `MEMORY`. Nothing was sent then."""
         sizes, count, data = _listed(fields)
-        self._call("h3_raw_send_fields", _number(id), sizes, count, data, len(data))
+        self._call("h3_raw_send_head", _number(id), sizes, count, data, len(data))
 
-    def send_trailer_fields(self, id: int, fields: Iterable[tuple[Bytes, Bytes]]) -> None:
+    def send_trailer(self, id: int, fields: Iterable[tuple[Bytes, Bytes]]) -> None:
         """Sends a trailer section as the list that it is given as. Send no empty one: finish the stream.
 
-        Raises what `send_fields` raises, but `Answer.PSEUDO_IN_TRAILER` in place of `WRONG_SIDE`."""
+        Raises what `send_head` raises, but `Answer.PSEUDO_IN_TRAILER` in place of `WRONG_SIDE`."""
         sizes, count, data = _listed(fields)
-        self._call("h3_raw_send_trailer_fields", _number(id), sizes, count, data, len(data))
+        self._call("h3_raw_send_trailer", _number(id), sizes, count, data, len(data))
 
     def send_body(self, id: int, data: Bytes) -> None:
         """Sends a piece of a body, as one DATA frame.
@@ -193,11 +193,34 @@ class Endpoint:
         Raises `Answer.CLOSED`, `NOT_REQUEST_ID`, `RAISED`, `MEMORY`."""
         self._call("h3_raw_goaway", _number(id))
 
-    # ---- what waits to be sent ----
+    def shutdown_notice(self) -> None:
+        """The first step of a shutdown (RFC 9114, section 5.2): a GOAWAY with the greatest id. The peer opens no further request once it
+        came, and all that it sent until then is processed.
 
-    def next_waiting(self, start: int = 0) -> int | None:
-        """The lowest stream id from `start` on on which bytes wait."""
-        return self._found("h3_raw_next_waiting", start)
+        Raises `Answer.CLOSED`, `MEMORY`."""
+        self._call("h3_raw_shutdown_notice")
+
+    def shutdown(self) -> None:
+        """The second step: a GOAWAY of a server with `first_unseen`, of a client with 0. A delivery of a later request raises
+        `Answer.REJECTED` then: deliver no more of its stream, and QUIC sends RESET_STREAM and STOP_SENDING with `Code.REQUEST_REJECTED`.
+
+        Raises `Answer.CLOSED`, `IDS_USED_UP` (every id was seen, and no GOAWAY was sent), `MEMORY`."""
+        self._call("h3_raw_shutdown")
+
+    def first_unseen(self) -> int:
+        """The first id of a request stream above all of which anything came: no request from there on was processed."""
+        id = c_uint64()
+        self._plain_call("h3_raw_first_unseen", byref(id))
+        return id.value
+
+    def is_drained(self) -> bool:
+        """Whether nothing is left to be done, so that the connection can be closed without losing a request. It needs `end_taken` for
+        each FIN."""
+        drained = c_uint32()
+        self._plain_call("h3_raw_is_drained", byref(drained))
+        return drained.value == 1
+
+    # ---- what waits to be sent ----
 
     def next_to_send(self, start: int = 0) -> int | None:
         """The lowest stream id from `start` on on which bytes wait, or an end that `end_taken` did not name yet."""
@@ -209,8 +232,8 @@ class Endpoint:
         with self._lock:
             waiting = self.stream(id).waiting
             room = waiting if most is None else min(_number(most), waiting)
-            buffer, count, end = ctypes.create_string_buffer(max(room, 1)), c_size_t(), c_uint32()
-            self._plain_call("h3_raw_outgoing", id, buffer, room, byref(count), byref(end))
+            buffer, count, past, end = ctypes.create_string_buffer(max(room, 1)), c_size_t(), c_size_t(), c_uint32()
+            self._plain_call("h3_raw_outgoing", id, buffer, room, byref(count), byref(past), byref(end))
         return buffer.raw[: count.value], end.value == 1
 
     def advance(self, id: int, count: int) -> None:
@@ -251,7 +274,7 @@ class Endpoint:
         Raises `ConnectionFault`, and `OutOfMemory`: nothing is lost, ask again."""
         with self._lock:
             item = raw.RawItem()
-            self._plain_call("h3_raw_pull_fields", _number(id), byref(item))
+            self._plain_call("h3_raw_pull", _number(id), byref(item))
             if item.kind == Kind.FAULT_CONNECTION:
                 raise refused(Answer.CONNECTION, item.number)
             if item.kind == Kind.FAULT_MEMORY:

@@ -53,6 +53,7 @@ class Answer(_Numbers):
     ROOM = 26
     MALFORMED = 27
     UNFINISHED_LIMIT = 28
+    REJECTED = 30
     ARGUMENT = 32
     NO_ENDPOINT = 33
 
@@ -132,6 +133,7 @@ _TEXTS = {
     Answer.FIELD_VALUE: "invalid field value",
     Answer.FIELD_COUNT: "too many different field names",
     Answer.UNFINISHED_LIMIT: "`unfinished_limit` is below four times what is announced",
+    Answer.REJECTED: "the request is rejected, {detail:#x}",
     Answer.ARGUMENT: "an argument is out of range",
     Answer.NO_ENDPOINT: "the endpoint was closed",
 }

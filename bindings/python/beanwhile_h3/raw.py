@@ -99,6 +99,7 @@ SENDS_LIST = (c_uint32, [Handle, c_uint64, SIZES, c_size_t, BYTES, c_size_t, U64
 TAKES_BYTES = (c_uint32, [Handle, c_uint64, BYTES, c_size_t, U64_OUT, OUT])
 TAKES_ID = (c_uint32, [Handle, c_uint64, U64_OUT, OUT])
 FINDS_NUMBER = (c_uint32, [Handle, c_uint64, U64_OUT, OUT])
+TELLS = (c_uint32, [Handle, U64_OUT, OUT])
 GIVES_ID = (c_uint32, [Handle, U64_OUT, U64_OUT, OUT])
 
 # each export that is called: what it returns, and its arguments
@@ -110,22 +111,25 @@ DECLARATIONS: dict[str, tuple[Any, list[Any]]] = {
     "h3_raw_free": (None, [Handle]),
     "h3_raw_open_request": GIVES_ID,
     "h3_raw_next_request_id": GIVES_ID,
-    "h3_raw_send_fields": SENDS_LIST,
-    "h3_raw_send_trailer_fields": SENDS_LIST,
+    "h3_raw_send_head": SENDS_LIST,
+    "h3_raw_send_trailer": SENDS_LIST,
     "h3_raw_send_body": TAKES_BYTES,
     "h3_raw_finish": TAKES_ID,
     "h3_raw_reset": TAKES_ID,
     "h3_raw_cancel": TAKES_ID,
     "h3_raw_goaway": TAKES_ID,
-    "h3_raw_next_waiting": FINDS_NUMBER,
+    "h3_raw_shutdown_notice": TELLS,
+    "h3_raw_shutdown": TELLS,
+    "h3_raw_first_unseen": TELLS,
+    "h3_raw_is_drained": (c_uint32, [Handle, U32_OUT, OUT]),
     "h3_raw_next_to_send": FINDS_NUMBER,
-    "h3_raw_outgoing": (c_uint32, [Handle, c_uint64, BUFFER, c_size_t, SIZE_OUT, U32_OUT, OUT]),
+    "h3_raw_outgoing": (c_uint32, [Handle, c_uint64, BUFFER, c_size_t, SIZE_OUT, SIZE_OUT, U32_OUT, OUT]),
     "h3_raw_advance": (c_uint32, [Handle, c_uint64, c_size_t, OUT]),
     "h3_raw_end_taken": (c_uint32, [Handle, c_uint64, OUT]),
     "h3_raw_deliver": TAKES_BYTES,
     "h3_raw_deliver_end": TAKES_ID,
     "h3_raw_deliver_reset": (c_uint32, [Handle, c_uint64, c_uint64, U64_OUT, OUT]),
-    "h3_raw_pull_fields": (c_uint32, [Handle, c_uint64, POINTER(RawItem), OUT]),
+    "h3_raw_pull": (c_uint32, [Handle, c_uint64, POINTER(RawItem), OUT]),
     "h3_raw_item_fields": (c_uint32, [Handle, SIZES, c_size_t, BUFFER, c_size_t, OUT]),
     "h3_raw_item_bytes": (c_uint32, [Handle, c_size_t, BUFFER, c_size_t, SIZE_OUT, OUT]),
     "h3_raw_stream": (c_uint32, [Handle, c_uint64, POINTER(RawStream), OUT]),

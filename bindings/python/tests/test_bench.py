@@ -18,7 +18,7 @@ def exchange(pair: Pair, requests: int = 5) -> None:
 
     def answer(side: Side, id: int, item: Item) -> None:
         if side is Side.SERVER and isinstance(item, Head):
-            pair.server.send_fields(id, [(b":status", b"200"), (b"x-id", b"%d" % id), (b"x-same", b"of all")])
+            pair.server.send_head(id, [(b":status", b"200"), (b"x-id", b"%d" % id), (b"x-same", b"of all")])
         elif side is Side.SERVER and isinstance(item, Body):
             pair.server.send_body(id, item.data)
         elif side is Side.SERVER and isinstance(item, End):
@@ -27,7 +27,7 @@ def exchange(pair: Pair, requests: int = 5) -> None:
     pair.on_item = answer
     for _ in range(requests):
         id = pair.client.open_request()
-        pair.client.send_fields(id, [*GET, (b"x-id", b"%d" % id), (b"x-same", b"of all")])
+        pair.client.send_head(id, [*GET, (b"x-id", b"%d" % id), (b"x-same", b"of all")])
         pair.client.send_body(id, b"body of %d" % id * 50)
         pair.client.finish(id)
 
@@ -62,7 +62,7 @@ class Schedules(unittest.TestCase):
     def test_a_step_that_does_not_fit_is_an_error(self) -> None:
         pair = Pair()
         id = pair.client.open_request()
-        pair.client.send_fields(id, GET)
+        pair.client.send_head(id, GET)
         waiting = pair.client.stream(id).waiting
         for wrong in (Step(Side.CLIENT, id, waiting + 1, False), Step(Side.CLIENT, id, waiting, True), Step(Side.SERVER, id, 1, False)):
             with self.assertRaises(ValueError):

@@ -54,15 +54,15 @@ class Exchange(unittest.TestCase):
             pair = Pair()
             id = pair.client.open_request()
             self.assertEqual(id, 0)
-            pair.client.send_fields(id, POST)
+            pair.client.send_head(id, POST)
             pair.client.send_body(id, body)
-            pair.client.send_trailer_fields(id, [(b"x-count", b"1"), (b"x-count", b"2")])
+            pair.client.send_trailer(id, [(b"x-count", b"1"), (b"x-count", b"2")])
             pair.client.finish(id)
             pair.run(seed)
             trailer = Trailer([(b"x-count", b"1"), (b"x-count", b"2")])
             self.assertEqual(joined(pair.received[Side.SERVER, id]), [Head(POST), Body(body), trailer, End()])
-            pair.server.send_fields(id, [(b":status", b"103")])
-            pair.server.send_fields(id, [(b":status", b"200"), (b"x-a", b"b")])
+            pair.server.send_head(id, [(b":status", b"103")])
+            pair.server.send_head(id, [(b":status", b"200"), (b"x-a", b"b")])
             pair.server.finish(id)
             pair.run(seed)
             response = [Interim([(b":status", b"103")], 103), Head([(b":status", b"200"), (b"x-a", b"b")], 200), End()]
@@ -76,7 +76,7 @@ class Exchange(unittest.TestCase):
     def test_bytes_are_taken_by_any_count(self) -> None:
         client = Endpoint(Config.client())
         id = client.open_request()
-        client.send_fields(id, GET)
+        client.send_head(id, GET)
         client.advance(id, client.stream(id).waiting)
         client.send_body(id, bytearray(b"hello"))
         # a DATA frame: its type 0, its length, its bytes (RFC 9114, sections 7.1 and 7.2.1)
@@ -86,10 +86,27 @@ class Exchange(unittest.TestCase):
         client.finish(id)
         self.assertEqual(client.outgoing(id, 4), (b"hell", False))
         self.assertEqual(client.outgoing(id, 1 << 40), (b"hello", True))
-        self.assertEqual((client.next_waiting(1), client.next_waiting(0), client.next_waiting(11)), (2, 0, None))
+        self.assertEqual((client.next_to_send(1), client.next_to_send(0), client.next_to_send(11)), (2, 0, None))
         client.advance(id, 5)
-        self.assertEqual((client.outgoing(id), client.next_waiting(0), client.next_to_send(0)), ((b"", True), 2, 0))
+        self.assertEqual((client.outgoing(id), client.next_to_send(0)), ((b"", True), 0))
         self.assertEqual((client.end_taken(id), client.end_taken(id), client.next_to_send(0)), (True, False, 2))
+
+    def test_a_server_shuts_down_in_two_steps(self) -> None:
+        server = Endpoint(Config.server())
+        control = server.outgoing(3)[0]
+        server.advance(3, len(control))
+        server.deliver(4, b"\x01")
+        self.assertEqual((server.first_unseen(), server.is_drained()), (8, False))
+        server.shutdown_notice()
+        server.shutdown()
+        # GOAWAY with 2^62 - 4, and with 8 (RFC 9114, sections 5.2 and 7.2.6)
+        self.assertEqual(server.outgoing(3)[0], b"\x07\x08\xff\xff\xff\xff\xff\xff\xff\xfc\x07\x01\x08")
+        server.advance(3, 13)
+        self.assertFalse(server.is_drained())
+        idle = Endpoint(Config.server())
+        idle.shutdown()
+        idle.advance(3, idle.stream(3).waiting)
+        self.assertEqual((idle.first_unseen(), idle.is_drained()), (0, True))
 
     def test_settings_are_those_of_the_configuration(self) -> None:
         config = Config.server()
@@ -121,7 +138,7 @@ class Exchange(unittest.TestCase):
         id = pair.client.open_request()
         self.assertEqual(pair.client.next_item(id), Pending())
         self.assertEqual(pair.client.next_item(3), NoMessages())
-        pair.client.send_fields(id, GET)
+        pair.client.send_head(id, GET)
         pair.carry_all()
         self.assertEqual(pair.received[Side.SERVER, id], [Head(GET)])
         self.assertEqual(pair.server.next_item(id), Pending())
@@ -145,7 +162,7 @@ class Exchange(unittest.TestCase):
     def test_a_canceled_stream_says_so(self) -> None:
         pair = Pair()
         id = pair.client.open_request()
-        pair.client.send_fields(id, GET)
+        pair.client.send_head(id, GET)
         pair.carry_all()
         pair.server.cancel(id)
         self.assertEqual(list(pair.server.items(id)), [Canceled()])
@@ -179,7 +196,7 @@ class Exchange(unittest.TestCase):
         def work() -> None:
             for _ in range(200):
                 id = client.open_request()
-                client.send_fields(id, GET)
+                client.send_head(id, GET)
                 ids.append(id)
 
         threads = [threading.Thread(target=work) for _ in range(4)]

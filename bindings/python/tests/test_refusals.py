@@ -45,10 +45,10 @@ class Refusals(unittest.TestCase):
         client, server = Endpoint(Config.client()), Endpoint(Config.server())
         id = client.open_request()
         self.refused(Answer.OUT_OF_ORDER, 0, client.send_body, id, b"a")
-        self.refused(Answer.FIELD_NAME, 0, client.send_fields, id, [(b"Upper", b"a")])
-        self.refused(Answer.FIELD_VALUE, 0, client.send_fields, id, [(b":method", b"G T")])
-        self.refused(Answer.WRONG_SIDE, 0, client.send_fields, id, [(b":status", b"200")])
-        self.refused(Answer.OUT_OF_ORDER, 0, client.send_trailer_fields, id, [])
+        self.refused(Answer.FIELD_NAME, 0, client.send_head, id, [(b"Upper", b"a")])
+        self.refused(Answer.FIELD_VALUE, 0, client.send_head, id, [(b":method", b"G T")])
+        self.refused(Answer.WRONG_SIDE, 0, client.send_head, id, [(b":status", b"200")])
+        self.refused(Answer.OUT_OF_ORDER, 0, client.send_trailer, id, [])
         self.refused(Answer.NOT_OPEN, 0, client.finish, id + 4)
         self.refused(Answer.CRITICAL, 0, client.reset, 2)
         self.refused(Answer.NOT_RECEIVING, 0, client.deliver, 2, b"")
@@ -60,18 +60,18 @@ class Refusals(unittest.TestCase):
         self.refused(Answer.AFTER_END, 0, server.deliver_reset, 0, 0x10C)
         server.close()
         self.refused(Answer.NO_ENDPOINT, 0, server.next_item, 0)
-        self.refused(Answer.NO_ENDPOINT, 0, server.next_waiting)
+        self.refused(Answer.NO_ENDPOINT, 0, server.next_to_send)
         self.refused(Answer.NO_ENDPOINT, 0, server.outgoing, 0)
 
     def test_numbers_are_not_cut(self) -> None:
         client = Endpoint(Config.client())
         id = client.open_request()
-        client.send_fields(id, GET)
+        client.send_head(id, GET)
         for wrong in (1 << 62, 1 << 64, -1, (1 << 64) + id):
             calls: list[Any] = [client.next_item, client.finish, client.stream, client.outgoing, client.end_taken]
             for call in [*calls, client.deliver_end, client.cancel]:
                 self.refused(Answer.ARGUMENT, 0, call, wrong)
-            self.refused(Answer.ARGUMENT, 0, client.send_fields, wrong, GET)
+            self.refused(Answer.ARGUMENT, 0, client.send_head, wrong, GET)
             self.refused(Answer.ARGUMENT, 0, client.send_body, wrong, b"")
             self.refused(Answer.ARGUMENT, 0, client.deliver, wrong, b"")
         waiting = client.stream(id).waiting
@@ -85,12 +85,12 @@ class Refusals(unittest.TestCase):
         id = client.open_request()
         for wrong in ("a", 5, None):
             with self.assertRaises(TypeError):
-                client.send_fields(id, [(b"name", wrong)])
+                client.send_head(id, [(b"name", wrong)])
             with self.assertRaises(TypeError):
                 client.send_body(id, wrong)
             with self.assertRaises(TypeError):
                 client.deliver(3, wrong)
-        client.send_fields(id, ((memoryview(name), bytearray(value)) for name, value in GET))
+        client.send_head(id, ((memoryview(name), bytearray(value)) for name, value in GET))
 
     def test_configurations(self) -> None:
         def made(**changes: int) -> Endpoint:
@@ -115,7 +115,7 @@ class Refusals(unittest.TestCase):
     def test_faults_of_a_stream_are_items(self) -> None:
         pair = Pair(plain())
         id = pair.client.open_request()
-        pair.client.send_fields(id, [*GET, (b"connection", b"close")])
+        pair.client.send_head(id, [*GET, (b"connection", b"close")])
         pair.carry_all()
         # a connection-specific field (RFC 9114, section 4.2), and a request that ends without a header section (4.1.1)
         malformed = Malformed(Malformation.CONNECTION_FIELD)
@@ -145,7 +145,7 @@ class Refusals(unittest.TestCase):
     def test_a_malformed_header_section_is_not_sent(self) -> None:
         client = Endpoint(Config.client())
         id = client.open_request()
-        error = self.refused(Answer.MALFORMED, 9, client.send_fields, id, [*GET, (b"connection", b"close")])
+        error = self.refused(Answer.MALFORMED, 9, client.send_head, id, [*GET, (b"connection", b"close")])
         self.assertIs(error.malformation, Malformation.CONNECTION_FIELD)
         self.assertEqual(client.stream(id).waiting, 0)
         self.assertIsNone(self.refused(Answer.NOT_OPEN, 0, client.finish, id + 4).malformation)
@@ -168,14 +168,14 @@ class Refusals(unittest.TestCase):
         config.max_field_section_size = 100
         pair = Pair(None, config)
         id = pair.client.open_request()
-        pair.client.send_fields(id, GET)
+        pair.client.send_head(id, GET)
         while steps := [it for it in pair.to_send() if it.sender is Side.CLIENT]:
             pair.carry(steps[0])
         # RFC 9114, section 4.2.2: names, values and 32 for each field
         size = sum(len(name) + len(value) + 32 for name, value in GET)
         self.assertEqual(pair.received[Side.SERVER, id], [TooLargeHead(size)])
         pair.carry_all()
-        self.refused(Answer.TOO_LARGE, size, pair.client.send_fields, pair.client.open_request(), GET)
+        self.refused(Answer.TOO_LARGE, size, pair.client.send_head, pair.client.open_request(), GET)
 
     def test_texts(self) -> None:
         self.assertEqual(str(refused(7, 8)), "H3_GOING_AWAY: the peer processes no request from stream 8 on")

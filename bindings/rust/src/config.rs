@@ -1,7 +1,7 @@
 use crate::raw;
 
 /// How many numbers `h3_config` has: its size, and those of [`Config`].
-pub(crate) const NUMBERS: usize = 16;
+pub(crate) const NUMBERS: usize = 18;
 
 /// What an endpoint is and announces, as `h3_config`.
 ///
@@ -47,6 +47,11 @@ pub struct Config {
     /// encoder or decoder stream. 0 is the default, and the lowest limit: 256, or four times the greater of `max_field_section_size` and
     /// `table` if that is more. A lower one is refused. With 2^62 - 1 or more there is no limit.
     pub unfinished_limit: u64,
+    /// How many ids of streams that the peer canceled the local encoder keeps (RFC 9204, section 4.4.2). If there is one too many, it drops
+    /// the lowest, and sections on streams up to it use no table from then on. With 2^62 - 1 or more all are kept.
+    pub kept_ids: u64,
+    /// A server refuses requests from its last GOAWAY id on.
+    pub reject_requests: bool,
 }
 
 impl Config {
@@ -79,6 +84,8 @@ impl Config {
             encoder_table: numbers[13],
             economical_table: numbers[14] != 0,
             unfinished_limit: numbers[15],
+            kept_ids: numbers[16],
+            reject_requests: numbers[17] != 0,
         }
     }
 
@@ -101,6 +108,8 @@ impl Config {
             self.encoder_table,
             self.economical_table.into(),
             self.unfinished_limit,
+            self.kept_ids,
+            self.reject_requests.into(),
         ]
     }
 }

@@ -110,8 +110,8 @@ impl Endpoint {
     /// [`Error::FieldName`], [`Error::FieldValue`] or [`Error::FieldCount`] of the list; [`Error::Closed`], [`Error::NotOpen`],
     /// [`Error::OutOfOrder`], [`Error::WrongSide`], [`Error::Malformed`] (a strict endpoint), [`Error::TooLarge`] (for the peer),
     /// [`Error::Argument`] (the id is 2^62 or more), [`Error::Memory`]. Nothing was sent then.
-    pub fn send_fields<N: AsRef<[u8]>, V: AsRef<[u8]>>(&mut self, id: u64, fields: &[(N, V)]) -> Result<(), Error> {
-        self.send_list(raw::h3_raw_send_fields, id, fields)
+    pub fn send_head<N: AsRef<[u8]>, V: AsRef<[u8]>>(&mut self, id: u64, fields: &[(N, V)]) -> Result<(), Error> {
+        self.send_list(raw::h3_raw_send_head, id, fields)
     }
 
     /// Sends a trailer section as the list that it is given as.
@@ -121,24 +121,6 @@ impl Endpoint {
     /// [`Error::FieldName`], [`Error::FieldValue`] or [`Error::FieldCount`] of the list; [`Error::Closed`], [`Error::NotOpen`],
     /// [`Error::OutOfOrder`], [`Error::PseudoInTrailer`], [`Error::Malformed`] (a strict endpoint), [`Error::TooLarge`] (for the peer),
     /// [`Error::Argument`] (the id is 2^62 or more), [`Error::Memory`]. Nothing was sent then.
-    pub fn send_trailer_fields<N: AsRef<[u8]>, V: AsRef<[u8]>>(&mut self, id: u64, fields: &[(N, V)]) -> Result<(), Error> {
-        self.send_list(raw::h3_raw_send_trailer_fields, id, fields)
-    }
-
-    /// Sends a header section with its pseudo-header fields put in front, and the values of one name together. `send_fields` is faster.
-    ///
-    /// # Errors
-    ///
-    /// Those of [`send_fields`](Endpoint::send_fields).
-    pub fn send_head<N: AsRef<[u8]>, V: AsRef<[u8]>>(&mut self, id: u64, fields: &[(N, V)]) -> Result<(), Error> {
-        self.send_list(raw::h3_raw_send_head, id, fields)
-    }
-
-    /// Sends a trailer section with the values of one name put together.
-    ///
-    /// # Errors
-    ///
-    /// Those of [`send_trailer_fields`](Endpoint::send_trailer_fields).
     pub fn send_trailer<N: AsRef<[u8]>, V: AsRef<[u8]>>(&mut self, id: u64, fields: &[(N, V)]) -> Result<(), Error> {
         self.send_list(raw::h3_raw_send_trailer, id, fields)
     }
@@ -193,11 +175,38 @@ impl Endpoint {
         self.call(|handle, detail, out| unsafe { raw::h3_raw_goaway(handle, id, detail, out) })
     }
 
-    /// The lowest stream from an id on on which bytes wait.
-    pub fn next_waiting(&mut self, from: u64) -> Option<u64> {
+    /// The first step of a shutdown (RFC 9114, section 5.2): a GOAWAY with the greatest id. The peer opens no further request once it
+    /// came, and all that it sent until then is processed.
+    ///
+    /// # Errors
+    ///
+    /// [`Error::Closed`], [`Error::Memory`].
+    pub fn shutdown_notice(&mut self) -> Result<(), Error> {
+        self.call(|handle, detail, out| unsafe { raw::h3_raw_shutdown_notice(handle, detail, out) })
+    }
+
+    /// The second step: a GOAWAY of a server with `first_unseen`, of a client with 0. A delivery of a later request is
+    /// [`Error::Rejected`] then: deliver no more of its stream, and QUIC sends RESET_STREAM and STOP_SENDING with that code.
+    ///
+    /// # Errors
+    ///
+    /// [`Error::Closed`], [`Error::IdsUsedUp`] (every id was seen, and no GOAWAY was sent), [`Error::Memory`].
+    pub fn shutdown(&mut self) -> Result<(), Error> {
+        self.call(|handle, detail, out| unsafe { raw::h3_raw_shutdown(handle, detail, out) })
+    }
+
+    /// The first id of a request stream above all of which anything came: no request from there on was processed.
+    pub fn first_unseen(&mut self) -> u64 {
         let mut id = 0;
-        self.call(|handle, _, out| unsafe { raw::h3_raw_next_waiting(handle, from, &mut id, out) }).ok()?;
-        Some(id)
+        let _ = self.call(|handle, _, out| unsafe { raw::h3_raw_first_unseen(handle, &mut id, out) });
+        id
+    }
+
+    /// Whether nothing is left to be done, so that the connection can be closed without losing a request. It needs `end_taken` for each
+    /// FIN.
+    pub fn is_drained(&mut self) -> bool {
+        let mut drained = 0;
+        self.call(|handle, _, out| unsafe { raw::h3_raw_is_drained(handle, &mut drained, out) }).is_ok() && drained == 1
     }
 
     /// The lowest stream from an id on on which bytes wait, or an end that `end_taken` did not speak of.
@@ -214,9 +223,9 @@ impl Endpoint {
     ///
     /// [`Error::Argument`]: the id is 2^62 or more.
     pub fn outgoing(&mut self, id: u64, buffer: &mut [u8]) -> Result<(usize, bool), Error> {
-        let (mut count, mut end) = (0, 0);
+        let (mut count, mut past, mut end) = (0, 0, 0);
         self.call(|handle, _, out| unsafe {
-            raw::h3_raw_outgoing(handle, id, buffer.as_mut_ptr(), buffer.len(), &mut count, &mut end, out)
+            raw::h3_raw_outgoing(handle, id, buffer.as_mut_ptr(), buffer.len(), &mut count, &mut past, &mut end, out)
         })?;
         Ok((count, end == 1))
     }
@@ -271,7 +280,7 @@ impl Endpoint {
     /// while let Next::Item(item) = server.next_item(id)? {
     ///     let is_last = item.is_last();
     ///     match item {
-    ///         Item::Head(_) => server.send_fields(id, &[(":status", "200")])?,
+    ///         Item::Head(_) => server.send_head(id, &[(":status", "200")])?,
     ///         Item::Body(bytes) => server.send_body(id, &bytes)?,
     ///         Item::End => server.finish(id)?,
     ///         Item::Fault(fault) => eprintln!("stream {id}: {fault}"),
@@ -291,7 +300,7 @@ impl Endpoint {
     /// [`Error::Argument`]: the id is 2^62 or more. A fault of this stream alone is no error but an item, [`Item::Fault`].
     pub fn next_item(&mut self, id: u64) -> Result<Next, Error> {
         let mut item = RawItem::default();
-        self.call(|handle, _, out| unsafe { raw::h3_raw_pull_fields(handle, id, &mut item, out) })?;
+        self.call(|handle, _, out| unsafe { raw::h3_raw_pull(handle, id, &mut item, out) })?;
         self.read(item)
     }
 

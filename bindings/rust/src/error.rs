@@ -74,6 +74,8 @@ pub enum Error {
     FieldCount,
     /// A strict peer would call the message malformed, for this reason. It was not sent.
     Malformed(Malformation),
+    /// The request is rejected, and nothing was delivered: end its stream both ways with this code.
+    Rejected(u64),
     /// An argument is out of range.
     Argument,
     /// An answer that this crate does not know, as of a later library.
@@ -109,6 +111,7 @@ impl Error {
             24 => Error::FieldCount,
             27 => Error::Malformed(Malformation::of(detail)),
             28 => Error::UnfinishedLimit,
+            30 => Error::Rejected(detail),
             32 => Error::Argument,
             other => Error::Other(other),
         }
@@ -138,6 +141,7 @@ impl fmt::Display for Error {
             Error::Raised(id) => return write!(f, "an earlier GOAWAY had the id {id}"),
             Error::Setting(id) => return write!(f, "the setting {id:#x} cannot be announced"),
             Error::Malformed(why) => return write!(f, "a strict peer would call the message malformed: {why}"),
+            Error::Rejected(code) => return write!(f, "the request is rejected, {code:#x}"),
             Error::Other(answer) => return write!(f, "the library answered {answer}"),
             Error::NotReceiving => "the peer sends nothing on this stream",
             Error::AfterEnd => "the stream has ended before",
@@ -244,6 +248,7 @@ pub enum Malformation {
     BadStatus,
     /// A field that a trailer section must not have.
     NoTrailerField,
+    /// A HEADERS frame is longer than `unfinished_limit` lets it be.
     TooLong,
     /// One that this crate does not know, as of a later library.
     Other(u64),

@@ -2,7 +2,7 @@
 //!
 //! An [`Endpoint`] reads no socket and starts no thread. A program delivers what came on a stream and reads its items
 //! ([`Endpoint::deliver`], [`Endpoint::next_item`]), sends messages ([`Endpoint::open_request`],
-//! [`Endpoint::send_fields`], [`Endpoint::send_body`], [`Endpoint::finish`]), and hands to QUIC what waits
+//! [`Endpoint::send_head`], [`Endpoint::send_body`], [`Endpoint::finish`]), and hands to QUIC what waits
 //! ([`Endpoint::next_to_send`], [`Endpoint::outgoing`], [`Endpoint::advance`], [`Endpoint::end_taken`]).
 //!
 //! A request goes from a client to a server, with the bytes carried by hand in place of QUIC:
@@ -28,7 +28,7 @@
 //! # fn main() -> Result<(), Error> {
 //! let (mut client, mut server) = (Endpoint::new(&Config::client())?, Endpoint::new(&Config::server())?);
 //! let id = client.open_request()?;
-//! client.send_fields(id, &[(":method", "GET"), (":scheme", "https"), (":authority", "localhost"), (":path", "/a")])?;
+//! client.send_head(id, &[(":method", "GET"), (":scheme", "https"), (":authority", "localhost"), (":path", "/a")])?;
 //! client.finish(id)?;
 //! carry(&mut client, &mut server)?;
 //! match server.next_item(id)? {
@@ -40,6 +40,9 @@
 //! # }
 //! ```
 //!
+//! With the feature `http` messages are the types of the crate [`http`](https://docs.rs/http/1) too: `Endpoint::send_request`,
+//! `Endpoint::send_response`, and `TryFrom<&Head>` of `http::Request` and `http::Response`.
+//!
 //! All that is `unsafe` is in `raw`, whose declarations are those of the header, and in the calls of `endpoint`.
 
 #![warn(missing_docs)]
@@ -48,6 +51,8 @@ mod config;
 mod endpoint;
 mod error;
 mod fields;
+#[cfg(feature = "http")]
+mod http_types;
 mod item;
 mod priority;
 mod raw;
@@ -57,6 +62,8 @@ pub use config::Config;
 pub use endpoint::Endpoint;
 pub use error::{code, Error, Fault, Malformation};
 pub use fields::{Field, Fields, FieldsIter};
+#[cfg(feature = "http")]
+pub use http_types::Protocol;
 pub use item::{Head, Item, Next, Pause};
 pub use priority::Priority;
 pub use state::{ConnectionState, PeerLimits, StreamState, Version};

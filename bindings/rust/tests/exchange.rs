@@ -84,9 +84,9 @@ fn an_exchange_goes_over_whole() {
         let next = client.next_request_id().unwrap();
         let id = client.open_request().unwrap();
         assert_eq!((id, next), (0, 0));
-        client.send_fields(id, &post()).unwrap();
+        client.send_head(id, &post()).unwrap();
         client.send_body(id, &body).unwrap();
-        client.send_trailer_fields(id, &[("x-count", "1"), ("x-count", "2")]).unwrap();
+        client.send_trailer(id, &[("x-count", "1"), ("x-count", "2")]).unwrap();
         assert_eq!(carry(&mut client, &mut server, piece), 0);
         client.finish(id).unwrap();
         assert_eq!(carry(&mut client, &mut server, piece), 1);
@@ -100,7 +100,7 @@ fn an_exchange_goes_over_whole() {
         assert_eq!(list(&trailer.unwrap()), owned(&[("x-count", "1".into()), ("x-count", "2".into())]));
 
         server.send_head(id, &[(":status", "103")]).unwrap();
-        server.send_head(id, &[("x-a", "b"), (":status", "200")]).unwrap();
+        server.send_head(id, &[(":status", "200"), ("x-a", "b")]).unwrap();
         server.send_trailer(id, &[("x-a", "b")]).unwrap();
         server.finish(id).unwrap();
         assert_eq!(carry(&mut server, &mut client, piece), 1);
@@ -123,7 +123,7 @@ fn an_endpoint_moves_between_threads() {
     is_send::<Endpoint>();
     let (mut client, mut server) = pair();
     let id = client.open_request().unwrap();
-    client.send_fields(id, &post()).unwrap();
+    client.send_head(id, &post()).unwrap();
     client.finish(id).unwrap();
     carry(&mut client, &mut server, 100);
     let read = std::thread::spawn(move || read(&mut server, id).0.fields.len()).join().unwrap();
@@ -136,7 +136,7 @@ fn a_pause_says_why_there_is_no_item() {
     let id = client.open_request().unwrap();
     assert_eq!(client.next_item(id), Ok(Next::Pause(Pause::Pending)));
     assert_eq!(client.next_item(3), Ok(Next::Pause(Pause::NoMessages)));
-    client.send_fields(id, &post()).unwrap();
+    client.send_head(id, &post()).unwrap();
     carry(&mut client, &mut server, 100);
     assert!(matches!(server.next_item(id), Ok(Next::Item(Item::Head(_)))));
     assert_eq!(server.next_item(id), Ok(Next::Pause(Pause::Pending)));
@@ -146,7 +146,7 @@ fn a_pause_says_why_there_is_no_item() {
 fn states_and_settings_are_shown() {
     let (mut client, mut server) = pair();
     let id = client.open_request().unwrap();
-    client.send_fields(id, &post()).unwrap();
+    client.send_head(id, &post()).unwrap();
     client.send_body(id, &[0; 5000]).unwrap();
     assert!(client.stream(id).unwrap().waiting > 5000);
     let state = client.connection().unwrap();

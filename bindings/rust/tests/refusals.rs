@@ -6,7 +6,7 @@ const GET: [(&str, &str); 4] = [(":method", "GET"), (":scheme", "https"), (":aut
 
 fn carry(from: &mut Endpoint, to: &mut Endpoint) {
     let (mut next, mut buffer) = (0, [0; 4096]);
-    while let Some(id) = from.next_waiting(next) {
+    while let Some(id) = from.next_to_send(next) {
         let (count, _) = from.outgoing(id, &mut buffer).unwrap();
         to.deliver(id, &buffer[..count]).unwrap();
         from.advance(id, count).unwrap();
@@ -40,10 +40,10 @@ fn calls_say_why_they_are_refused() {
     let (mut client, mut server) = pair();
     let id = client.open_request().unwrap();
     assert_eq!(client.send_body(id, b"a"), Err(Error::OutOfOrder));
-    assert_eq!(client.send_fields(id, &[("Upper", "a")]), Err(Error::FieldName));
-    assert_eq!(client.send_fields(id, &[(":method", "G T")]), Err(Error::FieldValue));
-    assert_eq!(client.send_fields(id, &[(":status", "200")]), Err(Error::WrongSide));
-    assert_eq!(client.send_trailer_fields::<&str, &str>(id, &[]), Err(Error::OutOfOrder));
+    assert_eq!(client.send_head(id, &[("Upper", "a")]), Err(Error::FieldName));
+    assert_eq!(client.send_head(id, &[(":method", "G T")]), Err(Error::FieldValue));
+    assert_eq!(client.send_head(id, &[(":status", "200")]), Err(Error::WrongSide));
+    assert_eq!(client.send_trailer::<&str, &str>(id, &[]), Err(Error::OutOfOrder));
     assert_eq!(client.finish(id + 4), Err(Error::NotOpen));
     assert_eq!(client.reset(2), Err(Error::Critical));
     assert_eq!(client.advance(id, 1), Err(Error::Argument));
@@ -66,7 +66,7 @@ fn faults_of_a_stream_are_told_apart() {
     let mut client = Endpoint::new(&with(Config::client(), |it| it.strict = false)).unwrap();
     let mut server = Endpoint::new(&Config::server()).unwrap();
     let id = client.open_request().unwrap();
-    client.send_fields(id, &[&GET[..], &[("connection", "close")]].concat()).unwrap();
+    client.send_head(id, &[&GET[..], &[("connection", "close")]].concat()).unwrap();
     carry(&mut client, &mut server);
     // a connection-specific field (RFC 9114, section 4.2), and a request that ends without a head (4.1.1)
     let malformed = Fault::Malformed(Malformation::ConnectionField);
@@ -93,9 +93,9 @@ fn a_malformed_head_is_not_sent() {
     let (mut client, mut server) = pair();
     let id = client.open_request().unwrap();
     // a connection-specific field (RFC 9114, section 4.2)
-    let refused = client.send_fields(id, &[&GET[..], &[("connection", "close")]].concat());
+    let refused = client.send_head(id, &[&GET[..], &[("connection", "close")]].concat());
     assert_eq!(refused, Err(Error::Malformed(Malformation::ConnectionField)));
-    client.send_fields(id, &GET).unwrap();
+    client.send_head(id, &GET).unwrap();
     carry(&mut client, &mut server);
     assert!(is_head(server.next_item(0)));
 }
@@ -118,14 +118,14 @@ fn a_head_that_is_too_large_is_passed_over() {
     let mut client = Endpoint::new(&Config::client()).unwrap();
     let mut server = Endpoint::new(&with(Config::server(), |it| it.max_field_section_size = 100)).unwrap();
     let id = client.open_request().unwrap();
-    client.send_fields(id, &GET).unwrap();
+    client.send_head(id, &GET).unwrap();
     carry(&mut client, &mut server);
     // RFC 9114, section 4.2.2: names, values and 32 for each of the four fields
     let size = GET.iter().map(|(name, value)| name.len() + value.len() + 32).sum::<usize>();
     assert_eq!(server.next_item(id), Ok(Next::Item(Item::TooLargeHead(size as u64))));
     carry(&mut server, &mut client);
     let next = client.open_request().unwrap();
-    assert_eq!(client.send_fields(next, &GET), Err(Error::TooLarge(size as u64)));
+    assert_eq!(client.send_head(next, &GET), Err(Error::TooLarge(size as u64)));
 }
 
 #[test]
