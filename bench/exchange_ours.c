@@ -11,7 +11,7 @@ typedef struct {
   h3_field_size *sizes;
   size_t count;
   pack bytes;
-} given_list; /* a list as h3_send_fields takes it */
+} given_list; /* a list as h3_send_head takes it */
 
 typedef struct {
   h3_endpoint end;
@@ -67,7 +67,7 @@ static void read_body(side *to) {
 /* Reads a stream until a pause or its end. The bytes in `carried` are overwritten next, so what is still held of them behind a pause is kept. */
 static void pull(side *to, uint64_t id) {
   for (h3_item item;;) {
-    done("h3_pull_fields", h3_pull_fields(&to->end, id, &item));
+    done("h3_pull", h3_pull(&to->end, id, &item));
     switch (item.kind) {
     case H3_HEAD:
       read_fields(to, &item);
@@ -83,37 +83,46 @@ static void pull(side *to, uint64_t id) {
       done("h3_keep", h3_keep(&to->end, id));
       return;
     default:
-      stop("h3_pull_fields gave another kind", (long)item.kind);
+      stop("h3_pull gave another kind", (long)item.kind);
     }
   }
 }
 
 static void carry(side *from, side *to, uint64_t id, size_t piece) {
-  size_t len;
+  size_t len, past, body_at = 0;
   uint32_t fin;
   do {
-    done("h3_outgoing", h3_outgoing(&from->end, id, carried, piece, &len, &fin));
+    done("h3_outgoing", h3_outgoing(&from->end, id, carried, piece, &len, &past, &fin));
+    if (past) { /* QUIC's copy into a packet */
+      size_t held = past < piece - len ? past : piece - len;
+      if (held < past) fin = 0;
+      memcpy(carried + len, exchange_body + body_at, held);
+      body_at += held, len += held;
+    }
     if (len) {
       if (id % 4 == 0) done("h3_deliver_lent", h3_deliver_lent(&to->end, id, carried, len, NULL));
       else done("h3_deliver", h3_deliver(&to->end, id, carried, len, NULL));
       done("h3_advance", h3_advance(&from->end, id, len));
     }
-    if (fin) done("h3_deliver_end", h3_deliver_end(&to->end, id, NULL));
+    if (fin) {
+      done("h3_end_taken", h3_end_taken(&from->end, id));
+      done("h3_deliver_end", h3_deliver_end(&to->end, id, NULL));
+    }
     if (id % 4 == 0) pull(to, id);
-  } while (len == piece && !fin);
+  } while ((len == piece || past) && !fin);
 }
 
 /* Carries all that waits: the own streams first, since heads may need what stands there. */
 static void carry_all(side *from, side *to, int is_server, size_t piece) {
   const uint64_t own[] = {h3_control_id(is_server), h3_encoder_id(is_server), h3_decoder_id(is_server)};
   for (size_t i = 0; i < sizeof own / sizeof *own; i++) carry(from, to, own[i], piece);
-  for (uint64_t id = 0; h3_next_waiting(&from->end, id, &id) == H3_OK; id++) carry(from, to, id, piece);
+  for (uint64_t id = 0; h3_next_to_send(&from->end, id, &id) == H3_OK; id++) carry(from, to, id, piece);
 }
 
 static void send(side *from, uint64_t id) {
   const given_list *list = &from->lists[id / 4 % from->lists_count];
-  done("h3_send_fields", h3_send_fields(&from->end, id, list->sizes, list->count, list->bytes.bytes, list->bytes.len, NULL));
-  if (from->body) done("h3_send_body_lent", h3_send_body_lent(&from->end, id, exchange_body, from->body, NULL));
+  done("h3_send_head", h3_send_head(&from->end, id, list->sizes, list->count, list->bytes.bytes, list->bytes.len, NULL));
+  if (from->body) done("h3_send_body_of", h3_send_body_of(&from->end, id, from->body, NULL));
   done("h3_finish", h3_finish(&from->end, id, NULL));
 }
 

@@ -42,7 +42,7 @@ static pack taken(heads_run *run, uint64_t id) {
   pack all = {0};
   size_t len = 1;
   for (uint32_t fin = 0; len;) {
-    done("h3_outgoing", h3_outgoing(&run->end, id, carried, sizeof carried, &len, &fin));
+    done("h3_outgoing", h3_outgoing(&run->end, id, carried, sizeof carried, &len, NULL, &fin));
     put_bytes(&all, carried, len);
     done("h3_advance", h3_advance(&run->end, id, len));
   }
@@ -94,7 +94,7 @@ static void send_list(heads_run *run, uint64_t id, const field_list *list) {
     put_bytes(&bytes, list->fields[j].name, list->fields[j].namelen);
     put_bytes(&bytes, list->fields[j].value, list->fields[j].valuelen);
   }
-  done("h3_send_fields", h3_send_fields(&run->end, id, sizes, list->count, bytes.bytes, bytes.len, NULL));
+  done("h3_send_head", h3_send_head(&run->end, id, sizes, list->count, bytes.bytes, bytes.len, NULL));
   done("h3_finish", h3_finish(&run->end, id, NULL));
   free(sizes);
   free_pack(&bytes);

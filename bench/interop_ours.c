@@ -20,21 +20,22 @@ static void done(const char *what, uint32_t answer) {
 static int next(void *data, uint64_t *id, uint8_t *bytes, size_t room, size_t *len, int *fin) {
   side *from = data;
   uint32_t last;
-  if (h3_next_waiting(&from->end, from->looked + 1, id) != H3_OK && h3_next_waiting(&from->end, 0, id) != H3_OK) return 0;
+  if (h3_next_to_send(&from->end, from->looked + 1, id) != H3_OK && h3_next_to_send(&from->end, 0, id) != H3_OK) return 0;
   from->looked = *id;
-  done("h3_outgoing", h3_outgoing(&from->end, *id, bytes, room, len, &last));
+  done("h3_outgoing", h3_outgoing(&from->end, *id, bytes, room, len, NULL, &last));
   done("h3_advance", h3_advance(&from->end, *id, *len));
+  if (last) done("h3_end_taken", h3_end_taken(&from->end, *id));
   *fin = (int)last;
   return 1;
 }
 
 static void read_fields(side *to, field_list *list, size_t count) {
-  static uint8_t name[1 << 10], value[1 << 16];
-  size_t name_len, value_len;
-  for (size_t i = 0; i < count; i++) {
-    done("h3_item_field", h3_item_field(&to->end, i, name, sizeof name, &name_len, value, sizeof value, &value_len));
-    keep_field(list, name, name_len, value, value_len);
-  }
+  static h3_field_size sizes[1 << 10];
+  static uint8_t bytes[1 << 17], *at;
+  done("h3_item_fields", h3_item_fields(&to->end, sizes, sizeof sizes / sizeof *sizes, bytes, sizeof bytes));
+  at = bytes;
+  for (size_t i = 0; i < count; at += sizes[i].name + sizes[i].value, i++)
+    keep_field(list, at, sizes[i].name, at + sizes[i].name, sizes[i].value);
 }
 
 static void read_body(side *to, pack *body, size_t len) {

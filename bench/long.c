@@ -90,7 +90,7 @@ static void carry(int side, uint64_t id) {
   size_t n;
   uint32_t fin;
   do {
-    done("h3_outgoing", id, h3_outgoing(&ends[side], id, buffer, sizeof buffer, &n, &fin));
+    done("h3_outgoing", id, h3_outgoing(&ends[side], id, buffer, sizeof buffer, &n, NULL, &fin));
     if (n) done("h3_deliver", id, h3_deliver(&ends[!side], id, buffer, n, NULL));
     done("h3_advance", id, h3_advance(&ends[side], id, n));
   } while (n && !fin);
@@ -273,15 +273,15 @@ static void sweep_rows(size_t count) {
     send_request(id);
   }
   began = now();
-  for (id = 0; h3_next_waiting(&ends[CLIENT], id, &id) == H3_OK; id++) found++;
-  row("h3_next_waiting in one turn over all that wait", size, (now() - began) / (double)count * 1e9, "ns a stream", 200);
+  for (id = 0; h3_next_to_send(&ends[CLIENT], id, &id) == H3_OK; id++) found++;
+  row("h3_next_to_send in one turn over all that wait", size, (now() - began) / (double)count * 1e9, "ns a stream", 200);
   if (found != count) stop("streams that wait", found, 0);
   for (id = 0; id < 4 * count; id += 4) done("h3_reset", id, h3_reset(&ends[CLIENT], id, NULL));
   began = now();
   for (size_t i = 0; i < CALLS; i++) {
-    if (h3_next_waiting(&ends[CLIENT], 0, &id) != H3_NONE) stop("a stream that was reset waits", id, 0);
+    if (h3_next_to_send(&ends[CLIENT], 0, &id) != H3_NONE) stop("a stream that was reset waits", id, 0);
   }
-  row("h3_next_waiting, where all were reset", size, (now() - began) / CALLS * 1e9, "ns", 200);
+  row("h3_next_to_send, where all were reset", size, (now() - began) / CALLS * 1e9, "ns", 200);
   drop();
 }
 
@@ -328,7 +328,7 @@ static double backlog_step(size_t cancellations) {
   }
   double began = now();
   for (size_t i = cancellations; i < cancellations + STEPS; i++) {
-    done("h3_outgoing", 10, h3_outgoing(&ends[CLIENT], h3_decoder_id(CLIENT), buffer, 1, &n, &fin));
+    done("h3_outgoing", 10, h3_outgoing(&ends[CLIENT], h3_decoder_id(CLIENT), buffer, 1, &n, NULL, &fin));
     done("h3_advance", 10, h3_advance(&ends[CLIENT], h3_decoder_id(CLIENT), n));
     done("h3_cancel", 4 * i, h3_cancel(&ends[CLIENT], 4 * i, NULL));
   }
@@ -438,9 +438,10 @@ static void peer_table_rows(uint32_t encoder_table, const char *size) {
     done("h3_send_head", id, h3_send_head(&ends[SERVER], id, sizes, fields + 1, bytes, len, NULL));
     if (i >= SECTIONS - TIMED) taken += now() - began;
     done("h3_finish", id, h3_finish(&ends[SERVER], id, NULL));
-    for (uint64_t from = 0; h3_next_waiting(&ends[SERVER], from, &from) == H3_OK;) {
-      done("h3_outgoing", from, h3_outgoing(&ends[SERVER], from, buffer, sizeof buffer, &n, &fin));
+    for (uint64_t from = 0; h3_next_to_send(&ends[SERVER], from, &from) == H3_OK;) {
+      done("h3_outgoing", from, h3_outgoing(&ends[SERVER], from, buffer, sizeof buffer, &n, NULL, &fin));
       done("h3_advance", from, h3_advance(&ends[SERVER], from, n));
+      if (fin) done("h3_end_taken", from, h3_end_taken(&ends[SERVER], from));
     }
     if (!i) done("h3_deliver", 10, h3_deliver(&ends[SERVER], h3_decoder_id(CLIENT), "\3\1", 2, NULL));
   }

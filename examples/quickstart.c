@@ -30,7 +30,7 @@ static void send_message(h3_endpoint *endpoint, uint64_t id, const char *const *
     if (count + 1 == MOST_FIELDS || sizes[count].name + sizes[count].value >= sizeof bytes - len) abort();
     len += (size_t)sprintf(bytes + len, "%s%s", texts[2 * count], texts[2 * count + 1]);
   }
-  check(h3_send_fields(endpoint, id, sizes, count, bytes, len, NULL), "h3_send_fields");
+  check(h3_send_head(endpoint, id, sizes, count, bytes, len, NULL), "h3_send_head");
   check(h3_send_body(endpoint, id, body, strlen(body), NULL), "h3_send_body");
   check(h3_finish(endpoint, id, NULL), "h3_finish");
 }
@@ -55,7 +55,7 @@ static void print_body(h3_endpoint *endpoint, const h3_item *item) {
 /* Reads what has come of the message on a stream; returns 1 at its end, and 0 if more has to come first. */
 static int receive(h3_endpoint *endpoint, uint64_t id) {
   for (h3_item item;;) {
-    check(h3_pull_fields(endpoint, id, &item), "h3_pull_fields");
+    check(h3_pull(endpoint, id, &item), "h3_pull");
     switch (item.kind) {
     case H3_HEAD: print_fields(endpoint, &item); break;
     case H3_BODY: print_body(endpoint, &item); break;
@@ -72,7 +72,7 @@ static void carry(h3_endpoint *from, h3_endpoint *to) {
   size_t n;
   uint32_t fin = 0;
   for (uint64_t id = 0; h3_next_to_send(from, id, &id) == H3_OK; id += fin) {
-    check(h3_outgoing(from, id, bytes, sizeof bytes, &n, &fin), "h3_outgoing");
+    check(h3_outgoing(from, id, bytes, sizeof bytes, &n, NULL, &fin), "h3_outgoing");
     check(h3_deliver(to, id, bytes, n, NULL), "h3_deliver"); /* QUIC sends these bytes, the peer receives them */
     check(h3_advance(from, id, n), "h3_advance");
     if (!fin) continue;

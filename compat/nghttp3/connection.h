@@ -30,7 +30,7 @@ typedef struct chunk {
   bool is_body; /* the application's: it learns of their acknowledgment */
 } chunk;
 
-/* A list of fields as h3_send_fields takes it: the sizes, and all bytes after the last one. */
+/* A list of fields as h3_send_head takes it: the sizes, and all bytes after the last one. */
 typedef struct {
   size_t count, length;
   h3_field_size *sizes;

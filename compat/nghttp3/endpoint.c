@@ -31,7 +31,7 @@ int endpoint_take(nghttp3_conn *connection, stream *s) {
   uint8_t bytes[PIECE];
   size_t length;
   do {
-    if (h3_outgoing(&connection->endpoint, s->endpoint_id, bytes, sizeof bytes, &length, NULL) != H3_OK || length == 0) return 0;
+    if (h3_outgoing(&connection->endpoint, s->endpoint_id, bytes, sizeof bytes, &length, NULL, NULL) != H3_OK || length == 0) return 0;
     if (append_copy(s, bytes, length)) return NGHTTP3_ERR_NOMEM;
     h3_advance(&connection->endpoint, s->endpoint_id, length);
   } while (length == sizeof bytes);
@@ -43,23 +43,23 @@ static size_t frame_head_length(uint64_t payload) {
   return payload < 64 ? 2 : payload < 16384 ? 3 : payload < (1 << 30) ? 5 : LONGEST_FRAME_HEAD;
 }
 
-/* Sends a piece of a body, which stays in the application's memory: the endpoint writes the head of its frame, and the payload goes past
- * the endpoint, which does not read it. All memory is there before the endpoint learns of the piece. */
+/* Sends a piece of a body, which stays in the application's memory: the endpoint writes the head of its frame, and is told the length of the
+ * payload. All memory is there before the endpoint learns of the piece. */
 int endpoint_send_body(nghttp3_conn *connection, stream *s, const nghttp3_vec *body) {
   uint8_t head[LONGEST_FRAME_HEAD] = {0};
-  size_t head_length = frame_head_length(body->len), length = 0;
+  size_t head_length = frame_head_length(body->len), length = 0, past = 0;
   uint64_t detail = 0;
   if (body->len == 0) return 0;
   int error = endpoint_take(connection, s);
   if (error) return error;
   chunk *first = chunk_new(head, head_length), *second = malloc(sizeof *second);
-  uint32_t answer = first && second ? h3_send_body_lent(&connection->endpoint, s->endpoint_id, body->base, body->len, &detail)
+  uint32_t answer = first && second ? h3_send_body_of(&connection->endpoint, s->endpoint_id, body->len, &detail)
                                     : H3_MEMORY;
   if (answer != H3_OK) {
     free(first), free(second);
     return error_of_answer(answer, detail);
   }
-  h3_outgoing(&connection->endpoint, s->endpoint_id, first + 1, head_length, &length, NULL);
+  h3_outgoing(&connection->endpoint, s->endpoint_id, first + 1, head_length, &length, &past, NULL);
   h3_advance(&connection->endpoint, s->endpoint_id, head_length + body->len);
   *second = (chunk){.bytes = body->base, .length = body->len, .is_body = true};
   append(s, first), append(s, second);
@@ -83,7 +83,7 @@ int endpoint_next(nghttp3_conn *connection, stream *s, input *in, h3_item *item)
     int error = deliver(connection, s, in);
     if (error) return error;
   }
-  return h3_pull_fields(&connection->endpoint, s->endpoint_id, item) == H3_OK ? 0 : NGHTTP3_ERR_H3_INTERNAL_ERROR;
+  return h3_pull(&connection->endpoint, s->endpoint_id, item) == H3_OK ? 0 : NGHTTP3_ERR_H3_INTERNAL_ERROR;
 }
 
 /* The bytes of a body that was pulled last, until the next call of this file. */

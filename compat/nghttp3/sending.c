@@ -14,7 +14,7 @@ int send_fields(nghttp3_conn *connection, stream *s, const field_list *fields, b
   uint64_t detail = 0;
   const uint8_t *bytes = (const uint8_t *)(fields->sizes + fields->count);
   uint32_t (*send)(h3_endpoint *, uint64_t, const h3_field_size *, size_t, const void *, size_t, uint64_t *) =
-      is_trailer ? h3_send_trailer_fields : h3_send_fields;
+      is_trailer ? h3_send_trailer : h3_send_head;
   uint32_t answer = send(&connection->endpoint, s->endpoint_id, fields->sizes, fields->count, bytes, fields->length, &detail);
   connection->has_own_bytes = true;
   return answer == H3_OK ? endpoint_take(connection, s) : error_of_answer(answer, detail);

@@ -18,23 +18,32 @@ bool buffer_give(buffer *buffer, const uint8_t *bytes, size_t count) {
   if (buffer->last) buffer->last->next = piece;
   else buffer->first = piece;
   buffer->last = piece;
+  if (!buffer->next) {
+    buffer->next = piece;
+    buffer->next_at = buffer->given;
+  }
   buffer->given += count;
   return true;
 }
 
 size_t buffer_untaken(const buffer *buffer, ngtcp2_vec *pieces, size_t limit, size_t *total) {
-  uint64_t offset = buffer->kept;
-  size_t found = 0;
+  size_t found = 0, skipped = (size_t)(buffer->taken - buffer->next_at);
   *total = 0;
-  for (struct piece *piece = buffer->first; piece && found < limit; piece = piece->next) {
-    size_t skipped = offset < buffer->taken ? buffer->taken - offset : 0;
-    offset += piece->count;
-    if (skipped >= piece->count) continue;
+  for (struct piece *piece = buffer->next; piece && found < limit; piece = piece->next) {
     pieces[found].base = piece->bytes + skipped;
     pieces[found].len = piece->count - skipped;
     *total += pieces[found++].len;
+    skipped = 0;
   }
   return found;
+}
+
+void buffer_take(buffer *buffer, uint64_t count) {
+  buffer->taken += count;
+  while (buffer->next && buffer->next_at + buffer->next->count <= buffer->taken) {
+    buffer->next_at += buffer->next->count;
+    buffer->next = buffer->next->next;
+  }
 }
 
 void buffer_acknowledge(buffer *buffer, uint64_t offset) {
@@ -47,4 +56,7 @@ void buffer_acknowledge(buffer *buffer, uint64_t offset) {
   }
 }
 
-void buffer_free(buffer *buffer) { buffer_acknowledge(buffer, UINT64_MAX); }
+void buffer_free(buffer *buffer) {
+  buffer->next = NULL;
+  buffer_acknowledge(buffer, UINT64_MAX);
+}

@@ -9,14 +9,17 @@ struct piece;
 /* Bytes of a stream by their offsets: those before `kept` are acknowledged and freed, those before `taken` were taken by QUIC. */
 typedef struct {
   struct piece *first, *last;
-  uint64_t kept, taken, given;
+  struct piece *next; /* the first that QUIC has not taken whole, or NULL; it begins at the offset `next_at` */
+  uint64_t kept, taken, given, next_at;
   bool ended, end_taken;
 } buffer;
 
-/* Copies bytes to the end. false: no memory, nothing has changed. */
+/* Copies bytes to the end. false: out of memory, nothing has changed. */
 bool buffer_give(buffer *, const uint8_t *bytes, size_t count);
-/* The bytes that QUIC has not taken, as at most `limit` pieces. Answers how many pieces there are; `total` is the bytes in them. */
+/* The bytes that QUIC has not taken, as at most `limit` pieces. Returns how many pieces there are; `total` is the bytes in them. */
 size_t buffer_untaken(const buffer *, ngtcp2_vec *pieces, size_t limit, size_t *total);
+/* QUIC took the next so many bytes. */
+void buffer_take(buffer *, uint64_t count);
 /* All before this offset is acknowledged. */
 void buffer_acknowledge(buffer *, uint64_t offset);
 void buffer_free(buffer *);

@@ -3,8 +3,12 @@
  *   --trust FILE     whom to trust, instead of the system's authorities (PEM)
  *   --address PLACE  connect to this address and not to the URL's host
  *   --post FILE      POST with this file as the body
+ *   --field NAME:VALUE  one more field of each request
+ *   --trailer VALUE  after the file a trailer section with the field x-trailer
+ *   --method NAME    this method, with no body
  *   --head           HEAD: the head alone
  *   --verbose        say on standard error what status each head has, and how many fields each trailer
+ *   --fields         say on standard error each field of each header and trailer section, as 'NAME: VALUE'
  *   --sizes          say on standard error how many bytes each request's head takes, as QPACK wrote it, with its frame
  *   --count N        N requests on one connection; the bodies are written one behind another
  *   --parallel N     how many of them at once (1)
@@ -36,8 +40,9 @@ typedef struct {
 } exchange;
 
 typedef struct {
-  const char *post, *address;
-  bool head_only, verbose, sizes;
+  const char *post, *address, *method, *trailer;
+  http3_field field; /* one more of each request; no name: none */
+  bool verbose, fields, sizes;
   size_t count, parallel;
   unsigned long long cancel; /* 0: nothing is given up */
   int seconds;
@@ -48,7 +53,7 @@ typedef struct {
   bool failed, going_away;
 } client;
 
-static client fetch = {.count = 1, .parallel = 1, .seconds = 60};
+static client fetch = {.method = "GET", .count = 1, .parallel = 1, .seconds = 60};
 
 static bool is_given_up(const exchange *exchange) { return fetch.cancel > 0 && exchange->number == 0; }
 
@@ -100,8 +105,16 @@ static void on_ready(http3 *h, void *user) {
   fetch.connection = h;
 }
 
+static void show_fields(http3_request *request, const h3_item *head) {
+  http3_list *list = http3_fields(request->connection, head);
+  http3_line line;
+  for (http3_at at = {0}; list && http3_next(list, &at, &line);)
+    fprintf(stderr, "%.*s: %.*s\n", (int)line.name_count, line.name, (int)line.value_count, line.value);
+  free(list);
+}
+
 static void on_head(http3_request *request, const h3_item *head) {
-  (void)request;
+  if (fetch.fields && head->kind != H3_TOO_LARGE_HEAD) show_fields(request, head);
   if (fetch.verbose && head->kind == H3_TRAILER) fprintf(stderr, "trailer of %zu fields\n", head->fields);
   else if (fetch.verbose) fprintf(stderr, "%s %u\n", head->kind == H3_INTERIM ? "interim" : "status", head->status);
   if (head->kind == H3_TOO_LARGE_HEAD) fail("fields that are too large, bytes:", head->number);
@@ -132,23 +145,32 @@ static void on_failed(http3_request *request, const h3_item *item) {
   const char *why = item->kind == H3_FAULT_RESET      ? "the server reset the request with code"
                     : item->kind == H3_FAULT_CANCELED ? "a frame of the response is too large, given up with code"
                                                       : "the response is malformed, reason";
+  fprintf(stderr, "fetch: %s\n", http3_why(item));
   fail(why, item->number);
   end(request->data);
+}
+
+static void finish(http3_request *request) {
+  http3_field field = {"x-trailer", fetch.trailer};
+  http3_list *trailer = fetch.trailer ? http3_list_of(&field, 1) : NULL;
+  if (fetch.trailer && (!trailer || !http3_trailer(request, trailer))) fail("the trailer section was refused, bytes:", strlen(fetch.trailer));
+  free(trailer);
+  http3_finish(request);
 }
 
 /* The next pieces of the file that is posted. */
 static void on_room(http3_request *request) {
   exchange *exchange = request->data;
   uint8_t bytes[16 * 1024];
-  while (exchange->file && http3_room(request) >= sizeof bytes) {
-    size_t count = fread(bytes, 1, sizeof bytes, exchange->file);
+  for (size_t room; exchange->file && (room = http3_room(request)) > 0;) {
+    size_t most = room < sizeof bytes ? room : sizeof bytes, count = fread(bytes, 1, most, exchange->file);
     if (count > 0 && !http3_body(request, bytes, count)) return give_up(request);
     exchange->sent += count;
     if (is_given_up(exchange) && exchange->sent >= fetch.cancel) return give_up(request);
-    if (count == sizeof bytes) continue;
+    if (count == most) continue;
     fclose(exchange->file);
     exchange->file = NULL;
-    http3_finish(request);
+    finish(request);
   }
 }
 
@@ -167,12 +189,16 @@ static void on_over(void *user, const quic_ending *ending) {
 /* ---- requests ---- */
 
 static bool send_request(http3_request *request, exchange *exchange) {
-  char authority[272], length[24];
+  char authority[280], length[24];
   struct stat status;
   bool is_standard = strcmp(fetch.place.port, "443") == 0;
-  snprintf(authority, sizeof authority, is_standard ? "%s" : "%s:%s", fetch.place.host, fetch.place.port);
-  http3_field fields[] = {{":method", fetch.post ? "POST" : fetch.head_only ? "HEAD" : "GET"}, {":scheme", "https"}, {":authority", authority},
-                          {":path", fetch.place.path}, {"user-agent", "h3-fetch"}, {"content-length", length}};
+  bool has_colons = strchr(fetch.place.host, ':'); /* of an IPv6 address, which has brackets in a URL */
+  snprintf(authority, sizeof authority, "%s%s%s%s%s", has_colons ? "[" : "", fetch.place.host, has_colons ? "]" : "", is_standard ? "" : ":",
+           is_standard ? "" : fetch.place.port);
+  http3_field fields[] = {{":method", fetch.post ? "POST" : fetch.method}, {":scheme", "https"}, {":authority", authority},
+                          {":path", fetch.place.path}, {"user-agent", "h3-fetch"}, fetch.field, {"content-length", length}};
+  size_t count = fetch.field.name ? 6 : 5;
+  if (!fetch.field.name) fields[5] = fields[6];
   if (fetch.post) {
     exchange->file = fopen(fetch.post, "rb");
     if (!exchange->file || fstat(fileno(exchange->file), &status) != 0) {
@@ -181,7 +207,7 @@ static bool send_request(http3_request *request, exchange *exchange) {
     }
     snprintf(length, sizeof length, "%llu", (unsigned long long)status.st_size);
   }
-  if (!http3_head_of(request, fields, fetch.post ? 6 : 5)) return false;
+  if (!http3_head_of(request, fields, fetch.post ? count + 1 : count)) return false;
   if (fetch.sizes) fprintf(stderr, "request of %llu bytes\n", (unsigned long long)http3_waiting(request));
   if (!fetch.post) http3_finish(request);
   return true;
@@ -206,11 +232,13 @@ static bool read_url(const char *url, place *place) {
   static const char scheme[] = "https://";
   if (strncmp(url, scheme, sizeof scheme - 1) != 0) return false;
   url += sizeof scheme - 1;
-  size_t host = *url == '[' ? strcspn(url, "]") + 1 : strcspn(url, ":/");
-  if (host == 0 || host >= sizeof place->host) return false;
+  bool has_brackets = *url == '[';
+  if (has_brackets) url++;
+  size_t host = strcspn(url, has_brackets ? "]" : ":/");
+  if (host == 0 || host >= sizeof place->host || (has_brackets && url[host] != ']')) return false;
   memcpy(place->host, url, host);
   place->host[host] = 0;
-  url += host;
+  url += host + has_brackets;
   size_t port = *url == ':' ? strspn(++url, "0123456789") : 0;
   if (port >= sizeof place->port) return false;
   memcpy(place->port, port ? url : "443", port ? port : 4);
@@ -220,24 +248,52 @@ static bool read_url(const char *url, place *place) {
   return *place->path == '/';
 }
 
+/* A number of an option. false: it is not a number, or 0 or more than `most`. */
+static bool read_number(const char *text, unsigned long long most, unsigned long long *number) {
+  char *end;
+  *number = *text >= '0' && *text <= '9' ? strtoull(text, &end, 10) : 0;
+  return *number > 0 && *number <= most && *end == 0;
+}
+
 static bool read_options(int count, char **arguments, quic_identity *identity) {
-  static const struct option options[] = {{"trust", 1, 0, 't'},  {"address", 1, 0, 'a'}, {"post", 1, 0, 'p'},    {"count", 1, 0, 'n'},
-                                          {"parallel", 1, 0, 'l'}, {"cancel", 1, 0, 'c'},  {"seconds", 1, 0, 's'},
-                                          {"head", 0, 0, 'h'},   {"verbose", 0, 0, 'v'}, {"sizes", 0, 0, 'z'}, {0, 0, 0, 0}};
+  unsigned long long number;
+  static const struct option options[] = {
+      {"trust", 1, 0, 't'},   {"address", 1, 0, 'a'}, {"method", 1, 0, 'm'}, {"field", 1, 0, 'w'},    {"trailer", 1, 0, 'r'},
+      {"post", 1, 0, 'p'},    {"count", 1, 0, 'n'},   {"cancel", 1, 0, 'c'}, {"parallel", 1, 0, 'l'}, {"seconds", 1, 0, 's'},
+      {"head", 0, 0, 'h'},    {"verbose", 0, 0, 'v'}, {"sizes", 0, 0, 'z'},  {"fields", 0, 0, 'f'},   {0, 0, 0, 0}};
   for (int option; (option = getopt_long(count, arguments, "", options, NULL)) != -1;) switch (option) {
     case 't': identity->trusted = optarg; break;
     case 'a': fetch.address = optarg; break;
     case 'p': fetch.post = optarg; break;
-    case 'n': fetch.count = strtoul(optarg, NULL, 10); break;
-    case 'l': fetch.parallel = strtoul(optarg, NULL, 10); break;
-    case 'c': fetch.cancel = strtoull(optarg, NULL, 10); break;
-    case 's': fetch.seconds = atoi(optarg); break;
-    case 'h': fetch.head_only = true; break;
+    case 'n':
+      if (!read_number(optarg, 10000000, &number)) return false;
+      fetch.count = (size_t)number;
+      break;
+    case 'l':
+      if (!read_number(optarg, 10000000, &number)) return false;
+      fetch.parallel = (size_t)number;
+      break;
+    case 'c':
+      if (!read_number(optarg, UINT64_MAX, &fetch.cancel)) return false;
+      break;
+    case 's':
+      if (!read_number(optarg, 1000000, &number)) return false;
+      fetch.seconds = (int)number;
+      break;
+    case 'h': fetch.method = "HEAD"; break;
+    case 'm': fetch.method = optarg; break;
+    case 'w':
+      fetch.field = (http3_field){strtok(optarg, ":"), strtok(NULL, "")};
+      if (!fetch.field.name || !fetch.field.value) return false;
+      break;
+    case 'r': fetch.trailer = optarg; break;
     case 'v': fetch.verbose = true; break;
     case 'z': fetch.sizes = true; break;
+    case 'f': fetch.fields = true; break;
     default: return false;
     }
-  return !(fetch.post && fetch.head_only) && optind + 1 == count && fetch.count > 0 && fetch.parallel > 0 && read_url(arguments[optind], &fetch.place);
+  bool has_both = fetch.post && strcmp(fetch.method, "GET") != 0;
+  return !has_both && optind + 1 == count && fetch.count > 0 && fetch.parallel > 0 && read_url(arguments[optind], &fetch.place);
 }
 
 /* Requests until all are over, the connection is, or the time. */
@@ -251,24 +307,30 @@ static void run(quic_socket *socket) {
   if (fetch.ended == fetch.count) return;
   if (fetch.going_away) fail("the server takes no more requests; not asked:", fetch.count - fetch.ended);
   else if (quic_count(socket) > 0) fail("not over after seconds:", (unsigned long long)fetch.seconds);
+  else if (ending.by == QUIC_NOBODY_LISTENS) fail("nobody listens there; responses that were not whole:", fetch.count - fetch.ended);
   else if (ending.by == QUIC_TIMED_OUT) fail("the server is silent; responses that were not whole:", fetch.count - fetch.ended);
-  else fail(ending.application ? "the connection was closed with HTTP/3 code" : "the connection was closed with QUIC code", ending.code);
+  else {
+    fprintf(stderr, "fetch: %s\n", http3_why_over(&ending));
+    fail(ending.application ? "the connection was closed with HTTP/3 code" : "the connection was closed with QUIC code", ending.code);
+  }
 }
 
 int main(int count, char **arguments) {
-  static const http3_events events = {on_ready, on_head, on_body, on_end, on_failed, on_room, on_freed, on_over, NULL};
+  static const http3_events events = {.ready = on_ready, .head = on_head, .body = on_body, .end = on_end, .failed = on_failed, .room = on_room,
+                                      .freed = on_freed, .over = on_over};
   http3_setup setup = {.events = &events};
   quic_identity identity = {0};
   if (!read_options(count, arguments, &identity)) {
-    fprintf(stderr, "fetch [--trust FILE] [--address PLACE] [--post FILE] [--count N] [--parallel N] [--cancel BYTES] [--seconds N] [--head] "
-                    "[--verbose] [--sizes] https://HOST[:PORT][/PATH]\n");
+    fprintf(stderr, "fetch [--trust FILE] [--address PLACE] [--post FILE] [--trailer VALUE] [--field NAME:VALUE] [--method NAME] "
+                    "[--count N] [--parallel N] [--cancel BYTES] [--seconds N] [--head] "
+                    "[--verbose] [--fields] [--sizes] https://HOST[:PORT][/PATH]\n");
     return 2;
   }
   fetch.exchanges = calloc(fetch.count, sizeof *fetch.exchanges);
   if (!fetch.exchanges) fail("no memory for requests:", fetch.count);
   const char *address = fetch.address ? fetch.address : fetch.place.host;
   quic_socket *socket =
-      fetch.exchanges ? quic_connect(address, fetch.place.port, fetch.place.host, &identity, &http3_over_quic, &setup) : NULL;
+      fetch.exchanges ? quic_connect(address, fetch.place.port, fetch.place.host, &identity, NULL, &http3_over_quic, &setup) : NULL;
   if (socket) {
     run(socket);
     quic_free(socket);

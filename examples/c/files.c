@@ -1,9 +1,9 @@
 #include "files.h"
+#include "types.h"
 #include <fcntl.h>
 #include <stdio.h>
 #include <stdlib.h>
 #include <string.h>
-#include <strings.h>
 #include <sys/stat.h>
 #include <time.h>
 #include <unistd.h>
@@ -22,6 +22,8 @@ struct shared_file {
   uint8_t *bytes;
   size_t users;   /* requests, and its place below */
   time_t at;      /* when it was opened */
+  time_t changed_at;
+  char changed[DATE_TEXT], tag[FILES_TAG];
   char path[];    /* as the request has it */
 };
 
@@ -96,25 +98,19 @@ static void read_small(shared_file *file) {
   file->bytes = NULL;
 }
 
-/* A content-type by a path's ending. */
-static const char *type_of(const char *path) {
-  static const char *const types[][2] = {{".html", "text/html; charset=utf-8"}, {".txt", "text/plain; charset=utf-8"},
-                                         {".css", "text/css"},                  {".js", "text/javascript"},
-                                         {".png", "image/png"},                 {".svg", "image/svg+xml"}};
-  size_t count = strcspn(path, "?#");
-  if (count > 0 && path[count - 1] == '/') return types[0][1];
-  for (size_t i = 0; i < sizeof types / sizeof *types; i++) {
-    size_t end = strlen(types[i][0]);
-    if (count >= end && strncasecmp(path + count - end, types[i][0], end) == 0) return types[i][1];
-  }
-  return "application/octet-stream";
+/* What identifies this state of a file: its length and when it changed (RFC 9110, section 8.8.3). */
+static void make_tag(const struct stat *status, char tag[FILES_TAG]) {
+  snprintf(tag, FILES_TAG, "\"%llx-%llx-%lx\"", (unsigned long long)status->st_size, (unsigned long long)status->st_mtim.tv_sec,
+           (unsigned long)status->st_mtim.tv_nsec);
 }
 
-static http3_list *make_head(const char *path, uint64_t length) {
-  char digits[24];
-  http3_field fields[] = {{":status", "200"}, {"content-type", type_of(path)}, {"content-length", digits}, {"server", "h3-serve"}};
-  snprintf(digits, sizeof digits, "%llu", (unsigned long long)length);
-  return http3_list_of(fields, 4);
+static http3_list *make_head(const shared_file *file) {
+  char digits[24], date[DATE_TEXT];
+  http3_field fields[] = {{":status", "200"}, {"content-type", types_of(file->path)}, {"content-length", digits}, {"date", date},
+                          {"server", "h3-serve"}, {"last-modified", file->changed}, {"etag", file->tag}, {"accept-ranges", "bytes"}};
+  snprintf(digits, sizeof digits, "%llu", (unsigned long long)file->length);
+  date_text(time(NULL), date);
+  return http3_list_of(fields, 8);
 }
 
 static shared_file *open_new(const char *path, time_t now) {
@@ -123,14 +119,19 @@ static shared_file *open_new(const char *path, time_t now) {
   int opened = open_file(path, &status);
   if (opened < 0) return NULL;
   shared_file *file = malloc(sizeof *file + count);
-  http3_list *head = file ? make_head(path, (uint64_t)status.st_size) : NULL;
-  if (!head) {
-    free(file);
+  if (!file) {
     close(opened);
     return NULL;
   }
-  *file = (shared_file){.file = opened, .length = (uint64_t)status.st_size, .head = head, .users = 1, .at = now};
+  *file = (shared_file){.file = opened, .length = (uint64_t)status.st_size, .users = 1, .at = now, .changed_at = status.st_mtim.tv_sec};
   memcpy(file->path, path, count);
+  make_tag(&status, file->tag);
+  date_text(file->changed_at, file->changed);
+  file->head = make_head(file);
+  if (!file->head) {
+    files_close(file);
+    return NULL;
+  }
   read_small(file);
   return file;
 }
@@ -169,6 +170,14 @@ void files_close(shared_file *file) {
 
 uint64_t files_length(const shared_file *file) { return file->length; }
 
+const char *files_tag(const shared_file *file) { return file->tag; }
+
+const char *files_changed(const shared_file *file) { return file->changed; }
+
+time_t files_changed_at(const shared_file *file) { return file->changed_at; }
+
+const char *files_type(const shared_file *file) { return types_of(file->path); }
+
 const http3_list *files_head(const shared_file *file) { return file->head; }
 
 const uint8_t *files_read(const shared_file *file, uint64_t from, uint8_t *room, size_t *count) {
@@ -178,6 +187,18 @@ const uint8_t *files_read(const shared_file *file, uint64_t from, uint8_t *room,
   ssize_t done = pread(file->file, room, *count, (off_t)from);
   *count = done > 0 ? (size_t)done : 0;
   return done > 0 ? room : NULL;
+}
+
+void files_sweep(void) {
+  static time_t swept;
+  time_t now = time(NULL);
+  if (now == swept) return;
+  swept = now;
+  for (size_t i = 0; i < PLACES; i++) {
+    if (!places[i] || places[i]->at == now) continue;
+    files_close(places[i]);
+    places[i] = NULL;
+  }
 }
 
 void files_end(void) {

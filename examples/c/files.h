@@ -1,7 +1,10 @@
 /* The files below a folder, for serve: paths of requests, and files that several requests may share, with the head of their answers. */
 #ifndef EXAMPLES_FILES_H
 #define EXAMPLES_FILES_H
+#include "date.h"
 #include "http3.h"
+
+enum { FILES_TAG = 56 }; /* bytes of an entity tag */
 
 typedef struct shared_file shared_file;
 
@@ -13,10 +16,17 @@ shared_file *files_open(const char *path);
 void files_close(shared_file *file);
 /* Its length when it was opened. */
 uint64_t files_length(const shared_file *file);
+/* What identifies its state (RFC 9110, section 8.8.3), with its quotes; when it was changed, as text and time; its content type. */
+const char *files_tag(const shared_file *file);
+const char *files_changed(const shared_file *file);
+time_t files_changed_at(const shared_file *file);
+const char *files_type(const shared_file *file);
 /* The head of an answer that has the file as its body. */
 const http3_list *files_head(const shared_file *file);
 /* The bytes from an offset on: *count of them, where they lie in a file that is kept, else as many as fit, at `room`. NULL: it has shrunk. */
 const uint8_t *files_read(const shared_file *file, uint64_t from, uint8_t *room, size_t *count);
-/* Lets go of what is kept for a second, and of the folder. */
+/* Closes what was opened before this second and nobody uses. Call it each second. */
+void files_sweep(void);
+/* Frees what is kept for a second, and the folder. */
 void files_end(void);
 #endif

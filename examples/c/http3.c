@@ -1,11 +1,10 @@
-#include "http3.h"
+#include "http3_list.h"
 #include <stdlib.h>
 #include <string.h>
 #include <time.h>
 
 enum {
-  PIECE = 16 * 1024,         /* bytes that are moved at once, and of the longest value that is looked for */
-  NAME = 64,                 /* of the longest name of such a field */
+  PIECE = 16 * 1024,         /* bytes that are moved at once */
   WAITING_LIMIT = 64 * 1024, /* bytes of a body that may wait in the endpoint */
   HELD_LIMIT = 256 * 1024 - 16, /* bytes of a request that the endpoint may hold, just below the window: what fills that never becomes whole. A
                                  * header section of 64 KiB has up to 240 KiB in the Huffman code */
@@ -16,6 +15,14 @@ enum {
 };
 
 static const uint64_t ANY_ID = (UINT64_C(1) << 62) - 4;
+
+/* Bytes that came on a stream, and its end. */
+typedef struct http3_chunk {
+  STAILQ_ENTRY(http3_chunk) order;
+  size_t count;
+  bool end;
+  uint8_t bytes[];
+} chunk;
 
 /* One of the peer's unidirectional streams, while some is owed for it. */
 typedef struct {
@@ -32,7 +39,8 @@ struct http3 {
   other others[QUIC_OTHERS];
   uint64_t next_id;  /* behind the last request that came */
   uint64_t end_id;   /* requests from here on are not taken */
-  bool leaving;      /* the peer was told by GOAWAY to open no more */
+  bool leaving;      /* GOAWAY was sent, or came: no more are opened */
+  uint64_t goaway;   /* a client's: the id of the last GOAWAY that came */
   time_t leaving_at; /* when http3_leave was called first; 0: never */
 };
 
@@ -43,6 +51,7 @@ static http3_request *add(http3 *h, uint64_t id) {
   http3_request *request = malloc(sizeof *request + data); /* calloc would pass over the blocks that were freed last */
   if (!request) return NULL;
   *request = (http3_request){.connection = h, .data = data > 0 ? request + 1 : NULL};
+  STAILQ_INIT(&request->held);
   memset(request + 1, 0, data);
   table_add(&h->found, &request->entry, id);
   TAILQ_INSERT_TAIL(&h->requests, request, order);
@@ -61,16 +70,25 @@ static void grant_other(http3 *h, other *other) {
   if (other->owed > 0 && h3_stream(&h->endpoint, other->id, &state) == H3_OK) grant(h, other->id, &other->owed, (size_t)state.unread);
 }
 
-/* Of a request that is over nothing is held, and nothing more is wanted: the connection alone gets credit. */
+/* Takes what came first of that which is held. */
+static chunk *take_held(http3_request *request) {
+  chunk *first = STAILQ_FIRST(&request->held);
+  if (!first) return NULL;
+  STAILQ_REMOVE_HEAD(&request->held, order);
+  request->held_count -= first->count;
+  return first;
+}
+
+/* Of a request that is over nothing is held, and nothing more is needed: the connection alone gets credit. */
 static void grant_request(http3_request *request) {
   http3 *h = request->connection;
   h3_stream_state state;
-  if (request->owed == 0) return;
   if (request->settled) {
-    quic_dropped(h->quic, request->owed);
+    for (chunk *chunk; (chunk = take_held(request));) free(chunk);
+    if (request->owed > 0) quic_dropped(h->quic, request->owed);
     request->owed = 0;
-  } else if (h3_stream(&h->endpoint, request->entry.id, &state) == H3_OK)
-    grant(h, request->entry.id, &request->owed, (size_t)state.unread);
+  } else if (request->owed > 0 && h3_stream(&h->endpoint, request->entry.id, &state) == H3_OK)
+    grant(h, request->entry.id, &request->owed, (size_t)state.unread + request->held_count);
 }
 
 /* What is owed for a unidirectional stream. NULL: QUIC has opened more of them than it may. */
@@ -86,7 +104,8 @@ static size_t *owed_for(http3 *h, uint64_t id) {
 
 static void drop(http3_request *request) {
   http3 *h = request->connection;
-  grant_request(request);
+  for (chunk *chunk; (chunk = take_held(request));) free(chunk);
+  if (request->settled) grant_request(request);
   if (!request->sent) h3_reset(&h->endpoint, request->entry.id, NULL); /* it reads no more of a body that was lent */
   table_remove(&h->found, &request->entry);
   TAILQ_REMOVE(&h->requests, request, order);
@@ -170,18 +189,18 @@ static bool tell(http3_request *request, const h3_item *item) {
 /* The peer gets credit for what was read of a request; of a frame that is larger than any that is taken nothing more is wanted. */
 static void go_on(http3_request *request) {
   grant_request(request);
-  if (request->settled || request->waiting || request->owed <= HELD_LIMIT) return;
+  if (request->settled || request->waiting || request->paused || request->held_count > 0 || request->owed <= HELD_LIMIT) return;
   http3_give_up(request, H3_CODE_EXCESSIVE_LOAD);
   request->connection->setup->events->failed(request, &(h3_item){.kind = H3_FAULT_CANCELED, .number = H3_CODE_EXCESSIVE_LOAD});
   grant_request(request);
 }
 
-/* Pulls a request until it pauses or ends. Answers whether its end was handed out: then the endpoint holds none of its bytes. */
+/* Pulls a request until it pauses or ends. Returns whether its end came: then the endpoint holds none of its bytes. */
 static bool pull(http3_request *request) {
   h3_item item = {0};
   request->waiting = false;
   do
-    if (request->settled || h3_pull_fields(&request->connection->endpoint, request->entry.id, &item) != H3_OK) break;
+    if (request->settled || request->paused || h3_pull(&request->connection->endpoint, request->entry.id, &item) != H3_OK) break;
   while (tell(request, &item));
   go_on(request);
   return item.kind == H3_END;
@@ -198,12 +217,77 @@ static void pull_stream(http3 *h, uint64_t id) {
   } while (request ? tell(request, &item) : item.kind < H3_END);
 }
 
-/* A stream of the peer's was read: those heads may be there that waited for it. */
+static void pull_others(http3 *h, uint64_t id);
+
+/* A request is held back while the program takes nothing of it, or its header section waits: what came stays here, piece for piece. */
+static bool is_held_back(const http3_request *request) { return !request->settled && (request->paused || request->waiting); }
+
+/* false: out of memory. */
+static bool hold(http3_request *request, const uint8_t *bytes, size_t count, bool end) {
+  chunk *chunk = malloc(sizeof *chunk + count);
+  if (!chunk) return false;
+  chunk->count = count;
+  chunk->end = end;
+  if (count > 0) memcpy(chunk->bytes, bytes, count);
+  STAILQ_INSERT_TAIL(&request->held, chunk, order);
+  request->held_count += count;
+  return true;
+}
+
+/* The endpoint gets what came on a stream, and the program what it makes of it. `request` is NULL for a unidirectional stream. */
+static void deliver(http3 *h, uint64_t id, http3_request *request, const uint8_t *bytes, size_t count, bool end) {
+  uint64_t code = 0;
+  uint32_t answer = h3_deliver_lent(&h->endpoint, id, bytes, count, &code);
+  if (end && (answer == H3_OK || answer == H3_KEPT)) answer = h3_deliver_end(&h->endpoint, id, &code);
+  if (answer != H3_OK && answer != H3_KEPT) return refuse(h, answer, code);
+  if (request && pull(request)) return;
+  if (!request) pull_others(h, id);
+  /* the bytes are freed now, and some may be held */
+  answer = h3_keep(&h->endpoint, id);
+  if (answer != H3_OK) refuse(h, answer, 0);
+}
+
+/* What was held back goes on, as far as the program takes it. */
+static void release(http3_request *request) {
+  if (is_held_back(request)) return;
+  pull(request);
+  for (chunk *chunk; !is_held_back(request) && (chunk = take_held(request)); free(chunk))
+    deliver(request->connection, request->entry.id, request, chunk->bytes, chunk->count, chunk->end);
+  grant_request(request);
+}
+
+/* The server processes no request from this id on: they may be sent on another connection. */
+static void reject_from(http3 *h, uint64_t id) {
+  http3_request *request;
+  TAILQ_FOREACH(request, &h->requests, order) {
+    if (request->entry.id < id || request->settled) continue;
+    http3_give_up(request, H3_CODE_REQUEST_CANCELLED);
+    h->setup->events->failed(request, &(h3_item){.kind = H3_FAULT_RESET, .number = H3_CODE_REQUEST_REJECTED});
+  }
+}
+
+/* A client looks for the server's GOAWAY. */
+static void look_for_goaway(http3 *h) {
+  h3_state state;
+  if (h->setup->server || h3_connection(&h->endpoint, &state) != H3_OK || !state.has_goaway) return;
+  if (h->leaving && state.goaway == h->goaway) return;
+  h->leaving = true;
+  h->goaway = state.goaway;
+  if (h->setup->events->going_away) h->setup->events->going_away(h, h->setup->user);
+  reject_from(h, state.goaway);
+}
+
+/* A stream of the peer's was read: those header sections may be there that waited for it. */
 static void pull_others(http3 *h, uint64_t id) {
   http3_request *request;
   pull_stream(h, id);
   for (other *at = h->others; at < h->others + QUIC_OTHERS; at++) grant_other(h, at);
-  TAILQ_FOREACH(request, &h->requests, order) if (request->waiting) pull(request);
+  TAILQ_FOREACH(request, &h->requests, order) {
+    if (!request->waiting) continue;
+    request->waiting = false;
+    release(request);
+  }
+  look_for_goaway(h);
 }
 
 /* Tells the peer to open no more requests. Those below `end` that come all the same are taken. */
@@ -237,19 +321,14 @@ static http3_request *take(http3 *h, uint64_t id) {
 
 static void received(void *owner, int64_t stream, const uint8_t *bytes, size_t count, bool end) {
   http3 *h = owner;
-  uint64_t id = (uint64_t)stream, code = 0;
+  uint64_t id = (uint64_t)stream;
   http3_request *request = is_request(id) ? take(h, id) : NULL;
   size_t *owed = request ? &request->owed : is_request(id) ? NULL : owed_for(h, id);
   if (!owed) return quic_consumed(h->quic, stream, count); /* it is not taken */
   *owed += count;
-  uint32_t answer = h3_deliver_lent(&h->endpoint, id, bytes, count, &code);
-  if (end && (answer == H3_OK || answer == H3_KEPT)) answer = h3_deliver_end(&h->endpoint, id, &code);
-  if (answer != H3_OK && answer != H3_KEPT) return refuse(h, answer, code);
-  if (request && pull(request)) return;
-  if (!request) pull_others(h, id);
-  /* QUIC's library takes its bytes back now, and some may be held */
-  answer = h3_keep(&h->endpoint, id);
-  if (answer != H3_OK) refuse(h, answer, 0);
+  bool is_in_turn = !request || !(is_held_back(request) || request->resumed || !STAILQ_EMPTY(&request->held));
+  if (is_in_turn) return deliver(h, id, request, bytes, count, end);
+  if (!hold(request, bytes, count, end)) quic_close(h->quic, H3_CODE_INTERNAL_ERROR);
 }
 
 static void was_reset(void *owner, int64_t stream, uint64_t reason) {
@@ -257,8 +336,10 @@ static void was_reset(void *owner, int64_t stream, uint64_t reason) {
   uint64_t id = (uint64_t)stream, code = 0;
   http3_request *request = is_request(id) ? take(h, id) : NULL;
   if (is_request(id) && (!request || request->settled)) return;
+  for (chunk *chunk; request && (chunk = take_held(request));) free(chunk);
   uint32_t answer = h3_deliver_reset(&h->endpoint, id, reason, &code);
   if (answer != H3_OK && answer != H3_KEPT) return refuse(h, answer, code);
+  if (request) request->paused = false; /* its end is a fault, which comes at once */
   if (request) pull(request);
   else pull_others(h, id);
 }
@@ -271,7 +352,9 @@ static void was_stopped(void *owner, int64_t stream) {
     return;
   }
   h3_reset(&h->endpoint, (uint64_t)stream, NULL);
-  if (request) request->sending = false;
+  if (!request) return;
+  request->sending = false;
+  if (h->setup->events->stopped) h->setup->events->stopped(request);
 }
 
 static void stream_closed(void *owner, int64_t stream) {
@@ -284,20 +367,24 @@ static void stream_closed(void *owner, int64_t stream) {
 
 /* ---- what goes out ---- */
 
-/* Moves what waits on a stream to QUIC, as far as it has room, and the end behind it, once. Answers whether anything was moved. The request is
- * NULL where the stream is not that of one. */
+/* Moves what waits on a stream to QUIC, as far as it has room, and the end after it, once. Returns whether anything was moved. The request is
+ * NULL if the stream is not that of one. */
 static bool move_out(http3 *h, uint64_t id, http3_request *request) {
   uint8_t bytes[PIECE];
   for (bool moved = false;; moved = true) {
-    size_t room = quic_room(h->quic, (int64_t)id), count;
+    size_t room = quic_room(h->quic, (int64_t)id), count, past;
     uint32_t end;
-    if (room == 0) return moved;
-    if (h3_outgoing(&h->endpoint, id, bytes, room < PIECE ? room : PIECE, &count, &end) != H3_OK || (count == 0 && !end)) return moved;
-    if (!quic_send(h->quic, (int64_t)id, bytes, count, end)) {
+    if (h3_outgoing(&h->endpoint, id, bytes, room < PIECE ? room : PIECE, &count, &past, &end) != H3_OK) return moved;
+    if (past > room - count) past = room - count, end = 0;
+    if (past > 0 && !request) return moved;
+    if (count == 0 && past == 0 && !end) return moved;
+    if (!quic_send(h->quic, (int64_t)id, bytes, count, end && past == 0) ||
+        (past > 0 && !quic_send(h->quic, (int64_t)id, request->body, past, end))) {
       quic_close(h->quic, H3_CODE_INTERNAL_ERROR);
       return false;
     }
-    h3_advance(&h->endpoint, id, count);
+    if (past > 0) request->body += past, request->body_count -= past;
+    h3_advance(&h->endpoint, id, count + past);
     if (!end) continue;
     h3_end_taken(&h->endpoint, id); /* h3_next_to_send names the stream no longer */
     if (request) request->sent = true;
@@ -335,7 +422,7 @@ static bool ask_for_bodies(http3 *h) {
   return asked;
 }
 
-/* All is acknowledged, but its reader may not have it yet, and would lose it: the peer is the one to close, or falls silent. */
+/* All is acknowledged, but its reader may not have it yet, and would lose it: the peer is the one to close, or does nothing any more. */
 static bool is_silent(const http3 *h) { return quic_silence(h->quic) >= 1000 * LINGER && time(NULL) - h->leaving_at > LINGER; }
 
 /* Tells the peer to send no more of a request, when its time has come. */
@@ -352,6 +439,12 @@ static void stop_in_time(http3_request *request) {
 static void fill(void *owner) {
   http3 *h = owner;
   bool asked;
+  http3_request *resumed;
+  TAILQ_FOREACH(resumed, &h->requests, order) {
+    if (!resumed->resumed) continue;
+    resumed->resumed = false;
+    release(resumed);
+  }
   move_own(h);
   do asked = ask_for_bodies(h);
   while (move_all(h) && asked);
@@ -426,34 +519,20 @@ http3_request *http3_open(http3 *h, bool *going_away) {
   return request;
 }
 
-/* Sizes of names and values; behind the last one stand all their bytes. */
-struct http3_list {
-  size_t count, len;
-  h3_field_size sizes[];
-};
-
-static char *bytes_of(const http3_list *list) { return (char *)(list->sizes + list->count); }
-
-http3_list *http3_list_of(const http3_field *fields, size_t count) {
-  size_t len = 0;
-  for (size_t i = 0; i < count; i++) len += strlen(fields[i].name) + strlen(fields[i].value);
-  http3_list *list = malloc(sizeof *list + count * sizeof *list->sizes + len);
-  if (!list) return NULL;
-  *list = (http3_list){count, len};
-  char *at = bytes_of(list);
-  for (size_t i = 0; i < count; i++) {
-    list->sizes[i] = (h3_field_size){(uint32_t)strlen(fields[i].name), (uint32_t)strlen(fields[i].value)};
-    at = mempcpy(at, fields[i].name, list->sizes[i].name);
-    at = mempcpy(at, fields[i].value, list->sizes[i].value);
-  }
-  return list;
+bool http3_interim(http3_request *request, const http3_list *list) {
+  http3 *h = request->connection;
+  if (h3_send_head(&h->endpoint, request->entry.id, list->sizes, list->count, list_bytes(list), list->len, NULL) != H3_OK) return false;
+  quic_wake(h->quic, 0);
+  return true;
 }
 
-bool http3_head(http3_request *request, const http3_list *list) {
+bool http3_head(http3_request *request, const http3_list *list) { return request->sending = http3_interim(request, list); }
+
+bool http3_trailer(http3_request *request, const http3_list *list) {
   http3 *h = request->connection;
-  if (h3_send_fields(&h->endpoint, request->entry.id, list->sizes, list->count, bytes_of(list), list->len, NULL) != H3_OK) return false;
+  if (h3_send_trailer(&h->endpoint, request->entry.id, list->sizes, list->count, list_bytes(list), list->len, NULL) != H3_OK) return false;
   quic_wake(h->quic, 0);
-  return request->sending = true;
+  return true;
 }
 
 bool http3_head_of(http3_request *request, const http3_field *fields, size_t count) {
@@ -469,7 +548,10 @@ uint64_t http3_waiting(http3_request *request) {
 }
 
 size_t http3_room(http3_request *request) {
-  return request->sending && request->unsent < WAITING_LIMIT ? WAITING_LIMIT - request->unsent : 0;
+  if (!request->sending) return 0;
+  size_t room = quic_room(request->connection->quic, (int64_t)request->entry.id);
+  if (room > WAITING_LIMIT) room = WAITING_LIMIT;
+  return request->unsent < room ? room - request->unsent : 0;
 }
 
 /* The endpoint has so many bytes more of the body, or (false) refused them. */
@@ -484,8 +566,12 @@ bool http3_body(http3_request *request, const uint8_t *bytes, size_t count) {
   return body_given(request, h3_send_body(&request->connection->endpoint, request->entry.id, bytes, count, NULL), count);
 }
 
-bool http3_body_lent(http3_request *request, const uint8_t *bytes, size_t count) {
-  return body_given(request, h3_send_body_lent(&request->connection->endpoint, request->entry.id, bytes, count, NULL), count);
+bool http3_body_held(http3_request *request, const uint8_t *bytes, size_t count) {
+  if (request->body_count > 0 && bytes != request->body + request->body_count) return http3_body(request, bytes, count);
+  if (!body_given(request, h3_send_body_of(&request->connection->endpoint, request->entry.id, count, NULL), count)) return false;
+  if (request->body_count == 0) request->body = bytes;
+  request->body_count += count;
+  return true;
 }
 
 bool http3_raw(http3_request *request, const uint8_t *bytes, size_t count, bool end) {
@@ -524,6 +610,7 @@ static void cancel(http3_request *request) {
   uint32_t answer = h3_cancel(&h->endpoint, request->entry.id, &reason); /* refused where the message is over */
   if (answer == H3_MEMORY || answer == H3_CLOSED) refuse(h, answer, reason);
   request->settled = true;
+  grant_request(request);
 }
 
 void http3_give_up(http3_request *request, uint64_t code) {
@@ -531,39 +618,53 @@ void http3_give_up(http3_request *request, uint64_t code) {
   cut_off(request, code);
 }
 
+void http3_reset(http3_request *request, uint64_t code) {
+  http3 *h = request->connection;
+  if (h3_reset(&h->endpoint, request->entry.id, NULL) != H3_OK) return;
+  request->sending = false;
+  quic_reset(h->quic, (int64_t)request->entry.id, code);
+}
+
+void http3_pause(http3_request *request) { request->paused = true; }
+
+void http3_resume(http3_request *request) {
+  if (!request->paused) return;
+  request->paused = false;
+  request->resumed = true;
+  quic_wake(request->connection->quic, 0);
+}
+
+void http3_peer(http3 *h, char text[QUIC_PLACE]) { quic_peer(h->quic, text); }
+
+void http3_close(http3 *h, uint64_t code) { quic_close(h->quic, code); }
+
 void http3_ignore(http3_request *request) {
   if (request->settled) return;
   cancel(request);
   request->stop_at = quic_time() + GRACE;
 }
 
-/* The value that is still wanted of a field with this name, or NULL. */
-static http3_wanted *who_wants(http3_wanted *wanted, size_t count, const char *name, size_t name_count) {
-  for (; count > 0; wanted++, count--)
-    if (!wanted->found && strlen(wanted->name) == name_count && memcmp(wanted->name, name, name_count) == 0) return wanted;
-  return NULL;
-}
-
-/* false: the value is too long, or has a NUL. */
-static bool take_value(http3_wanted *wanted, const char *value, size_t count) {
-  if (count >= wanted->room || memchr(value, 0, count)) return false;
-  memcpy(wanted->value, value, count);
-  wanted->value[count] = 0;
-  return wanted->found = true;
-}
+http3_list *http3_fields(http3 *h, const h3_item *head) { return list_of_item(&h->endpoint, head); }
 
 bool http3_values(http3 *h, const h3_item *head, http3_wanted *wanted, size_t count) {
-  char name[NAME], value[PIECE];
-  size_t name_count, value_count, left = count;
-  for (size_t i = 0; left > 0 && i < head->fields; i++) {
-    uint32_t answer = h3_item_field(&h->endpoint, i, name, sizeof name, &name_count, value, sizeof value, &value_count);
-    if (answer != H3_OK && answer != H3_ROOM) {
-      refuse(h, answer, 0);
-      return false;
-    }
-    http3_wanted *found = who_wants(wanted, count, name, name_count);
-    if (found && !take_value(found, value, value_count)) return false;
-    if (found) left--;
+  http3_list *list = http3_fields(h, head);
+  bool found = list && http3_find(list, wanted, count);
+  if (!list) quic_close(h->quic, H3_CODE_INTERNAL_ERROR);
+  free(list);
+  return found;
+}
+
+const char *http3_why(const h3_item *item) {
+  switch (item->kind) {
+  case H3_FAULT_MALFORMED: return h3_malformation_text(item->number);
+  case H3_FAULT_RESET:
+  case H3_FAULT_CANCELED: return h3_code_text(item->number);
+  default: return h3_kind_text(item->kind);
   }
-  return left == 0;
+}
+
+const char *http3_why_over(const quic_ending *ending) {
+  if (ending->by == QUIC_TIMED_OUT) return "silence";
+  if (ending->by == QUIC_NOBODY_LISTENS) return "nobody listens";
+  return ending->application ? h3_code_text(ending->code) : quic_code_text(ending->code);
 }

@@ -1,4 +1,4 @@
-/* QUIC for the examples, over Debian's ngtcp2 and gnutls: one UDP socket with one connection of a client, or many of a server. HTTP/3 is
+/* QUIC for the examples, over Debian's ngtcp2 and gnutls: UDP sockets, each with one connection of a client, or many of a server. HTTP/3 is
  * not known here (http3.c has it), and what is called from here is called from one thread. Bytes that are sent are copied, and
  * kept until the peer has acknowledged them. */
 #ifndef EXAMPLES_QUIC_H
@@ -9,20 +9,21 @@
 
 enum {
   QUIC_STREAMS = 100, /* requests that a client may have at once */
-  QUIC_OTHERS = 16    /* unidirectional streams that a peer may have at once */
+  QUIC_OTHERS = 16,   /* unidirectional streams that a peer may have at once */
+  QUIC_PLACE = 64     /* bytes of an address and port as text */
 };
 
 typedef struct quic_socket quic_socket;
 typedef struct quic_connection quic_connection;
 
-/* How a connection ended: by the peer's CONNECTION_CLOSE or its own, with a code of HTTP/3 or of QUIC, or by silence. */
+/* How a connection ended: by CONNECTION_CLOSE of the peer or from here, with a code of HTTP/3 or of QUIC, by silence, or since nobody listens. */
 typedef struct {
-  enum { QUIC_CLOSED_HERE, QUIC_CLOSED_BY_PEER, QUIC_TIMED_OUT } by;
+  enum { QUIC_CLOSED_HERE, QUIC_CLOSED_BY_PEER, QUIC_TIMED_OUT, QUIC_NOBODY_LISTENS } by;
   bool application; /* the code is one of HTTP/3, else of QUIC or TLS */
   uint64_t code;
 } quic_ending;
 
-/* What a connection tells those above it. `opened` answers the owner that all other calls are given, or NULL to close the connection.
+/* What a connection tells those above it. `opened` returns the owner that all other calls are given, or NULL to close the connection.
  * A call may close the connection, by quic_close: it then ends after the call. */
 typedef struct {
   void *(*opened)(quic_connection *connection, void *user);                /* the handshake is done */
@@ -34,38 +35,81 @@ typedef struct {
   void (*closed)(void *owner, const quic_ending *ending);                  /* the last call; the owner frees itself */
 } quic_events;
 
-/* Whom a client trusts, or what a server shows. Files are PEM. */
+/* A certificate with those that it stands on, and its key: files in PEM. */
 typedef struct {
-  const char *certificate, *key; /* of a server */
-  const char *trusted;           /* of a client: the authority's certificate; NULL: those of the system */
+  const char *certificate, *key;
+} quic_pair;
+
+/* Whom a client trusts, or what a server shows: of several certificates the one that has the name that the client asks for, else the first. */
+typedef struct {
+  const quic_pair *pairs; /* of a server */
+  size_t count;
+  const char *trusted; /* of a client: the authority's certificate; NULL: those of the system */
 } quic_identity;
 
+/* What a socket's connections may take. quic_limits_default writes what a server takes of untrusted clients. */
+typedef struct {
+  size_t connections;     /* of a server at once; the next one is refused (CONNECTION_REFUSED) */
+  size_t handshakes;      /* of a server: while so many have not ended, a client has to show its address first, by Retry */
+  uint64_t stream_window; /* bytes that the peer may send on a stream before they are consumed */
+  uint64_t window;        /* the same on all streams of a connection */
+  uint64_t kept;          /* bytes of a connection that wait for acknowledgment; beyond it 16 KiB for each stream that has none */
+  uint64_t idle;          /* seconds of silence after which a connection ends */
+  bool one_by_one;        /* each packet by a system call of its own, as a capture wants them */
+} quic_limits;
+
+/* What happened on a socket since it was opened. */
+typedef struct {
+  uint64_t accepted, refused, retried; /* connections */
+  uint64_t packets_in, bytes_in, packets_out, bytes_out;
+} quic_counts;
+
+void quic_limits_default(quic_limits *);
 /* A server's socket at an address (an IP address, as text) and port. NULL: standard error says why. `user` goes to `opened`. */
-quic_socket *quic_listen(const char *address, const char *port, const quic_identity *, const quic_events *, void *user);
+quic_socket *quic_listen(const char *address, const char *port, const quic_identity *, const quic_limits *, const quic_events *, void *user);
 /* A client's connection to an address and port, where `host` is the name that the server's certificate has to have. */
-quic_socket *quic_connect(const char *address, const char *port, const char *host, const quic_identity *, const quic_events *,
-                          void *user);
-/* Sends what there is to be sent and does what the timers ask, then waits for packets, at most so many milliseconds, and reads them.
- * Call it in a loop. Answers how many connections are left. */
+quic_socket *quic_connect(const char *address, const char *port, const char *host, const quic_identity *, const quic_limits *,
+                          const quic_events *, void *user);
+/* The port that a socket has. */
+unsigned quic_port(const quic_socket *);
+/* New connections of a server show these certificates. false: standard error says why, and nothing has changed. */
+bool quic_show(quic_socket *, const quic_identity *);
+
+/* An event loop of the program's, of any number of sockets: call quic_work; wait until quic_file can be read (or, if quic_is_full, written), or
+ * quic_wait nanoseconds are over; and so on. */
+void quic_work(quic_socket *);
+int quic_file(const quic_socket *);
+bool quic_is_full(const quic_socket *);
+uint64_t quic_wait(const quic_socket *);
+/* The same for one socket: waits at most so many milliseconds. Call it in a loop. Returns how many connections are left. */
 size_t quic_turn(quic_socket *, int milliseconds);
+/* The same for several sockets, of which some may be NULL. */
+void quic_turn_all(quic_socket *const *sockets, size_t count, int milliseconds);
+
 /* How many connections are left, those that are closing not counted. */
 size_t quic_count(const quic_socket *);
-/* No new connection is taken from here on. */
+quic_counts quic_counted(const quic_socket *);
+/* No new connection is taken from here on: each is refused (CONNECTION_REFUSED). */
 void quic_refuse_more(quic_socket *);
 /* Calls `call` for the owner of each connection that is open. */
 void quic_each(quic_socket *, void (*call)(void *owner));
 /* How the connection that ended last did. */
 quic_ending quic_last_ending(const quic_socket *);
+/* The name of a code of QUIC or TLS (RFC 9000, section 20.1), for a log. */
+const char *quic_code_text(uint64_t code);
 /* Closes what is open, and frees all. */
 void quic_free(quic_socket *);
 
+/* Who the peer is: an address and port, as text. */
+void quic_peer(quic_connection *, char text[QUIC_PLACE]);
 /* How many streams for requests the peer lets a client open now. */
 uint64_t quic_may_open(quic_connection *);
 /* Opens a stream. -1: the peer allows no more just now. */
 int64_t quic_open(quic_connection *, bool unidirectional);
-/* How many bytes may be given to a stream now: 0 where too many wait for their acknowledgment, or sending has ended. */
+/* How many bytes may be given to a stream now. It is 0 if too many wait for their acknowledgment, if the peer has granted no credit for
+ * more, or if sending has ended. */
 size_t quic_room(const quic_connection *, int64_t stream);
-/* Gives bytes to be sent, copied, and with `end` the end of the stream. false: no memory, nothing was taken. */
+/* Gives bytes to be sent, copied, and with `end` the end of the stream. false: out of memory, nothing was taken. */
 bool quic_send(quic_connection *, int64_t stream, const uint8_t *bytes, size_t count, bool end);
 /* RESET_STREAM: nothing more is sent on the stream. */
 void quic_reset(quic_connection *, int64_t stream, uint64_t code);
@@ -77,11 +121,11 @@ void quic_consumed(quic_connection *, int64_t stream, size_t count);
 void quic_allow(quic_connection *, int64_t stream, size_t count);
 /* The peer may send so many bytes more on the connection, but not on the stream where they came: they were thrown away. */
 void quic_dropped(quic_connection *, size_t count);
-/* `fill` is called again after so many milliseconds at most. It is called by itself behind a packet, a timer, and the calls here. */
+/* `fill` is called again after so many milliseconds at most. It is called by itself after a packet, a timer, and the calls here. */
 void quic_wake(quic_connection *, uint64_t milliseconds);
 /* A clock that goes on by itself, in milliseconds. */
 uint64_t quic_time(void);
-/* How many milliseconds ago the peer's last packet came. */
+/* How many milliseconds ago the peer last did something: sent data, acknowledged some, or granted credit. A PING is nothing. */
 uint64_t quic_silence(const quic_connection *);
 /* Closes the connection with a code of HTTP/3. The first code stays. */
 void quic_close(quic_connection *, uint64_t code);

@@ -1,145 +1,150 @@
-/* serve [--requests N] ADDRESS PORT CERTIFICATE KEY FOLDER: the files below a folder, over HTTP/3. GET and HEAD give a file (of a folder
- * its index.html); POST is answered with the count and the SHA-256 of its body, which is stored nowhere.
+/* serve [OPTION..] ADDRESS PORT CERTIFICATE KEY FOLDER: the files below a folder, over HTTP/3. GET and HEAD give a file (of a folder
+ * its index.html), or a range of it; POST is answered with the count and the SHA-256 of its body, which is stored nowhere. --help has the options.
  *
- *   --requests N     at most so many requests on a connection: GOAWAY goes out when 100 are left (100,000; 0: no limit)
- *
- * SIGTERM and SIGINT: GOAWAY on each connection; what was begun ends, whatever its reader's speed. The second signal cuts it off. */
-#include "digest.h"
+ * SIGTERM and SIGINT: GOAWAY on each connection; what was begun goes on until it is over, or --drain. The second signal ends it.
+ * SIGHUP: reads the certificates again, for new connections, and opens the log again. SIGUSR1: counts, to standard error. */
+#include "access.h"
+#include "answers.h"
 #include "ending.h"
 #include "files.h"
-#include "http3.h"
-#include <getopt.h>
+#include "notify.h"
+#include "report.h"
+#include "types.h"
+#include <argp.h>
+#include <signal.h>
 #include <stdio.h>
 #include <stdlib.h>
 #include <string.h>
 
-/* One request: the file that is sent, or the digest of what came. */
+enum { WORDS = 5, PAIRS = 16, SEGMENTS = 256 };
+
 typedef struct {
-  bool begun;        /* its head came */
-  bool head_only;    /* of HEAD: no body goes out */
-  shared_file *file; /* NULL: none */
-  uint64_t sent;
-  digest digest;
-} work;
+  const char *words[WORDS]; /* address, port, certificate, key, folder */
+  const char *log;
+  quic_pair pairs[PAIRS];
+  size_t count; /* of pairs */
+  quic_limits quic;
+  unsigned long long requests, connections, handshakes, drain;
+} options;
 
-/* ---- answers ---- */
+static const struct argp_option known[] = {
+    {"certificate", 'c', "FILE,KEY", 0, "one more certificate and its key, for clients that ask for its name", 0},
+    {"requests", 'r', "N", 0, "at most so many on a connection: GOAWAY goes out when 100 are left (100000; 0: no limit)", 0},
+    {"connections", 'n', "N", 0, "at most so many at once: a further one is refused (10000)", 0},
+    {"handshakes", 'h', "N", 0, "while so many have not ended, a client has to show its address by Retry (100)", 0},
+    {"drain", 'd', "SECONDS", 0, "what was begun has so long at the end (60)", 0},
+    {"log", 'l', "FILE", 0, "a line for each request; - is standard output", 0},
+    {"no-segments", SEGMENTS, NULL, 0, "a system call for each packet, as a capture at the socket needs", 0},
+    {0}};
 
-/* A short text is the whole answer. */
-static void answer_text(http3_request *request, const char *status, const char *text) {
-  const work *work = request->data;
-  char length[24];
-  http3_field fields[] = {{":status", status}, {"content-type", "text/plain; charset=utf-8"}, {"content-length", length}, {"server", "h3-serve"}};
-  snprintf(length, sizeof length, "%zu", strlen(text));
-  if (http3_head_of(request, fields, 4) && (work->head_only || http3_body(request, (const uint8_t *)text, strlen(text)))) http3_finish(request);
-  else http3_give_up(request, H3_CODE_INTERNAL_ERROR);
+static options chosen = {.requests = 100000, .connections = 10000, .handshakes = 100, .drain = 60};
+static volatile sig_atomic_t asked_to_reload, asked_for_counts;
+
+static void read_number(struct argp_state *state, const char *text, unsigned long long *number) {
+  char *end;
+  *number = *text >= '0' && *text <= '9' ? strtoull(text, &end, 10) : 0;
+  if (*text < '0' || *text > '9' || *end) argp_error(state, "not a number: %s", text);
 }
 
-/* What is refused is not read either: a body may be long. */
-static void refuse(http3_request *request, const char *status, const char *text) {
-  answer_text(request, status, text);
-  http3_ignore(request);
+static void add_pair(struct argp_state *state, char *text) {
+  char *key = strchr(text, ',');
+  if (!key || chosen.count == PAIRS) argp_error(state, "not FILE,KEY, or more than %d: %s", PAIRS - 1, text);
+  *key++ = 0;
+  chosen.pairs[chosen.count++] = (quic_pair){text, key};
 }
 
-static void answer_file(http3_request *request, const char *path) {
-  work *work = request->data;
-  work->file = files_open(path);
-  if (!work->file) return answer_text(request, "404", "no such file\n");
-  if (!http3_head(request, files_head(work->file))) return http3_give_up(request, H3_CODE_INTERNAL_ERROR);
-  if (work->head_only || files_length(work->file) == 0) http3_finish(request);
-}
-
-static void on_head(http3_request *request, const h3_item *head) {
-  char method[16], path[4096];
-  http3_wanted wanted[] = {{":method", method, sizeof method, false}, {":path", path, sizeof path, false}};
-  work *work = request->data;
-  if (work->begun) return; /* a trailer, which is passed over */
-  work->begun = true;
-  if (head->kind == H3_TOO_LARGE_HEAD) return refuse(request, "431", "the fields are too large\n");
-  if (!http3_values(request->connection, head, wanted, 2)) return refuse(request, "400", "no method or path, or one that is too long\n");
-  work->head_only = strcmp(method, "HEAD") == 0;
-  if (work->head_only || strcmp(method, "GET") == 0) return answer_file(request, path);
-  if (strcmp(method, "POST") != 0) return refuse(request, "405", "GET, HEAD and POST are known\n");
-  if (!digest_begin(&work->digest)) refuse(request, "500", "no hash\n");
-}
-
-static void on_body(http3_request *request, const uint8_t *bytes, size_t count) {
-  work *work = request->data;
-  digest_add(&work->digest, bytes, count);
-}
-
-/* The body of a POST is whole. */
-static void on_end(http3_request *request) {
-  work *work = request->data;
-  char text[DIGEST_TEXT];
-  if (digest_end(&work->digest, text)) answer_text(request, "200", text);
-}
-
-static void on_failed(http3_request *request, const h3_item *item) {
-  fprintf(stderr, "stream %llu failed: kind %u, %llu\n", (unsigned long long)request->entry.id, item->kind, (unsigned long long)item->number);
-}
-
-/* The next pieces of a file. */
-static void on_room(http3_request *request) {
-  work *work = request->data;
-  uint8_t room[16 * 1024];
-  if (!work->file) return;
-  while (work->sent < files_length(work->file) && http3_room(request) >= sizeof room) {
-    size_t count = sizeof room;
-    const uint8_t *bytes = files_read(work->file, work->sent, room, &count);
-    bool is_given = bytes && (bytes == room ? http3_body(request, bytes, count) : http3_body_lent(request, bytes, count));
-    if (!is_given) return http3_give_up(request, H3_CODE_INTERNAL_ERROR);
-    work->sent += count;
+static error_t read_option(int key, char *text, struct argp_state *state) {
+  switch (key) {
+  case 'c': add_pair(state, text); return 0;
+  case 'r': read_number(state, text, &chosen.requests); return 0;
+  case 'n': read_number(state, text, &chosen.connections); return 0;
+  case 'h': read_number(state, text, &chosen.handshakes); return 0;
+  case 'd': read_number(state, text, &chosen.drain); return 0;
+  case 'l': chosen.log = text; return 0;
+  case SEGMENTS: chosen.quic.one_by_one = true; return 0;
+  case ARGP_KEY_ARG:
+    if (state->arg_num >= WORDS) argp_usage(state);
+    chosen.words[state->arg_num] = text;
+    return 0;
+  case ARGP_KEY_END:
+    if (state->arg_num < WORDS) argp_usage(state);
+    return 0;
+  default: return ARGP_ERR_UNKNOWN;
   }
-  if (work->sent == files_length(work->file)) http3_finish(request);
 }
 
-static void on_freed(http3_request *request) {
-  work *work = request->data;
-  if (work->file) files_close(work->file);
-  digest_drop(&work->digest);
+static void on_signal(int signal) {
+  if (signal == SIGHUP) asked_to_reload = 1;
+  else asked_for_counts = 1;
 }
 
-static void on_ready(http3 *h, void *user) { (void)h, (void)user; }
-
-static void on_over(void *user, const quic_ending *ending) {
-  (void)user;
-  if (ending->code != 0 && ending->code != H3_CODE_NO_ERROR)
-    fprintf(stderr, "connection closed by the %s with %s code 0x%llx\n", ending->by == QUIC_CLOSED_HERE ? "server" : "client",
-            ending->application ? "HTTP/3" : "QUIC", (unsigned long long)ending->code);
+static void await_signals(void) {
+  struct sigaction action = {.sa_handler = on_signal};
+  sigaction(SIGHUP, &action, NULL);
+  sigaction(SIGUSR1, &action, NULL);
+  ending_await();
 }
 
-/* The options, before the five words. */
-static bool read_options(int count, char **arguments, http3_setup *setup) {
-  static const struct option options[] = {{"requests", 1, 0, 'r'}, {0, 0, 0, 0}};
-  for (int option; (option = getopt_long(count, arguments, "+", options, NULL)) != -1;) {
-    char *end = NULL;
-    if (option == 'r') setup->requests = strtoull(optarg, &end, 10);
-    if (!end || end == optarg || *end) return false;
+static quic_identity identity(void) { return (quic_identity){.pairs = chosen.pairs, .count = chosen.count}; }
+
+static void reload(quic_socket *socket) {
+  quic_identity shown = identity();
+  asked_to_reload = 0;
+  notify("RELOADING=1");
+  if (!access_open(chosen.log)) perror(chosen.log);
+  if (quic_show(socket, &shown)) fprintf(stderr, "the certificates were read again\n");
+  notify("READY=1");
+}
+
+static void tick(quic_socket *socket) {
+  static bool is_ending;
+  if (ending_begun() && !is_ending) notify("STOPPING=1");
+  is_ending = ending_begun();
+  if (asked_to_reload) reload(socket);
+  if (asked_for_counts) {
+    asked_for_counts = 0;
+    access_show(socket);
+    report_usage();
   }
-  return optind + 5 == count;
+  access_flush();
+  files_sweep();
+  report_sweep();
 }
+
+static int serve(void) {
+  http3_setup setup = {.server = true, .requests = chosen.requests, .data = answers_data, .events = &answers_events};
+  quic_identity shown = identity();
+  quic_socket *socket = quic_listen(chosen.words[0], chosen.words[1], &shown, &chosen.quic, &http3_over_quic, &setup);
+  if (!socket) return 1;
+  printf("serving %s at %s port %u\n", chosen.words[4], chosen.words[0], quic_port(socket));
+  fflush(stdout);
+  notify("READY=1");
+  serve_until_ended(socket, chosen.drain, tick);
+  quic_free(socket);
+  return 0;
+}
+
+const char *argp_program_version = "serve of Beanwhile " H3_VERSION_TEXT;
 
 int main(int count, char **arguments) {
-  static const http3_events events = {on_ready, on_head, on_body, on_end, on_failed, on_room, on_freed, on_over, NULL};
-  http3_setup setup = {.server = true, .requests = 100000, .data = sizeof(work), .events = &events};
-  if (!read_options(count, arguments, &setup)) {
-    fprintf(stderr, "serve [--requests N] ADDRESS PORT CERTIFICATE KEY FOLDER\n");
-    return 2;
-  }
-  const char *address = arguments[optind], *port = arguments[optind + 1], *folder = arguments[optind + 4];
-  if (!files_begin(folder)) {
-    perror(folder);
-    return 1;
-  }
-  ending_await();
-  quic_identity identity = {.certificate = arguments[optind + 2], .key = arguments[optind + 3]};
-  quic_socket *socket = quic_listen(address, port, &identity, &http3_over_quic, &setup);
-  if (socket) {
-    printf("serving %s at %s port %s\n", folder, address, port);
-    fflush(stdout);
-    serve_until_ended(socket);
-    quic_free(socket);
-  }
+  static const struct argp parser = {known, read_option, "ADDRESS PORT CERTIFICATE KEY FOLDER",
+                                     "Serves the files below FOLDER over HTTP/3.\vSIGTERM ends it when what was begun is over, a second one at "
+                                     "once. SIGHUP reads the certificates and opens the log again. SIGUSR1 writes counts.",
+                                     NULL, NULL, NULL};
+  chosen.count = 1; /* the first pair stands among the words */
+  quic_limits_default(&chosen.quic);
+  argp_err_exit_status = 2;
+  argp_parse(&parser, count, arguments, 0, NULL, NULL);
+  chosen.pairs[0] = (quic_pair){chosen.words[2], chosen.words[3]};
+  chosen.quic.connections = (size_t)chosen.connections;
+  chosen.quic.handshakes = (size_t)chosen.handshakes;
+  const char *missing = !files_begin(chosen.words[4]) ? chosen.words[4] : !access_open(chosen.log) ? chosen.log : NULL;
+  if (missing) perror(missing);
+  types_begin();
+  await_signals();
+  int status = missing ? 1 : serve();
+  access_close();
+  types_end();
   files_end();
-  return socket ? 0 : 1;
+  return status;
 }

@@ -6,11 +6,15 @@
 #include "digest.h"
 #include "ending.h"
 #include "http3.h"
+#include "report.h"
 #include <stdio.h>
 #include <stdlib.h>
 #include <string.h>
 
-enum { SESSIONS = 4 }; /* on a connection at once */
+enum {
+  SESSIONS = 4, /* on a connection at once */
+  DRAIN = 60    /* seconds that what was begun has at the end */
+};
 
 static const uint64_t BUFFERED_STREAM_REJECTED = 0x3994bd84, SESSION_GONE = 0x170d7b68; /* section 8.5 of the draft */
 
@@ -49,7 +53,7 @@ static void refuse(http3_request *request, const char *status) {
 static void on_head(http3_request *request, const h3_item *head) {
   http3_field fields[] = {{":status", "200"}, {"sec-webtransport-http3-draft", "draft02"}};
   char protocol[16];
-  http3_wanted wanted = {":protocol", protocol, sizeof protocol, false};
+  http3_wanted wanted = {.name = ":protocol", .value = protocol, .room = sizeof protocol};
   if (request->data || head->kind == H3_TRAILER) return;
   if (head->kind == H3_TOO_LARGE_HEAD) return refuse(request, "431");
   if (!http3_values(request->connection, head, &wanted, 1) || strcmp(protocol, "webtransport") != 0) return refuse(request, "404");
@@ -103,8 +107,7 @@ static void on_end(http3_request *request) {
 
 static void on_failed(http3_request *request, const h3_item *item) {
   const work *work = request->data;
-  fprintf(stderr, "stream %llu failed: kind %u, %llu\n", (unsigned long long)request->entry.id, item->kind,
-          (unsigned long long)item->number);
+  report("stream %llu failed: %s, %s", (unsigned long long)request->entry.id, h3_kind_text(item->kind), http3_why(item));
   if (work && work->session == request->entry.id) end_session(work);
 }
 
@@ -125,19 +128,21 @@ static void on_ready(http3 *h, void *user) { (void)h, (void)user; }
 static void on_over(void *user, const quic_ending *ending) { (void)user, (void)ending; }
 
 int main(int count, char **arguments) {
-  static const http3_events events = {on_ready, on_head, on_body, on_end, on_failed, on_room, on_freed, on_over, on_session};
+  static const http3_events events = {.ready = on_ready, .head = on_head, .body = on_body, .end = on_end, .failed = on_failed, .room = on_room,
+                                      .freed = on_freed, .over = on_over, .session = on_session};
   http3_setup setup = {.server = true, .sessions = SESSIONS, .events = &events};
   if (count != 5) {
     fprintf(stderr, "webtransport ADDRESS PORT CERTIFICATE KEY\n");
     return 2;
   }
   ending_await();
-  quic_identity identity = {.certificate = arguments[3], .key = arguments[4]};
-  quic_socket *socket = quic_listen(arguments[1], arguments[2], &identity, &http3_over_quic, &setup);
+  quic_pair pair = {arguments[3], arguments[4]};
+  quic_identity identity = {.pairs = &pair, .count = 1};
+  quic_socket *socket = quic_listen(arguments[1], arguments[2], &identity, NULL, &http3_over_quic, &setup);
   if (!socket) return 1;
-  printf("WebTransport at %s port %s\n", arguments[1], arguments[2]);
+  printf("WebTransport at %s port %u\n", arguments[1], quic_port(socket));
   fflush(stdout);
-  serve_until_ended(socket);
+  serve_until_ended(socket, DRAIN, NULL);
   quic_free(socket);
   return 0;
 }

@@ -5,6 +5,7 @@ package main
 
 import (
 	"context"
+	"crypto/tls"
 	"errors"
 	"io"
 	"sync"
@@ -12,7 +13,6 @@ import (
 	"time"
 
 	"beanwhile/h3"
-	"github.com/lucas-clemente/quic-go"
 )
 
 const (
@@ -30,27 +30,27 @@ const (
 var errTooLarge = errors.New("a frame is too large")
 
 // codeOf is the code that a request is given up with.
-func codeOf(err error, server bool) quic.StreamErrorCode {
+func codeOf(err error, server bool) streamCode {
 	var fault h3.Fault
 	switch {
 	case err == errTooLarge:
 		return h3.ExcessiveLoad
 	case errors.As(err, &fault):
-		return quic.StreamErrorCode(fault.Code(server))
+		return streamCode(fault.Code(server))
 	}
 	return h3.InternalError
 }
 
 // closingCode is the code that the connection is closed with.
-func closingCode(err error) quic.ApplicationErrorCode {
+func closingCode(err error) closeCode {
 	var refused h3.Error
 	var fault h3.Fault
 	if errors.As(err, &refused) {
 		if code, isFault := refused.Code(); isFault {
-			return quic.ApplicationErrorCode(code)
+			return closeCode(code)
 		}
 	} else if errors.As(err, &fault) && fault.Kind == h3.FaultConnection {
-		return quic.ApplicationErrorCode(fault.Number)
+		return closeCode(fault.Number)
 	}
 	return h3.InternalError
 }
@@ -65,7 +65,7 @@ type Connection struct {
 	opened   *uint64    // the id that the endpoint gave and QUIC has no stream for yet
 	lock     sync.Mutex
 	endpoint *h3.Endpoint
-	quic     quic.Connection
+	quic     quicConnection
 	trace    *trace         // a server's
 	own      []*own         // control, encoder and decoder stream
 	inserted *sync.Cond     // the peer's encoder stream was read, or the connection is over
@@ -76,12 +76,12 @@ type Connection struct {
 	nextID  uint64        // behind the last request that came
 	endID   uint64        // requests from here on are not taken
 	leaving chan struct{} // closed: the peer was told by GOAWAY to open no more requests
-	active  atomic.Int64  // requests that Accept gave, and whoever answers them has not said Done of
+	active  atomic.Int64  // requests of which Done was not said: those that Accept gave, and those of a Transport
 }
 
 // half is the own half of a stream.
 type half struct {
-	stream quic.SendStream
+	stream sendStream
 	id     uint64
 }
 
@@ -94,14 +94,28 @@ type own struct {
 // Request is a request and its response: one bidirectional stream.
 type Request struct {
 	connection *Connection
-	stream     quic.Stream
+	stream     quicStream
 	id         uint64
 	sending    half
-	isNew      bool // a server's: nothing was read of it, and the endpoint does not know it yet
+	isNew      bool           // a server's: nothing was read of it, and the endpoint does not know it yet
+	unreadable error          // why nothing more can be read of the stream
+	incoming   *h3.BodyReader // the body of the peer's message
+	outgoing   *h3.BodyWriter // that of the local one
+}
+
+func (c *Connection) newRequest(stream quicStream, isNew bool) *Request {
+	id := uint64(stream.StreamID())
+	r := &Request{connection: c, stream: stream, id: id, sending: half{stream, id}, isNew: isNew}
+	r.incoming = c.endpoint.BodyReader(id, r.wait)
+	r.outgoing = c.endpoint.BodyWriter(id, func() error {
+		c.flush(r.sending)
+		return nil
+	})
+	return r
 }
 
 // NewConnection opens the three own streams, and reads the peer's. A server has a trace, and takes so many requests (0: no limit).
-func NewConnection(connection quic.Connection, trace *trace, requests uint64) (*Connection, error) {
+func NewConnection(connection quicConnection, trace *trace, requests uint64) (*Connection, error) {
 	endpoint, err := h3.New(h3.DefaultConfig(trace != nil))
 	if err != nil {
 		return nil, err
@@ -221,11 +235,10 @@ func (c *Connection) writePiece(half half) bool {
 // deliver hands over what was read of a stream: bytes, its end, or its reset. The lock is held.
 func (c *Connection) deliver(id uint64, bytes []byte, end error) error {
 	err := c.endpoint.Deliver(id, bytes)
-	var reset *quic.StreamError
 	if err == nil && errors.Is(end, io.EOF) {
 		err = c.endpoint.DeliverEnd(id)
-	} else if err == nil && errors.As(end, &reset) {
-		err = c.endpoint.DeliverReset(id, uint64(reset.ErrorCode))
+	} else if code, isReset := resetCode(end); err == nil && isReset {
+		err = c.endpoint.DeliverReset(id, code)
 	}
 	if err != nil {
 		return c.fail(err)
@@ -250,7 +263,7 @@ func (c *Connection) pull(id uint64) (h3.Item, error) {
 }
 
 // readOther reads one of the peer's unidirectional streams: settings, instructions, or what is thrown away.
-func (c *Connection) readOther(stream quic.ReceiveStream) {
+func (c *Connection) readOther(stream receiveStream) {
 	id, buffer := uint64(stream.StreamID()), make([]byte, 4096)
 	for {
 		count, end := stream.Read(buffer)
@@ -303,14 +316,14 @@ func (c *Connection) openID() (uint64, error) {
 
 // Open opens a client's request. It waits while the peer allows no more at once. The endpoint is asked first, and what it refuses opens no
 // stream: so the ids of both stay the same.
-func (c *Connection) Open() (*Request, error) {
+func (c *Connection) Open(ctx context.Context) (*Request, error) {
 	c.opening.Lock()
 	defer c.opening.Unlock()
 	id, err := c.openID()
 	if err != nil {
 		return nil, err
 	}
-	stream, err := c.quic.OpenStreamSync(context.Background())
+	stream, err := c.quic.OpenStreamSync(ctx)
 	if err != nil {
 		return nil, err
 	}
@@ -320,7 +333,7 @@ func (c *Connection) Open() (*Request, error) {
 	if id != uint64(stream.StreamID()) {
 		return nil, c.fail(errors.New("the ids of QUIC and of the endpoint differ"))
 	}
-	return &Request{connection: c, stream: stream, id: id, sending: half{stream, id}}, nil
+	return c.newRequest(stream, false), nil
 }
 
 // Accept waits for a client's next request.
@@ -331,7 +344,7 @@ func (c *Connection) Accept() (*Request, error) {
 			return nil, err
 		}
 		if id := uint64(stream.StreamID()); c.take(id) {
-			return &Request{connection: c, stream: stream, id: id, sending: half{stream, id}, isNew: true}, nil
+			return c.newRequest(stream, true), nil
 		}
 		stream.CancelRead(h3.RequestRejected)
 		stream.CancelWrite(h3.RequestRejected)
@@ -387,8 +400,14 @@ func (c *Connection) Leave() {
 	c.taking.Unlock()
 }
 
-// Done says that a request that Accept gave is answered, or given up.
+// Done says that a request is over: answered, or given up.
 func (r *Request) Done() { r.connection.active.Add(-1) }
+
+// state is what TLS says of the connection.
+func (c *Connection) state() *tls.ConnectionState {
+	state := tlsOf(c.quic)
+	return &state
+}
 
 // isDone says whether all that was begun is answered, and written.
 func (c *Connection) isDone() bool { return c.active.Load() == 0 }
@@ -408,40 +427,44 @@ func (r *Request) call(calls func(*h3.Endpoint) error) error {
 func (r *Request) SendHead(fields []h3.Field) error {
 	return r.call(func(endpoint *h3.Endpoint) error {
 		defer r.connection.wakeOwn()
-		return endpoint.SendFields(r.id, fields)
+		return endpoint.SendHead(r.id, fields)
 	})
 }
 
 // Write sends a piece of the body. Small pieces go out together, or with the end. It waits until QUIC has room.
-func (r *Request) Write(bytes []byte) (int, error) {
-	err := r.call(func(endpoint *h3.Endpoint) error {
-		err := endpoint.SendBody(r.id, bytes)
-		if err == nil && endpoint.Stream(r.id).Waiting >= piece {
-			r.connection.flush(r.sending)
-		}
+func (r *Request) Write(bytes []byte) (count int, err error) {
+	err = r.call(func(*h3.Endpoint) error {
+		count, err = r.outgoing.Write(bytes)
 		return err
 	})
-	if err != nil {
-		return 0, err
-	}
-	return len(bytes), nil
+	return count, err
 }
 
-// Finish ends the own message, and waits until QUIC has taken all of it.
-func (r *Request) Finish() error {
-	return r.call(func(endpoint *h3.Endpoint) error {
-		err := endpoint.Finish(r.id)
-		if err == nil {
-			r.connection.flush(r.sending)
-		}
-		return err
+// Flush moves what was sent to QUIC, and waits until it has room.
+func (r *Request) Flush() error {
+	return r.call(func(*h3.Endpoint) error {
+		r.connection.flush(r.sending)
+		return nil
 	})
+}
+
+// SendTrailer sends a trailer section, after the body.
+func (r *Request) SendTrailer(fields []h3.Field) error {
+	return r.call(func(*h3.Endpoint) error {
+		defer r.connection.wakeOwn()
+		return r.outgoing.SendTrailer(fields)
+	})
+}
+
+// Finish ends the local message, and waits until QUIC has taken all of it.
+func (r *Request) Finish() error {
+	return r.call(func(*h3.Endpoint) error { return r.outgoing.Close() })
 }
 
 // Send sends a whole message, as SendHead, Write and Finish do.
 func (r *Request) Send(fields []h3.Field, body []byte) error {
 	return r.call(func(endpoint *h3.Endpoint) error {
-		err := endpoint.SendFields(r.id, fields)
+		err := endpoint.SendHead(r.id, fields)
 		if err == nil {
 			err = endpoint.SendBody(r.id, body)
 		}
@@ -464,7 +487,7 @@ func (r *Request) IsStopped() bool {
 }
 
 // GiveUp sends nothing more, and wants nothing more.
-func (r *Request) GiveUp(code quic.StreamErrorCode) {
+func (r *Request) GiveUp(code streamCode) {
 	r.call(func(endpoint *h3.Endpoint) error {
 		endpoint.Cancel(r.id) // refused where the peer's message is over
 		if endpoint.Reset(r.id) == nil {
@@ -483,7 +506,7 @@ func (r *Request) Ignore() { r.ignore(h3.NoError, grace) }
 // IgnoreSection does the same where the header section is longer than the endpoint keeps.
 func (r *Request) IgnoreSection() { r.ignore(h3.ExcessiveLoad, sectionGrace) }
 
-func (r *Request) ignore(code quic.StreamErrorCode, after time.Duration) {
+func (r *Request) ignore(code streamCode, after time.Duration) {
 	r.call(func(endpoint *h3.Endpoint) error {
 		defer r.connection.wakeOwn()
 		return endpoint.Cancel(r.id) // refused where the message is over
@@ -491,35 +514,18 @@ func (r *Request) ignore(code quic.StreamErrorCode, after time.Duration) {
 	time.AfterFunc(after, func() { r.stream.CancelRead(code) })
 }
 
-// Next waits for the next item of the peer's message. quic-go grants credit for what is read, so no more is read of a stream of which the endpoint
-// holds so much: a frame that is larger is a fault. A fault of the message is an error. What came before the connection was over is handed
-// out all the same.
+// Next waits for the next item of the peer's message. A fault of the message is an error. What came before the connection was over is returned all
+// the same.
 func (r *Request) Next() (h3.Item, error) {
-	c := r.connection
-	var unreadable, err error
-	if r.isNew {
-		r.isNew = false
-		unreadable, err = r.read()
-	} else {
-		c.lock.Lock()
-	}
-	defer c.lock.Unlock()
+	err := r.begin()
+	defer r.connection.lock.Unlock()
 	for err == nil {
 		var item h3.Item
-		item, err = c.pull(r.id)
+		item, err = r.connection.pull(r.id)
 		switch {
 		case err != nil:
-		case item.Kind == h3.Waiting && c.broken == nil:
-			c.inserted.Wait()
-		case item.Kind == h3.Waiting:
-			err = c.broken
-		case item.Kind == h3.Pending && unreadable != nil:
-			err = unreadable
-		case item.Kind == h3.Pending && c.endpoint.Stream(r.id).Unread > heldLimit:
-			err = errTooLarge
-		case item.Kind == h3.Pending:
-			c.lock.Unlock()
-			unreadable, err = r.read()
+		case item.Kind.IsPause():
+			err = r.wait(item)
 		case item.Kind > h3.FaultConnection:
 			return item, h3.Fault{Kind: item.Kind, Number: item.Number}
 		default:
@@ -529,11 +535,60 @@ func (r *Request) Next() (h3.Item, error) {
 	return h3.Item{}, err
 }
 
-// read reads a piece of the stream, takes the lock, and hands the piece over. `unreadable`: there will be nothing more.
-func (r *Request) read() (unreadable, err error) {
+// Read reads the body of the peer's message, whose header section Next returned. It returns io.EOF after the message: then Trailer has the trailer
+// section.
+func (r *Request) Read(bytes []byte) (int, error) {
+	r.connection.lock.Lock()
+	defer r.connection.lock.Unlock()
+	count, err := r.incoming.Read(bytes)
+	var fault h3.Fault
+	if errors.As(err, &fault) && (fault.Kind == h3.FaultConnection || fault.Kind == h3.FaultMemory) {
+		err = r.connection.fail(err)
+	}
+	if err != nil {
+		r.connection.wakeOwn()
+	}
+	return count, err
+}
+
+// Trailer is the trailer section of the peer's message, after Read returned io.EOF.
+func (r *Request) Trailer() []h3.Field { return r.incoming.Trailer() }
+
+// begin takes the lock. It first reads a piece of a request that the endpoint does not know yet.
+func (r *Request) begin() (err error) {
+	if !r.isNew {
+		r.connection.lock.Lock()
+		return nil
+	}
+	r.isNew = false
+	return r.read()
+}
+
+// wait waits at a pause until there may be a next item. quic-go grants credit for what is read, so no more is read of a stream of which the
+// endpoint holds so much: a frame that is larger is a fault. The lock is held, and free in between.
+func (r *Request) wait(pause h3.Item) error {
+	c := r.connection
+	switch {
+	case pause.Kind == h3.Waiting && c.broken != nil:
+		return c.broken
+	case pause.Kind == h3.Waiting:
+		c.inserted.Wait()
+		return nil
+	case r.unreadable != nil:
+		return r.unreadable
+	case c.endpoint.Stream(r.id).Unread > heldLimit:
+		return errTooLarge
+	}
+	c.lock.Unlock()
+	return r.read()
+}
+
+// read reads a piece of the stream, takes the lock, and delivers the piece.
+func (r *Request) read() error {
 	buffer := pieces.Get().(*[piece]byte)
 	defer pieces.Put(buffer)
 	count, end := r.stream.Read(buffer[:])
 	r.connection.lock.Lock()
-	return end, r.connection.deliver(r.id, buffer[:count], end)
+	r.unreadable = end
+	return r.connection.deliver(r.id, buffer[:count], end)
 }

@@ -1,13 +1,16 @@
 // h3go holds HTTP/3 connections with the library behind include/h3.h, over quic-go (Debian's golang-github-lucas-clemente-quic-go-dev).
 //
-//	h3go serve [-requests N] ADDRESS CERTIFICATE KEY FOLDER
-//	    files below a folder; POST is answered with the count and SHA-256 of its body. -requests: at most so many on a connection, GOAWAY
+//	h3go serve [-requests N] [-handler] ADDRESS CERTIFICATE KEY FOLDER
+//	    files below a folder; POST is answered with the count and SHA-256 of its body. -handler: by an http.Handler. -requests: at most so many on a connection, GOAWAY
 //	    goes out when 100 are left (100,000; 0: no limit). SIGTERM and SIGINT: GOAWAY, and what was begun ends, whatever its reader's speed; the second one cuts it off
 //	h3go fetch [-post FILE] [-head] [-count N] [-parallel N] [-cancel BYTES] [-verbose] TRUSTED URL
 //	    the bodies to standard output; -verbose: what status each head has, and how many fields each trailer, to standard error
+//	h3go client [-post FILE] [-count N] TRUSTED URL
+//	    the same by an http.Client, over an http.RoundTripper: all requests at once
 package main
 
 import (
+	"context"
 	"crypto/tls"
 	"crypto/x509"
 	"errors"
@@ -19,10 +22,9 @@ import (
 	"time"
 
 	"beanwhile/h3"
-	"github.com/lucas-clemente/quic-go"
 )
 
-var settings = &quic.Config{MaxIncomingStreams: streams, MaxIncomingUniStreams: 16, MaxIdleTimeout: 30 * time.Second}
+var settings = &quicConfig{MaxIncomingStreams: streams, MaxIncomingUniStreams: 16, MaxIdleTimeout: 30 * time.Second}
 
 func fail(err error) {
 	if err != nil {
@@ -124,7 +126,7 @@ func answer(request *Request, cancel int) ([]byte, error) {
 
 // exchange gives the body of the response as soon as it is whole, whatever became of the request's body (RFC 9114, section 4.1).
 func exchange(connection *Connection, wish wish, cancel int) ([]byte, error) {
-	request, err := connection.Open()
+	request, err := connection.Open(context.Background())
 	if err != nil {
 		return nil, err
 	}
@@ -160,15 +162,24 @@ func several(connection *Connection, wish wish, parallel, cancel int, answers []
 	}
 }
 
-// connect opens a connection to a server whose certificate one of a file's vouches for.
-func connect(trusted string, place *url.URL) (*Connection, error) {
-	text, err := os.ReadFile(trusted)
+// trusting is a client's TLS, which takes the certificates that one of a file's vouches for.
+func trusting(file string) (*tls.Config, error) {
+	text, err := os.ReadFile(file)
 	if err != nil {
 		return nil, err
 	}
 	pool := x509.NewCertPool()
 	pool.AppendCertsFromPEM(text)
-	session, err := quic.DialAddr(place.Host, &tls.Config{RootCAs: pool, NextProtos: []string{"h3"}}, settings)
+	return &tls.Config{RootCAs: pool, NextProtos: []string{"h3"}}, nil
+}
+
+// connect opens a connection to a server.
+func connect(trusted string, place *url.URL) (*Connection, error) {
+	config, err := trusting(trusted)
+	if err != nil {
+		return nil, err
+	}
+	session, err := dial(context.Background(), place.Host, config, settings)
 	if err != nil {
 		return nil, err
 	}
@@ -228,7 +239,9 @@ func main() {
 		fail(serveCommand(os.Args[2:]))
 	} else if len(os.Args) > 2 && os.Args[1] == "fetch" {
 		fail(fetch(os.Args[2:]))
+	} else if len(os.Args) > 2 && os.Args[1] == "client" {
+		fail(clientCommand(os.Args[2:]))
 	} else {
-		fail(errors.New("serve [-requests N] ADDRESS CERTIFICATE KEY FOLDER, or fetch [OPTION..] TRUSTED URL"))
+		fail(errors.New("serve [OPTION..] ADDRESS CERTIFICATE KEY FOLDER, fetch [OPTION..] TRUSTED URL, or client [OPTION..] TRUSTED URL"))
 	}
 }

@@ -17,7 +17,6 @@ import (
 	"time"
 
 	"beanwhile/h3"
-	"github.com/lucas-clemente/quic-go"
 )
 
 // linger is how long a client may be silent that has all its answers, and is expected to close.
@@ -101,19 +100,18 @@ func (h *handler) file(name string) error {
 
 // post answers with the count and the SHA-256 of the body.
 func (h *handler) post() error {
-	hash, count := sha256.New(), 0
-	for {
-		item, err := h.Next()
-		switch {
-		case err != nil:
-			return err
-		case item.Kind == h3.Body:
-			count += len(item.Bytes)
-			hash.Write(item.Bytes)
-		case item.Kind == h3.End:
-			return h.text("200", fmt.Sprintf("%d %x\n", count, hash.Sum(nil)))
-		}
+	text, err := digestOf(h.Request)
+	if err != nil {
+		return err
 	}
+	return h.text("200", text)
+}
+
+// digestOf is the line with the count and the SHA-256 of a body.
+func digestOf(body io.Reader) (string, error) {
+	hash := sha256.New()
+	count, err := io.Copy(hash, body)
+	return fmt.Sprintf("%d %x\n", count, hash.Sum(nil)), err
 }
 
 // rest reads what comes behind the head of a request without a body, so that its end, or its reset, is seen.
@@ -155,7 +153,7 @@ func (h *handler) answer() error {
 }
 
 // takeRequests answers each request of a connection, at once, until the connection is over.
-func takeRequests(connection *Connection, files *folder) {
+func takeRequests(connection *Connection, answer func(*Request) error) {
 	for {
 		request, err := connection.Accept()
 		if err != nil {
@@ -163,7 +161,7 @@ func takeRequests(connection *Connection, files *folder) {
 		}
 		go func() {
 			defer request.Done()
-			if err := (&handler{Request: request, files: files}).answer(); err != nil {
+			if err := answer(request); err != nil {
 				fmt.Fprintln(os.Stderr, "h3go: stream", request.id, "failed:", err)
 				request.GiveUp(codeOf(err, true))
 			}
@@ -173,7 +171,7 @@ func takeRequests(connection *Connection, files *folder) {
 
 // server is what all connections share.
 type server struct {
-	files    *folder
+	answer   func(*Request) error
 	requests uint64        // at most so many are taken on a connection
 	leave    chan struct{} // closed: what was begun is to end
 	traces   tracer
@@ -181,7 +179,7 @@ type server struct {
 
 // serve serves a connection until it is over, or no further request is taken and what was begun is done. Then the client is expected to close,
 // since its QUIC may have what its reader has not; if it is silent for long, the connection is closed here.
-func (s *server) serve(session quic.Connection) {
+func (s *server) serve(session quicConnection) {
 	trace := s.traces.of(session)
 	if trace == nil {
 		return
@@ -194,7 +192,7 @@ func (s *server) serve(session quic.Connection) {
 	over := make(chan struct{})
 	go func() {
 		defer close(over)
-		takeRequests(connection, s.files)
+		takeRequests(connection, s.answer)
 	}()
 	leave, leaving := s.leave, connection.leaving
 	ticker := time.NewTicker(time.Hour)
@@ -219,7 +217,7 @@ func (s *server) serve(session quic.Connection) {
 }
 
 // run serves until it is told to leave, and then what was begun.
-func (s *server) run(listener quic.Listener) {
+func (s *server) run(listener quicListener) {
 	accepting, stop := context.WithCancel(context.Background())
 	go func() {
 		<-s.leave
@@ -257,22 +255,33 @@ func leaveAt(signals <-chan os.Signal, leave chan<- struct{}) {
 	fail(errors.New("what was begun is cut off"))
 }
 
+// answerOf is what answers a request with files below a folder, and POST with a digest.
+func answerOf(name string, byHandler bool) func(*Request) error {
+	if byHandler {
+		handler := filesAndPosts(name)
+		return func(request *Request) error { return serveHandler(request, handler) }
+	}
+	files := newFolder(name)
+	return func(request *Request) error { return (&handler{Request: request, files: files}).answer() }
+}
+
 func serveCommand(words []string) error {
 	options := flag.NewFlagSet("serve", flag.ExitOnError)
 	requests := options.Uint64("requests", 100000, "at most so many requests on a connection: GOAWAY goes out when 100 are left (0: no limit)")
+	byHandler := options.Bool("handler", false, "the folder is served by an http.Handler")
 	options.Parse(words)
 	if options.NArg() != 4 {
-		return errors.New("serve [-requests N] ADDRESS CERTIFICATE KEY FOLDER")
+		return errors.New("serve [-requests N] [-handler] ADDRESS CERTIFICATE KEY FOLDER")
 	}
 	address := options.Arg(0)
 	pair, err := tls.LoadX509KeyPair(options.Arg(1), options.Arg(2))
 	if err != nil {
 		return err
 	}
-	s := &server{files: newFolder(options.Arg(3)), requests: *requests, leave: make(chan struct{})}
+	s := &server{answer: answerOf(options.Arg(3), *byHandler), requests: *requests, leave: make(chan struct{})}
 	config := settings.Clone()
-	config.Tracer = &s.traces
-	listener, err := quic.ListenAddr(address, &tls.Config{Certificates: []tls.Certificate{pair}, NextProtos: []string{"h3"}}, config)
+	s.traces.into(config)
+	listener, err := listen(address, &tls.Config{Certificates: []tls.Certificate{pair}, NextProtos: []string{"h3"}}, config)
 	if err != nil {
 		return err
 	}

@@ -6,61 +6,49 @@ import (
 	"context"
 	"sync"
 	"time"
-
-	"github.com/lucas-clemente/quic-go"
-	"github.com/lucas-clemente/quic-go/logging"
 )
 
 // trace is told of the packets of one connection.
 type trace struct {
-	logging.NullConnectionTracer
 	forget   func()
 	lock     sync.Mutex
-	ending   map[logging.StreamID]bool // streams that were closed, and whose end is in no packet yet
-	inFlight int                       // packets that are neither acknowledged nor lost
-	heard    time.Time                 // when a packet came last
+	ending   map[streamID]bool // streams that were closed, and whose end is in no packet yet
+	inFlight int               // packets that are neither acknowledged nor lost
+	heard    time.Time         // when a packet came last
 }
 
-// SentPacket sees the ends of streams go out.
-func (t *trace) SentPacket(_ *logging.ExtendedHeader, _ logging.ByteCount, _ *logging.AckFrame, frames []logging.Frame) {
+// sent sees the ends of streams go out.
+func (t *trace) sent(frames []frame) {
 	t.lock.Lock()
 	defer t.lock.Unlock()
 	for _, frame := range frames {
 		switch frame := frame.(type) {
-		case *logging.StreamFrame:
+		case *streamFrame:
 			if frame.Fin {
 				delete(t.ending, frame.StreamID)
 			}
-		case *logging.ResetStreamFrame:
+		case *resetFrame:
 			delete(t.ending, frame.StreamID)
 		}
 	}
 }
 
-// ReceivedPacket sees that the peer is there.
-func (t *trace) ReceivedPacket(*logging.ExtendedHeader, logging.ByteCount, []logging.Frame) {
-	t.listen()
-}
-
-// UpdatedMetrics sees what is acknowledged.
-func (t *trace) UpdatedMetrics(_ *logging.RTTStats, _, _ logging.ByteCount, packets int) {
+// fly sees how many packets are neither acknowledged nor lost.
+func (t *trace) fly(packets int) {
 	t.lock.Lock()
 	defer t.lock.Unlock()
 	t.inFlight = packets
 }
 
-// listen begins the time anew in which nothing has come.
+// listen begins the time again in which nothing has come.
 func (t *trace) listen() {
 	t.lock.Lock()
 	defer t.lock.Unlock()
 	t.heard = time.Now()
 }
 
-// Close sees the connection end.
-func (t *trace) Close() { t.forget() }
-
 // closeStream closes a stream, whose end may have to wait for the peer's credit. A client has no trace.
-func (t *trace) closeStream(stream quic.SendStream) error {
+func (t *trace) closeStream(stream sendStream) error {
 	if t == nil {
 		return stream.Close()
 	}
@@ -84,22 +72,19 @@ func (t *trace) isSilent(long time.Duration) bool {
 }
 
 // tracer has the trace of each connection, by quic-go's number.
-type tracer struct {
-	logging.NullTracer
-	traces sync.Map
-}
+type tracer struct{ traces sync.Map }
 
-// TracerForConnection makes the trace of a connection.
-func (t *tracer) TracerForConnection(context context.Context, _ logging.Perspective, _ logging.ConnectionID) logging.ConnectionTracer {
-	number := context.Value(quic.ConnectionTracingKey)
-	made := &trace{forget: func() { t.traces.Delete(number) }, ending: map[logging.StreamID]bool{}, heard: time.Now()}
+// begin makes the trace of a connection, whose context quic-go tells.
+func (t *tracer) begin(context context.Context) *trace {
+	number := context.Value(tracingKey)
+	made := &trace{forget: func() { t.traces.Delete(number) }, ending: map[streamID]bool{}, heard: time.Now()}
 	t.traces.Store(number, made)
 	return made
 }
 
 // of is the trace of a connection. nil: it is over.
-func (t *tracer) of(connection quic.Connection) *trace {
-	made, _ := t.traces.Load(connection.Context().Value(quic.ConnectionTracingKey))
+func (t *tracer) of(connection quicConnection) *trace {
+	made, _ := t.traces.Load(connection.Context().Value(tracingKey))
 	found, _ := made.(*trace)
 	return found
 }

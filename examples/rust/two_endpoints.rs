@@ -67,7 +67,7 @@ fn read(endpoint: &mut Endpoint, id: u64) -> Result<(Fields, Vec<u8>), Failure> 
 fn request(client: &mut Endpoint) -> Result<u64, Error> {
     let id = client.open_request()?;
     let fields = [(":method", "POST"), (":scheme", "https"), (":authority", "localhost"), (":path", "/echo"), ("x-example", "rust")];
-    client.send_fields(id, &fields)?;
+    client.send_head(id, &fields)?;
     for piece in body().chunks(10_000) {
         client.send_body(id, piece)?;
     }
@@ -77,9 +77,9 @@ fn request(client: &mut Endpoint) -> Result<u64, Error> {
 /// The server's part: what came is sent back.
 fn answer(server: &mut Endpoint, id: u64) -> Result<String, Failure> {
     let (head, body) = read(server, id)?;
-    server.send_fields(id, &[(":status", "200"), ("x-example", "rust")])?;
+    server.send_head(id, &[(":status", "200"), ("x-example", "rust")])?;
     server.send_body(id, &body)?;
-    server.send_trailer_fields(id, &[("x-count", "1")])?;
+    server.send_trailer(id, &[("x-count", "1")])?;
     server.finish(id)?;
     Ok(text(&head))
 }

@@ -9,7 +9,7 @@ static uint32_t carry(h3_endpoint *from, h3_endpoint *to) {
   uint32_t is_last = 0, answer = H3_OK;
   for (uint64_t id = 0; !answer && h3_next_to_send(from, id, &id) == H3_OK; id++) {
     do {
-      answer = h3_outgoing(from, id, buffer, sizeof buffer, &n, &is_last);
+      answer = h3_outgoing(from, id, buffer, sizeof buffer, &n, NULL, &is_last);
       if (!answer) answer = h3_deliver(to, id, buffer, n, NULL);
       if (!answer) answer = h3_advance(from, id, n);
     } while (!answer && n == sizeof buffer && !is_last);
@@ -23,7 +23,7 @@ static uint32_t ask(h3_endpoint *client, uint64_t *id) {
   static const h3_field_size sizes[] = {{7, 3}, {7, 5}, {10, 9}, {5, 1}};
   static const char fields[] = ":methodGET:schemehttps:authoritylocalhost:path/";
   uint32_t answer = h3_open_request(client, id, NULL);
-  if (!answer) answer = h3_send_fields(client, *id, sizes, 4, fields, sizeof fields - 1, NULL);
+  if (!answer) answer = h3_send_head(client, *id, sizes, 4, fields, sizeof fields - 1, NULL);
   return answer ? answer : h3_finish(client, *id, NULL);
 }
 
@@ -31,7 +31,7 @@ static uint32_t print_request(h3_endpoint *server, uint64_t id) {
   h3_item item;
   h3_field_size sizes[16];
   char bytes[1024];
-  uint32_t answer = h3_pull_fields(server, id, &item);
+  uint32_t answer = h3_pull(server, id, &item);
   if (!answer) answer = h3_item_fields(server, sizes, 16, bytes, sizeof bytes);
   if (answer) return answer;
   const char *at = bytes;

@@ -43,7 +43,7 @@ func main() {
 
 	id, err := client.OpenRequest()
 	want(err)
-	want(client.SendFields(id, []h3.Field{
+	want(client.SendHead(id, []h3.Field{
 		{Name: ":method", Value: "GET"},
 		{Name: ":scheme", Value: "https"},
 		{Name: ":authority", Value: "localhost"},

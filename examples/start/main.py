@@ -16,7 +16,7 @@ def carry(sender: Endpoint, receiver: Endpoint) -> None:
 
 with Endpoint(Config.client()) as client, Endpoint(Config.server()) as server:
     id = client.open_request()
-    client.send_fields(id, [(b":method", b"GET"), (b":scheme", b"https"), (b":authority", b"localhost"), (b":path", b"/")])
+    client.send_head(id, [(b":method", b"GET"), (b":scheme", b"https"), (b":authority", b"localhost"), (b":path", b"/")])
     client.finish(id)
     carry(client, server)
     head = server.next_item(id)

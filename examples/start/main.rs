@@ -26,7 +26,7 @@ fn carry(from: &mut Endpoint, to: &mut Endpoint) -> Result<(), Error> {
 fn main() -> Result<(), Error> {
     let (mut client, mut server) = (Endpoint::new(&Config::client())?, Endpoint::new(&Config::server())?);
     let id = client.open_request()?;
-    client.send_fields(id, &[(":method", "GET"), (":scheme", "https"), (":authority", "localhost"), (":path", "/")])?;
+    client.send_head(id, &[(":method", "GET"), (":scheme", "https"), (":authority", "localhost"), (":path", "/")])?;
     client.finish(id)?;
     carry(&mut client, &mut server)?;
     if let Next::Item(Item::Head(head)) = server.next_item(id)? {

@@ -47,10 +47,10 @@ fn answer(connection: &mut Connection, id: u64) -> Result<(), Failure> {
         match item {
             Item::Head(head) => {
                 println!("stream {id}: {:?}", head.fields);
-                connection.h3.send_fields(id, &[(":status", "200")])?;
+                connection.h3.send_head(id, &[(":status", "200")])?;
             }
             Item::Body(bytes) => connection.h3.send_body(id, &bytes)?,
-            Item::TooLargeHead(_) => connection.h3.send_fields(id, &[(":status", "431")])?,
+            Item::TooLargeHead(_) => connection.h3.send_head(id, &[(":status", "431")])?,
             Item::End => connection.h3.finish(id)?,
             Item::Fault(fault) => println!("stream {id}: {fault}"),
             _ => {}
@@ -106,7 +106,7 @@ async fn post(address: &str, certificate: &str, count: usize, length: usize) -> 
     let mut open = HashMap::new();
     for _ in 0..count {
         let id = connection.open_request().await?;
-        connection.h3.send_fields(id, &[(":method", "POST"), (":scheme", "https"), (":authority", "localhost"), (":path", "/echo")])?;
+        connection.h3.send_head(id, &[(":method", "POST"), (":scheme", "https"), (":authority", "localhost"), (":path", "/echo")])?;
         for start in (0..length).step_by(PIECE) {
             connection.h3.send_body(id, &vec![id as u8; PIECE.min(length - start)])?;
         }

@@ -1,0 +1,67 @@
+#include "forward.h"
+#include <stdio.h>
+#include <stdlib.h>
+#include <string.h>
+#include <sys/random.h>
+
+static char via[40]; /* the value that is added */
+
+void forward_begin(void) {
+  unsigned long long chance = 0;
+  if (getrandom(&chance, sizeof chance, 0) != sizeof chance) chance = quic_time();
+  snprintf(via, sizeof via, "3 h3-proxy-%016llx", chance);
+}
+
+/* Fields of one hop. HTTP/3 has but `te` of them: a strict endpoint takes no message with another one, and this is for one that is not. */
+static bool is_of_one_hop(const http3_line *line) {
+  static const char *const names[] = {"connection", "keep-alive", "proxy-connection", "te", "transfer-encoding", "upgrade"};
+  for (size_t i = 0; i < sizeof names / sizeof *names; i++)
+    if (http3_is(line, names[i])) return true;
+  return false;
+}
+
+/* The fields of a list that go on, and `more` of others. */
+static http3_list *pass(const http3_list *list, const http3_field *more, size_t count) {
+  http3_line *lines = malloc((http3_count(list) + count) * sizeof *lines);
+  size_t found = 0;
+  if (!lines) return NULL;
+  for (http3_at at = {0}; http3_next(list, &at, &lines[found]);)
+    if (!is_of_one_hop(&lines[found])) found++;
+  for (; count > 0; more++, count--) lines[found++] = (http3_line){more->name, more->value, strlen(more->name), strlen(more->value)};
+  http3_list *passed = http3_list_of_lines(lines, found);
+  free(lines);
+  return passed;
+}
+
+http3_list *forward_request(const http3_list *list, const char *client) {
+  char te[16], forwarded[QUIC_PLACE + 32];
+  http3_wanted wanted = {.name = "te", .value = te, .room = sizeof te, .optional = true};
+  http3_field more[] = {{"via", via}, {"forwarded", forwarded}, {"te", "trailers"}};
+  http3_find(list, &wanted, 1);
+  snprintf(forwarded, sizeof forwarded, "for=\"%s\";proto=https", client);
+  return pass(list, more, wanted.found && strcmp(te, "trailers") == 0 ? 3 : 2);
+}
+
+http3_list *forward_response(const http3_list *list) {
+  const http3_field more = {"via", via};
+  return pass(list, &more, 1);
+}
+
+http3_list *forward_trailer(const http3_list *list) { return pass(list, NULL, 0); }
+
+bool forward_is_loop(const http3_list *list) {
+  http3_line line;
+  for (http3_at at = {0}; http3_next(list, &at, &line);)
+    if (http3_is(&line, "via") && memmem(line.value, line.value_count, via, strlen(via))) return true;
+  return false;
+}
+
+bool forward_is_idempotent(const http3_list *list) {
+  static const char *const methods[] = {"GET", "HEAD", "OPTIONS", "TRACE", "PUT", "DELETE"};
+  char method[16];
+  http3_wanted wanted = {.name = ":method", .value = method, .room = sizeof method};
+  if (!http3_find(list, &wanted, 1)) return false;
+  for (size_t i = 0; i < sizeof methods / sizeof *methods; i++)
+    if (strcmp(method, methods[i]) == 0) return true;
+  return false;
+}
