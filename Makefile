@@ -8,7 +8,7 @@ PREFIX ?= /usr/local
 # of `make fuzz`: how long each fuzzer runs
 SECONDS ?= 60
 
-.PHONY: help run draw build lib lib-unproved install abi dist test-dist dist-roots examples compat test test-c test-compat fuzz refused bench bench-build bench-page bench-exchange bench-instructions bench-long interop upstream-root load need-rt
+.PHONY: help run draw build lib lib-unproved install abi dist test-dist dist-roots examples compat test test-c test-compat fuzz refused bench bench-build bench-page bench-exchange bench-instructions bench-long interop soak upstream-root load need-rt
 
 help: ## list the commands
 	@grep -hE '^[a-z-]+:.*## ' $(MAKEFILE_LIST) | sed -E 's/^([a-z-]+):.*## /make \1: /'
@@ -100,6 +100,10 @@ interop: need-rt ## show that nghttp3 reads what we write and we what it writes,
 
 upstream-root: ## make in build/trixie, once and as root, a root of Debian 13 with the Rust crate h3 and further peers, for `make interop`
 	@bash scripts/interop/upstream.sh root
+
+soak: ## run the example server and proxy in C beside readers, cancels, resets and hostile clients for SECONDS=1800, over the folder that `make lib` leaves: memory and descriptors have to end where they began
+	@bash scripts/dev/need.sh library "$(LIB)"
+	@LIB="$(abspath $(LIB))" bash scripts/interop/soak.sh $(if $(filter command% environment%,$(origin SECONDS)),$(SECONDS),1800)
 
 load: ## print what the example servers carry under load, beside gtlsserver and Caddy, over the folder that `make lib` leaves
 	@bash scripts/dev/need.sh library "$(LIB)"

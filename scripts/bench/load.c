@@ -123,7 +123,7 @@ static int run_client(char **words, size_t parallel, size_t requests, double las
   char authority[32], byte = 0;
   client client = {.authority = authority, .path = words[4]};
   snprintf(authority, sizeof authority, "localhost:%s", words[2]);
-  quic_socket *socket = quic_connect(words[1], words[2], "localhost", &identity, &events, &client);
+  quic_socket *socket = quic_connect(words[1], words[2], "localhost", &identity, NULL, &events, &client);
   while (socket && !client.http && now() < last && quic_turn(socket, 100) > 0) continue;
   for (double settled = now() + 0.2; socket && now() < settled;) quic_turn(socket, 20); /* settings, and the handshake's end */
   if (!client.http || write(ready, &byte, 1) != 1 || read(begin, &byte, 1) != 0) return 1;

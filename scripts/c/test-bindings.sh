@@ -58,7 +58,7 @@ END
 }
 
 rust_crate() {
-  (cd bindings/rust && cargo test --offline --quiet --target-dir "$work/target")
+  (cd bindings/rust && RUSTFLAGS="-D warnings" cargo test --offline --quiet --target-dir "$work/target")
 }
 
 # a crate of its own, which takes ours from its folder

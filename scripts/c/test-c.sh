@@ -1,13 +1,14 @@
 #!/usr/bin/env bash
 # C programs over build/c (scripts/c/lib.sh), by the machine's C compiler alone: the calls of crates/h3_cases and hostile lists of calls
 # through the header, each allocation refused in turn, large input with none refused, two endpoints under random schedules, what is held of
-# a stream and of small pieces, unknown frames, long instructions, wrong arguments, bytes that are lent, pulled lists, and the program of
-# docs/TUTORIAL.md. Once as they are, and once with the sanitizers of addresses, leaks and undefined behaviour where the compiler has them
+# a stream and of small pieces, unknown frames, long instructions, wrong arguments, bytes that are lent or read where they lie, bodies that the caller holds, pulled
+# lists, and the program of docs/TUTORIAL.md. Once as they are, and once with the sanitizers of addresses, leaks and undefined behaviour where the compiler has them
 # (large input, memory: once). Then h3.hpp, by C++17 and C++20; the binary interface (scripts/c/abi.py); how programs find the library
-# (scripts/c/test-install.sh); and the packages for Go, Rust and Python (scripts/c/test-bindings.sh). One line 'ok NAME' or 'failed NAME'
+# (scripts/c/test-install.sh); the packages for Go, Rust and Python (scripts/c/test-bindings.sh), and what `make dist` packs
+# (scripts/dist/test-packed.sh). One line 'ok NAME' or 'failed NAME'
 # for each; the last is the sum. With LIB=FOLDER the library in that folder is taken, as that of `make lib-unproved`, and none is built.
-# Beside these: lists between two endpoints with the defaults, frames above the limit, early cancellations, what `detail` says, COUNT=60000
-# pairs of random programs (in C++), and a short run of the fuzzers (scripts/c/fuzz.sh).
+# Beside these: lists between two endpoints with the defaults, frames above the limit, cancellations, early and in floods, what `detail`
+# says, COUNT=60000 pairs of random programs (in C++), and a short run of the fuzzers (scripts/c/fuzz.sh).
 set -uo pipefail
 cd "$(dirname "$0")/../.."
 
@@ -108,10 +109,13 @@ checks() {
   compile limits limits
   compile priority priority
   compile lent lent
+  compile read read
+  compile past past
   compile details details
   compile defaults defaults
   compile excess excess "${wrapped[@]}"
-  compile cancellations cancellations
+  compile cancellations cancellations "${wrapped[@]}"
+  compile shutdown shutdown
   compile lists lists
   compile in_memory in_memory
   compile ../../examples/quickstart quickstart "-I$lib" # includes <beanwhile/h3.h>, as its page says
@@ -129,10 +133,13 @@ checks() {
     run limits "$out/limits"
     run priority "$out/priority"
     run lent "$out/lent"
+    run read "$out/read" 0 3000
+    run past "$out/past" 1 2000
     run details "$out/details"
     run defaults "$out/defaults"
     run excess "$out/excess"
     run cancellations "$out/cancellations"
+    run shutdown "$out/shutdown"
     programs
     run lists "$out/lists"
     printed "$out/in_memory" tests/c/in_memory.stdout "in_memory: the lines of docs/TUTORIAL.md"
@@ -145,8 +152,11 @@ checks() {
     compile instructions instructions_checked "${flags[@]}"
     compile arguments arguments_checked "${flags[@]}"
     compile lent lent_checked "${flags[@]}"
+    compile read read_checked "${flags[@]}"
+    compile past past_checked "${flags[@]}"
     compile details details_checked "${flags[@]}"
     compile lists lists_checked "${flags[@]}"
+    compile shutdown shutdown_checked "${flags[@]}"
     compile in_memory in_memory_checked "${flags[@]}"
     compile ../../examples/quickstart quickstart_checked "-I$lib" "${flags[@]}"
     if [ "$bad" -eq 0 ]; then
@@ -155,8 +165,11 @@ checks() {
       run "instructions with sanitizers" "$out/instructions_checked"
       run "arguments with sanitizers" "$out/arguments_checked" $mark
       run "lent with sanitizers" "$out/lent_checked"
+      run "read with sanitizers" "$out/read_checked" 3000 1000
+      run "past with sanitizers" "$out/past_checked" 5000 300
       run "details with sanitizers" "$out/details_checked"
       run "lists with sanitizers" "$out/lists_checked"
+      run "shutdown with sanitizers" "$out/shutdown_checked"
       printed "$out/in_memory_checked" tests/c/in_memory.stdout "in_memory with sanitizers"
     printed "$out/quickstart_checked" examples/quickstart.stdout "quickstart with sanitizers"
     fi
@@ -171,6 +184,7 @@ checks() {
   python3 scripts/c/abi.py check "$lib" || bad=1
   bash scripts/c/test-install.sh "$lib" || bad=1
   bash scripts/c/test-bindings.sh "$lib" || bad=1
+  bash scripts/dist/test-packed.sh "$lib" || bad=1
   return "$bad"
 }
 

@@ -18,5 +18,8 @@ for root in /usr build/nghttp3/usr build/trixie/usr; do
   seen[$soname]=1
   native=$(find "$root/lib" -maxdepth 2 -name "$soname" 2> /dev/null | head -n 1 || true)
   if [ -n "$native" ]; then native=$(realpath "$native"); fi
-  echo "$soname $(realpath "$root/include") ${native:--}"
+  # by a folder that has nothing else: the other headers of a root of Debian are of another C library
+  mkdir -p "build/headers/$soname"
+  ln -sfn "$(realpath "$root/include/nghttp3")" "build/headers/$soname/nghttp3"
+  echo "$soname $(realpath "build/headers/$soname") ${native:--}"
 done

@@ -2,7 +2,7 @@
 # packages.sh SET..: are the Debian packages there that a command wants? Names all that are missing at once, with the line that installs them.
 # The sets: c (what `make test-c` is built with), peer (what bench/ is built with), examples-c, examples-go and examples-rust (what the programs of
 # examples/ are), examples (all of these), compat (what the drop-in for nghttp3 is built with), interop (what `make interop` runs them against),
-# firefox (what it runs where that is there), load (`make load`), upstream (`make upstream-root`), count (`make bench-instructions`).
+# firefox (what it runs where that is there), proxy (what the proxy is checked with), load (`make load`), upstream (`make upstream-root`), count (`make bench-instructions`).
 set -uo pipefail
 
 missing=()
@@ -48,6 +48,11 @@ for set in ${sets// examples / examples-c examples-go examples-rust }; do
     examples-go)
       need golang-go go
       need golang-github-lucas-clemente-quic-go-dev $GO_SOURCE
+      ;;
+    proxy)
+      need python3 python3
+      need ngtcp2-server gtlsserver
+      need ngtcp2-client gtlsclient
       ;;
     interop)
       need python3 python3

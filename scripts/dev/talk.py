@@ -1,5 +1,6 @@
 #!/usr/bin/env python3
-"""Runs the program h3_talk on a script, and says of a line that is refused why.
+"""Runs the program h3_talk on a script, and says of a line that is refused why. A script whose first line has choices and a `/` is one of the
+wider language, and h3_cases is run (crates/h3_cases/README.md, "Scripts").
 
     talk.py [SCRIPT]             the answers to a script (standard input: none), a line each, as the program writes them; its status
     talk.py --expand [SCRIPT]    the script with numbers in the place of `all` in lines `deliver SIDE ID all`; nothing is run
@@ -8,11 +9,10 @@
 Standard output and the status are the program's to the byte: 0, 1 where a line is refused (`line N` is written), 2 where a read or write failed or
 memory was refused. Where line N is refused standard error says N, its text, and what was expected there. The proved program is run where `make build` left
 one that is later than all sources, else one that was compiled without its proofs (build/unproved), which takes a minute where a source has changed since. What `all` is comes from a model in Python
-(scripts/gate/independent_talk.py), which reads fewer forms of URIs and takes no strict sides.
+(scripts/gate/independent_talk.py), which reads fewer forms of URIs.
 
 The first line of a script is
     config SECTION TABLE BLOCKED SECTION TABLE BLOCKED   the limits of the client, then of the server
-        and behind them nothing, or a word for each side: `strict` judges messages by RFC 9114, 4.1.2 and 4.2 to 4.5, `plain` does not
 and each later one an event of a side, c or s. ID is a stream's id, below 2^62; words are parted by one blank; '#' begins a comment line:
     open c                                               show SIDE
     head SIDE ID METHOD URI [name=value ..]              head SIDE ID STATUS [name=value ..]
@@ -32,8 +32,6 @@ import independent_talk  # noqa: E402
 import kit  # noqa: E402
 
 ROOT = os.path.dirname(os.path.dirname(os.path.dirname(os.path.realpath(__file__))))
-PROGRAM = f"{ROOT}/crates/h3_talk/out/h3_talk"
-COMPILED = f"{ROOT}/build/unproved/h3_talk"
 SECONDS = 1800  # it takes a minute or two where nothing else runs
 PLAIN = {"open": "SIDE", "show": "SIDE", "finish": "SIDE ID", "reset": "SIDE ID", "cancel": "SIDE ID", "pull": "SIDE ID", "end": "SIDE ID", "gone": "SIDE ID",
          "goaway": "SIDE NUMBER", "deliver": "SIDE ID COUNT"}
@@ -55,16 +53,15 @@ def wrong_word(word, kind):
 def why_setup(words):
     if words[0] != "config" or len(words) < 7:
         return f"the first line has to be {SETUP}"
-    if len(words) not in (7, 9):
-        return "behind the six numbers stands nothing, or a word for each side: `strict` or `plain`"
+    if len(words) > 7:
+        return "nothing stands behind the six numbers"
     for place, word in enumerate(words[1:7]):
         bound, what = ((2**62, "a section"), (2**30, "a table"), (65536, "blocked streams"))[place % 3]
         if not re.fullmatch("[0-9]+", word):
             return f"'{word}' is no number"
         if int(word) >= bound:
             return f"'{word}' is too large for {what}: below {bound:,}"
-    other = [it for it in words[7:] if it not in ("strict", "plain")]
-    return f"'{other[0]}' is no way to judge messages: strict or plain" if other else "the limits are refused"
+    return "the limits are refused"
 
 
 def why_section(command, words):
@@ -144,8 +141,6 @@ def expanded(script):
                     independent_talk.answered(ends, *independent_talk.event_of(line))
         except independent_talk.Refused:
             sys.exit(f"line {number}: {line}\nthe model does not take this line")
-        except independent_talk.AsksStrictly:
-            sys.exit(f"line {number}: {line}\nthe model has no rules of messages: write numbers in the place of `all` where a side is strict")
         out.append(line)
     return "\n".join(out).encode(errors="surrogateescape")
 
@@ -159,8 +154,9 @@ def is_later(program):
     return all(os.stat(it).st_mtime <= made for it in [f"{ROOT}/crates.txt", *(it for it in parts if it.endswith((".rt", ".antt")))])
 
 
-def compiled():
-    """compiles the program without its proofs, and keeps it for later runs"""
+def compiled(name):
+    """compiles the program of this name without its proofs, and keeps it for later runs"""
+    kept = f"{ROOT}/build/unproved/{name}"
     if shutil.which("rt") is None:
         sys.exit(subprocess.run(["bash", f"{ROOT}/scripts/dev/need.sh", "rt"], check=False).returncode)
     rt = kit.load_rt()
@@ -174,18 +170,21 @@ done
 $tool "$@" && cp "$out" {room}/kept && mv {room}/kept {room}/program
 exit 1
 """)
-        said = kit.tried(rt, ROOT, "h3_talk", f"{ROOT}/crates/h3_talk", room, SECONDS)
+        said = kit.tried(rt, ROOT, name, f"{ROOT}/crates/{name}", room, SECONDS)
         if not os.path.exists(f"{room}/program"):
             sys.exit(f"{said}the program was not compiled: `rt check` in the crate that is named says more")
-        os.makedirs(os.path.dirname(COMPILED), exist_ok=True)
-        shutil.copy(f"{room}/program", f"{COMPILED}.new")
-        os.replace(f"{COMPILED}.new", COMPILED)
-    return COMPILED
+        os.makedirs(os.path.dirname(kept), exist_ok=True)
+        shutil.copy(f"{room}/program", f"{kept}.new")
+        os.replace(f"{kept}.new", kept)
+    return kept
 
 
 def run(script):
     """the status of the program, which has written its answers"""
-    program = next((it for it in (PROGRAM, COMPILED) if is_later(it)), None) or compiled()
+    first = next((it for it in script.split(b"\n") if says(it)), b"")
+    name = "h3_cases" if first.startswith(b"config ") and b"/" in first else "h3_talk"
+    places = (f"{ROOT}/crates/{name}/out/{name}", f"{ROOT}/build/unproved/{name}")
+    program = next((it for it in places if is_later(it)), None) or compiled(name)
     ran = subprocess.run([program], input=script, stdout=subprocess.PIPE, check=False)
     sys.stdout.buffer.write(ran.stdout)
     sys.stdout.flush()

@@ -17,5 +17,6 @@ def make(release, to):
         refuse(f"{FROM}/Cargo.toml has {count} lines with a version")
     tree.add("Cargo.toml", manifest)
     tree.add("RELEASE", release.about())
+    tree.add("THIRD-PARTY", release.notices.text())
     name = f"beanwhile-h3-{release.label}"
     write_tar(tree.below(name), f"{to}/{name}.crate", release.epoch)

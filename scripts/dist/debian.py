@@ -94,7 +94,9 @@ def judge_drop_in(release, path):
 
 
 def nghttp3(release):
-    """in a folder of its own, since Debian's libnghttp3 has the same names"""
+    """in a folder of its own, since Debian's libnghttp3 has the same names. DROP_IN=no leaves it out"""
+    if os.environ.get("DROP_IN") == "no":
+        return None
     found = sorted(glob.glob(f"{ROOT}/build/compat/libnghttp3.so.[0-9]"))
     if not found:
         print("left out: the package libbeanwhile-h3-nghttp3, since build/compat has no libnghttp3.so", file=sys.stderr)
@@ -137,11 +139,18 @@ Description: {package.summary}{'' if release.is_proved else ' (UNPROVED)'}
 """
 
 
+def continued(text):
+    """the lines of a field after its first"""
+    return "\n".join(f" {line.rstrip()}" if line.strip() else " ." for line in text.strip().split("\n"))
+
+
 def copyright_text(release):
-    text = release.committed("LICENSE").entries["LICENSE"].content.decode().strip()
-    body = "\n".join(f" {line}" if line.strip() else " ." for line in text.split("\n"))
+    body = continued(release.committed("LICENSE").entries["LICENSE"].content.decode())
     return f"""Format: https://www.debian.org/doc/packaging-manuals/copyright-format/1.0/
 Upstream-Name: beanwhile-h3
+Comment:
+{continued(release.notices.summary)}
+ The texts are in THIRD-PARTY, beside this file.
 
 Files: *
 Copyright: 2026 Beanwhile maintainers
@@ -166,6 +175,7 @@ def make_package(release, package, to):
     documents = f"usr/share/doc/{package.name}"
     tree = package.tree
     tree.add(f"{documents}/copyright", copyright_text(release))
+    tree.add(f"{documents}/THIRD-PARTY", release.notices.text())
     tree.add(f"{documents}/changelog.Debian.gz", changelog(release))
     tree.add(f"{documents}/RELEASE", release.about())
     lines = "".join(f"# {why}\n{package.name}: {tag}\n" for tag, why in [NOT_OF_DEBIAN, *package.said])

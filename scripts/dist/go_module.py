@@ -26,5 +26,6 @@ def make(release, to):
     tree.take(f"{release.folder}/beanwhile/h3.h", "h3.h")
     tree.entries.update(release.committed("LICENSE").entries)
     tree.add("RELEASE", release.about())
+    tree.add("THIRD-PARTY", release.notices.text())
     name = f"beanwhile-h3-go-{release.label}"
     write_tar(tree.below(name), f"{to}/{name}.tar.gz", release.epoch)

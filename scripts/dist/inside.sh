@@ -106,6 +106,14 @@ cpp_tests() { # VERSION
 rust_tests() {
   cd "$top"/rust/beanwhile-h3-*/ && cargo test --offline --quiet --target-dir "$top/rust/target"
 }
+# with the feature `http`, by a crate that asks for it, over Debian's crates
+debian_crates=(--config 'source.crates-io.replace-with="debian"' --config 'source.debian.directory="/usr/share/cargo/registry"')
+rust_http_tests() {
+  mkdir -p "$top/http/src" && cd "$top/http" && echo 'fn main() {}' > src/main.rs && cp -r "$top"/rust/beanwhile-h3-*/ beanwhile-h3 &&
+    printf '[package]\nname = "main"\nversion = "1.0.0"\nedition = "2021"\n' > Cargo.toml &&
+    cargo add --offline --path beanwhile-h3 --features http "${debian_crates[@]}" &&
+    cargo test --offline -p beanwhile-h3 "${debian_crates[@]}" > "$top/http/said" 2>&1 && grep -q '^test several_cookies_are_one ... ok' "$top/http/said"
+}
 python_tests() { # in the environment that the page's commands made
   "$top/python/env/bin/python" -B -W error -m unittest discover -s "$top/python-tests/tests"
 }
@@ -125,8 +133,7 @@ relinked() { # a program is linked again when the archive inside of the crate ch
 # examples/rust/quinn of the tarball, over Debian's crates: bodies are posted, and come back
 quinn_built() {
   cd "$top/tarball/examples/rust/quinn" || return 1
-  PKG_CONFIG_PATH=$top/tarball/lib/pkgconfig cargo build --offline --quiet --jobs 2 --target-dir "$top/quinn" \
-    --config 'source.crates-io.replace-with="debian"' --config 'source.debian.directory="/usr/share/cargo/registry"'
+  PKG_CONFIG_PATH=$top/tarball/lib/pkgconfig cargo build --offline --quiet --jobs 2 --target-dir "$top/quinn" "${debian_crates[@]}"
 }
 quinn_posted() {
   local program=$top/quinn/debug/h3_over_quinn server status=1
@@ -144,6 +151,13 @@ quinn_posted() {
   kill "$server"
   cat "$top/posted"
   [ "$status" -eq 0 ] && [ "$(grep -c '^stream [048]: 1000000 bytes$' "$top/posted")" -eq 3 ]
+}
+
+# examples/go of the tarball, over Debian's quic-go: an http.Client and an http.Handler talk with one another
+quic_go_version() { dpkg-query -W -f '${Version}' golang-github-lucas-clemente-quic-go-dev; }
+go_example() {
+  unset GOFLAGS GOPATH
+  PKG_CONFIG_PATH=$top/tarball/lib/pkgconfig make -C "$top/tarball/examples/go" test LIB="$top/tarball/lib" OUT="$top/go-example"
 }
 
 server() {
@@ -174,9 +188,15 @@ check "Debian packages are as they were packed" whole
 check "h3.hpp by C++17" cpp_tests 17
 check "h3.hpp by C++20" cpp_tests 20
 check "the Rust crate's own tests" rust_tests
+if ls -d /usr/share/cargo/registry/http-1.* > /dev/null 2>&1; then
+  check "the Rust crate's own tests, with the feature http" rust_http_tests
+else
+  echo "skipped $release: the feature http of the Rust crate, which stands on http 1"
+fi
 check "a Rust program is linked again when the archive changes" relinked
 check "the Go module's own tests" go_tests
 check "a Go program with the module vendored" go_vendored
+check "examples/go is built over quic-go $(quic_go_version), and its tests" go_example
 if ls -d /usr/share/cargo/registry/quinn-0.11.* > /dev/null 2>&1; then
   check "examples/rust/quinn is built" quinn_built
   [ ! -x "$top/quinn/debug/h3_over_quinn" ] || check "examples/rust/quinn: three bodies of 1 MB are posted and come back" quinn_posted

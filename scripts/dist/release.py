@@ -6,6 +6,7 @@ import subprocess
 import sys
 import tempfile
 
+from notices import Notices
 from tree import Tree
 
 ROOT = os.path.dirname(os.path.dirname(os.path.dirname(os.path.realpath(__file__))))
@@ -42,6 +43,7 @@ class Release:
             refuse("files differ from those of the commit: a release is made of a commit")
         self.epoch = int(said("git", "log", "-1", "--format=%ct"))
         self.gate = self.gate_log()
+        self.notices = Notices(ROOT)
 
     @property
     def shared(self):

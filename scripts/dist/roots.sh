@@ -7,9 +7,9 @@ cd "$(dirname "$0")/../.."
 roots=build/roots
 languages=(gcc g++ make cmake pkg-config cargo rustc golang-go python3 python3-venv python3-pip)
 declare -A others=(
-  [bookworm]="openssl libngtcp2-dev libngtcp2-crypto-gnutls-dev libgnutls28-dev ngtcp2-client"
-  [trixie]="openssl libngtcp2-dev libngtcp2-crypto-gnutls-dev libgnutls28-dev curl
-    librust-quinn-dev librust-rustls-dev librust-rustls-pemfile-dev librust-tokio-dev librust-ring-dev"
+  [bookworm]="openssl libngtcp2-dev libngtcp2-crypto-gnutls-dev libgnutls28-dev ngtcp2-client golang-github-lucas-clemente-quic-go-dev"
+  [trixie]="openssl libngtcp2-dev libngtcp2-crypto-gnutls-dev libgnutls28-dev curl golang-github-lucas-clemente-quic-go-dev
+    librust-quinn-dev librust-rustls-dev librust-rustls-pemfile-dev librust-tokio-dev librust-ring-dev librust-http-dev"
 )
 
 make_root() { # NAME

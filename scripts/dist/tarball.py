@@ -11,6 +11,7 @@ def make(release, to):
     tree = Tree(release.committed(*PAGES, *EXAMPLES).entries)
     tree.entries.update(release.installed("/", "lib").entries)
     tree.add("RELEASE", release.about())
+    tree.add("THIRD-PARTY", release.notices.text())
     if release.gate:
         tree.add("gate.log", release.gate)
     tree.add("SHA256SUMS", tree.checksums())

@@ -58,6 +58,7 @@ def make(release, to):
     tree.add(f"{info}/METADATA", metadata(release, project))
     tree.add(f"{info}/WHEEL", f"Wheel-Version: 1.0\nGenerator: beanwhile\nRoot-Is-Purelib: false\nTag: {tag}\n")
     tree.add(f"{info}/LICENSE", release.committed("LICENSE").entries["LICENSE"].content)
+    tree.add(f"{info}/THIRD-PARTY", release.notices.text())
     path = f"{info}/RECORD"
     tree.add(path, record(tree, path))
     moment = time.gmtime(release.epoch)[:6]

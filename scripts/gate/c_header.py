@@ -103,6 +103,7 @@ def rust_numbers(header):
     wrong += sorted(set(numbers(header, "h3_malformation").items()) ^ {(snake(name), at) for at, name in enumerate(known)})
     arms = re.findall(r"^            (\d+) => .*?(?:Item::Fault\(|Next::Pause\()?(Item|Pause|Fault|Error)::(\w+)", endpoint, re.M)
     pulled = {snake(("Fault" if of in ("Fault", "Error") else "") + name): int(n) for n, of, name in arms}
+    kinds.pop(OF_READS)
     wrong += sorted(set(kinds.items()) ^ set(pulled.items()))
     fields = [name for _, name in c_structs(header)["h3_config"]]
     read = [name for name, _ in sorted(re.findall(r"(\w+): numbers\[(\d+)\]", config), key=lambda it: int(it[1]))]
@@ -146,6 +147,7 @@ def snake(name):
     return "H3_" + re.sub(r"(?<!^)([A-Z])", r"_\1", name).upper()
 
 
+OF_READS = "H3_BODY_GIVEN"  # h3_read alone tells it, which no binding calls
 NAMES = {"H3_OUT_OF_MEMORY": "H3_MEMORY"}
 WITHOUT = ("h3_version", "h3_config_default", "h3_new", "h3_priority_read")  # are called where there is no endpoint
 bad = 0
@@ -176,11 +178,11 @@ def main():
     tell(not wrong, "the structs of bindings/rust have its fields", wrong)
     bound = rust_declarations()
     wrong = [(it, bound[it], declared.get(it)) for it in sorted(bound) if bound[it] != declared.get(it)]
-    tell(len(bound) == len(declared) - 5 and not wrong, "the declarations of bindings/rust are its own, but for lent bytes and pulls that make a map", wrong)
+    tell(len(bound) == len(declared) - 4 and not wrong, "the declarations of bindings/rust are its own, but for reads, bodies by length and lent bytes", wrong)
     wrong = rust_numbers(header)
     tell(not wrong, "the numbers of bindings/rust are its own", wrong)
     wrong = [*python_binding.wrong_declarations(declared), *python_binding.wrong_structs(here)]
-    tell(not wrong, "the declarations and structs of bindings/python are its own, but for lent bytes and calls that make a map", wrong)
+    tell(not wrong, "the declarations and structs of bindings/python are its own, but for reads, bodies by length and lent bytes", wrong)
     wrong = python_binding.wrong_numbers(header, numbers, here)
     tell(not wrong, "the numbers of bindings/python are its own", wrong)
     code, answers = open("crates/h3_c/src/numbers.rt").read(), numbers(header, "h3_answer")
@@ -192,8 +194,9 @@ def main():
     order = [answers.get(NAMES.get(snake(it), snake(it))) for it in re.findall(r"^    (\w+)(?:\(\w+\))?,", refusals, re.M)]
     tell(order == [*range(1, 13), 27, *range(13, 19)], "its refusals stand in the core's order, and H3_MALFORMED behind", order)
     items, kinds = open("crates/h3_c/src/items.rt").read(), numbers(header, "h3_kind")
-    used = sorted(int(n) for n in re.findall(r"(?:plain|numbered|head_shown|bytes_shown)\((\d+)", items))
-    tell(used == sorted(kinds.values()) == list(range(1, 17)), "its kinds are those of items", used)
+    used = sorted(int(n) for n in re.findall(r"(?:(?:plain|numbered|bytes_shown)\(|MessageKind::\w+ => )(\d+)", items))
+    used += [int(n) for n in re.findall(r"kind: (\d+),", open("crates/h3_c/src/connection/reading.rt").read())]
+    tell(used == sorted(kinds.values()) == list(range(1, 18)), "its kinds are those of items", used)
     for name in sorted(declared):
         short = name.replace("h3_raw_", "h3_", 1)
         calls = re.findall(r"^static inline \w+ %s\([^;{]*\{(.*?)^\}" % short, header, re.M | re.S)

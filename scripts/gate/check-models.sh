@@ -1,27 +1,21 @@
 #!/usr/bin/env bash
 # Does the model of an endpoint that was written without the definitions and the code have the program write what each NAME.stdout has? (The
-# program is held against these files by check-examples.sh, and against both models by hostile_calls.py.) Scripts with a strict side are left
-# out: that model has no rules of messages, and ends with status 3. One line 'ok ..' or 'failed ..'.
+# program is held against these files by check-examples.sh, and against both models by hostile_calls.py.) One line 'ok ..' or 'failed ..'.
 set -uo pipefail
 cd "$(dirname "$0")/../.."
 
 bad=0
 scripts=0
-strict=0
 differing=""
 for script in examples/*.talk tests/talk/*.talk; do
   written=$(mktemp)
   python3 -B scripts/gate/independent_talk.py "$script" > "$written" 2> /dev/null
-  if [ "$?" -eq 3 ]; then
-    strict=$((strict + 1))
-  else
-    scripts=$((scripts + 1))
-    cmp -s "$written" "${script%.talk}.stdout" || differing="$differing $script"
-  fi
+  scripts=$((scripts + 1))
+  cmp -s "$written" "${script%.talk}.stdout" || differing="$differing $script"
   rm -f "$written"
 done
 if [ -z "$differing" ]; then
-  echo "ok the independent model writes what $scripts scripts have; $strict ask for strict messages, of which it has no rules"
+  echo "ok the independent model writes what $scripts scripts have"
 else
   echo "failed the independent model writes something else than$differing have"
   bad=1

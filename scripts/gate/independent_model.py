@@ -174,6 +174,7 @@ class Incoming:
         self.pieces, self.ended, self.reset = [], False, None
         self.kind, self.place, self.payload = None, "head", 0
         self.section, self.count = None, 0  # a field section that waits for insertions
+        self.listed = None  # the fields of the newest one, as they came
         self.session, self.fault, self.over, self.given_up = None, None, False, False
 
     def unread(self):
@@ -632,7 +633,7 @@ class Endpoint:
 
     def judged(self, s, fields):
         """RFC 9114, 4.1, 4.2.2 and 4.3: what a field section is in its place; a list above the own limit isn't looked at but for its size"""
-        in_head = s.place == "head"
+        in_head, s.listed = s.place == "head", fields
         if total(fields) > self.section:
             statuses = [value for name, value in fields if name == b":status"]
             last = statuses[-1] if statuses else b""

@@ -2,12 +2,12 @@
 """What the program writes to a script, by scripts/gate/independent_model.py: a client and a server of that model, and the bytes that the script
 hands from one to the other.
 
-    python3 scripts/gate/independent_talk.py SCRIPT            what is written; nothing, and status 3, where a side judges strictly: the model has no
-                                                              rules of messages
+    python3 scripts/gate/independent_talk.py SCRIPT            what is written
     python3 scripts/gate/independent_talk.py DIRECTORY COUNT [FIRST SEED]
 
 makes so many scripts by chance, NAME and NAME.stdout: `rt try --steps 1 --cases DIRECTORY` in crates/h3_talk says whether the program
-writes that.
+writes that. `wide` answers scripts of the wider language (crates/h3_cases/README.md) in which no message breaks a rule and no frame is above
+a limit: the model has no rules of messages (scripts/gate/strict_messages.py asks them), and encodes each field in its one way.
 """
 import os
 import random
@@ -15,6 +15,7 @@ import re
 import sys
 
 sys.path.insert(0, os.path.dirname(os.path.abspath(__file__)))
+from hostile_calls import CODES, escaped  # noqa: E402
 from independent_model import CLIENT, GREATEST, SERVER, Endpoint, Malformed, has_pseudo, head_of  # noqa: E402
 
 SIDES = {"c": CLIENT, "s": SERVER}
@@ -23,10 +24,6 @@ CANCELLED = 0x10C
 
 class Refused(Exception):
     """a line that is no line of a script"""
-
-
-class AsksStrictly(Exception):
-    """a script with a side that judges messages strictly: the model has no rules of messages (scripts/gate/strict_messages.py asks them)"""
 
 
 def number(word, below):
@@ -117,14 +114,12 @@ def of_stream(kind, words, line):
 
 def setup(line):
     words = line.split(" ")
-    if words[0] != "config" or len(words) not in (7, 9) or any(it not in ("strict", "plain") for it in words[7:]):
+    if words[0] != "config" or len(words) != 7:
         raise Refused
     client, server = ([number(word, 2**64) for word in words[k:k + 3]] for k in (1, 4))
     for section, table, blocked in (client, server):
         if section > GREATEST or table >= 2**30 or blocked > 65535:
             raise Refused
-    if "strict" in words:
-        raise AsksStrictly
     return {CLIENT: Endpoint(CLIENT, *client), SERVER: Endpoint(SERVER, *server)}
 
 
@@ -205,10 +200,108 @@ def talk(script):
     return "".join(answered(ends, *event) + "\n" for event in events), 0
 
 
+# ---- the wider language
+
+# of h3_config_default, what a peer of the model can see
+WIDE_DEFAULT = {"max_field_section_size": 65536, "table": 4096, "blocked": 16}
+HIDDEN = {"strict", "count_acknowledgments", "encoder_table", "economical_table", "unfinished_limit", "kept_ids", "reject_requests"}
+
+
+def chosen(words):
+    limits = {"max_field_section_size": GREATEST, "table": 0, "blocked": 0}
+    for word in words:
+        name, _, value = word.partition("=")
+        if name == "default":
+            limits.update(WIDE_DEFAULT)
+        elif name not in HIDDEN:
+            limits[name] = int(value)
+    return list(limits.values())
+
+
+def unescaped(text):
+    return re.sub(rb"%([0-9A-F]{2})", lambda found: bytes([int(found[1], 16)]), text.encode())
+
+
+def wide_list(words):
+    fields = []
+    for word in words:
+        name, _, value = word.partition("=")
+        times = re.fullmatch(r"([^*]*)\*([0-9]+)", value)
+        fields.append((unescaped(name), unescaped(times[1]) * int(times[2]) if times else unescaped(value)))
+    return fields
+
+
+def named(answer):
+    """the code of a connection fault by its name"""
+    return tuple(CODES.get(word, word) if k and answer[k - 1] in ("Connection", "Closed") else word for k, word in enumerate(answer))
+
+
+def wide_value(value):
+    return f"{escaped(value[:1])}*{len(value)}" if len(value) > 100 and len(set(value)) == 1 else escaped(value)
+
+
+def wide_item(answer, fields):
+    kind = answer[0]
+    if answer[:2] == ("Fault", "Connection"):
+        return f"fault {answer[2]}"
+    if kind in ("Head", "Interim", "Trailer"):
+        return " ".join([kind.lower()] + [f"{escaped(n)}={wide_value(v)}" for n, v in fields or answer[1]])
+    return f"{kind.lower()} {escaped(answer[1])}" if kind in ("Body", "Raw") else printed(answer)
+
+
+def carried(ends, side, id):
+    """all that waits, and the reset or the end"""
+    own, other = ends[side], ends[SERVER if side == CLIENT else CLIENT]
+    if not own.has_outgoing(id):
+        return "no stream"
+    waits = own.outgoing(id)[1]
+    answer = other.deliver(id, waits)
+    if answer == ("done",):
+        own.advance(id, len(waits))
+        if own.is_reset(id):
+            answer = other.deliver_reset(id, CANCELLED)
+        elif own.is_finished(id):
+            answer = other.deliver_end(id)
+    return of_call(named(answer))
+
+
+def wide_answer(ends, line):
+    command, side, *rest = line.split(" ")
+    side = SIDES[side]
+    if command == "carry":
+        return " ".join(carried(ends, side, id) for id in ([int(rest[0])] if rest else ends[side].ids))
+    if command in ("fields", "trailers"):
+        send = ends[side].send_head if command == "fields" else ends[side].send_trailer
+        return of_call(named(send(int(rest[0]), wide_list(rest[1:]))))
+    if command == "call":  # deliver, alone
+        return of_call(named(ends[side].deliver(int(rest[1]), bytes.fromhex(rest[2].replace("-", "")))))
+    if command in ("pull", "pulls"):
+        id = int(rest[0])
+        answer = named(ends[side].pull(id))
+        came = ends[side].incoming.get(id)
+        return wide_item(answer, came.listed if command == "pulls" and came else None)
+    return answered(ends, *event_of(line))
+
+
+def wide(script):
+    """what is written to a script of the wider language"""
+    ends, out = None, []
+    for line in script.split("\n")[:-1]:
+        if line == "" or line[:1] == "#":
+            out.append(line)
+        elif line.startswith("config "):
+            client, server = (chosen(part.split()) for part in line[7:].split("/"))
+            ends = {CLIENT: Endpoint(CLIENT, *client), SERVER: Endpoint(SERVER, *server)}
+            out.append("ok ok")
+        else:
+            out.append(wide_answer(ends, line))
+    return "".join(line + "\n" for line in out)
+
+
 # ---- scripts by chance
 
 NAMES = ["x-a=1", "X-A=1", "x-a=2", "x-b=2", "accept=*/*", "server=s", "x-longer-name=and-a-value", "age=7", "cookie=", "x-c=a=b"]
-BAD_SETUPS = ["strict", "plain", "plain plain plain", "plain Plain", "strict plainly", " plain", "0 0"]
+BAD_SETUPS = ["strict", "plain plain", "", " ", "0", "0 0"]
 BAD_LINES = ["deliver c 0", "open x", "open", "head c 0 GET", "head s 0 099", "trailer s 0 X A=1", "trailer s 0 :path=/", "goaway c 4611686018427387904", "pull c", "deliver c 0 -1", "body c 0", "show c ", "end s 4611686018427387904",
              "head c 0 GET /x", "head c 0 GET https://a.b/ host=c.d", "head s 0 200 x-a", "cancel  c 0", " show c", "config 1 1 1 1 1 1", "head c 0 GET https://a.b/ :path=/"]
 
@@ -270,9 +363,7 @@ def script(seed):
         events.append(next_line(rng, ends, ids, queues))
         answered(ends, *event_of(events[-1]))
     lines += events + ["show c", "show s"]
-    if rng.random() < 0.2:
-        lines[0] += " plain plain"
-    elif rng.random() < 0.03:
+    if rng.random() < 0.03:
         lines[0] += " " + rng.choice(BAD_SETUPS)
     if rng.random() < 0.06:
         lines.insert(rng.randrange(1, len(lines)), rng.choice(BAD_LINES))
@@ -283,11 +374,7 @@ def script(seed):
 
 def main():
     if len(sys.argv) == 2:
-        try:
-            written, status = talk(open(sys.argv[1], encoding="utf8", errors="surrogateescape").read())
-        except AsksStrictly:
-            print("a side judges strictly, and the model has no rules of messages", file=sys.stderr)
-            return 3
+        written, status = talk(open(sys.argv[1], encoding="utf8", errors="surrogateescape").read())
         sys.stdout.write(written)
         return status
     directory, count, first = sys.argv[1], int(sys.argv[2]), int(sys.argv[3]) if len(sys.argv) > 3 else 1

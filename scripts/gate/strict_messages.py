@@ -80,7 +80,7 @@ def request(method):
 
 def calls(row):
     """the calls of an endpoint that receives the message, as lines that h3_cases reads, and how many of their answers come before the pulls"""
-    extended = " connect" if row.extended == "1" else ""
+    extended = " extended_connect" if row.extended == "1" else ""
     lines = [f"call new {row.side} {NO_LIMIT} 0 0 strict{extended}"]
     if row.side == "c":
         fields = "".join(f" {name.decode()}={value.decode()}" for name, value in request(row.asked))

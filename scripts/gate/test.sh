@@ -105,6 +105,7 @@ if [ "$failed" -eq 0 ]; then
   count python3 scripts/gate/failing_streams.py crates/h3_talk/out/h3_talk
   count python3 scripts/gate/hostile_calls.py crates/h3_cases/out/h3_cases
   count python3 scripts/gate/strict_messages.py crates/h3_cases/out/h3_cases
+  count python3 scripts/gate/wide_scripts.py crates/h3_cases/out/h3_cases
 fi
 
 if [ -s "$times" ]; then

@@ -1,7 +1,8 @@
 #!/usr/bin/env python3
-"""Do the pages use the standards' words? The list of terms is the table of CONTRIBUTING.md below "Words": what to say, and what not.
+"""Do the pages use the standards' words, in short sentences? The list of terms is the table of CONTRIBUTING.md below "Words": what to say, and what not.
 
-    python3 scripts/gate/words.py     for each file of COVERED 'ok FILE', or 'failed FILE:LINE ..' for each word that it may not have
+    python3 scripts/gate/words.py     for each file of COVERED 'ok FILE', or 'failed FILE:LINE ..' for each word that it may not have, and for each
+                                      sentence of more than LONGEST_SENTENCE words (of pages, not of the header)
 
 Of a page its text is read, of include/h3.h its comments: code, names between backticks and the targets of links are left out. A phrase is
 found across the end of a line too. Its first letter may be a capital one: `head` finds Head and not HEAD. The column "Fine" has phrases in
@@ -23,6 +24,7 @@ COVERED = ["README.md", "CONTRIBUTING.md", "SECURITY.md", "CHANGELOG.md", "docs/
            "compat/nghttp3/README.md", HEADER]
 LATER = {"h3_malformation"}
 LONGEST_COMMENT = 100
+LONGEST_SENTENCE = 30
 FENCE = re.compile(r"^( *)```\w*\n.*?^\1```$", re.M | re.S)
 LEFT_OUT = [FENCE, re.compile(r"<!--.*?-->", re.S), re.compile(r"``[^`]+``|`[^`]*`"), re.compile(r"\]\([^()\s]+\)")]
 
@@ -105,12 +107,33 @@ def long_comments(header):
                 yield number + 1, f"a comment on a line of {length} characters, more than {LONGEST_COMMENT}"
 
 
+def blocks(text):
+    """paragraphs, items of lists and cells of tables, each with its first line; headings and code are left out"""
+    text = re.sub(r"<!--.*?-->|^    [^\n]*$", lambda it: blank(it[0]), FENCE.sub(lambda it: blank(it[0]), text), flags=re.S | re.M)
+    for it in re.finditer(r"(?ms)^ *(?:(?:[-*]|\d+\.) )?\S.*?(?=\n *\n|\n *(?:[-*]|\d+\.) |\n[|#]|\Z)", text):
+        line = text.count("\n", 0, it.start()) + 1
+        if it[0].startswith("|"):
+            yield from ((line, cell) for cell in it[0].strip("|").split("|"))
+        elif not it[0].startswith("#"):
+            yield line, re.sub(r"^ *(?:[-*]|\d+\.) ", "", it[0])
+
+
+def long_sentences(text):
+    """sentences of more than LONGEST_SENTENCE words; one ends at a stop, and at a colon or semicolon in front of a capital letter or a quotation"""
+    for line, block in blocks(text):
+        plain = re.sub(r"\]\([^()\s]+\)", "]", block)
+        for sentence in re.split(r"(?<=[.?!])[)\"]?\*{0,2}\s+|(?<=[:;])\s+(?=[A-Z0-9`*\[\"(])", plain):
+            count = len(re.findall(r"\S*\w\S*", sentence))
+            if count > LONGEST_SENTENCE:
+                yield line, f"a sentence of {count} words, more than {LONGEST_SENTENCE}: {' '.join(sentence.split()[:8])} .."
+
+
 def main():
     table, bad = terms(read(LIST)), 0
     for file in COVERED:
         header = read(file) if file == HEADER else ""
         text = header_text(header) if header else page_text(file)
-        wrong = sorted([*wrong_words(text, table), *(long_comments(header) if header else ())])
+        wrong = sorted([*wrong_words(text, table), *(long_comments(header) if header else long_sentences(read(file)))])
         for line, why in wrong:
             print(f"failed {file}:{line}: {why}")
         if not wrong:

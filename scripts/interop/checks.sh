@@ -65,7 +65,7 @@ make_served() {
   cert=$work/cert.pem
   key=$work/key.pem
   build openssl req -x509 -newkey ec -pkeyopt ec_paramgen_curve:P-256 -nodes -keyout "$key" -out "$cert" -days 13 -subj /CN=localhost \
-    -addext 'subjectAltName=DNS:localhost,IP:127.0.0.1'
+    -addext 'subjectAltName=DNS:localhost,IP:127.0.0.1,IP:::1'
   build python3 scripts/interop/folder.py "$folder"
   big=$folder/big.bin
   echo "10000000 $(hash_of "$big")" > "$work/posted"
@@ -98,3 +98,12 @@ stop() {
 # relay PORT TO: a way to a server on which packets are lost, and come in another order
 relay() { start "$1" "relay$1.log" python3 scripts/interop/relay.py "$1" "$2"; }
 url() { echo "https://localhost:$1$2"; }
+chromium_sees() { # PORT, PATH of a page: what it says in the end stands in $work/seen
+  local spki
+  spki=$(openssl x509 -in "$cert" -pubkey -noout | openssl pkey -pubin -outform der | openssl dgst -sha256 -binary | base64)
+  within 60 env HOME="$work" chromium --headless=new --no-sandbox --user-data-dir="$work/profile$1" --origin-to-force-quic-on="localhost:$1" \
+    --ignore-certificate-errors-spki-list="$spki" --host-resolver-rules="MAP * 127.0.0.1" --disable-background-networking \
+    --disable-gpu --virtual-time-budget=20000 --dump-dom "$(url "$1" "$2")" > "$work/page" || return 1
+  sed -n '/id="seen"/,/<\/pre>/p' "$work/page" > "$work/seen"
+  cat "$work/seen" > "$work/log"
+}

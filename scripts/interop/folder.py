@@ -19,7 +19,7 @@ def png(width, height):
 def main():
     folder = pathlib.Path(sys.argv[1])
     (folder / "small").mkdir(parents=True)
-    for name, kept in (("page.html", "index.html"), ("session.html", "session.html")):
+    for name, kept in (("page.html", "index.html"), ("session.html", "session.html"), ("sections.html", "sections.html")):
         shutil.copy(pathlib.Path(__file__).parent / name, folder / kept)
     (folder / "image.png").write_bytes(png(64, 48))
     (folder / "hello.txt").write_text("hello\n")

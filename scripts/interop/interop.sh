@@ -33,6 +33,9 @@ if bash scripts/c/lib.sh && make --no-print-directory -s -C bench out/interop_ex
   count python3 scripts/gate/strict_messages.py --peer bench/out/interop_strict
   count env LIB="$PWD/build/c" bash scripts/interop/interop_quic.sh
   count env LIB="$PWD/build/c" bash scripts/interop/interop_sections.sh
+  count env LIB="$PWD/build/c" bash scripts/interop/interop_bindings.sh
+  count env LIB="$PWD/build/c" bash scripts/interop/interop_programs.sh
+  count env LIB="$PWD/build/c" bash scripts/interop/interop_proxy.sh
   count env LIB="$PWD/build/c" bash scripts/interop/interop_peers.sh
   count env LIB="$PWD/build/c" bash scripts/interop/interop_compat.sh
 else

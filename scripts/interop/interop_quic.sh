@@ -75,15 +75,6 @@ gtls_many() {
   options=()
   gtls "$1" "${urls[@]}" && diff -rq "$work/down" "$folder/small" >> "$work/log"
 }
-chromium_sees() { # PORT, PATH of a page: what it says in the end stands in $work/seen
-  local spki
-  spki=$(openssl x509 -in "$cert" -pubkey -noout | openssl pkey -pubin -outform der | openssl dgst -sha256 -binary | base64)
-  within 60 env HOME="$work" chromium --headless=new --no-sandbox --user-data-dir="$work/profile$1" --origin-to-force-quic-on="localhost:$1" \
-    --ignore-certificate-errors-spki-list="$spki" --host-resolver-rules="MAP * 127.0.0.1" --disable-background-networking \
-    --disable-gpu --virtual-time-budget=20000 --dump-dom "$(url "$1" "$2")" > "$work/page" || return 1
-  sed -n '/id="seen"/,/<\/pre>/p' "$work/page" > "$work/seen"
-  cat "$work/seen" > "$work/log"
-}
 browse() { # PORT
   chromium_sees "$1" / && grep -q "image 64 x 48" "$work/seen" && grep -q "^post 1000000 $(hash_of "$folder/letters.txt")$" "$work/seen" &&
     grep -q "^small 100$" "$work/seen" && grep -q "^protocols h3 of " "$work/seen"

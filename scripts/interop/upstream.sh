@@ -4,6 +4,7 @@
 # upstream.sh there: is the root there, with the Rust crate?
 # upstream.sh peers: is it there, with the peers?
 # upstream.sh curl: is it there, with what runs over the drop-in for nghttp3?
+# upstream.sh example FOLDER: compiles examples/rust/quinn there, over the library of FOLDER: /root/example/target/release/h3_over_quinn of the root
 # upstream.sh quinn: compiles scripts/interop/quinn there, h3 over quinn (a minute or four, once): /root/quinn/target/release/quinn_peer of the root
 # upstream.sh: compares what h3 answers with what we do, over the same bytes (scripts/interop/upstream.py): lines 'ok NAME' and 'failed NAME'.
 set -euo pipefail
@@ -50,6 +51,19 @@ CONFIG
   chroot "$root" sh -c "cd /root/$1 && cargo build --quiet --release --offline --jobs 2" >&2
 }
 
+# compile_example FOLDER: the same of examples/rust/quinn, with the crate beanwhile-h3 and the archives of FOLDER inside of it, as a release has them
+compile_example() {
+  local at=$root/root/example
+  local native=$at/bindings/rust/native/x86_64-unknown-linux-gnu
+  rm -rf "$at/bindings" "$at/examples/rust/quinn/src"
+  mkdir -p "$at/examples/rust" "$native"
+  cp -r bindings/rust "$at/bindings"
+  cp -r examples/rust/quinn "$at/examples/rust"
+  cp "$1"/libbeanwhile_h3.a "$1"/libbeanwhile_h3_shim.a "$native"
+  chroot "$root" sh -c "cd /root/example/examples/rust/quinn && cargo build --quiet --release --offline --jobs 2 --target-dir /root/example/target \
+    --config 'source.crates-io.replace-with=\"debian\"' --config 'source.debian.directory=\"/usr/share/cargo/registry\"'" >&2
+}
+
 # our program: the proved one, or, where a source is newer, the same built without proof (rt try), some minutes
 ours() {
   local program=crates/h3_cases/out/h3_cases
@@ -66,6 +80,7 @@ case ${1:-} in
   peers) has_peers ;;
   curl) has_curl ;;
   quinn) compile quinn ;;
+  example) compile_example "$2" ;;
   *)
     compile upstream
     python3 scripts/interop/upstream.py "chroot $root /root/upstream/target/release/upstream" "${OURS:-$(ours)}"

@@ -1,0 +1,273 @@
+#!/usr/bin/env bash
+# The examples in C as an operator runs them: beside clients that cost more than others, at their end, and given what they do not take. Only loopback
+# addresses. Prints 'ok NAME' or 'failed NAME' for each check. It makes the library (`make lib`), or takes it from the folder LIB.
+set -uo pipefail
+cd "$(dirname "$0")/../.."
+lib=${LIB:-$PWD/build/c}
+. scripts/interop/checks.sh
+
+if ! bash scripts/dev/packages.sh examples-c examples-go; then
+  bad "packages"
+  exit 1
+fi
+export PKG_CONFIG_PATH=$lib GO111MODULE=off GOPATH=/usr/share/gocode GOCACHE=${GOCACHE:-$work/go}
+SANITIZERS="-O1 -g -fsanitize=address,undefined -fno-sanitize-recover=undefined"
+[ -n "${LIB:-}" ] || build make -s lib
+build make -s -C examples/c LIB="$lib" OUT="$work/checked" CFLAGS="$SANITIZERS"
+build make -s -C examples/c LIB="$lib" OUT="$work/plain"
+build go build -o "$work/peer" scripts/interop/peer.go
+build go build -o "$work/hostile" scripts/interop/hostile.go
+with_quic() { # PROGRAM: of scripts/interop, over examples/c
+  # shellcheck disable=SC2046
+  gcc -O1 -g -std=c11 -D_GNU_SOURCE -Wall -Wextra -Werror -Iexamples/c -o "$work/$1" "scripts/interop/$1.c" examples/c/quic*.c examples/c/timers.c \
+    examples/c/tls.c examples/c/buffer.c $(pkg-config --cflags --libs libngtcp2 libngtcp2_crypto_gnutls gnutls)
+}
+build with_quic settings_first
+build with_quic parts
+make_served
+ours=("$work/checked/fetch" --address 127.0.0.1 --trust "$cert")
+serve=$work/checked/serve
+hostile=("$work/hostile" "$cert")
+mapfile -t ports < <(python3 scripts/interop/ports.py 16)
+
+serving() { # PORT, LOG, options of serve; `last` is its process, and not that of `timeout`
+  local port=$1 log=$2 timed
+  shift 2
+  start "$port" "$log" "$@" 127.0.0.1 "$port" "$cert" "$key" "$folder"
+  timed=$last
+  read -r last < "/proc/$timed/task/$timed/children"
+}
+says() { # TEXT, COMMAND..: the command ends well and prints this alone
+  local text=$1
+  shift
+  works "$@" && [ "$(cat "$work/got")" = "$text" ]
+}
+ended() { # PROCESS, SECONDS: is it gone by then?
+  timeout "$2" tail --pid="$1" -f /dev/null
+}
+is_silent() { ! grep -qE "Sanitizer|runtime error" "$work/$1"; }
+kib() { sed -n "s/^$2:[^0-9]*\([0-9]*\) kB/\1/p" "/proc/$1/status"; }
+used() { echo $(($(cut -d' ' -f14,15 "/proc/$1/stat" | tr ' ' '+'))); }
+
+# ---- what is given by hand ----
+
+misused() { # STATUS, TEXT, COMMAND..
+  local status=$1 text=$2
+  shift 2
+  within 10 "$@" > "$work/got"
+  [ $? -eq "$status" ] && grep -q -- "$text" "$work/log"
+}
+check "buffers and timers" works "$work/parts"
+check "serve: port 99999" misused 1 "not a port" "$serve" 127.0.0.1 99999 "$cert" "$key" "$folder"
+check "serve: --requests -5" misused 2 "not a number: -5" "$serve" --requests -5 127.0.0.1 "${ports[0]}" "$cert" "$key" "$folder"
+check "serve: a certificate that is not there" misused 1 "$work/none.pem" "$serve" 127.0.0.1 "${ports[0]}" "$work/none.pem" "$key" "$folder"
+any_port() {
+  "$serve" "$1" 0 "$cert" "$key" "$folder" > "$work/any.log" 2>&1 &
+  local server=$! port
+  for _ in $(seq 50); do
+    port=$(sed -n 's/.*port \([0-9]*\)$/\1/p' "$work/any.log")
+    if [ -n "$port" ]; then break; fi
+    sleep 0.1
+  done
+  gives "$folder/hello.txt" "$work/checked/fetch" --trust "$cert" "https://$2:$port/hello.txt"
+  local status=$?
+  kill -TERM "$server" && wait "$server" && [ "$port" != 0 ] && [ $status -eq 0 ]
+}
+check "serve: port 0 is said as the port that it is" any_port 127.0.0.1 127.0.0.1
+if [ -e /proc/net/if_inet6 ] && grep -q "^0*1 " /proc/net/if_inet6; then check "serve and fetch: IPv6" any_port ::1 "[::1]"; else echo "skipped IPv6"; fi
+check "fetch: nobody listens" timeout 3 bash -c "! '$work/checked/fetch' --address 127.0.0.1 --trust '$cert' https://localhost:${ports[0]}/ 2>&1 | grep -v 'nobody listens'"
+
+# ---- answers ----
+
+serving "${ports[1]}" serve.log "$serve"
+server=$last
+answer_has() { # STATUS, FIELD (a pattern), COMMAND..
+  local status=$1 field=$2
+  shift 2
+  within 20 "$@" > "$work/got"
+  grep -q "^:status: $status" "$work/log" && grep -qE "$field" "$work/log"
+}
+DATE="^date: [A-Z][a-z]{2}, [0-9]{2} [A-Z][a-z]{2} [0-9]{4} [0-9:]{8} GMT$"
+check "serve: a file has a date" answer_has 200 "$DATE" "${ours[@]}" --fields "$(url "${ports[1]}" /hello.txt)"
+check "serve: 404 has a date" answer_has 404 "$DATE" "${ours[@]}" --fields "$(url "${ports[1]}" /none)"
+check "serve: 405 says what is allowed" answer_has 405 "^allow: GET, HEAD, POST$" "${ours[@]}" --fields --method PUT "$(url "${ports[1]}" /hello.txt)"
+check "serve: a path of 5,000 bytes gives 414" refuses "status 414" "${ours[@]}" "$(url "${ports[1]}" "/$(printf 'a%.0s' $(seq 5000))")"
+with_field() { # FIELD of the request, STATUS, FIELD of the answer, PORT, PATH
+  answer_has "$2" "$3" "${ours[@]}" --fields --field "$1" "$(url "$4" "$5")"
+}
+check "serve: a range" with_field "range:bytes=0-3" 206 "^content-range: bytes 0-3/6$" "${ports[1]}" /hello.txt
+check "serve: the last bytes" with_field "range:bytes=-2" 206 "^content-range: bytes 4-5/6$" "${ports[1]}" /hello.txt
+check "serve: a range past the end gives 416" with_field "range:bytes=6-" 416 "^content-range: bytes \*/6$" "${ports[1]}" /hello.txt
+check "serve: two ranges give the file" with_field "range:bytes=0-0,2-3" 200 "^content-length: 6$" "${ports[1]}" /hello.txt
+tail -c +101 "$big" | head -c 100000 > "$work/part"
+check "serve: the bytes of a range" gives "$work/part" "${ours[@]}" --field "range:bytes=100-100099" "$(url "${ports[1]}" /big.bin)"
+not_changed() { # PORT: by tag and by date
+  local tag date
+  answer_has 200 "^etag: " "${ours[@]}" --fields "$(url "$1" /hello.txt)" || return 1
+  tag=$(sed -n 's/^etag: //p' "$work/log")
+  date=$(sed -n 's/^last-modified: //p' "$work/log")
+  : > "$work/log"
+  with_field "if-none-match:$tag" 304 "^etag: $tag$" "$1" /hello.txt || return 1
+  : > "$work/log"
+  with_field "if-modified-since:$date" 304 "^etag: $tag$" "$1" /hello.txt || return 1
+  : > "$work/log"
+  with_field "if-modified-since:Sat, 01 Jan 2000 00:00:00 GMT" 200 "^etag: $tag$" "$1" /hello.txt
+}
+check "serve: 304 by tag and by date" not_changed "${ports[1]}"
+check "serve: 200 unidirectional streams that end" says 200 "${hostile[@]}" "127.0.0.1:${ports[1]}" streams 200
+tiny() { works "${hostile[@]}" "127.0.0.1:$1" tiny "$2" && [ "$(cat "$work/got")" -ge 10000000 ]; }
+check "serve: 10 MB in a window of 20,000 bytes" tiny "${ports[1]}" 20000
+start "${ports[2]}" other.log "$work/peer" serve "127.0.0.1:${ports[2]}" "$cert" "$key" "$folder"
+taken_with_token() { works "${hostile[@]}" "127.0.0.1:$1" token "127.0.0.1:$2" && grep -q "^taken$" "$work/got" && ! grep -q "tokens: 0" "$work/got"; }
+check "serve: a client with another server's token" taken_with_token "${ports[1]}" "${ports[2]}"
+
+# ---- what an operator asks for ----
+
+check "serve --version" bash -c "'$serve' --version | grep -q '^serve of Beanwhile [0-9]'"
+check "serve --help" bash -c "'$serve' --help | grep -q -- '--drain=SECONDS'"
+is_ready() { # PORT: the service manager is told
+  python3 - "$work/notify" "$serve" 127.0.0.1 "$1" "$cert" "$key" "$folder" > "$work/got" 2>> "$work/log" <<'PYTHON'
+import os, socket, subprocess, sys
+manager = socket.socket(socket.AF_UNIX, socket.SOCK_DGRAM)
+manager.bind(sys.argv[1])
+manager.settimeout(10)
+server = subprocess.Popen(sys.argv[2:], env={**os.environ, "NOTIFY_SOCKET": sys.argv[1]}, stdout=subprocess.DEVNULL)
+said = [manager.recv(100)]
+server.terminate()
+said.append(manager.recv(100))
+assert said == [b"READY=1", b"STOPPING=1"] and server.wait(10) == 0, said
+PYTHON
+}
+check "serve: READY and STOPPING" is_ready "${ports[8]}"
+certificate() { # NAME, FILE, FILE of the key
+  openssl req -x509 -newkey ec -pkeyopt ec_paramgen_curve:P-256 -nodes -keyout "$3" -out "$2" -days 13 -subj "/CN=$1" \
+    -addext "subjectAltName=DNS:$1" 2>> "$work/log"
+}
+build certificate other.example "$work/other.pem" "$work/other_key.pem"
+serving "${ports[9]}" operated.log "$serve" --log "$work/access.log" --certificate "$work/other.pem,$work/other_key.pem"
+operated=$last
+shows() { gives "$folder/hello.txt" "$work/checked/fetch" --address 127.0.0.1 --trust "$2" "https://$3:$1/hello.txt"; }
+check "serve: a second certificate, by its name" shows "${ports[9]}" "$work/other.pem" other.example
+reloaded() { # PORT, PROCESS: a download goes on, and new clients see the new certificate
+  within 60 "$work/peer" slow "$cert" 5000000 "$(url "$1" /big.bin)" > "$work/slow" &
+  local client=$!
+  sleep 0.5
+  certificate new.example "$work/other.pem" "$work/other_key.pem"
+  mv "$work/access.log" "$work/access.1"
+  kill -HUP "$2"
+  sleep 1
+  shows "$1" "$work/other.pem" new.example && shows "$1" "$cert" localhost || return 1
+  wait "$client" && cmp -s "$work/slow" "$big"
+}
+check "serve: SIGHUP shows new certificates, and a download goes on" reloaded "${ports[9]}" "$operated"
+LINE='^[0-9TZ:-]{20} 127\.0\.0\.1:[0-9]+ "GET /hello\.txt" 200 6 [0-9]+ ms -$'
+check "serve: a line for each request" grep -qE "$LINE" "$work/access.log"
+check "serve: the log before SIGHUP stays" grep -qE "$LINE" "$work/access.1"
+check "serve: a path is no line of its own" bash -c "'${ours[0]}' --address 127.0.0.1 --trust '$cert' '$(url "${ports[9]}" '/x%0a"y')' 2> /dev/null; sleep 0.5; grep -q '\"GET /x%0a%22y\" 404' '$work/access.log'"
+counts() { # PROCESS
+  kill -USR1 "$1"
+  sleep 0.5
+  grep -E "^connections [0-9]+ open, [0-9]+ taken, 0 refused" "$work/operated.log" | tee -a "$work/log" | grep -q "4xx 1"
+}
+check "serve: counts at SIGUSR1" counts "$operated"
+kill -TERM "$operated"
+check "serve: it ends, with a log" ended "$operated" 40
+
+# ---- limits ----
+
+few_lines() { # PORT, LOG
+  works "$work/peer" resets "$cert" 10000 "localhost:$1" && [ "$(wc -l < "$work/$2")" -lt 400 ] && grep -q "more lines" "$work/$2"
+}
+check "serve: few lines for 10,000 resets" few_lines "${ports[1]}" serve.log
+closes_files() { # PORT, PROCESS
+  works "${ours[@]}" "$(url "$1" /big.bin)" || return 1
+  sleep 3
+  ! ls -l "/proc/$2/fd" | grep -q big.bin
+}
+check "serve: no file stays open" closes_files "${ports[1]}" "$server"
+serving "${ports[3]}" limited.log "$serve" --connections 2 --handshakes 0
+check "serve --handshakes 0: Retry, and then 10 MB" gives "$big" "${ours[@]}" "$(url "${ports[3]}" /big.bin)"
+refused_third() { # PORT
+  "${hostile[@]}" "127.0.0.1:$1" pings 5 > "$work/one" &
+  "${hostile[@]}" "127.0.0.1:$1" pings 5 > "$work/two" &
+  sleep 2
+  says "refused: CONNECTION_REFUSED" "${hostile[@]}" "127.0.0.1:$1" first
+  local status=$?
+  wait $(jobs -p | tail -n 2) 2> /dev/null
+  return $status
+}
+check "serve --connections 2: the third is refused" refused_third "${ports[3]}"
+serving "${ports[4]}" plain.log "$work/plain/serve"
+plain=$last
+no_credit() { # PORT, PROCESS
+  works "$work/peer" fetch "$cert" "$(url "$1" /big.bin)" || return 1
+  local before
+  before=$(kib "$2" VmHWM)
+  works "${hostile[@]}" "127.0.0.1:$1" window 4 || return 1
+  echo "$(($(kib "$2" VmHWM) - before)) KiB" | tee "$work/log"
+  [ $(($(kib "$2" VmHWM) - before)) -le 2048 ]
+}
+check "serve: 100 requests of a reader that grants no credit, within 2 MiB" no_credit "${ports[4]}" "$plain"
+beside_idle() { # PORT, PROCESS
+  mkfifo "$work/idle"
+  "${hostile[@]}" "127.0.0.1:$1" idle 1000 < "$work/idle" > "$work/there" &
+  local client=$! before status
+  exec 4> "$work/idle"
+  for _ in $(seq 300); do
+    if grep -q there "$work/there"; then break; fi
+    sleep 0.1
+  done
+  before=$(used "$2")
+  works "${ours[@]}" --count 500 "$(url "$1" /hello.txt)"
+  status=$?
+  echo "$(($(used "$2") - before)) hundredths of a second" | tee "$work/log"
+  [ $(($(used "$2") - before)) -le 30 ] || status=1
+  exec 4>&-
+  wait "$client"
+  return $status
+}
+check "serve: 500 requests beside 1,000 idle connections, within 0.3 s of processor" beside_idle "${ports[4]}" "$plain"
+settings_come_first() { # PORT, PORT of a narrow way to it
+  for _ in 1 2 3 4 5; do
+    works "$work/settings_first" "$2" "$cert" || return 1
+    cat "$work/got" >> "$work/log"
+    [ "$(cat "$work/got")" -le 1500 ] || return 1
+  done
+}
+start "${ports[5]}" narrow.log python3 scripts/interop/narrow.py "${ports[5]}" "${ports[4]}" 300000
+check "serve: SETTINGS come before the bodies, over 300 KB a second" settings_come_first "${ports[4]}" "${ports[5]}"
+
+# ---- the end ----
+
+ends_beside_pings() { # PORT, PROCESS
+  "${hostile[@]}" "127.0.0.1:$1" pings 30 > "$work/pings" &
+  local client=$!
+  for _ in $(seq 50); do
+    if grep -q there "$work/pings"; then break; fi
+    sleep 0.1
+  done
+  kill -TERM "$2"
+  sleep 0.5
+  says "refused: CONNECTION_REFUSED" "${hostile[@]}" "127.0.0.1:$1" first || return 1
+  wait "$client"
+  cp "$work/pings" "$work/log"
+  grep -q "Application error 0x100" "$work/pings" && ended "$2" 12
+}
+serving "${ports[6]}" pings.log "$serve"
+check "serve: SIGTERM beside a client that pings: the end within 12 s, new clients are refused" ends_beside_pings "${ports[6]}" "$last"
+ends_in_time() { # PORT, PROCESS
+  within 30 "$work/peer" slow "$cert" 100000 "$(url "$1" /big.bin)" > "$work/got" &
+  local client=$!
+  sleep 1
+  kill -TERM "$2"
+  ended "$2" 4
+  local status=$?
+  wait "$client"
+  return $status
+}
+serving "${ports[7]}" drain.log "$serve" --drain 2
+check "serve --drain 2: the end within 4 s beside a slow reader" ends_in_time "${ports[7]}" "$last"
+kill -TERM "$server" 
+check "serve: it ends" ended "$server" 40
+for log in serve.log operated.log limited.log pings.log drain.log; do check "serve: no leak and no error of memory, $log" is_silent "$log"; done
+[ "$failed" -eq 0 ]

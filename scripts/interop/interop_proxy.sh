@@ -1,0 +1,136 @@
+#!/usr/bin/env bash
+# The proxy of examples/c between clients and servers: ours, gtlsclient and gtlsserver of Debian 12, and quic-go. Only loopback addresses. Prints
+# 'ok NAME' or 'failed NAME' for each check. It makes the library (`make lib`), or takes it from the folder LIB.
+set -uo pipefail
+cd "$(dirname "$0")/../.."
+lib=${LIB:-$PWD/build/c}
+. scripts/interop/checks.sh
+
+if ! bash scripts/dev/packages.sh examples-c examples-go proxy; then
+  bad "packages"
+  exit 1
+fi
+export PKG_CONFIG_PATH=$lib GO111MODULE=off GOPATH=/usr/share/gocode GOCACHE=${GOCACHE:-$work/go}
+SANITIZERS="-O1 -g -fsanitize=address,undefined -fno-sanitize-recover=undefined"
+[ -n "${LIB:-}" ] || build make -s lib
+build make -s -C examples/c LIB="$lib" OUT="$work/checked" CFLAGS="$SANITIZERS"
+build make -s -C examples/c LIB="$lib" OUT="$work/plain"
+build go build -o "$work/peer" scripts/interop/peer.go
+build go build -o "$work/hostile" scripts/interop/hostile.go
+with_http3() { # PROGRAM: of scripts/interop, over examples/c
+  # shellcheck disable=SC2046,SC2086
+  gcc $SANITIZERS -std=c11 -D_GNU_SOURCE -Wall -Wextra -Werror -Iexamples/c -o "$work/$1" "scripts/interop/$1.c" examples/c/http3*.c examples/c/quic*.c \
+    examples/c/{timers,tls,buffer,ending,report}.c $(pkg-config --cflags --libs beanwhile-h3 libngtcp2 libngtcp2_crypto_gnutls gnutls)
+}
+build with_http3 origin
+make_served
+ours=("$work/checked/fetch" --address 127.0.0.1 --trust "$cert")
+mapfile -t ports < <(python3 scripts/interop/ports.py 12)
+
+program() { # PORT, LOG, COMMAND..: `last` is its process, and not that of `timeout`
+  local timed
+  start "$@"
+  timed=$last
+  read -r last < "/proc/$timed/task/$timed/children"
+}
+proxy() { # PORT, LOG, PORT of the server, options
+  local port=$1 log=$2 to=$3
+  shift 3
+  program "$port" "$log" "$work/checked/proxy" --trust "$cert" "$@" 127.0.0.1 "$port" "$cert" "$key" 127.0.0.1 "$to" localhost
+}
+is_silent() { ! grep -qE "Sanitizer|runtime error" "$work/$1"; }
+kib() { sed -n "s/^$2:[^0-9]*\([0-9]*\) kB/\1/p" "/proc/$1/status"; }
+says() { # TEXT, COMMAND..
+  local text=$1
+  shift
+  works "$@" && [ "$(cat "$work/got")" = "$text" ]
+}
+has() { # PATTERN, COMMAND..: standard error has it
+  local pattern=$1
+  shift
+  within 60 "$@" > "$work/got"
+  grep -qE -- "$pattern" "$work/log"
+}
+
+# ---- bodies, between each client and each server ----
+
+program "${ports[0]}" serve.log "$work/checked/serve" 127.0.0.1 "${ports[0]}" "$cert" "$key" "$folder"
+program "${ports[1]}" gtlsserver.log gtlsserver -q -d "$folder" 127.0.0.1 "${ports[1]}" "$key" "$cert"
+program "${ports[2]}" quic-go.log "$work/peer" serve "127.0.0.1:${ports[2]}" "$cert" "$key" "$folder"
+gtls_file() {
+  rm -rf "$work/down"
+  mkdir "$work/down"
+  within 60 gtlsclient -q --exit-on-all-streams-close --download="$work/down" 127.0.0.1 "$1" "$(url "$1" /big.bin)" > /dev/null
+  cmp -s "$work/down/big.bin" "$big"
+}
+through() { # the server's name, PORT of the proxy, whether it takes a POST
+  check "proxy to $1, fetch: 10 MB" gives "$big" "${ours[@]}" "$(url "$2" /big.bin)"
+  check "proxy to $1, gtlsclient: 10 MB" gtls_file "$2"
+  check "proxy to $1, quic-go: 10 MB" gives "$big" "$work/peer" fetch "$cert" "$(url "$2" /big.bin)"
+  check "proxy to $1, fetch: 1,000 requests on one connection" gives "$work/thousand" "${ours[@]}" --count 1000 --parallel 100 "$(url "$2" /hello.txt)"
+  check "proxy to $1, fetch: no such file" refuses "status 404" "${ours[@]}" "$(url "$2" /none)"
+  [ "$3" = yes ] || return
+  check "proxy to $1, fetch: POST of 10 MB" gives "$work/posted" "${ours[@]}" --post "$big" "$(url "$2" /answer)"
+  check "proxy to $1, quic-go: POST of 10 MB" gives "$work/posted" "$work/peer" post "$cert" "$big" "$(url "$2" /answer)"
+}
+cat "$big" "$big" > "$work/twice"
+proxy "${ports[3]}" proxy.log "${ports[0]}"
+first=$last
+through serve "${ports[3]}" yes
+check "proxy, fetch: a response that is given up" gives "$work/twice" "${ours[@]}" --count 3 --cancel 100000 "$(url "${ports[3]}" /big.bin)"
+check "proxy, quic-go: a slow reader, 2 MB a second" gives "$big" "$work/peer" slow "$cert" 2000000 "$(url "${ports[3]}" /big.bin)"
+check "proxy, quic-go: 10,000 resets" works "$work/peer" resets "$cert" 10000 "localhost:${ports[3]}"
+proxy "${ports[4]}" proxy_gtls.log "${ports[1]}"
+through gtlsserver "${ports[4]}" no
+proxy "${ports[5]}" proxy_go.log "${ports[2]}"
+through quic-go "${ports[5]}" yes
+
+# ---- what is passed on, piece by piece ----
+
+program "${ports[6]}" origin.log "$work/origin" 127.0.0.1 "${ports[6]}" "$cert" "$key"
+proxy "${ports[7]}" proxy_origin.log "${ports[6]}" --timeout 2
+second=$last
+to=$(url "${ports[7]}" "")
+check "proxy: an interim response" has "^:status: 103" "${ours[@]}" --fields "$to/all"
+check "proxy: its fields" has "^link: </style.css>; rel=preload" "${ours[@]}" --fields "$to/all"
+check "proxy: a trailer section of the response" has "^x-count: 1" "${ours[@]}" --fields "$to/all"
+check "proxy: via" has "^via: 3 h3-proxy-" "${ours[@]}" --fields "$to/all"
+echo body > "$work/body"
+check "proxy: the body between them" gives "$work/body" "${ours[@]}" "$to/all"
+check "proxy: 10 MB there and back" gives "$big" "${ours[@]}" --post "$big" "$to/echo"
+check "proxy: a trailer section of the request" has "^x-trailer: last" "${ours[@]}" --fields --post "$folder/hello.txt" --trailer last "$to/echo"
+check "proxy: a reset of the server's, with its code" refuses "reset the request with code 263" "${ours[@]}" "$to/reset"
+check "proxy: a client's reset reaches the server" works "${ours[@]}" --cancel 5000000 --post "$big" "$to/echo"
+sleep 0.5
+check "proxy: with its code" grep -q "H3_REQUEST_CANCELLED" "$work/origin.log"
+check "proxy: a rejected request goes out again" says again "${ours[@]}" "$to/reject"
+check "proxy: a request whose connection was lost goes out again" says again "${ours[@]}" "$to/lost"
+check "proxy: an early answer" says early "${ours[@]}" --post "$big" "$to/early"
+check "proxy: a silent server gives 504" refuses "status 504" "${ours[@]}" "$to/silent"
+proxy "${ports[8]}" proxy_none.log "${ports[9]}"
+third=$last
+check "proxy: no server gives 503" refuses "status 503" "${ours[@]}" "$(url "${ports[8]}" /)"
+
+# ---- a reader that reads nothing ----
+
+program "${ports[10]}" proxy_plain.log "$work/plain/proxy" --trust "$cert" --drain 5 127.0.0.1 "${ports[10]}" "$cert" "$key" 127.0.0.1 "${ports[0]}" localhost
+plain=$last
+held() { # PORT, PROCESS: 100 requests whose client reads nothing, and another client beside it
+  works "${ours[@]}" "$(url "$1" /big.bin)" || return 1
+  local before
+  before=$(kib "$2" VmHWM)
+  "$work/hostile" "$cert" "127.0.0.1:$1" window 8 > "$work/there" &
+  sleep 3
+  gives "$big" "${ours[@]}" "$(url "$1" /big.bin)" || return 1
+  wait $!
+  echo "$(($(kib "$2" VmHWM) - before)) KiB" | tee "$work/log"
+  [ $(($(kib "$2" VmHWM) - before)) -le 20480 ]
+}
+check "proxy: 100 requests of a reader that grants no credit: within 20 MiB, and another client goes on" held "${ports[10]}" "$plain"
+
+# ---- the end ----
+
+kill -TERM "$first" "$second" "$third" "$plain"
+for process in $first $second $third $plain; do check "proxy: it ends" timeout 40 tail --pid="$process" -f /dev/null; done
+for log in proxy proxy_gtls proxy_go proxy_origin proxy_none origin serve; do check "proxy: no leak and no error of memory, $log" is_silent "$log.log"; done
+[ "$failed" -eq 0 ]

@@ -1,0 +1,137 @@
+/* origin ADDRESS PORT CERTIFICATE KEY: a server for a proxy's checks, which does on each path one thing that a proxy has to pass on.
+ *
+ *   /all     an interim response, fields, a body and a trailer section
+ *   /echo    the body that comes, at the reader's pace, and the trailer section that came
+ *   /reset   a part of a body, then a reset with H3_EXCESSIVE_LOAD
+ *   /reject  the first time H3_REQUEST_REJECTED, then a body
+ *   /lost    the first time the connection is closed, then a body
+ *   /silent  nothing
+ *   /early   an answer, before the request's body came */
+#include "ending.h"
+#include "http3.h"
+#include "report.h"
+#include <stdio.h>
+#include <stdlib.h>
+#include <string.h>
+
+typedef struct {
+  bool is_echo, is_reset;
+  uint64_t begun_at; /* of /reset: when its part of a body was given */
+  http3_list *trailer;
+} work;
+
+static http3_request *to_reset; /* the one of /reset, until it is */
+
+static void answer(http3_request *request, const char *text) {
+  const http3_field fields[] = {{":status", "200"}, {"x-origin", "yes"}};
+  if (http3_head_of(request, fields, 2) && http3_body(request, (const uint8_t *)text, strlen(text))) http3_finish(request);
+}
+
+static void answer_all(http3_request *request) {
+  const http3_field early[] = {{":status", "103"}, {"link", "</style.css>; rel=preload"}}, last = {"x-count", "1"};
+  http3_list *interim = http3_list_of(early, 2), *trailer = http3_list_of(&last, 1);
+  const http3_field fields[] = {{":status", "200"}, {"x-origin", "yes"}};
+  if (!http3_interim(request, interim) || !http3_head_of(request, fields, 2) || !http3_body(request, (const uint8_t *)"body\n", 5) ||
+      !http3_trailer(request, trailer))
+    abort();
+  http3_finish(request);
+  free(interim);
+  free(trailer);
+}
+
+static void begin_body(http3_request *request) {
+  const http3_field field = {":status", "200"};
+  if (!http3_head_of(request, &field, 1)) abort();
+}
+
+/* Whether this is the first call for one of two things. */
+static bool is_first(int which) {
+  static bool was[2];
+  bool is_new = !was[which];
+  was[which] = true;
+  return is_new;
+}
+
+static void on_head(http3_request *request, const h3_item *item) {
+  char path[64];
+  http3_wanted wanted = {.name = ":path", .value = path, .room = sizeof path};
+  work *work = request->data;
+  if (item->kind == H3_TRAILER) {
+    work->trailer = http3_fields(request->connection, item);
+    return;
+  }
+  if (!http3_values(request->connection, item, &wanted, 1)) abort();
+  work->is_echo = strcmp(path, "/echo") == 0;
+  work->is_reset = strcmp(path, "/reset") == 0;
+  if (work->is_echo || work->is_reset) begin_body(request);
+  else if (strcmp(path, "/all") == 0) answer_all(request);
+  else if (strcmp(path, "/reject") == 0 && is_first(0)) http3_give_up(request, H3_CODE_REQUEST_REJECTED);
+  else if (strcmp(path, "/lost") == 0 && is_first(1)) http3_close(request->connection, H3_CODE_INTERNAL_ERROR);
+  else if (strcmp(path, "/silent") != 0) answer(request, strcmp(path, "/early") == 0 ? "early\n" : "again\n");
+  if (strcmp(path, "/early") == 0) http3_ignore(request);
+}
+
+static void on_body(http3_request *request, const uint8_t *bytes, size_t count) {
+  const work *work = request->data;
+  if (!work->is_echo) return;
+  if (!http3_body(request, bytes, count)) abort();
+  if (http3_room(request) == 0) http3_pause(request);
+}
+
+static void on_end(http3_request *request) {
+  const work *work = request->data;
+  if (!work->is_echo) return;
+  if (work->trailer && !http3_trailer(request, work->trailer)) abort();
+  http3_finish(request);
+}
+
+static void on_failed(http3_request *request, const h3_item *item) {
+  (void)request;
+  report("failed: %s", http3_why(item));
+}
+
+static void on_stopped(http3_request *request) {
+  (void)request;
+  report("stopped");
+}
+
+static void on_room(http3_request *request) {
+  static const uint8_t bytes[1000];
+  work *work = request->data;
+  http3_resume(request);
+  if (!work->is_reset) return;
+  work->is_reset = false;
+  work->begun_at = quic_time();
+  http3_body(request, bytes, sizeof bytes);
+  to_reset = request;
+}
+
+/* The part of the body is out: the reset comes after it. */
+static void tick(quic_socket *socket) {
+  (void)socket;
+  if (!to_reset || quic_time() - ((work *)to_reset->data)->begun_at < 500) return;
+  http3_reset(to_reset, H3_CODE_EXCESSIVE_LOAD);
+  to_reset = NULL;
+}
+
+static void on_freed(http3_request *request) {
+  if (to_reset == request) to_reset = NULL;
+  free(((work *)request->data)->trailer);
+}
+static void on_ready(http3 *h, void *user) { (void)h, (void)user; }
+static void on_over(void *user, const quic_ending *ending) { (void)user, (void)ending; }
+
+int main(int count, char **words) {
+  static const http3_events events = {.ready = on_ready, .head = on_head, .body = on_body, .end = on_end, .failed = on_failed,
+                                      .stopped = on_stopped, .room = on_room, .freed = on_freed, .over = on_over};
+  http3_setup setup = {.server = true, .data = sizeof(work), .events = &events};
+  if (count != 5) return 2;
+  ending_await();
+  quic_pair pair = {words[3], words[4]};
+  quic_identity identity = {.pairs = &pair, .count = 1};
+  quic_socket *socket = quic_listen(words[1], words[2], &identity, NULL, &http3_over_quic, &setup);
+  if (!socket) return 1;
+  serve_until_ended(socket, 5, tick);
+  quic_free(socket);
+  return 0;
+}
