@@ -1,16 +1,15 @@
 #!/usr/bin/env python3
 """Do the pages use the standards' words, in short sentences? The list of terms is the table of CONTRIBUTING.md below "Words": what to say, and what not.
 
-    python3 scripts/gate/words.py     for each file of COVERED and each page of PROVERS 'ok FILE', or 'failed FILE:LINE ..' for each word that it may
-                                      not have, and for each sentence of more than LONGEST_SENTENCE words (of pages, not of the header)
+    python3 scripts/gate/words.py     for each file of COVERED 'ok FILE', or 'failed FILE:LINE ..' for each word that it may not have, and for each
+                                      sentence of more than LONGEST_SENTENCE words (of pages, not of the header)
 
 Of a page its text is read, of include/h3.h its comments: code, names between backticks and the targets of links are left out. A phrase is
 found across the end of a line too. Its first letter may be a capital one: `head` finds Head and not HEAD. The column "Fine" has phrases in
 which the word may stand. No comment of include/h3.h makes a line longer than LONGEST_COMMENT.
 
-COVERED grows as pages are mended. Not in it yet: the pages for provers (docs/PROVED.md, MESSAGES, HEADLINE, MODEL, PROOFS, GATE,
-ARCHITECTURE, STATES, DECISIONS and their folders, crates/*/README.md), which quote statements and names of definitions. LATER has the names
-whose comments in include/h3.h are not mended yet."""
+COVERED grows as pages are mended, and has the pages for provers too (PROVERS, PROVER_FOLDERS). Not in it yet: docs/ARCHITECTURE.md and
+crates/*/README.md. LATER has the names whose comments in include/h3.h are not mended yet."""
 import os
 import re
 import sys
@@ -27,9 +26,11 @@ LONGEST_COMMENT = 100
 LONGEST_SENTENCE = 30
 FENCE = re.compile(r"^( *)```\w*\n.*?^\1```$", re.M | re.S)
 LEFT_OUT = [FENCE, re.compile(r"<!--.*?-->", re.S), re.compile(r"``[^`]+``|`[^`]*`"), re.compile(r"\]\([^()\s]+\)")]
-# pages for provers: these, and all pages of these folders
-PROVERS = ["docs/DECISIONS.md", "docs/GATE.md", "docs/HEADLINE.md", "docs/MESSAGES.md", "docs/MODEL.md", "docs/PROOFS.md", "docs/PROVED.md",
-           "docs/STATES.md", "docs/decisions", "docs/headline", "docs/model", "docs/proofs"]
+# the pages of docs for provers, and folders of such pages
+PROVERS = ["DECISIONS.md", "GATE.md", "HEADLINE.md", "MESSAGES.md", "MODEL.md", "PROOFS.md", "PROVED.md", "STATES.md"]
+PROVER_FOLDERS = ["decisions", "headline", "model", "proofs"]
+COVERED += [f"docs/{page}" for page in PROVERS]
+COVERED += [f"docs/{it}/{page}" for it in PROVER_FOLDERS for page in sorted(os.listdir(f"{ROOT}/docs/{it}")) if page.endswith(".md")]
 
 
 def read(path):
@@ -58,12 +59,6 @@ def pattern(phrases):
         first, rest = re.escape(phrase[0]), re.escape(phrase[1:]).replace("\\ ", r"\s+")
         found.append((f"[{phrase[0]}{phrase[0].upper()}]" if phrase[0].isalpha() else first) + rest)
     return re.compile(rf"(?<![\w-])(?:{'|'.join(found)})(?![\w-])")
-
-
-def prover_pages():
-    for it in PROVERS:
-        names = sorted(os.listdir(os.path.join(ROOT, it))) if not it.endswith(".md") else []
-        yield from [f"{it}/{name}" for name in names if name.endswith(".md")] or [it]
 
 
 def page_text(page):
@@ -139,7 +134,7 @@ def long_sentences(text):
 
 def main():
     table, bad = terms(read(LIST)), 0
-    for file in [*COVERED, *prover_pages()]:
+    for file in COVERED:
         header = read(file) if file == HEADER else ""
         text = header_text(header) if header else page_text(file)
         wrong = sorted([*wrong_words(text, table), *(long_comments(header) if header else long_sentences(read(file)))])
