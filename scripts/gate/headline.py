@@ -23,16 +23,16 @@ CONTRACT = f"{CRATES}/h3_session/src/run.rt"
 PARTS = (
     ("## All that it rests on", ("HandsOutAlways", "AreFew", "JudgesPlainly", "IsMadeSetup")),
     ("## What is answered", ("RunsUntilMemory", "Run", "Happens", "empty_world")),
-    ("## The endpoints that are handed back", ("RunsInWorld",)),
+    ("## The endpoints that are returned", ("RunsInWorld",)),
     ("## The same answers by two endpoints", ("RunsTo", "AnswersEach", "new_ends")),
     ("## What each call leaves", ("RunsByCalls",)),
-    ("## Where a side is strict", ("RunsUntilFault", "RunsFaultless", "FindsNoFault", "ServerKnows", "JudgesStrictly")),
-    ("## Where memory is refused", None),
+    ("## If a side is strict", ("RunsUntilFault", "RunsFaultless", "FindsNoFault", "ServerKnows", "JudgesStrictly")),
+    ("## If allocations fail", None),
 )
 # Behind these the values of the code: a heading, and from which types of the signature its rows come, and from those that which parts list.
 VALUES = (
     ("## The values in the answers", ("Setup", "Event", "Answer"), PARTS[:2]),
-    ("## The values that are handed back", ("Outcome",), PARTS[2:]),
+    ("## The values that are returned", ("Outcome",), PARTS[2:]),
 )
 # The pages, each with its parts in their order there.
 PAGES = {

@@ -10,6 +10,7 @@
   contracts that a CALLING.md quotes.
 - A block of code behind a line `<!-- from PATH -->` stands in that file, line by line; in the pages SNIPPETS every block of C, Rust, Go and Mermaid has such a line.
 - Each page of docs has a paragraph below its title, and ends with a line 'Next: ..'.
+- Each record of docs/decisions begins with its decision in bold, and has at most LONGEST_RECORD lines.
 - docs/C_API.md has each call of include/h3.h, and names none that is not there.
 - scripts/README.md has each file of scripts/.
 - README and docs/PROVED.md say how many edits must be refused, how many of them the prover refuses by itself, and how many a reader judged."""
@@ -29,6 +30,7 @@ SNIPPETS = ["README.md", "docs/QUICKSTART.md", "docs/TUTORIAL.md", "docs/C_API.m
 COUNTING = ["README.md", "docs/PROVED.md"]
 LANGUAGES = {"c", "rust", "go", "mermaid"}
 INDEX = "scripts/README.md"
+LONGEST_RECORD = 25
 LINK = re.compile(r"\[((?:[^\[\]]|\[[^\]]*\])*)\]\(([^()\s]+)\)")
 FENCE = re.compile(r"^( *)```(\w*)\n(.*?)^\1```$", re.M | re.S)
 QUOTED = re.compile(r"^<!-- from \S+ -->\n\n?```\w*\n.*?^```$", re.M | re.S)
@@ -194,11 +196,14 @@ def without_frame():
             yield f"{page} has no line 'Next: [..](..).' at its end"
 
 
-def without_decision():
-    """records of docs/decisions that do not begin with a sentence in bold"""
+def bad_records():
+    """records of docs/decisions that do not begin with a sentence in bold, or are longer than LONGEST_RECORD"""
     for page in sorted(it for it in files("docs/decisions") if it.endswith(".md")):
-        for line in re.findall(r"^- (?!\*\*).*$", read(page), re.M):
-            yield f"{page}: {line[:60]}.. does not begin with its decision in bold"
+        for record in re.findall(r"^- .*(?:\n +\S.*)*", read(page), re.M):
+            if not record.startswith("- **"):
+                yield f"{page}: {record[:60]}.. does not begin with its decision in bold"
+            if record.count("\n") >= LONGEST_RECORD:
+                yield f"{page}: {record[:60]}.. has more than {LONGEST_RECORD} lines"
 
 
 def api():
@@ -238,7 +243,7 @@ def main():
     fine &= say(wrong, f"pages: {sum(count for count, _ in found)} snippets stand in their files", "pages, a snippet")
     fine &= say(list(miscounted()), f"{' and '.join(COUNTING)} count the edits", "pages, a count of edits")
     fine &= say(list(without_frame()), "docs: each page says what it is for, and which page comes next", "docs")
-    fine &= say(list(without_decision()), "docs/decisions: each record begins with its decision", "docs/decisions")
+    fine &= say(list(bad_records()), f"docs/decisions: each record begins with its decision, and has at most {LONGEST_RECORD} lines", "docs/decisions")
     fine &= say(list(api()), "docs/C_API.md has each call of include/h3.h", "docs/C_API.md")
     fine &= say(list(not_in_index()), f"{INDEX} has each file of scripts", INDEX)
     sys.exit(0 if fine else 1)

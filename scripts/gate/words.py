@@ -8,9 +8,8 @@ Of a page its text is read, of include/h3.h its comments: code, names between ba
 found across the end of a line too. Its first letter may be a capital one: `head` finds Head and not HEAD. The column "Fine" has phrases in
 which the word may stand. No comment of include/h3.h makes a line longer than LONGEST_COMMENT.
 
-COVERED grows as pages are mended. Not in it yet: the pages for provers (docs/PROVED.md, MESSAGES, HEADLINE, MODEL, PROOFS, GATE,
-ARCHITECTURE, STATES, DECISIONS and their folders, crates/*/README.md), which quote statements and names of definitions. LATER has the names
-whose comments in include/h3.h are not mended yet."""
+COVERED grows as pages are mended, and has the pages for provers too (PROVERS, PROVER_FOLDERS). Not in it yet: docs/ARCHITECTURE.md and
+crates/*/README.md. LATER has the names whose comments in include/h3.h are not mended yet."""
 import os
 import re
 import sys
@@ -27,6 +26,11 @@ LONGEST_COMMENT = 100
 LONGEST_SENTENCE = 30
 FENCE = re.compile(r"^( *)```\w*\n.*?^\1```$", re.M | re.S)
 LEFT_OUT = [FENCE, re.compile(r"<!--.*?-->", re.S), re.compile(r"``[^`]+``|`[^`]*`"), re.compile(r"\]\([^()\s]+\)")]
+# the pages of docs for provers, and folders of such pages
+PROVERS = ["DECISIONS.md", "GATE.md", "HEADLINE.md", "MESSAGES.md", "MODEL.md", "PROOFS.md", "PROVED.md", "STATES.md"]
+PROVER_FOLDERS = ["decisions", "headline", "model", "proofs"]
+COVERED += [f"docs/{page}" for page in PROVERS]
+COVERED += [f"docs/{it}/{page}" for it in PROVER_FOLDERS for page in sorted(os.listdir(f"{ROOT}/docs/{it}")) if page.endswith(".md")]
 
 
 def read(path):
