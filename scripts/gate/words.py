@@ -18,7 +18,7 @@ import sys
 ROOT = os.path.dirname(os.path.dirname(os.path.dirname(os.path.realpath(__file__))))
 LIST = "CONTRIBUTING.md"
 HEADER = "include/h3.h"
-COVERED = ["README.md", "CONTRIBUTING.md", "SECURITY.md", "CHANGELOG.md", "docs/QUICKSTART.md", "docs/TUTORIAL.md", "docs/C_API.md",
+COVERED = ["README.md", "CONTRIBUTING.md", "SECURITY.md", "CHANGELOG.md", "docs/QUICKSTART.md", "docs/GUIDE.md", "docs/C_API.md",
            "docs/RFC.md", "docs/DIFFERENCES.md", "docs/PERFORMANCE.md", "bindings/go/README.md", "bindings/rust/README.md",
            "bindings/python/README.md", "examples/c/README.md", "examples/go/README.md", "examples/rust/README.md", "docs/INSTALL.md",
            "compat/nghttp3/README.md", HEADER]
