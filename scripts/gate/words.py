@@ -8,20 +8,19 @@ Of a page its text is read, of include/h3.h its comments: code, names between ba
 found across the end of a line too. Its first letter may be a capital one: `head` finds Head and not HEAD. The column "Fine" has phrases in
 which the word may stand. No comment of include/h3.h makes a line longer than LONGEST_COMMENT.
 
-COVERED grows as pages are mended. Not in it yet: the pages for provers (docs/PROVED.md, MESSAGES, HEADLINE, MODEL, PROOFS, GATE,
-ARCHITECTURE, STATES, DECISIONS and their folders, crates/*/README.md), which quote statements and names of definitions. LATER has the names
-whose comments in include/h3.h are not mended yet."""
+COVERED are the pages for users (user_pages.py) and the header. Not the pages for provers (docs/PROVED.md, MESSAGES, HEADLINE, MODEL, PROOFS,
+GATE, ARCHITECTURE, STATES, DECISIONS and their folders, crates/*/README.md), which quote statements and names of definitions. LATER has the
+names whose comments in include/h3.h are not mended yet."""
 import os
 import re
 import sys
 
+import user_pages
+
 ROOT = os.path.dirname(os.path.dirname(os.path.dirname(os.path.realpath(__file__))))
 LIST = "CONTRIBUTING.md"
 HEADER = "include/h3.h"
-COVERED = ["README.md", "CONTRIBUTING.md", "SECURITY.md", "CHANGELOG.md", "docs/QUICKSTART.md", "docs/GUIDE.md", "docs/C_API.md",
-           "docs/RFC.md", "docs/DIFFERENCES.md", "docs/PERFORMANCE.md", "bindings/go/README.md", "bindings/rust/README.md",
-           "bindings/python/README.md", "examples/c/README.md", "examples/go/README.md", "examples/rust/README.md", "docs/INSTALL.md",
-           "compat/nghttp3/README.md", HEADER]
+COVERED = [*user_pages.PAGES, HEADER]
 LATER = {"h3_malformation"}
 LONGEST_COMMENT = 100
 LONGEST_SENTENCE = 30
