@@ -3,6 +3,7 @@
 
     python3 scripts/gate/words.py     for each file of COVERED 'ok FILE', or 'failed FILE:LINE ..' for each word that it may not have, and for each
                                       sentence of more than LONGEST_SENTENCE words (of pages, not of the header)
+    python3 scripts/gate/words.py FILE..  the same words, in the comments and texts of sources of C, C++, Go, Python and Rust
 
 Of a page its text is read, of include/h3.h its comments: code, names between backticks and the targets of links are left out. A phrase is
 found across the end of a line too. Its first letter may be a capital one: `head` finds Head and not HEAD. The column "Fine" has phrases in
@@ -88,6 +89,15 @@ def header_text(header):
     return re.sub(r"/\*|\*/|//", "  ", "".join(text))
 
 
+def source_text(source, is_python):
+    """the comments and texts of a source"""
+    form = r'""".*?"""|#[^\n]*|"[^"\n]*"' if is_python else r'//[^\n]*|/\*.*?\*/|"[^"\n]*"'
+    text = list(blank(source))
+    for it in re.finditer(form, source, re.S):
+        text[it.start() : it.end()] = it[0]
+    return re.sub(r"`[^`]*`", lambda it: blank(it[0]), "".join(text))
+
+
 def wrong_words(text, terms):
     for say, wrong, fine in terms:
         for it in wrong.finditer(fine.sub(lambda it: blank(it[0]), text) if fine else text):
@@ -129,10 +139,15 @@ def long_sentences(text):
 
 def main():
     table, bad = terms(read(LIST)), 0
-    for file in COVERED:
+    for file in sys.argv[1:] or COVERED:
         header = read(file) if file == HEADER else ""
-        text = header_text(header) if header else page_text(file)
-        wrong = sorted([*wrong_words(text, table), *(long_comments(header) if header else long_sentences(read(file)))])
+        if file not in COVERED:
+            text, long = source_text(read(file), file.endswith(".py")), []
+        elif header:
+            text, long = header_text(header), long_comments(header)
+        else:
+            text, long = page_text(file), long_sentences(read(file))
+        wrong = sorted([*wrong_words(text, table), *long])
         for line, why in wrong:
             print(f"failed {file}:{line}: {why}")
         if not wrong:
