@@ -20,7 +20,8 @@ import tempfile
 ROOT = os.path.dirname(os.path.dirname(os.path.dirname(os.path.realpath(__file__))))
 PAGES = ["README.md", "CONTRIBUTING.md", "SECURITY.md", "CHANGELOG.md", "docs/INSTALL.md", "docs/QUICKSTART.md", "docs/GUIDE.md", "docs/C_API.md",
          "docs/RFC.md", "docs/DIFFERENCES.md", "docs/PERFORMANCE.md", "bindings/go/README.md", "bindings/rust/README.md", "bindings/python/README.md",
-         "examples/c/README.md", "examples/go/README.md", "examples/rust/README.md", "examples/PEERS.md", "compat/nghttp3/README.md"]
+         "examples/c/README.md", "examples/go/README.md", "examples/rust/README.md", "examples/PEERS.md", "compat/nghttp3/README.md",
+         "bench/COSTS.md", "bench/LOAD.md"]
 TASKS = ["install", "first request", "first response", "read fields", "body with back-pressure", "trailers", "reset, cancel", "WebSocket", "priorities",
          "shut down", "out of memory", "tune limits"]
 NEEDS_MORE = re.compile(r"^#include \"(?!h3\.h)|<(?:ngtcp2|gnutls)", re.M)  # these compile by `make examples`
