@@ -37,7 +37,8 @@ def read(path):
 
 def run(*words, **more):
     made = subprocess.run(words, cwd=ROOT, stdout=subprocess.PIPE, stderr=subprocess.STDOUT, text=True, check=False, **more)
-    return made.returncode == 0, next((it for it in made.stdout.split("\n") if it.strip()), "")
+    lines = [it for it in made.stdout.split("\n") if it.strip()]
+    return made.returncode == 0, next((it for it in lines if "error" in it), lines[0] if lines else "")
 
 
 def programs():
