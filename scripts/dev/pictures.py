@@ -73,7 +73,8 @@ def streams():
 
 def performance():
     table = re.findall(r"^\| ([^|]+) \| [\d.]+ \| [\d.]+ \| [^|]+ \| ([\d.]+)\*? \| ([^|]+) \|$", read("docs/PERFORMANCE.md"), re.M)
-    parts, left, unit = [text(20, 24, "How many times as fast as nghttp3 0.8.0 (of size and memory: how many times smaller)", anchor="start", more=' font-weight="bold"')], 370, 160
+    title = "How many times as fast as nghttp3 0.8.0 (of size and memory: how many times smaller)"
+    parts, left, unit = [text(20, 24, title, anchor="start", more=' font-weight="bold"')], 370, 160
     end = 40 + 30 * len(table)
     parts.append(f'<path d="M{left + unit} 36V{end}" stroke="{DARK}" stroke-dasharray="4 3"/>')
     for number, (what, ratio, _) in enumerate(table):

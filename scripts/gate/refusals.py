@@ -5,7 +5,7 @@
     python3 scripts/gate/refusals.py --write   writes the table of refusals
 
 The refusals of a call are the answers that its comment names behind "Refused", and H3_NONE. "Refused as h3_X" stands for those of that call.
-The defaults are those of the definition by which h3_config_default is proved."""
+The defaults are those of the definition by which h3_config_default is proved. SECURITY.md has them in its table of limits, too."""
 import os
 import re
 import sys
@@ -89,6 +89,16 @@ def say(wrong, good):
     return not wrong
 
 
+def wrong_limits():
+    """the defaults of the table of limits in SECURITY.md that are not those of the definition"""
+    table = re.search(r"## The limits of an endpoint\n(.*?)\n## ", read("SECURITY.md"), re.S)[1]
+    for name, said in re.findall(r"^\| `(\w+)` \| [^|\d]*([\d,]+)[^|]*\|", table, re.M):
+        numbers = defaults()
+        least = 4 * max(numbers["max_field_section_size"], numbers["table"])
+        if int(said.replace(",", "")) != (numbers[name] or least):
+            yield f"SECURITY.md says that {name} is {said} by default"
+
+
 def main():
     page, header = read(PAGE), read(HEADER)
     new = TABLE.sub(lambda it: it[1] + table(header) + it[2], page)
@@ -97,8 +107,9 @@ def main():
             file.write(new)
         return
     count = len(refusals(header))
-    fine = say([] if new == page else ["its refusals are not those of h3.h (python3 scripts/gate/refusals.py --write)"], f"the refusals of {count} calls as h3.h has them")
-    fine &= say(list(wrong_defaults(page, header)), f"each number of h3_config, and {len(defaults())} defaults as they are proved")
+    stale = [] if new == page else ["its refusals are not those of h3.h (python3 scripts/gate/refusals.py --write)"]
+    fine = say(stale, f"the refusals of {count} calls as h3.h has them")
+    fine &= say([*wrong_defaults(page, header), *wrong_limits()], f"each number of h3_config, and {len(defaults())} defaults as they are proved")
     sys.exit(0 if fine else 1)
 
 

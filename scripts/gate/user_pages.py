@@ -6,7 +6,7 @@
 - Each program that a page shows, or of which it shows a part (`<!-- from FILE -->`), compiles: C and C++ against include/h3.h, Rust against
   bindings/rust, each with warnings as errors; Go is parsed, and its names of the package stand in bindings/go; so are those of Python.
 - Each block of commands is one that bash reads, and each `make TARGET` of a page is a target of the Makefile.
-- Each name of h3.h that a page has is there.
+- Each name of h3.h that a page has is there, and README has the figures of docs/PERFORMANCE.md.
 - The tasks of a new user (TASKS) are found from README in two clicks: it links to the guide, whose first table has a link for each."""
 import ast
 import glob
@@ -74,7 +74,8 @@ def compile_rust(path, folder):
         good, why = run("rustc", *flags, "-o", library, "bindings/rust/src/lib.rs")
         if not good:
             return good, why
-    return run("rustc", "--edition", "2021", "--emit", "metadata", "-D", "warnings", "--extern", f"beanwhile_h3={library}", "-o", os.path.join(folder, "program.rmeta"), path)
+    flags = ["--edition", "2021", "--emit", "metadata", "-D", "warnings", "--extern", f"beanwhile_h3={library}"]
+    return run("rustc", *flags, "-o", os.path.join(folder, "program.rmeta"), path)
 
 
 def check_go(path, _):
@@ -153,6 +154,14 @@ def tasks():
     return wrong + ([] if "](docs/GUIDE.md)" in read("README.md") else ["README.md has no link to docs/GUIDE.md"])
 
 
+def speed():
+    """what README says of the speed of exchanges, beside the rows of docs/PERFORMANCE.md"""
+    ratios = [float(it) for it in re.findall(r"^\| request and response, (?:small|7,000 bytes each), in C \|(?:[^|]*\|){3} ([\d.]+)", read("docs/PERFORMANCE.md"), re.M)]
+    least, most = (round(100 * (1 - 1 / it)) for it in (min(ratios), max(ratios)))
+    words = f"take {least} to {most} % less processor time than with nghttp3"
+    return [] if words in " ".join(read("README.md").split()) else [f"README.md: by docs/PERFORMANCE.md requests '{words}'"]
+
+
 def say(wrong, good):
     for it in wrong:
         print(f"failed {it}")
@@ -172,6 +181,7 @@ def main():
     fine &= say(wrong, f"user pages: {count} blocks of commands are read by bash, and each make target is there")
     count, wrong = names()
     fine &= say(wrong, f"user pages: {count} names of h3.h are there")
+    fine &= say(speed(), "README: its figures of speed are those of docs/PERFORMANCE.md")
     fine &= say(tasks(), f"user pages: {len(TASKS)} tasks are found from README in two clicks")
     sys.exit(0 if fine else 1)
 
