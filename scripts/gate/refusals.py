@@ -31,13 +31,13 @@ def named(text, known):
     return list(dict.fromkeys(it for it in re.findall(r"\bH3_[A-Z_]+\b", text) if it in known))
 
 
-def of_comment(text, known, before):
-    text = " ".join(re.sub(r"\n \*", " ", text).split())
+def of_comment(comments, call, known):
+    text = " ".join(re.sub(r"\n \*", " ", comments[call]).split())
     refused = text.partition("Refused")[2]
     found = named(refused, known)
     base = re.search(r"^ as (h3_\w+|bytes)", refused)
     if base:
-        first = before["h3_deliver" if base[1] == "bytes" else base[1]]
+        first = of_comment(comments, "h3_deliver" if base[1] == "bytes" else base[1], known)
         if "but after the refusals of the list" in refused:
             first = first[: first.index("H3_FIELD_COUNT") + 1]
         if re.search(r"except H3_\w+", refused):
@@ -48,10 +48,8 @@ def of_comment(text, known, before):
 
 
 def refusals(header):
-    known, found = answers(header), {}
-    for comment, call in CALL.findall(header):
-        found[call] = of_comment(comment, known, found)
-    return found
+    known, comments = answers(header), {call: comment for comment, call in CALL.findall(header)}
+    return {call: of_comment(comments, call, known) for call in comments}
 
 
 def table(header):
