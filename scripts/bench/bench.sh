@@ -67,6 +67,7 @@ case $what in
     trap 'rm -f "$run"' EXIT
     measure_all | tee "$run" || status=1
     python3 scripts/bench/bench_page.py "$run"
+    python3 scripts/dev/pictures.py --write # the chart of docs/PERFORMANCE.md
     ;;
   *)
     echo "bench.sh [exchange|page]" >&2

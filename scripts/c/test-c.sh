@@ -2,7 +2,7 @@
 # C programs over build/c (scripts/c/lib.sh), by the machine's C compiler alone: the calls of crates/h3_cases and hostile lists of calls
 # through the header, each allocation refused in turn, large input with none refused, two endpoints under random schedules, what is held of
 # a stream and of small pieces, unknown frames, long instructions, wrong arguments, bytes that are lent or read where they lie, bodies that the caller holds, pulled
-# lists, and the program of docs/TUTORIAL.md. Once as they are, and once with the sanitizers of addresses, leaks and undefined behaviour where the compiler has them
+# lists, and the program of docs/GUIDE.md. Once as they are, and once with the sanitizers of addresses, leaks and undefined behaviour where the compiler has them
 # (large input, memory: once). Then h3.hpp, by C++17 and C++20; the binary interface (scripts/c/abi.py); how programs find the library
 # (scripts/c/test-install.sh); the packages for Go, Rust and Python (scripts/c/test-bindings.sh), and what `make dist` packs
 # (scripts/dist/test-packed.sh). One line 'ok NAME' or 'failed NAME'
@@ -142,7 +142,7 @@ checks() {
     run shutdown "$out/shutdown"
     programs
     run lists "$out/lists"
-    printed "$out/in_memory" tests/c/in_memory.stdout "in_memory: the lines of docs/TUTORIAL.md"
+    printed "$out/in_memory" tests/c/in_memory.stdout "in_memory: the lines of docs/GUIDE.md"
     printed "$out/quickstart" examples/quickstart.stdout "quickstart: the lines of docs/QUICKSTART.md"
   fi
   if [ "$bad" -eq 0 ] && echo 'int main(void){return 0;}' | "$cc" -x c -fsanitize=address,undefined -o "$out/probe" - 2> "$out/probe.log"; then

@@ -1,9 +1,9 @@
 #!/usr/bin/env python3
-"""Draws a run of the script language (crates/h3_script) as a sequence diagram: draw.py SCRIPT [ANSWERS] [--svg FILE].
+"""Draws a run of the script language (crates/h3_script) as a sequence diagram: draw.py SCRIPT [ANSWERS] [--svg FILE] [--brief].
 
 The client and the server are lifelines. An arrow is what went over on a stream, crossed where nothing did; streams of the connection's own (control, encoder,
 decoder) are dashed. Beside a lifeline stands what that side did, and what a pull handed out. ANSWERS is what the program printed; without it `make run` is
-asked. Mermaid goes to standard output, or with --svg a picture to FILE."""
+asked. Mermaid goes to standard output, or with --svg a picture to FILE. --brief leaves out arrows over which nothing went, and states that were shown."""
 import argparse
 import dataclasses
 import os
@@ -86,7 +86,7 @@ def step(words, line, answer):
     if verb == "body":
         return did(side, f"{name}: body of {len(line.split(b' ', 3)[3])} bytes", answer)
     texts = {"head": f"{name}: head {' '.join(rest)}", "trailer": f"{name}: trailer {' '.join(rest)}".rstrip(), "finish": f"{name}: finished",
-             "reset": f"{name}: sending is cut off", "cancel": f"{name}: given up", "goaway": f"GOAWAY {number}"}
+             "reset": f"{name}: sending is reset", "cancel": f"{name}: canceled", "goaway": f"GOAWAY {number}"}
     if verb not in texts:
         sys.exit(f"no event: {shown(line)}")
     return did(side, texts[verb], answer)
@@ -173,6 +173,7 @@ def main():
     words.add_argument("script")
     words.add_argument("answers", nargs="?", help="what the program printed (default: make run is asked)")
     words.add_argument("--svg", metavar="FILE", help="a picture, in place of Mermaid on standard output")
+    words.add_argument("--brief", action="store_true", help="without arrows over which nothing went, and without states that were shown")
     given = words.parse_args()
     with open(given.script, "rb") as file:
         script = file.read()
@@ -182,6 +183,8 @@ def main():
     else:
         answers = answers_to(given.script)
     steps = steps_of(script, [shown(it) for it in answers.split(b"\n")[:-1]])
+    if given.brief:
+        steps = [it for it in steps if it.kind != "nothing" and not it.text.startswith("show ")]
     if given.svg:
         with open(given.svg, "w", encoding="utf-8") as file:
             file.write(Picture().svg(steps))

@@ -22,7 +22,7 @@ PURPOSE = """Beanwhile turns the stream bytes of a QUIC library into HTTP/3 mess
 servers and proxies."""
 MAINTAINER = "Beanwhile maintainers <maintainers@beanwhile.example>"
 EXAMPLES = ["examples/c", "examples/start/main.c", "examples/start/main.cpp", "tests/c/in_memory.c"]
-PAGES = ["docs/TUTORIAL.md", "docs/C_API.md", "SECURITY.md"]
+PAGES = ["docs/GUIDE.md", "docs/C_API.md", "SECURITY.md"]
 
 
 @dataclass

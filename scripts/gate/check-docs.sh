@@ -61,7 +61,7 @@ trap 'rm -rf "$words" "$room"' EXIT
 missing=""
 count=0
 python3 scripts/dev/draw.py examples/blocked.talk examples/blocked.stdout | cmp -s - examples/blocked.mmd || missing=" examples/blocked.mmd is not what draw.py writes;"
-python3 scripts/dev/draw.py examples/blocked.talk examples/blocked.stdout --svg "$room/svg"
+python3 scripts/dev/draw.py examples/blocked.talk examples/blocked.stdout --brief --svg "$room/svg"
 cmp -s "$room/svg" docs/blocked.svg || missing="$missing docs/blocked.svg is not what draw.py writes;"
 for script in examples/*.talk tests/talk/*.talk; do
   answers=${script%.talk}.stdout
@@ -77,6 +77,6 @@ else
   bad=1
 fi
 
+python3 scripts/dev/pictures.py || bad=1
 python3 scripts/bench/bench_page.py --check || bad=1
-python3 scripts/gate/pages.py || bad=1
 exit "$bad"

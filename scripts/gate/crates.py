@@ -1,19 +1,18 @@
 #!/usr/bin/env python3
-"""The list of crates, and the graph of docs/ARCHITECTURE.md.
+"""The list of crates.
 
     python3 scripts/gate/crates.py           compares: one line 'ok ..' or 'failed ..' for each of these
-    python3 scripts/gate/crates.py --write   takes names out of crates.txt that are not used, and writes the graph of the page anew
+    python3 scripts/gate/crates.py --write   takes names out of crates.txt that are not used
 
 - crates.txt has each crate behind those that it names.
 - A crate's line has no name that its sources, definitions and proofs do not use.
-- The graph of the page is that of crates.txt, without an edge where a longer way leads there too."""
+
+scripts/dev/pictures.py draws them (docs/crates.svg)."""
 import os
 import re
 import sys
 
 ROOT = os.path.dirname(os.path.dirname(os.path.dirname(os.path.realpath(__file__))))
-PAGE = f"{ROOT}/docs/ARCHITECTURE.md"
-GRAPH = re.compile(r"(<!-- scripts/gate/crates.py writes this graph -->\n)```mermaid\n.*?```\n", re.S)
 
 
 def read(path):
@@ -60,23 +59,6 @@ def drop_unused():
         file.write("\n".join(lines))
 
 
-def all_below(crates, name):
-    found = set()
-    for it in crates.get(name, []):
-        if it in crates:
-            found |= {it} | all_below(crates, it)
-    return found
-
-
-def graph(crates):
-    lines = ["graph BT"]
-    for name in crates:
-        own = [it for it in crates[name] if it in crates]
-        further = set().union(*(all_below(crates, it) for it in own)) if own else set()
-        lines += [f"    {name} --> {it}" for it in own if it not in further]
-    return "```mermaid\n" + "\n".join(lines) + "\n```\n"
-
-
 def say(wrong, good, bad):
     for it in wrong:
         print(f"failed {bad}: {it}")
@@ -87,17 +69,10 @@ def say(wrong, good, bad):
 
 def main():
     if sys.argv[1:] == ["--write"]:
-        drop_unused()
-    crates, page = listed(), read(PAGE)
-    mended = GRAPH.sub(lambda found: found[1] + graph(crates), page)
-    if sys.argv[1:] == ["--write"]:
-        with open(PAGE, "w", encoding="utf-8") as file:
-            file.write(mended)
-        return
+        return drop_unused()
+    crates = listed()
     fine = say(list(out_of_order(crates)), f"crates.txt: {len(crates)} crates, each behind those that it names", "crates.txt")
     fine &= say(list(unused(crates)), "crates.txt: each name of a line is used", "crates.txt")
-    stale = [] if GRAPH.search(page) and mended == page else ["not that of crates.txt (python3 scripts/gate/crates.py --write)"]
-    fine &= say(stale, "docs/ARCHITECTURE.md: its graph is that of crates.txt", "docs/ARCHITECTURE.md, the graph")
     sys.exit(0 if fine else 1)
 
 

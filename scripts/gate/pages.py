@@ -6,7 +6,7 @@
 
 - No link of a page is dead: neither its file nor its heading.
 - No line of a page is longer than 140 characters (in rows of tables the targets of links are not counted, and the tables of WIDE_TABLES may be
-  wider), and no page has more than 300 lines, README at most 80. The pages of WHOLE are left aside, code that is quoted from a file, and the
+  wider), and no page has more than 300 lines, README at most 80, QUICKSTART 330. The pages of WHOLE are left aside, code that is quoted from a file, and the
   contracts that a CALLING.md quotes.
 - A block of code behind a line `<!-- from PATH -->` stands in that file, line by line; in the pages SNIPPETS every block of C, Rust, Go and Mermaid has such a line.
 - Each page of docs has a paragraph below its title, and ends with a line 'Next: ..'.
@@ -22,11 +22,11 @@ import textwrap
 ROOT = os.path.dirname(os.path.dirname(os.path.dirname(os.path.realpath(__file__))))
 WHOLE = ["docs/RFC.md", "bench/RESULTS.md", "bench/COSTS.md"]  # one table each, or nearly
 WIDE_TABLES = ["docs/ARCHITECTURE.md", "docs/DIFFERENCES.md", "crates/h3_cases/README.md", "crates/h3_examples/README.md", "crates/h3_script/README.md",
-               "crates/h3_session/README.md", "docs/model/connection.md", "SECURITY.md"]
+               "crates/h3_session/README.md", "docs/model/connection.md", "SECURITY.md", "docs/C_API.md"]
 LONGEST = 140
-MOST_LINES = {"README.md": 80}
+MOST_LINES = {"README.md": 80, "docs/QUICKSTART.md": 330}  # a quick start has a whole file in each of four languages
 MOST_OF_OTHERS = 300
-SNIPPETS = ["README.md", "docs/QUICKSTART.md", "docs/TUTORIAL.md", "docs/C_API.md", "crates/h3_session/README.md"]
+SNIPPETS = ["README.md", "docs/QUICKSTART.md", "docs/GUIDE.md", "docs/C_API.md", "crates/h3_session/README.md"]
 COUNTING = ["README.md", "docs/PROVED.md"]
 LANGUAGES = {"c", "rust", "go", "mermaid"}
 INDEX = "scripts/README.md"
@@ -167,7 +167,7 @@ def counts(page):
     judged = [it for it in edits if re.search(r"^judged:", read(it), re.M)]
     by_itself = (r"(prover\s+refuses\s+)\d+(\s+by\s+itself)", len(edits) - len(judged))
     if page == "README.md":
-        return ((r"(contracts\W+: )\d+( wrong\s+edits)", len(edits)), by_itself, (r"(for\s+the\s+other\s+)\d+(\s+a\s+reader)", len(judged)))
+        return ((r"(contracts: )\d+( wrong\s+edits)", len(edits)), by_itself, (r"(for\s+the\s+other\s+)\d+(\s+a\s+reader)", len(judged)))
     return ((r"(There are )\d+(\s+edits\s+of)", len(edits)), by_itself, (r"(reader judged )\d+(\W)", len(judged)))
 
 

@@ -3,31 +3,31 @@
 
     python3 scripts/gate/words.py     for each file of COVERED 'ok FILE', or 'failed FILE:LINE ..' for each word that it may not have, and for each
                                       sentence of more than LONGEST_SENTENCE words (of pages, not of the header)
+    python3 scripts/gate/words.py FILE..  the same words, in the comments and texts of sources of C, C++, Go, Python and Rust
 
 Of a page its text is read, of include/h3.h its comments: code, names between backticks and the targets of links are left out. A phrase is
 found across the end of a line too. Its first letter may be a capital one: `head` finds Head and not HEAD. The column "Fine" has phrases in
 which the word may stand. No comment of include/h3.h makes a line longer than LONGEST_COMMENT.
 
-COVERED grows as pages are mended, and has the pages for provers too (PROVERS, PROVER_FOLDERS). Not in it yet: docs/ARCHITECTURE.md and
-crates/*/README.md. LATER has the names whose comments in include/h3.h are not mended yet."""
+COVERED are the pages for users (user_pages.py), the header, and the pages for provers (PROVERS, PROVER_FOLDERS). Not in it:
+crates/*/README.md, which quote statements and names of definitions. LATER has the names whose comments in include/h3.h are not mended yet."""
 import os
 import re
 import sys
 
+import user_pages
+
 ROOT = os.path.dirname(os.path.dirname(os.path.dirname(os.path.realpath(__file__))))
 LIST = "CONTRIBUTING.md"
 HEADER = "include/h3.h"
-COVERED = ["README.md", "CONTRIBUTING.md", "SECURITY.md", "CHANGELOG.md", "docs/QUICKSTART.md", "docs/TUTORIAL.md", "docs/C_API.md",
-           "docs/RFC.md", "docs/DIFFERENCES.md", "docs/PERFORMANCE.md", "bindings/go/README.md", "bindings/rust/README.md",
-           "bindings/python/README.md", "examples/c/README.md", "examples/go/README.md", "examples/rust/README.md", "docs/INSTALL.md",
-           "compat/nghttp3/README.md", HEADER]
+COVERED = [*user_pages.PAGES, HEADER]
 LATER = {"h3_malformation"}
 LONGEST_COMMENT = 100
 LONGEST_SENTENCE = 30
 FENCE = re.compile(r"^( *)```\w*\n.*?^\1```$", re.M | re.S)
 LEFT_OUT = [FENCE, re.compile(r"<!--.*?-->", re.S), re.compile(r"``[^`]+``|`[^`]*`"), re.compile(r"\]\([^()\s]+\)")]
 # the pages of docs for provers, and folders of such pages
-PROVERS = ["DECISIONS.md", "GATE.md", "HEADLINE.md", "MESSAGES.md", "MODEL.md", "PROOFS.md", "PROVED.md", "STATES.md"]
+PROVERS = ["ARCHITECTURE.md", "DECISIONS.md", "GATE.md", "HEADLINE.md", "MESSAGES.md", "MODEL.md", "PROOFS.md", "PROVED.md", "STATES.md"]
 PROVER_FOLDERS = ["decisions", "headline", "model", "proofs"]
 COVERED += [f"docs/{page}" for page in PROVERS]
 COVERED += [f"docs/{it}/{page}" for it in PROVER_FOLDERS for page in sorted(os.listdir(f"{ROOT}/docs/{it}")) if page.endswith(".md")]
@@ -93,6 +93,15 @@ def header_text(header):
     return re.sub(r"/\*|\*/|//", "  ", "".join(text))
 
 
+def source_text(source, is_python):
+    """the comments and texts of a source"""
+    form = r'""".*?"""|#[^\n]*|"[^"\n]*"' if is_python else r'//[^\n]*|/\*.*?\*/|"[^"\n]*"'
+    text = list(blank(source))
+    for it in re.finditer(form, source, re.S):
+        text[it.start() : it.end()] = it[0]
+    return re.sub(r"`[^`]*`", lambda it: blank(it[0]), "".join(text))
+
+
 def wrong_words(text, terms):
     for say, wrong, fine in terms:
         for it in wrong.finditer(fine.sub(lambda it: blank(it[0]), text) if fine else text):
@@ -134,10 +143,15 @@ def long_sentences(text):
 
 def main():
     table, bad = terms(read(LIST)), 0
-    for file in COVERED:
+    for file in sys.argv[1:] or COVERED:
         header = read(file) if file == HEADER else ""
-        text = header_text(header) if header else page_text(file)
-        wrong = sorted([*wrong_words(text, table), *(long_comments(header) if header else long_sentences(read(file)))])
+        if file not in COVERED:
+            text, long = source_text(read(file), file.endswith(".py")), []
+        elif header:
+            text, long = header_text(header), long_comments(header)
+        else:
+            text, long = page_text(file), long_sentences(read(file))
+        wrong = sorted([*wrong_words(text, table), *long])
         for line, why in wrong:
             print(f"failed {file}:{line}: {why}")
         if not wrong:
