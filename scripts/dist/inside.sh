@@ -160,9 +160,9 @@ go_example() {
   PKG_CONFIG_PATH=$top/tarball/lib/pkgconfig make -C "$top/tarball/examples/go" test LIB="$top/tarball/lib" OUT="$top/go-example"
 }
 
-server() {
+c_examples() {
   cp -r /usr/share/doc/libbeanwhile-h3-dev/examples/c "$top/server" &&
-    make -C "$top/server" LIB=/usr/lib/x86_64-linux-gnu OUT="$top/server" "$top/server/serve"
+    make -C "$top/server" LIB=/usr/lib/x86_64-linux-gnu OUT="$top/server"
 }
 
 check "checksums of the artefacts" checksums
@@ -203,8 +203,4 @@ if ls -d /usr/share/cargo/registry/quinn-0.11.* > /dev/null 2>&1; then
 else
   echo "skipped $release: examples/rust/quinn, whose crates are not there"
 fi
-if pkg-config --exists 'libngtcp2 < 1'; then
-  check "examples/c are built" server
-else
-  echo "skipped $release: examples/c are built, which stand on ngtcp2 before 1.0 (here: $(pkg-config --modversion libngtcp2 2>&1))"
-fi
+check "examples/c are built over ngtcp2 $(pkg-config --modversion libngtcp2 2>&1)" c_examples

@@ -78,9 +78,21 @@ with zipfile.ZipFile(sys.argv[1]) as it: print(it.read(next(name for name in it.
     "$work"/dist/*.whl | grep "$text" > /dev/null
 }
 
+# docs/INSTALL.md names each part of the kit that THIRD-PARTY names
+page_names() {
+  local part section
+  section=$(sed -n '/^## Licence/,/^## What works/p' docs/INSTALL.md)
+  for part in $(tar xzOf "$work"/dist/*.crate --wildcards '*/THIRD-PARTY' | sed -nE 's/^The kit (gives a licence for its crates|states no licence for) (.*)\.?$/\2/p' |
+    sed 's/, and the C shims.*//; s/\.$//' | tr -d ,); do
+    grep -q "\`$part\`" <<< "$section" || { echo "docs/INSTALL.md does not name $part"; return 1; }
+  done
+  [ -n "${part:-}" ]
+}
+
 check "make dist: the same bytes twice" packed
 [ "$bad" -eq 0 ] || exit 1
 check "make dist: each artefact has the licences of the kit's parts" noticed
+check "make dist: docs/INSTALL.md names each of the kit's parts" page_names
 export PKG_CONFIG_PATH="" PKG_CONFIG_LIBDIR=/nonexistent
 check "make dist: a C program over the tarball" of_tarball
 check "make dist: a Python program over the wheel" of_wheel
