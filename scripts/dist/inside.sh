@@ -160,6 +160,14 @@ go_example() {
   PKG_CONFIG_PATH=$top/tarball/lib/pkgconfig make -C "$top/tarball/examples/go" test LIB="$top/tarball/lib" OUT="$top/go-example"
 }
 
+# a drop-in for nghttp3 is loaded by the programs that LD_LIBRARY_PATH leads to it, and by no other
+drop_in() {
+  local program folder=/usr/lib/x86_64-linux-gnu/beanwhile-h3/nghttp3
+  program=$(command -v gtlsclient || command -v curl) &&
+    apt-get install -y "$top"/dist/libbeanwhile-h3-nghttp3_*.deb && [ -z "$(dpkg -V libbeanwhile-h3-nghttp3)" ] &&
+    LD_LIBRARY_PATH=$folder ldd "$program" | grep "$folder/libnghttp3" && ! ldd "$program" | grep "$folder"
+}
+
 c_examples() {
   cp -r /usr/share/doc/libbeanwhile-h3-dev/examples/c "$top/server" &&
     make -C "$top/server" LIB=/usr/lib/x86_64-linux-gnu OUT="$top/server"
@@ -202,5 +210,10 @@ if ls -d /usr/share/cargo/registry/quinn-0.11.* > /dev/null 2>&1; then
   [ ! -x "$top/quinn/debug/h3_over_quinn" ] || check "examples/rust/quinn: three bodies of 1 MB are posted and come back" quinn_posted
 else
   echo "skipped $release: examples/rust/quinn, whose crates are not there"
+fi
+if ls "$top"/dist/libbeanwhile-h3-nghttp3_*.deb > /dev/null 2>&1; then
+  check "the Debian package of the drop-in for nghttp3" drop_in
+else
+  echo "skipped $release: the drop-in for nghttp3, of which there is no package (make compat)"
 fi
 check "examples/c are built over ngtcp2 $(pkg-config --modversion libngtcp2 2>&1)" c_examples

@@ -107,22 +107,29 @@ compared() { # NAME ROOT FILE: what came is what the server of that root has
     echo "failed $1: $(tail -n 3 "$work/client" "$work/server" | tr '\n' ' ')"
   fi
 }
-by_gtlsclient() { # ROOT PORT
-  local down=$roots/bookworm/root/try/down
+by_gtlsclient() { # ROOT PORT, and what env gives the program
+  local root=$1 port=$2 down=$roots/bookworm/root/try/down
+  shift 2
   rm -rf "$down" && mkdir -p "$down"
-  inside bookworm timeout 60 gtlsclient -q --exit-on-all-streams-close --download=/root/try/down 127.0.0.1 "$2" \
-    "https://localhost:$2/big" > "$work/client" 2>&1
-  compared "gtlsclient of Debian 12 fetches a file from examples/c, built in $1" "$1" "$down/big"
+  inside bookworm "$@" timeout 60 gtlsclient -q --exit-on-all-streams-close --download=/root/try/down 127.0.0.1 "$port" \
+    "https://localhost:$port/big" > "$work/client" 2>&1
+  compared "gtlsclient of Debian 12${1:+ over the drop-in for nghttp3} fetches a file from examples/c, built in $root" "$root" "$down/big"
 }
-by_curl() { # ROOT PORT
-  inside trixie timeout 60 curl -sk --http3-only "https://127.0.0.1:$2/big" > "$work/big" 2> "$work/client"
-  compared "curl of Debian 13 fetches a file from examples/c, built in $1" "$1" "$work/big"
+by_curl() { # ROOT PORT, and what env gives the program
+  local root=$1 port=$2
+  shift 2
+  inside trixie "$@" timeout 60 curl -sk --http3-only "https://127.0.0.1:$port/big" > "$work/big" 2> "$work/client"
+  compared "curl of Debian 13${1:+ over the drop-in for nghttp3} fetches a file from examples/c, built in $root" "$root" "$work/big"
 }
 by_fetch() { # ROOT PORT CLIENT'S-ROOT
   local there=/root/try/server
   cp "$roots/$1/root/try/server/cert.pem" "$roots/$3$there/peer.pem"
   inside "$3" timeout 60 $there/fetch --address 127.0.0.1 --trust $there/peer.pem "https://localhost:$2/big" > "$work/big" 2> "$work/client"
   compared "fetch, built in $3, fetches a file from examples/c, built in $1" "$1" "$work/big"
+}
+drop_in=/usr/lib/x86_64-linux-gnu/beanwhile-h3/nghttp3
+over_drop_in() { # ROOT PROGRAM: does it load the drop-in for nghttp3 from there?
+  inside "$1" "LD_LIBRARY_PATH=$drop_in" ldd "/usr/bin/$2" 2> /dev/null | grep -q "$drop_in/libnghttp3"
 }
 over_quic() { # ROOT
   local port client
@@ -135,8 +142,18 @@ over_quic() { # ROOT
     echo "failed the server of examples/c in $1: it does not listen: $(cat "$work/server")"
     return
   fi
-  if [ -x "$roots/bookworm/usr/bin/gtlsclient" ]; then by_gtlsclient "$1" "$port"; else echo "skipped gtlsclient of Debian 12: its root is not there"; fi
-  if inside trixie curl -V 2> /dev/null | grep -q HTTP3; then by_curl "$1" "$port"; else echo "skipped curl of Debian 13 with HTTP/3, which is not there"; fi
+  if [ -x "$roots/bookworm/usr/bin/gtlsclient" ]; then
+    by_gtlsclient "$1" "$port"
+    ! over_drop_in bookworm gtlsclient || by_gtlsclient "$1" "$port" "LD_LIBRARY_PATH=$drop_in"
+  else
+    echo "skipped gtlsclient of Debian 12: its root is not there"
+  fi
+  if inside trixie curl -V 2> /dev/null | grep -q HTTP3; then
+    by_curl "$1" "$port"
+    ! over_drop_in trixie curl || by_curl "$1" "$port" "LD_LIBRARY_PATH=$drop_in"
+  else
+    echo "skipped curl of Debian 13 with HTTP/3, which is not there"
+  fi
   for client in bookworm trixie; do
     [ ! -x "$roots/$client/root/try/server/fetch" ] || by_fetch "$1" "$port" "$client"
   done
