@@ -173,7 +173,22 @@ c_examples() {
     make -C "$top/server" LIB=/usr/lib/x86_64-linux-gnu OUT="$top/server"
 }
 
+# the versions that are here stand in the column of this release in the table of docs/INSTALL.md
+says() { # ROW TEXT
+  awk -F'|' -v row=" $1 " -v column=$((VERSION_ID - 9)) '$2 == row { print $column }' "$top/INSTALL.md" | grep -qF -- "$2" ||
+    { echo "docs/INSTALL.md does not say '$2' in the row '$1'"; return 1; }
+}
+two() { grep -oE '[0-9]+\.[0-9]+' | head -n 1; }
+versions() {
+  says System "glibc $(ldd --version | two):" && says C "gcc $(gcc -dumpversion):" && says C++ "g++ $(g++ -dumpversion)," &&
+    says CMake "$(cmake --version | two):" && says Rust "rustc $(rustc --version | two):" && says Go " $(go version | two)," &&
+    says Python "$(python3 --version | two):" && says 'QUIC of `examples/c`' "ngtcp2 $(pkg-config --modversion libngtcp2 | two):" &&
+    says 'QUIC of `examples/go`' "quic-go $(quic_go_version | two):" || return 1
+  if command -v curl > /dev/null; then says 'Client of HTTP/3' "curl $(curl --version | two):"; fi
+}
+
 check "checksums of the artefacts" checksums
+check "versions are those of docs/INSTALL.md" versions
 check "C by docs/INSTALL.md" start c main.c main.c
 check "C++ by docs/INSTALL.md" start cpp main.cpp main.cpp
 check "Rust by docs/INSTALL.md" start rust main.rs src/main.rs
