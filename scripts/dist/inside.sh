@@ -8,6 +8,7 @@ top=$PWD
 . /etc/os-release
 release="Debian $VERSION_ID"
 export LC_ALL=C.UTF-8 DEBIAN_FRONTEND=noninteractive HOME=$top CARGO_NET_OFFLINE=true
+export CARGO_PROFILE_DEV_DEBUG=0 CARGO_PROFILE_TEST_DEBUG=0 # which compiles sooner
 export GOFLAGS=-mod=mod GOPROXY=off GOTOOLCHAIN=local GOCACHE=$top/go-cache GOPATH=$top/go-path
 
 check() { # NAME COMMAND..

@@ -78,7 +78,7 @@ in_root() { # ROOT
   cp -r examples/start "$try/start"
   mkdir "$try/python-tests" && cp -r bindings/python/{README.md,pyproject.toml,tests} "$try/python-tests"
   cp docs/INSTALL.md scripts/dist/inside.sh tests/c/endpoint.cpp "$try"
-  (run=exec; inside "$1" timeout -k 5 1800 bash /root/try/inside.sh)
+  (run=exec; inside "$1" timeout -k 5 5400 bash /root/try/inside.sh)
 }
 
 listens() { grep -qi ":$(printf %04X "$1") " /proc/net/udp; }

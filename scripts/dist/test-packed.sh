@@ -43,6 +43,30 @@ packed() {
   UNPROVED=$mark python3 scripts/dist/dist.py "$lib" "$work/dist" && UNPROVED=$mark python3 scripts/dist/dist.py "$lib" "$work/again" &&
     diff -r "$work/dist" "$work/again" && (cd "$work/dist" && sha256sum --quiet -c SHA256SUMS)
 }
+# what does not fit together is refused, and nothing is left
+is_refused() { # WHY FOLDER UNPROVED
+  local said
+  if said=$(UNPROVED=$3 python3 scripts/dist/dist.py "$2" "$work/none" 2>&1); then
+    echo "packed: $1"
+    return 1
+  fi
+  [ ! -e "$work/none" ] && grep -q "$1" <<< "$said" || { echo "$said"; return 1; }
+}
+refusals() {
+  cp -a "$lib" "$work/other" || return 1
+  if [ -n "$mark" ]; then
+    is_refused "was built without its proofs" "$work/other" "" || return 1
+    rm "$work/other/UNPROVED"
+  else
+    touch "$work/other/UNPROVED"
+  fi
+  is_refused "says of its proofs something else" "$work/other" 1 || return 1
+  rm -r "$work/other" && cp -a "$lib" "$work/other" && echo >> "$work/other/beanwhile/h3.h" || return 1
+  is_refused "is not include/h3.h" "$work/other" "$mark" || return 1
+  echo "other sources" > "$work/other/SOURCES"
+  is_refused "is not of the sources that are here" "$work/other" "$mark"
+}
+
 of_tarball() {
   mkdir -p "$work/tarball" && tar xzf "$work"/dist/beanwhile-h3-*-linux-*.tar.gz -C "$work/tarball" --strip-components=1 &&
     (cd "$work/tarball" && sha256sum --quiet -c SHA256SUMS) &&
@@ -91,6 +115,7 @@ page_names() {
 
 check "make dist: the same bytes twice" packed
 [ "$bad" -eq 0 ] || exit 1
+check "make dist: what does not fit together is refused" refusals
 check "make dist: each artefact has the licences of the kit's parts" noticed
 check "make dist: docs/INSTALL.md names each of the kit's parts" page_names
 export PKG_CONFIG_PATH="" PKG_CONFIG_LIBDIR=/nonexistent
