@@ -61,6 +61,12 @@ rust_crate() {
   (cd bindings/rust && RUSTFLAGS="-D warnings" cargo test --offline --quiet --target-dir "$work/target")
 }
 
+# every public item has documentation, and every call that may fail says so under `# Errors`
+rust_documents() {
+  (cd bindings/rust && RUSTDOCFLAGS="-D warnings" cargo doc --offline --quiet --no-deps --target-dir "$work/target" &&
+    cargo clippy --offline --quiet --target-dir "$work/target" -- -D missing_docs -D clippy::missing_errors_doc)
+}
+
 # a crate of its own, which takes ours from its folder
 rust_caller() {
   mkdir -p "$work/crate/src"
@@ -122,6 +128,11 @@ fi
 if command -v cargo > /dev/null; then
   check "bindings/rust: its tests" rust_crate
   check "bindings/rust: a crate that depends on it" rust_caller
+  if cargo clippy --version > /dev/null 2>&1; then
+    check "bindings/rust: its documentation, with what each call may fail by" rust_documents
+  else
+    echo "left out: the documentation of bindings/rust, which wants clippy (Debian: apt-get install rust-clippy)" >&2
+  fi
 else
   echo "left out: bindings/rust, which wants cargo (Debian: apt-get install cargo)" >&2
 fi

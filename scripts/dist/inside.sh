@@ -8,6 +8,7 @@ top=$PWD
 . /etc/os-release
 release="Debian $VERSION_ID"
 export LC_ALL=C.UTF-8 DEBIAN_FRONTEND=noninteractive HOME=$top CARGO_NET_OFFLINE=true
+export CARGO_PROFILE_DEV_DEBUG=0 CARGO_PROFILE_TEST_DEBUG=0 # which compiles sooner
 export GOFLAGS=-mod=mod GOPROXY=off GOTOOLCHAIN=local GOCACHE=$top/go-cache GOPATH=$top/go-path
 
 check() { # NAME COMMAND..
@@ -160,12 +161,35 @@ go_example() {
   PKG_CONFIG_PATH=$top/tarball/lib/pkgconfig make -C "$top/tarball/examples/go" test LIB="$top/tarball/lib" OUT="$top/go-example"
 }
 
-server() {
+# a drop-in for nghttp3 is loaded by the programs that LD_LIBRARY_PATH leads to it, and by no other
+drop_in() {
+  local program folder=/usr/lib/x86_64-linux-gnu/beanwhile-h3/nghttp3
+  program=$(command -v gtlsclient || command -v curl) &&
+    apt-get install -y "$top"/dist/libbeanwhile-h3-nghttp3_*.deb && [ -z "$(dpkg -V libbeanwhile-h3-nghttp3)" ] &&
+    LD_LIBRARY_PATH=$folder ldd "$program" | grep "$folder/libnghttp3" && ! ldd "$program" | grep "$folder"
+}
+
+c_examples() {
   cp -r /usr/share/doc/libbeanwhile-h3-dev/examples/c "$top/server" &&
-    make -C "$top/server" LIB=/usr/lib/x86_64-linux-gnu OUT="$top/server" "$top/server/serve"
+    make -C "$top/server" LIB=/usr/lib/x86_64-linux-gnu OUT="$top/server"
+}
+
+# the versions that are here stand in the column of this release in the table of docs/INSTALL.md
+says() { # ROW TEXT
+  awk -F'|' -v row=" $1 " -v column=$((VERSION_ID - 9)) '$2 == row { print $column }' "$top/INSTALL.md" | grep -qF -- "$2" ||
+    { echo "docs/INSTALL.md does not say '$2' in the row '$1'"; return 1; }
+}
+two() { grep -oE '[0-9]+\.[0-9]+' | head -n 1; }
+versions() {
+  says System "glibc $(ldd --version | two):" && says C "gcc $(gcc -dumpversion):" && says C++ "g++ $(g++ -dumpversion)," &&
+    says CMake "$(cmake --version | two):" && says Rust "rustc $(rustc --version | two):" && says Go " $(go version | two)," &&
+    says Python "$(python3 --version | two):" && says 'QUIC of `examples/c`' "ngtcp2 $(pkg-config --modversion libngtcp2 | two):" &&
+    says 'QUIC of `examples/go`' "quic-go $(quic_go_version | two):" || return 1
+  if command -v curl > /dev/null; then says 'Client of HTTP/3' "curl $(curl --version | two):"; fi
 }
 
 check "checksums of the artefacts" checksums
+check "versions are those of docs/INSTALL.md" versions
 check "C by docs/INSTALL.md" start c main.c main.c
 check "C++ by docs/INSTALL.md" start cpp main.cpp main.cpp
 check "Rust by docs/INSTALL.md" start rust main.rs src/main.rs
@@ -203,8 +227,9 @@ if ls -d /usr/share/cargo/registry/quinn-0.11.* > /dev/null 2>&1; then
 else
   echo "skipped $release: examples/rust/quinn, whose crates are not there"
 fi
-if pkg-config --exists 'libngtcp2 < 1'; then
-  check "examples/c are built" server
+if ls "$top"/dist/libbeanwhile-h3-nghttp3_*.deb > /dev/null 2>&1; then
+  check "the Debian package of the drop-in for nghttp3" drop_in
 else
-  echo "skipped $release: examples/c are built, which stand on ngtcp2 before 1.0 (here: $(pkg-config --modversion libngtcp2 2>&1))"
+  echo "skipped $release: the drop-in for nghttp3, of which there is no package (make compat)"
 fi
+check "examples/c are built over ngtcp2 $(pkg-config --modversion libngtcp2 2>&1)" c_examples

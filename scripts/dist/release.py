@@ -43,7 +43,7 @@ class Release:
             refuse("files differ from those of the commit: a release is made of a commit")
         self.epoch = int(said("git", "log", "-1", "--format=%ct"))
         self.gate = self.gate_log()
-        self.notices = Notices(ROOT)
+        self.notices = Notices(ROOT, f"{self.folder}/libbeanwhile_h3.a")
 
     @property
     def shared(self):
@@ -93,7 +93,9 @@ class Release:
 
     def about(self):
         """the text of the file RELEASE in an artefact"""
-        gate = "gate.log, beside this file in the tarball" if self.gate else "no log of the gate over these sources was at hand"
+        gate = "no log of the gate over these sources was at hand"
+        if self.gate:
+            gate = f"gate.log, beside this file in the tarball, of commit {self.gate.split(' ', 4)[3]}"
         commit = self.commit if self.is_clean else f"{self.commit} and changes that were not committed"
         return f"""beanwhile-h3 {self.label}
 {self.state}

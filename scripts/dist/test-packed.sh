@@ -43,6 +43,30 @@ packed() {
   UNPROVED=$mark python3 scripts/dist/dist.py "$lib" "$work/dist" && UNPROVED=$mark python3 scripts/dist/dist.py "$lib" "$work/again" &&
     diff -r "$work/dist" "$work/again" && (cd "$work/dist" && sha256sum --quiet -c SHA256SUMS)
 }
+# what does not fit together is refused, and nothing is left
+is_refused() { # WHY FOLDER UNPROVED
+  local said
+  if said=$(UNPROVED=$3 python3 scripts/dist/dist.py "$2" "$work/none" 2>&1); then
+    echo "packed: $1"
+    return 1
+  fi
+  [ ! -e "$work/none" ] && grep -q "$1" <<< "$said" || { echo "$said"; return 1; }
+}
+refusals() {
+  cp -a "$lib" "$work/other" || return 1
+  if [ -n "$mark" ]; then
+    is_refused "was built without its proofs" "$work/other" "" || return 1
+    rm "$work/other/UNPROVED"
+  else
+    touch "$work/other/UNPROVED"
+  fi
+  is_refused "says of its proofs something else" "$work/other" 1 || return 1
+  rm -r "$work/other" && cp -a "$lib" "$work/other" && echo >> "$work/other/beanwhile/h3.h" || return 1
+  is_refused "is not include/h3.h" "$work/other" "$mark" || return 1
+  echo "other sources" > "$work/other/SOURCES"
+  is_refused "is not of the sources that are here" "$work/other" "$mark"
+}
+
 of_tarball() {
   mkdir -p "$work/tarball" && tar xzf "$work"/dist/beanwhile-h3-*-linux-*.tar.gz -C "$work/tarball" --strip-components=1 &&
     (cd "$work/tarball" && sha256sum --quiet -c SHA256SUMS) &&
@@ -78,9 +102,22 @@ with zipfile.ZipFile(sys.argv[1]) as it: print(it.read(next(name for name in it.
     "$work"/dist/*.whl | grep "$text" > /dev/null
 }
 
+# docs/INSTALL.md names each part of the kit that THIRD-PARTY names
+page_names() {
+  local part section
+  section=$(sed -n '/^## Licence/,/^## What works/p' docs/INSTALL.md)
+  for part in $(tar xzOf "$work"/dist/*.crate --wildcards '*/THIRD-PARTY' | sed -nE 's/^The kit (gives a licence for its crates|states no licence for) (.*)\.?$/\2/p' |
+    sed 's/, and the C shims.*//; s/\.$//' | tr -d ,); do
+    grep -q "\`$part\`" <<< "$section" || { echo "docs/INSTALL.md does not name $part"; return 1; }
+  done
+  [ -n "${part:-}" ]
+}
+
 check "make dist: the same bytes twice" packed
 [ "$bad" -eq 0 ] || exit 1
+check "make dist: what does not fit together is refused" refusals
 check "make dist: each artefact has the licences of the kit's parts" noticed
+check "make dist: docs/INSTALL.md names each of the kit's parts" page_names
 export PKG_CONFIG_PATH="" PKG_CONFIG_LIBDIR=/nonexistent
 check "make dist: a C program over the tarball" of_tarball
 check "make dist: a Python program over the wheel" of_wheel

@@ -14,6 +14,11 @@ lib=${LIB:-$top/build/c}
 
 make_examples
 make_served
+has_root=no
+if bash scripts/interop/upstream.sh peers; then
+  has_root=yes
+  build bash scripts/interop/upstream.sh example "$lib" # before a server starts, which has ten minutes
+fi
 # rustls takes no certificate of an authority for a server's
 leaf=$work/leaf.pem
 leaf_key=$work/leaf_key.pem
@@ -96,10 +101,5 @@ quinn() {
 }
 
 net_http
-if bash scripts/interop/upstream.sh peers; then
-  build bash scripts/interop/upstream.sh example "$lib"
-  quinn
-else
-  echo "skipped examples/rust/quinn: there is no build/trixie (make upstream-root)"
-fi
+if [ "$has_root" = yes ]; then quinn; else echo "skipped examples/rust/quinn: there is no build/trixie (make upstream-root)"; fi
 [ "$failed" -eq 0 ]
