@@ -72,6 +72,7 @@ class Edit:
     body: object = None  # the function whose body holds all of it, if there is one
     copy: int = 0  # in which copy of its function a check has it: in none but the function itself
     judged: str = ""  # why no proof of it can exist, as a reader found
+    witness: str = ""  # an input that shows it in a run (scripts/gate/witnesses.py)
     taken: frozenset = frozenset()  # what a check takes away of its function's answers
 
     @property
@@ -103,14 +104,14 @@ def read_edit(rt, crate, path):
         raise Broken(f"{path}: {why}")
     with open(path, encoding="utf-8") as it:
         written = it.read()
-    named, judged = re.findall(r"(?m)^function: (\S+)$", written), re.findall(r"(?m)^judged: (.+)$", written)
-    if len(named) != 1 or len(judged) > 1:
-        raise Broken(f"{path}: one line 'function: NAME' says whose contract refuses it, and one line 'judged: WHY' at most why no proof can exist")
+    named, judged, witness = (re.findall(rf"(?m)^{it}: (.+)$", written) for it in ("function", "judged", "witness"))
+    if len(named) != 1 or len(judged) > 1 or len(witness) > len(judged):
+        raise Broken(f"{path}: one line 'function: NAME' says whose contract refuses it, one line 'judged: WHY' at most why no proof can exist, one line 'witness: INPUT' at most what shows it")
     spans = []
     for file, text in texts.items():
         with open(f"{crate.folder}/{file}", "rb") as it:
             spans.append((file, *span(it.read(), text.encode())))
-    return Edit(path, crate.name, named[0], texts, spans, judged="".join(judged))
+    return Edit(path, crate.name, named[0], texts, spans, judged="".join(judged), witness="".join(witness))
 
 
 def source_of(bodies, crate):
