@@ -13,7 +13,7 @@ import variants  # noqa: E402
 
 ROOT, BUILD = variants.ROOT, variants.BUILD
 LISTS, SCHEDULES = 200, 40
-SHORT = 500  # bytes of a script to which memory is refused in a search
+SHORT = 700  # bytes of a script to which memory is refused in a search
 REFUSES = ["-Wl,--wrap=malloc,--wrap=realloc"]
 FREES = ["-Wl,--wrap=malloc,--wrap=realloc,--wrap=free"]
 # programs in C that judge by themselves: the flags that each is linked with, and its arguments
