@@ -73,6 +73,7 @@ class Edit:
     copy: int = 0  # in which copy of its function a check has it: in none but the function itself
     judged: str = ""  # why no proof of it can exist, as a reader found
     witness: str = ""  # an input that shows it in a run (scripts/gate/witnesses.py)
+    unseen: str = ""  # or why no run does
     taken: frozenset = frozenset()  # what a check takes away of its function's answers
 
     @property
@@ -104,14 +105,14 @@ def read_edit(rt, crate, path):
         raise Broken(f"{path}: {why}")
     with open(path, encoding="utf-8") as it:
         written = it.read()
-    named, judged, witness = (re.findall(rf"(?m)^{it}: (.+)$", written) for it in ("function", "judged", "witness"))
-    if len(named) != 1 or len(judged) > 1 or len(witness) > len(judged):
-        raise Broken(f"{path}: one line 'function: NAME' says whose contract refuses it, one line 'judged: WHY' at most why no proof can exist, one line 'witness: INPUT' at most what shows it")
+    named, judged, witness, unseen = (re.findall(rf"(?m)^{it}: (.+)$", written) for it in ("function", "judged", "witness", "unseen"))
+    if len(named) != 1 or len(judged) > 1 or len(witness + unseen) > len(judged):
+        raise Broken(f"{path}: one line 'function: NAME' says whose contract refuses it, one line 'judged: WHY' at most why no proof can exist, one line 'witness: INPUT' or 'unseen: WHY' what shows it")
     spans = []
     for file, text in texts.items():
         with open(f"{crate.folder}/{file}", "rb") as it:
             spans.append((file, *span(it.read(), text.encode())))
-    return Edit(path, crate.name, named[0], texts, spans, judged="".join(judged), witness="".join(witness))
+    return Edit(path, crate.name, named[0], texts, spans, judged="".join(judged), witness="".join(witness), unseen="".join(unseen))
 
 
 def source_of(bodies, crate):

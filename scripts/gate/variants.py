@@ -32,7 +32,7 @@ BUILD = f"{ROOT}/build/witness"
 LIBRARY = "library"
 PROGRAMS = {"cases": "h3_cases", "talk": "h3_talk", LIBRARY: "h3_c", "layers": "witness_layers"}
 # a program of tests/witness: the crates that it calls, as in crates.txt
-LAYERS = "\nwitness_layers: h3_capsule h3_qpack h3_field h3_coding h3_proto h3_wire h3_messages hex bytes\n"
+LAYERS = "\nwitness_layers: h3_world h3_incoming h3_connection h3_capsule h3_qpack h3_field h3_coding h3_proto h3_wire h3_messages hex bytes\n"
 SECONDS = 3600
 LANES = 2
 SWITCH = """//! Which wrong body runs.

@@ -8,7 +8,8 @@ An edit of crates/*/refused with a line `judged:` has a line `witness: INPUT` wh
   witness: crates/h3_cases/stdin, memory             how often memory is asked for, or how much
   witness: tests/talk/order.talk, refusing 7-9       the seventh to the ninth call for memory is refused
 
-All of these are in one build beside the right bodies (scripts/gate/variants.py). For each crate a line 'ok CRATE: ..' says how many its
+An edit that a program could run and that no run shows has a line `unseen: WHY` in its place. All of these are in one build beside the
+right bodies (scripts/gate/variants.py). For each crate a line 'ok CRATE: ..' says how many its
 witnesses show, and for each that is not shown, does not compile, or whose input is gone or answered otherwise by the right bodies, there
 is a line 'failed CRATE/EDIT: ..'. The last says how many edits there are, and what refuses them: at most READERS may rest on a reader.
 
@@ -43,25 +44,32 @@ def limit(seconds):
     resource.setrlimit(resource.RLIMIT_CORE, (0, 0))
 
 
+def ended(process):
+    """the status of a process that ended, and the seconds of a processor that it took"""
+    _, status, used = os.wait4(process.pid, 0)
+    process.returncode = os.waitstatus_to_exitcode(status)
+    return process.returncode, used.ru_utime + used.ru_stime
+
+
+def told_in(path):
+    """the numbers of the bodies that were asked for, and the calls for memory with their bytes; none of a program that did not come to its end"""
+    if not os.path.exists(path):
+        return set(), None
+    with open(path, encoding="ascii") as it:
+        numbers, counts = it.read().split("\n")[:2]
+    return {*map(int, numbers.split())}, tuple(map(int, counts.split()))
+
+
 def run(given, number=0, refusing="", seconds=120):
     """a run of the input with the wrong body of this number, 0 for none"""
-    with tempfile.TemporaryDirectory(prefix="run-") as room:
-        told, wrote = f"{room}/told", f"{room}/wrote"
-        env = {"WRONG": str(number), "TOLD": told, **({"REFUSE": refusing} if refusing else {})}
-        with open(wrote, "wb+") as out, open(f"{room}/given", "wb+") as source:
-            source.write(given.given)
-            source.seek(0)
-            began = os.times()
-            how = {"stdin": source, "stdout": out, "stderr": subprocess.DEVNULL, "env": env, "cwd": variants.ROOT, "check": False}
-            status = subprocess.run(given.words, preexec_fn=lambda: limit(seconds), **how).returncode
-            out.seek(0)
-            text = out.read()
-        asked, memory = set(), None
-        if os.path.exists(told):
-            with open(told, encoding="ascii") as it:
-                numbers, counts = it.read().split("\n")[:2]
-            asked, memory = {*map(int, numbers.split())}, tuple(map(int, counts.split()))
-        return Ran(text, status, asked, memory, os.times().elapsed - began.elapsed)
+    with tempfile.TemporaryDirectory(prefix="run-") as room, open(f"{room}/wrote", "wb+") as out, open(f"{room}/given", "wb+") as source:
+        env = {"WRONG": str(number), "TOLD": f"{room}/told", **({"REFUSE": refusing} if refusing else {})}
+        source.write(given.given)
+        source.seek(0)
+        how = {"stdin": source, "stdout": out, "stderr": subprocess.DEVNULL, "env": env, "cwd": variants.ROOT}
+        status, used = ended(subprocess.Popen(given.words, preexec_fn=lambda: limit(seconds), **how))
+        out.seek(0)
+        return Ran(out.read(), status, *told_in(f"{room}/told"), used)
 
 
 def first_difference(right, wrong):
@@ -124,7 +132,8 @@ def judge(runs, variant, void):
     if variant.number in void:
         return False, f"it does not compile: {void[variant.number]}"
     if not edit.witness:
-        return True, None
+        is_said = bool(edit.unseen) or not variant.parts
+        return is_said, None if is_said else "no run shows it: let 'make witnessed FIND=1' find a witness, or say in a line 'unseen: WHY' why there is none"
     if not variant.parts:
         return False, f"it has a witness, and no run can have it: {variant.why}"
     return runs.shown(variant, edit.witness)
@@ -190,7 +199,7 @@ def find(runs, variant, order):
 
 def write(edit, witness):
     with open(edit.path, encoding="utf-8") as it:
-        kept = [line for line in it.read().rstrip("\n").split("\n") if not line.startswith("witness:")]
+        kept = [line for line in it.read().rstrip("\n").split("\n") if not line.startswith(("witness:", "unseen:"))]
     at = next(at for at, line in enumerate(kept) if line.startswith("judged:"))
     with open(edit.path, "w", encoding="utf-8") as it:
         it.write("\n".join([*kept[: at + 1], f"witness: {witness}", *kept[at + 1 :]]) + "\n")

@@ -107,6 +107,12 @@ static void sending(void) {
   told("reset", 4, h3_reset(&end, 4, &detail)), state(4), tables();
 }
 
+static void unsent(void) {
+  begin("lists that are not sent", 1, 220, 2, 1);
+  deliver(2, "0004050140500702"), deliver(0, GET), pull(0), send(0, 0, "connection", "close"), send(0, 0, "A", "1"), send(0, 0, "x-a", "1"), out(7), out(0);
+  send(0, 1, "connection", "close"), send(0, 1, "x-a", "1"), out(0);
+}
+
 static void waiting(void) {
   begin("sections that wait", 1, 220, 3, 0);
   deliver(2, "000400"), deliver(0, "010403811011000161"), pull(0), state(0), pull(0), deliver(4, "010403811011"), pull(4), state(4);
@@ -134,7 +140,7 @@ static void over(void) {
 }
 
 int main(void) {
-  sections(), unidirectional(), sending(), waiting(), kept(), over();
+  sections(), unidirectional(), sending(), unsent(), waiting(), kept(), over();
   h3_free(&end);
   return 0;
 }

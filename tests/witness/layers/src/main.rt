@@ -3,14 +3,19 @@
 use bytes::{Bytes, BytesMut};
 use h3_capsule::capsule::{Capsule, CapsuleReader};
 use h3_coding::varint::VarInt;
-use h3_field::{Decoded, HeaderField, SliceCursor};
-use h3_messages::request_violation;
+use h3_connection::setup::Limits;
+use h3_field::{Decoded, Fields, HeaderField, SliceCursor};
+use h3_incoming::outline::read_survey;
+use h3_messages::{Seen, Survey, request_violation};
 use h3_proto::push::PushId;
+use h3_proto::stream::Side;
 use h3_qpack::{
     Decoder, DecodedWithin, DynamicTable, Encoder, LargeSection, SessionAnswer, SessionEvent, run,
     set_dynamic_table_size,
 };
+use h3_wire::proto::config::Config;
 use h3_wire::proto::frame::{Frame, PushPromise};
+use h3_world::setup::Setup;
 use std::alloc::Global;
 use std::io;
 
@@ -20,7 +25,8 @@ fn main(rt: HostRuntime) -> io::Result<()> {
     sections(&rt)?;
     tables(&rt)?;
     promises(&rt)?;
-    messages(&rt)
+    messages(&rt)?;
+    setups(&rt)
 }
 
 /// One call of a reader of capsules (RFC 9297, section 3.2).
@@ -104,7 +110,7 @@ fn sessions(rt: &HostRuntime) -> io::Result<()> {
         Some(SessionEvent::EncoderBytes(6)),
         Some(SessionEvent::DecoderBytes(1)),
         Some(SessionEvent::DecoderBytes(0)),
-        None,
+        Some(SessionEvent::Encode(4, one(alloc, b":method", b"GET"))),
         None,
     ]);
     exchange(rt, "an increment", 100, counted.as_slice())?;
@@ -117,7 +123,18 @@ fn sessions(rt: &HostRuntime) -> io::Result<()> {
         Some(SessionEvent::Decode(4)),
         None,
     ]);
-    exchange(rt, "two streams", 0, both.as_slice())
+    exchange(rt, "two streams", 0, both.as_slice())?;
+    // what was canceled takes no room
+    let mut canceled = Vec::new(alloc);
+    for _ in 0..20 {
+        let _is_there = canceled.push(SessionEvent::Encode(0, one(alloc, b":method", b"GET")));
+    }
+    let _is_there = canceled.push(SessionEvent::Cancel(0));
+    for _ in 0..20 {
+        let _is_there = canceled.push(SessionEvent::Encode(4, one(alloc, b":method", b"GET")));
+    }
+    let answers = run(alloc, 0, 1, canceled.as_slice());
+    println!(rt; "canceled: {}", answers.is_ok())
 }
 
 /// A section that is decoded under a limit (RFC 9204, section 4.5).
@@ -179,8 +196,29 @@ fn promises(rt: &HostRuntime) -> io::Result<()> {
     }
 }
 
-/// `:meters` is no pseudo-header field (RFC 9114, section 4.3).
+/// `:meters` is no pseudo-header field (RFC 9114, section 4.3); and of two statuses the walk of one list tells none.
 fn messages(rt: &HostRuntime) -> io::Result<()> {
-    let fields = one(rt.alloc(), b":meters", b"GET");
-    println!(rt; "meters: {:?}", request_violation(fields.as_slice(), false))
+    let meters = one(rt.alloc(), b":meters", b"GET");
+    println!(rt; "meters: {:?}", request_violation(meters.as_slice(), false))?;
+    let mut list = one(rt.alloc(), b":method", b"GET");
+    let _is_there = list.push(HeaderField::from_static(b":status", b"200"));
+    let _is_there = list.push(HeaderField::from_static(b":status", b"100"));
+    let fields = Fields::of(list.as_slice());
+    let mut seen = Seen::new();
+    seen.take_all(&fields);
+    println!(rt; "statuses: {}", read_survey(&Survey::of(&fields, &seen)).is_some())
+}
+
+/// Each side has what it announced.
+fn setups(rt: &HostRuntime) -> io::Result<()> {
+    let client = Limits { table: 1, blocked: 2 };
+    let server = Limits { table: 3, blocked: 4 };
+    match Setup::new(Config::default(), client, 0, Config::default(), server, 0) {
+        Ok(setup) => {
+            let client = setup.announced_at(Side::Client).limits.table;
+            let server = setup.announced_at(Side::Server).limits.table;
+            println!(rt; "tables: {client} {server}")
+        }
+        Err(_) => println!(rt; "no setup"),
+    }
 }
