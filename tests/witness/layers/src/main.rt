@@ -1,4 +1,7 @@
-//! Calls of the layers that no other program makes: each line says what was called, and what it answered. Built beside wrong bodies by scripts/gate/variants.py.
+//! Calls of the layers that no other program makes: each line says what was called, and what it answered. Built beside wrong bodies by
+//! scripts/gate/variants.py.
+ghost use Rattle.std.specs.Prelude.{refl};
+ghost use Rattle.h3_wire.specs.Source.{Polls};
 
 use bytes::{Bytes, BytesMut};
 use h3_capsule::capsule::{Capsule, CapsuleReader};
@@ -13,8 +16,12 @@ use h3_qpack::{
     Decoder, DecodedWithin, DynamicTable, Encoder, LargeSection, SessionAnswer, SessionEvent, run,
     set_dynamic_table_size,
 };
+use h3_wire::frame::FrameStream;
 use h3_wire::proto::config::Config;
 use h3_wire::proto::frame::{Frame, PushPromise};
+use h3_wire::proto::stream::StreamId;
+use h3_wire::quic::{Poll, RecvStream, StreamErrorIncoming};
+use h3_wire::stream::{AcceptRecvStream, AcceptedRecvStream, BufRecvStream};
 use h3_world::setup::Setup;
 use std::alloc::Global;
 use std::io;
@@ -26,7 +33,10 @@ fn main(rt: HostRuntime) -> io::Result<()> {
     tables(&rt)?;
     promises(&rt)?;
     messages(&rt)?;
-    setups(&rt)
+    setups(&rt)?;
+    types(&rt)?;
+    ends(&rt)?;
+    tries(&rt)
 }
 
 /// One call of a reader of capsules (RFC 9297, section 3.2).
@@ -221,4 +231,119 @@ fn setups(rt: &HostRuntime) -> io::Result<()> {
         }
         Err(_) => println!(rt; "no setup"),
     }
+}
+
+/// A source that gives so many bytes a call, with a pause behind each piece or none, then its end, and a reset to whoever asks again.
+#[derive(Drop)]
+struct Feed<'a> {
+    bytes: &'a [u8],
+    each: usize,
+    pauses: bool,
+    is_paused: bool,
+    is_ended: bool,
+    alloc: Global,
+}
+
+fn feed<'a>(rt: &HostRuntime, bytes: &'a [u8], each: usize, pauses: bool) -> Feed<'a> {
+    Feed {
+        bytes,
+        each,
+        pauses,
+        is_paused: false,
+        is_ended: false,
+        alloc: rt.alloc(),
+    }
+}
+
+impl RecvStream for Feed<'_> {
+    ghost rest = { λ f. f.bytes.now };
+
+    ghost answers = { λ s answer t. Polls answer s.bytes.now t.bytes.now };
+
+    ghost id = { λ f. 0 };
+
+    ghost polls = { λ s t answer h. h };
+
+    ghost same = { λ s t answer h. refl };
+
+    fn poll_data(&mut self) -> Poll<Result<Option<Bytes>, StreamErrorIncoming>> {
+        if self.is_ended {
+            return Poll::Ready(Err(StreamErrorIncoming::StreamTerminated { error_code: 268 }));
+        }
+        if self.is_paused {
+            self.is_paused = false;
+            return Poll::Pending;
+        }
+        if self.bytes.is_empty() {
+            self.is_ended = true;
+            return Poll::Ready(Ok(None));
+        }
+        let (front, rest) = self.bytes.split_at(self.bytes.len().min(self.each));
+        self.bytes = rest;
+        self.is_paused = self.pauses;
+        match Bytes::copy_from_slice(self.alloc, front) {
+            Ok(piece) => Poll::Ready(Ok(Some(piece))),
+            Err(_) => Poll::Ready(Err(StreamErrorIncoming::OutOfMemory)),
+        }
+    }
+
+    fn recv_id(&self) -> StreamId {
+        StreamId::FIRST_REQUEST
+    }
+}
+
+/// An encoder stream with a byte behind its type (RFC 9204, section 4.2): the type is known, and stays so, and the byte is handed on.
+fn types(rt: &HostRuntime) -> io::Result<()> {
+    let mut stream = AcceptRecvStream::new(rt.alloc(), feed(rt, b"\x02\xaa", 2, false));
+    for _ in 0..2u32 {
+        let polled = stream.poll_type();
+        println!(rt; "type: {polled:?}")?;
+    }
+    match stream.into_stream() {
+        AcceptedRecvStream::Encoder(rest) => {
+            println!(rt; "behind the type: {}", rest.remaining())?;
+            drop(rest);
+            Ok(())
+        }
+        other => {
+            drop(other);
+            println!(rt; "another type")
+        }
+    }
+}
+
+/// What was read comes first, and behind the end that was told nothing: the source is not asked again.
+fn ends(rt: &HostRuntime) -> io::Result<()> {
+    let mut stream = BufRecvStream::new(rt.alloc(), feed(rt, b"a", 1, false));
+    for _ in 0..2u32 {
+        let polled = stream.poll_read();
+        println!(rt; "read: {polled:?} {}", stream.is_eos())?;
+    }
+    for _ in 0..3u32 {
+        match stream.poll_data() {
+            Poll::Ready(Ok(Some(piece))) => {
+                println!(rt; "piece: {}", piece.len())?;
+                drop(piece);
+            }
+            Poll::Ready(Ok(None)) => println!(rt; "the end")?,
+            Poll::Ready(Err(_)) => println!(rt; "an error")?,
+            Poll::Pending => println!(rt; "pending")?,
+        }
+    }
+    drop(stream);
+    Ok(())
+}
+
+/// A HEADERS frame whose type and length take eight bytes each, byte by byte: each byte is a try, the last of the head and the payload's too.
+fn tries(rt: &HostRuntime) -> io::Result<()> {
+    let bytes = b"\xc0\x00\x00\x00\x00\x00\x00\x01\xc0\x00\x00\x00\x00\x00\x00\x01a";
+    let source = BufRecvStream::new(rt.alloc(), feed(rt, bytes, 1, true));
+    let mut stream = FrameStream::new(rt.alloc(), source);
+    for _ in 0..17u32 {
+        let polled = stream.poll_next();
+        println!(rt; "tries: {}", stream.tries())?;
+        drop(polled);
+    }
+    drop(stream);
+    Ok(())
 }
