@@ -99,6 +99,7 @@ class Runs:
 
     def __init__(self, inputs):
         self.inputs, self.made = inputs, {}
+        self.showed = collections.Counter()  # how many each input showed in a search
 
     def right(self, given, refusing=""):
         if (given.name, refusing) not in self.made:
@@ -179,8 +180,9 @@ def refusals(runs):
 
 
 def candidates(runs, variant, order):
-    """What may be a witness of it: an input that asks for it, the quickest first; then the same by what memory it asks for; then one to which memory is refused."""
-    asking = [it for it in order if variant.number in runs.right(it).asked]
+    """What may be a witness of it: an input that asks for it, first those that showed most, and of these the quickest; then the same by what memory it asks
+    for; then one to which memory is refused."""
+    asking = sorted((it for it in order if variant.number in runs.right(it).asked), key=lambda it: -runs.showed[it.name])
     yield from (it.name for it in asking)
     yield from (f"{it.name}, {MEMORY}" for it in asking if runs.right(it).memory != (0, 0))
     for given, which in refusals(runs):
@@ -192,6 +194,7 @@ def find(runs, variant, order):
     tried = 0
     for witness in candidates(runs, variant, order):
         if runs.shown(variant, witness)[0]:
+            runs.showed[witness.partition(", ")[0]] += 1
             return witness
         tried += 1
     return f"none of {tried} runs shows it"
