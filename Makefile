@@ -8,7 +8,7 @@ PREFIX ?= /usr/local
 # of `make fuzz`: how long each fuzzer runs
 SECONDS ?= 60
 
-.PHONY: help run draw build lib lib-unproved install abi dist test-dist dist-roots examples compat test test-c test-compat fuzz refused bench bench-build bench-page bench-exchange bench-instructions bench-long interop soak upstream-root load need-rt
+.PHONY: help run draw build lib lib-unproved install abi dist test-dist dist-roots examples compat test test-c test-compat fuzz refused witnessed bench bench-build bench-page bench-exchange bench-instructions bench-long interop soak upstream-root load need-rt
 
 help: ## list the commands
 	@grep -hE '^[a-z-]+:.*## ' $(MAKEFILE_LIST) | sed -E 's/^([a-z-]+):.*## /make \1: /'
@@ -73,6 +73,9 @@ test: need-rt ## prove every crate from nothing, try the edits of crates/*/refus
 
 refused: need-rt ## try all edits of crates/*/refused, or of CRATE=name, those that a reader judged too: run it before a contract changes
 	@python3 scripts/gate/refused.py $(CRATE)
+
+witnessed: need-rt ## run each edit of crates/*/refused that no proof refuses, or of CRATE=name, at its witness, the input whose answer it changes; FIND=1 finds witnesses and writes them
+	@python3 scripts/gate/witnesses.py $(if $(FIND),--find) $(CRATE)
 
 bench: need-rt ## print our figures beside nghttp3's and plain C's, measured in one run
 	@bash scripts/bench/bench.sh

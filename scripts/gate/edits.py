@@ -1,6 +1,7 @@
-"""edits.py CRATE: does each edit in the crate's refused/ and must-fail/ apply, so that each of its `old:` texts stands in its file exactly once, and does each
-in refused/ name one function? Where the search cannot tell that one is refused (scripts/gate/refused.py), a line `judged: WHY` says in a sentence why no proof of that
-body can exist. Says how many edits are well, and ends with an error, after a line for each that is not, where there is one."""
+"""edits.py CRATE: does each edit in the crate's refused/ and must-fail/ apply, so that each of its `old:` texts stands in its file exactly once,
+and does each in refused/ name one function? Where the search cannot tell that one is refused (scripts/gate/refused.py), a line `judged: WHY`
+says in a sentence why no proof of that body can exist, and a line `witness: INPUT` which run shows it, or `unseen: WHY` why none does
+(scripts/gate/witnesses.py). Says how many edits are well, and ends with an error, after a line for each that is not, where there is one."""
 import pathlib
 import re
 import sys
@@ -49,6 +50,8 @@ def problem(edit, crate):
     judged = re.findall(r"(?m)^judged:(.*)$", text)
     if len(judged) > 1 or any(not it.startswith(" ") or len(it.split()) < WORDS for it in judged):
         return f"{edit}: a line 'judged: WHY' has one sentence, and stands once at most"
+    if len(re.findall(r"(?m)^(?:witness|unseen):", text)) > len(re.findall(r"(?m)^judged:.*\n(?:witness|unseen): \S", text)):
+        return f"{edit}: one line 'witness: INPUT' or 'unseen: WHY' stands behind the line 'judged: WHY'"
     try:
         edited(edit, crate)
     except NotApplied as why:

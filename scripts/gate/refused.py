@@ -1,5 +1,5 @@
 #!/usr/bin/env python3
-"""Does the prover refuse each wrong body in crates/CRATE/refused/? refused.py [--beside LOG | --unedited | --judged] [CRATE..]
+"""Does the prover refuse each wrong body in crates/CRATE/refused/? refused.py [--beside LOG | --unedited] [CRATE..]
 
 Such an edit is a must-fail edit (`file:`, `old:`, `new:`) that also names the function whose contract refuses it: `function: decode::is_padding`. A line
 'ok CRATE/EDIT: KIND' or 'failed CRATE/EDIT: KIND' says of each edit what refuses it:
@@ -8,7 +8,8 @@ Such an edit is a must-fail edit (`file:`, `old:`, `new:`) that also names the f
   by the body        the same of what a step of the body asks: an index, an overflow, what a call requires
   search gave up     at each goal that is open the search met one of its limits, which says nothing
   needs a proof by hand   what the search says shows nothing, since it does not prove the function as it is either
-  judged             one of these two, and the edit has a line 'judged: WHY': why no proof can exist, as by the smallest input at which the body breaks a clause
+  judged             one of these two, and the edit has a line 'judged: WHY': why no proof can exist, as by the smallest input at which the body breaks a clause;
+                     a run shows it at its line 'witness: INPUT' (scripts/gate/witnesses.py), or it has a line 'unseen: WHY'
   NOT REFUSED        the function is proved with the edit, or no check could judge it
 
 Only an open goal, a refusal by the body and a judgement count. That an answer of the function's proof file does not fit the edited body (a misfit: it names what
@@ -17,8 +18,7 @@ body is tried once more. Beside it the function is tried as it is, without the s
 the edit is the edit's doing. Where it does not, goals count that it proves in the function as it is and leaves open for the edit, and those that are false.
 Where a goal that had an answer has another name now, or the edit adds a way, no goal of that sort counts by its name (Told.gone). Invariants stay. Answers that say
 what the check tries by itself are left out from the start, since a search tells more of why a goal is open. One that is a search with a list of lemmas
-by name, and nothing of the body, is no misfit where it fails, but a search that failed. Misfits of edits that are judged are tried again with --judged alone:
-use it where such a line is written.
+by name, and nothing of the body, is no misfit where it fails, but a search that failed. Misfits of edits that are judged are not tried again.
 
 Here many edits are tried by one check, where `rt ci` tries each by a check of its own: a check has edits of distinct bodies, and asks for these functions alone. Further
 edits of one body are made in copies of its function (scripts/gate/copies.py), and functions that no edit of the check touches are stubs, since `rt ci` proves them
@@ -72,6 +72,8 @@ class Edit:
     body: object = None  # the function whose body holds all of it, if there is one
     copy: int = 0  # in which copy of its function a check has it: in none but the function itself
     judged: str = ""  # why no proof of it can exist, as a reader found
+    witness: str = ""  # an input that shows it in a run (scripts/gate/witnesses.py)
+    unseen: str = ""  # or why no run does
     taken: frozenset = frozenset()  # what a check takes away of its function's answers
 
     @property
@@ -103,14 +105,14 @@ def read_edit(rt, crate, path):
         raise Broken(f"{path}: {why}")
     with open(path, encoding="utf-8") as it:
         written = it.read()
-    named, judged = re.findall(r"(?m)^function: (\S+)$", written), re.findall(r"(?m)^judged: (.+)$", written)
-    if len(named) != 1 or len(judged) > 1:
-        raise Broken(f"{path}: one line 'function: NAME' says whose contract refuses it, and one line 'judged: WHY' at most why no proof can exist")
+    named, judged, witness, unseen = (re.findall(rf"(?m)^{it}: (.+)$", written) for it in ("function", "judged", "witness", "unseen"))
+    if len(named) != 1 or len(judged) > 1 or len(witness + unseen) > len(judged):
+        raise Broken(f"{path}: one line 'function: NAME' says whose contract refuses it, one line 'judged: WHY' at most why no proof can exist, one line 'witness: INPUT' or 'unseen: WHY' what shows it")
     spans = []
     for file, text in texts.items():
         with open(f"{crate.folder}/{file}", "rb") as it:
             spans.append((file, *span(it.read(), text.encode())))
-    return Edit(path, crate.name, named[0], texts, spans, judged="".join(judged))
+    return Edit(path, crate.name, named[0], texts, spans, judged="".join(judged), witness="".join(witness), unseen="".join(unseen))
 
 
 def source_of(bodies, crate):
@@ -327,21 +329,17 @@ def answer(edit, kind, told, how=""):
     return False, f"{where}: say in a line 'judged: WHY' why no proof can exist, or strengthen the contract"
 
 
-def in_turn(checks, edits, again=False):
-    """each edit with its answer; those that are judged are tried without answers that do not fit only where `again` says so"""
+def in_turn(checks, edits):
+    """each edit with its answer; those that are judged are not tried without answers that do not fit"""
     misfits = []
     for edit, told in told_in_turn(checks, edits):
         kind = first_kind(edit, told)
-        if kind is None and (again or not edit.judged):
+        if kind is None and not edit.judged:
             misfits.append((edit, told))
         else:
             yield edit, *answer(edit, kind or MISFIT, told)
     for edit, kind, told in without_unfit(checks, misfits):
         yield edit, *answer(edit, kind, told, ", answers taken away")
-
-
-def judged_too(checks, edits):
-    return in_turn(checks, edits, again=True)
 
 
 def as_they_are(checks, edits):
@@ -420,7 +418,7 @@ def main():
     rt.rtlib.guarded()
     named = sys.argv[1:]
     log = named[1] if named[:1] == ["--beside"] else None
-    answers = {"--unedited": as_they_are, "--judged": judged_too}.get("".join(named[:1]), in_turn)
+    answers = as_they_are if named[:1] == ["--unedited"] else in_turn
     named = named[2 if log else answers is not in_turn :]
     crates = {it.name: it for it in kit.crates_of(rt, ROOT) if edits_of(it)}
     unknown = [it for it in named if it not in crates]

@@ -1,0 +1,128 @@
+/* Streams whose ids lie far apart, at a server: h3_next_to_send names each on which something waits, once and in order, in whatever order they began;
+ * each that was reset tells its own code, also when both ways are over; and a header section of one field is read whole. */
+#include <h3.h>
+#include <stdlib.h>
+#include <string.h>
+#define TEST "far"
+#include "expect.h"
+
+enum { IDS = 12, CODES = 1200 };
+
+static const uint64_t ids[IDS] = {0, 4096, 8192, 4, 4100, 2048, 400000, 8, 4352, 12, 16384, 256};
+static const uint8_t get[] = {1, 8, 0, 0, 0xd1, 0xd7, 0x50, 1, 'a', 0xc1};
+
+static h3_endpoint made(int is_server) {
+  h3_endpoint end = H3_NONE_YET;
+  h3_config config;
+  h3_config_default(&config);
+  config.server = is_server;
+  config.strict = 0;
+  IS(h3_new(&end, &config, NULL), H3_OK);
+  return end;
+}
+
+/* a request came whole, and was pulled */
+static void ask(h3_endpoint *end, uint64_t id) {
+  h3_item item;
+  IS(h3_deliver(end, id, get, sizeof get, NULL), H3_OK);
+  IS(h3_pull(end, id, &item), H3_OK);
+  IS(item.kind, H3_HEAD);
+}
+
+static void answer(h3_endpoint *end, uint64_t id) {
+  h3_field_size size = {7, 3};
+  IS(h3_send_head(end, id, &size, 1, ":status200", 10, NULL), H3_OK);
+}
+
+static int compare(const void *a, const void *b) {
+  uint64_t x = *(const uint64_t *)a, y = *(const uint64_t *)b;
+  return (x > y) - (x < y);
+}
+
+/* It names these and no other request stream. */
+static void names(h3_endpoint *end, const uint64_t *those, size_t count) {
+  uint64_t wanted[IDS], id = 0;
+  size_t at = 0;
+  memcpy(wanted, those, count * sizeof *those);
+  qsort(wanted, count, sizeof *wanted, compare);
+  for (; h3_next_to_send(end, id, &id) == H3_OK; id++) {
+    if (id % 4) continue;
+    HOLDS(at < count && wanted[at] == id);
+    at++;
+  }
+  IS((uint32_t)at, (uint32_t)count);
+}
+
+static void take_all(h3_endpoint *end, uint64_t id) {
+  uint8_t bytes[64];
+  size_t n = 0, past = 0;
+  uint32_t fin = 9;
+  IS(h3_outgoing(end, id, bytes, sizeof bytes, &n, &past, &fin), H3_OK);
+  HOLDS(n > 0);
+  IS(h3_advance(end, id, n), H3_OK);
+}
+
+/* They begin in the order of the list, or in that which begins with another of them, and are taken in that order. */
+static void in_order(int first) {
+  h3_endpoint end = made(1);
+  uint64_t begun[IDS];
+  for (size_t k = 0; k < IDS; k++) {
+    begun[k] = ids[(k + (size_t)first) % IDS];
+    ask(&end, begun[k]);
+    answer(&end, begun[k]);
+    names(&end, begun, k + 1);
+  }
+  for (size_t k = 0; k < IDS; k++) {
+    take_all(&end, begun[k]);
+    names(&end, begun + k + 1, IDS - k - 1);
+  }
+  h3_free(&end);
+}
+
+static void tells_code(h3_endpoint *end, uint64_t id) {
+  h3_item item;
+  IS(h3_pull(end, id, &item), H3_OK);
+  IS(item.kind, H3_FAULT_RESET);
+  HOLDS(item.number == 7 + id);
+}
+
+static void codes(void) {
+  h3_endpoint end = made(1);
+  for (uint64_t id = 0; id < CODES; id += 4) {
+    IS(h3_deliver(&end, id, get, sizeof get, NULL), H3_OK);
+    IS(h3_deliver_reset(&end, id, 7 + id, NULL), H3_OK);
+    if (id % 3 == 0) tells_code(&end, id);
+    IS(h3_reset(&end, id, NULL), H3_OK);
+  }
+  for (int again = 0; again < 2; again++)
+    for (uint64_t id = 0; id < CODES; id += 4) tells_code(&end, id);
+  h3_free(&end);
+}
+
+/* a response of the one field `:status: 200` (RFC 9204, Appendix A: the entry 25) */
+static void lone_field(void) {
+  static const uint8_t response[] = {1, 3, 0, 0, 0xd9};
+  static const uint64_t first = 0;
+  h3_endpoint end = made(0);
+  h3_field_size request[4] = {{7, 3}, {7, 5}, {10, 1}, {5, 1}}, size;
+  h3_item item;
+  uint64_t id = 9;
+  char bytes[16] = "";
+  IS(h3_open_request(&end, &id, NULL), H3_OK);
+  HOLDS(id == first);
+  IS(h3_send_head(&end, id, request, 4, ":methodGET:schemehttps:authoritya:path/", 39, NULL), H3_OK);
+  IS(h3_deliver(&end, id, response, sizeof response, NULL), H3_OK);
+  IS(h3_pull(&end, id, &item), H3_OK);
+  IS((uint32_t)item.fields, 1);
+  IS(h3_item_fields(&end, &size, 1, bytes, sizeof bytes), H3_OK);
+  HOLDS(size.name == 7 && size.value == 3 && !memcmp(bytes, ":status200", 10));
+  h3_free(&end);
+}
+
+int main(void) {
+  for (int first = 0; first < IDS; first++) in_order(first);
+  codes();
+  lone_field();
+  if (!bad) puts("ok far: streams far apart, the codes of resets, a section of one field");
+  return bad;
+}
