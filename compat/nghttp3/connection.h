@@ -65,7 +65,8 @@ typedef struct stream {
   bool awaits_data; /* read_data answered NGHTTP3_ERR_WOULDBLOCK */
   bool is_write_shut, has_ended, is_fin_offered, is_fin_taken;
 
-  size_t owed; /* bytes that came, and for which no credit was granted */
+  size_t owed;      /* bytes that came, and for which no credit was granted */
+  bool may_be_held; /* the endpoint may hold bytes that came: of a frame that is not whole, or after a head that waits */
   bool is_read_shut, is_closed;
   bool is_closing; /* QUIC closed it while a head waited: it is closed after that message */
   uint64_t close_code;
@@ -94,12 +95,12 @@ struct nghttp3_conn {
   size_t scratch_size;
 };
 
-/* What came in one call on a request stream. */
+/* What came in one call on a request stream, without what the endpoint has used of it. */
 typedef struct {
   const uint8_t *bytes;
   size_t length;
   bool has_fin;
-  bool is_delivered;
+  const uint8_t *given; /* the bytes as the endpoint was given them last: an item says where in them a body lies */
 } input;
 
 /* errors.c */
@@ -141,8 +142,7 @@ bool reserve_scratch(nghttp3_conn *connection, size_t size);
 int endpoint_take(nghttp3_conn *connection, stream *s);
 int endpoint_send_body(nghttp3_conn *connection, stream *s, const nghttp3_vec *body);
 int endpoint_next(nghttp3_conn *connection, stream *s, input *in, h3_item *item);
-int endpoint_body(nghttp3_conn *connection, const h3_item *item, const uint8_t **bytes);
-int endpoint_finish_input(nghttp3_conn *connection, stream *s, const input *in);
+int endpoint_body(nghttp3_conn *connection, const input *in, const h3_item *item, const uint8_t **bytes);
 int endpoint_deliver(nghttp3_conn *connection, int64_t id, const uint8_t *bytes, size_t length, bool has_fin);
 int append_copy(stream *s, const uint8_t *bytes, size_t length);
 

@@ -68,40 +68,39 @@ int endpoint_send_body(nghttp3_conn *connection, stream *s, const nghttp3_vec *b
 
 /* ---- what enters ---- */
 
-static int deliver(nghttp3_conn *connection, stream *s, const input *in) {
+static bool is_pause(const h3_item *item) { return item->kind == H3_PENDING || item->kind == H3_WAITING; }
+
+static int read_on(nghttp3_conn *connection, stream *s, input *in, bool is_end, h3_item *item) {
+  size_t used = 0;
   uint64_t detail = 0;
-  uint32_t answer = H3_OK;
-  if (in->length > 0) answer = h3_deliver_lent(&connection->endpoint, s->endpoint_id, in->bytes, in->length, &detail);
-  if (in->has_fin && (answer == H3_OK || answer == H3_KEPT)) answer = h3_deliver_end(&connection->endpoint, s->endpoint_id, &detail);
-  return error_of_answer(answer, detail);
-}
-
-/* The next item of a request stream, of what came before and of `in`. */
-int endpoint_next(nghttp3_conn *connection, stream *s, input *in, h3_item *item) {
-  if (!in->is_delivered) {
-    in->is_delivered = true;
-    int error = deliver(connection, s, in);
-    if (error) return error;
-  }
-  return h3_pull(&connection->endpoint, s->endpoint_id, item) == H3_OK ? 0 : NGHTTP3_ERR_H3_INTERNAL_ERROR;
-}
-
-/* The bytes of a body that was pulled last, until the next call of this file. */
-int endpoint_body(nghttp3_conn *connection, const h3_item *item, const uint8_t **bytes) {
-  size_t length;
-  if (!reserve_scratch(connection, item->len)) return NGHTTP3_ERR_NOMEM;
-  if (h3_item_bytes(&connection->endpoint, 0, connection->scratch, item->len, &length) != H3_OK || length != item->len)
-    return NGHTTP3_ERR_NOMEM;
-  *bytes = connection->scratch;
+  uint32_t answer = h3_read(&connection->endpoint, s->endpoint_id, in->bytes, in->length, is_end, &used, item, &detail);
+  in->given = in->bytes;
+  if (used > 0) in->bytes += used, in->length -= used;
+  if (answer == H3_KEPT) answer = h3_pull(&connection->endpoint, s->endpoint_id, item); /* reads what was taken */
+  if (answer != H3_OK) return error_of_answer(answer, detail);
+  if (is_pause(item) && used > 0) s->may_be_held = true;
+  if (item->kind == H3_BODY_GIVEN) s->may_be_held = false;
   return 0;
 }
 
-/* The application may let go of what came: what the endpoint still needs of it is copied. Where memory is refused for that, the endpoint
- * would be left with bytes that are gone: it is freed, and each later call answers NGHTTP3_ERR_NOMEM or does nothing. */
-int endpoint_finish_input(nghttp3_conn *connection, stream *s, const input *in) {
-  if (!in->is_delivered || in->length == 0 || h3_keep(&connection->endpoint, s->endpoint_id) != H3_MEMORY) return 0;
-  h3_free(&connection->endpoint);
-  return NGHTTP3_ERR_NOMEM;
+/* The next item of a request stream, of what came before and of `in`, which then begins after what was used. The end comes after all items
+ * of the bytes: so a body that it cuts short is passed on as far as it came, in whichever pieces. */
+int endpoint_next(nghttp3_conn *connection, stream *s, input *in, h3_item *item) {
+  bool is_end = in->has_fin && in->length == 0 && !s->may_be_held;
+  int error = read_on(connection, s, in, is_end, item);
+  return !error && is_pause(item) && in->has_fin && !is_end ? read_on(connection, s, in, true, item) : error;
+}
+
+/* The bytes of an item that is a piece of a body: where they lie in what came, or a copy until the next call of this file. */
+int endpoint_body(nghttp3_conn *connection, const input *in, const h3_item *item, const uint8_t **bytes) {
+  size_t length;
+  if (item->kind == H3_BODY_GIVEN) {
+    *bytes = in->given + item->number;
+    return 0;
+  }
+  if (!reserve_scratch(connection, item->len)) return NGHTTP3_ERR_NOMEM;
+  *bytes = connection->scratch;
+  return h3_item_bytes(&connection->endpoint, 0, connection->scratch, item->len, &length) == H3_OK ? 0 : NGHTTP3_ERR_H3_INTERNAL_ERROR;
 }
 
 /* Bytes of a stream that has no items. */
