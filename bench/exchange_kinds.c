@@ -3,7 +3,7 @@
 #include <stdio.h>
 #include <string.h>
 
-enum { KIB = 1 << 10, MIB = 1 << 20, GATHERED = 128 * KIB, PACKET = 1200 };
+enum { KIB = 1 << 10, MIB = 1 << 20, GATHERED = 128 * KIB, PACKET = 1200, LETTERS = 26 };
 
 #define FIELD(name, value) \
   { (uint8_t *)(name), (uint8_t *)(value), sizeof(name) - 1, sizeof(value) - 1, NGHTTP3_NV_FLAG_NONE }
@@ -13,7 +13,11 @@ list_sets load_sets(const char *dir) {
   static nghttp3_nv ok[] = {FIELD(":status", "200"), FIELD("content-type", "text/plain")};
   static field_list small_get = {get, 4}, small_ok = {ok, 2};
   list_sets sets = {.requests = load_lists(dir, "requests"), .responses = load_lists(dir, "responses")};
-  for (size_t i = 0; i < sizeof exchange_body; i++) exchange_body[i] = (uint8_t)('a' + i % 26);
+  for (size_t i = 0; i < LETTERS; i++) exchange_body[i] = (uint8_t)('a' + i);
+  for (size_t len = LETTERS, more; len < sizeof exchange_body; len += more) {
+    more = len < sizeof exchange_body - len ? len : sizeof exchange_body - len;
+    memcpy(exchange_body + len, exchange_body, more);
+  }
   sets.posts = with_value(&sets.requests, "real POST", ":method", "POST");
   sets.answers = with_value(&sets.responses, "real POST", ":status", "200");
   sets.pages = with_value(&sets.requests, "real GET", ":method", "GET");

@@ -7,13 +7,12 @@
 
 enum { REQUESTS = 4, PIECE = 100, FIELDS = 16 };
 
-
 /* One side of the connection. */
 typedef struct {
   h3_endpoint h3;
   const char *name;
   int is_server;
-  int is_waiting[REQUESTS]; /* its last pull answered H3_WAITING */
+  int is_waiting[REQUESTS]; /* the last item was H3_WAITING */
 } side;
 
 static void fail(const side *at, const char *call, uint32_t answer) {
@@ -95,7 +94,7 @@ static void print_fields(side *at, const h3_item *item) {
   }
 }
 
-static void print_bytes(side *at, size_t len) {
+static void print_kept(side *at, size_t len) {
   char bytes[PIECE];
   size_t n;
   for (size_t from = 0; from < len; from += n) {
@@ -105,45 +104,51 @@ static void print_bytes(side *at, size_t len) {
   }
 }
 
-/* Reads all that has come of a message. */
-static void pull(side *at, uint64_t id) {
-  h3_item item;
-  for (;;) {
-    uint32_t answer = h3_pull(&at->h3, id, &item);
-    if (answer != H3_OK) fail(at, "h3_pull", answer);
-    at->is_waiting[id / 4] = item.kind == H3_WAITING;
-    if (item.kind == H3_PENDING || item.kind == H3_WAITING) return; /* more has to come first */
-    printf("%s, stream %u:", at->name, (unsigned)id);
-    switch (item.kind) {
-    case H3_HEAD: print_fields(at, &item); break;
-    case H3_BODY: printf(" %u bytes: ", (unsigned)item.len), print_bytes(at, item.len); break;
-    case H3_END: printf(" end\n"); return;
-    case H3_FAULT_RESET: printf(" reset with code 0x%x\n", (unsigned)item.number); return;
-    case H3_FAULT_CANCELED: printf(" canceled\n"); return;
-    default: printf(" %s, %u\n", h3_kind_text(item.kind), (unsigned)item.number); return; /* enum h3_kind has all */
-    }
-    if (item.kind != H3_BODY) printf("\n"); /* these bodies end with one */
+/* Prints an item; a body lies in `bytes`, or in the endpoint. Answers whether another one may follow. */
+static int print_item(side *at, uint64_t id, const h3_item *item, const char *bytes) {
+  at->is_waiting[id / 4] = item->kind == H3_WAITING;
+  if (item->kind == H3_PENDING || item->kind == H3_WAITING) return 0; /* more has to come first */
+  printf("%s, stream %u:", at->name, (unsigned)id);
+  switch (item->kind) {
+  case H3_HEAD: print_fields(at, item), printf("\n"); return 1;
+  case H3_BODY_GIVEN: printf(" %u bytes: %.*s", (unsigned)item->len, (int)item->len, bytes + item->number); return 1;
+  case H3_BODY: printf(" %u bytes: ", (unsigned)item->len), print_kept(at, item->len); return 1;
+  case H3_END: printf(" end\n"); return 0;
+  case H3_FAULT_RESET: printf(" reset with code 0x%x\n", (unsigned)item->number); return 0;
+  case H3_FAULT_CANCELED: printf(" canceled\n"); return 0;
+  default: printf(" %s, %u\n", h3_kind_text(item->kind), (unsigned)item->number); return 0; /* enum h3_kind has all */
   }
+}
+
+/* Reads bytes that came on the stream of a message, and its end. */
+static void read_all(side *at, uint64_t id, const char *bytes, size_t len, int fin) {
+  h3_item item;
+  size_t used;
+  uint64_t code;
+  do {
+    uint32_t answer = h3_read(&at->h3, id, bytes, len, fin, &used, &item, &code);
+    /* H3_CONNECTION: close the connection with `code`; H3_MEMORY: nothing is lost, so go on with the bytes that are left */
+    if (answer != H3_OK) fail(at, "h3_read", answer);
+    bytes += used, len -= used;
+  } while (print_item(at, id, &item, bytes - used));
 }
 
 /* ---- bytes go over: what a QUIC library does ---- */
 
-/* Stream data came: deliver it, then pull. */
-static void received(side *at, uint64_t id, const uint8_t *bytes, size_t n, int fin) {
+/* Stream data came. */
+static void received(side *at, uint64_t id, const char *bytes, size_t n, int fin) {
+  if (id % 4 == 0) return read_all(at, id, bytes, n, fin);
   uint64_t code;
   uint32_t answer = h3_deliver(&at->h3, id, bytes, n, &code);
-  if (fin && (answer == H3_OK || answer == H3_KEPT)) answer = h3_deliver_end(&at->h3, id, &code);
-  /* H3_CONNECTION: close the connection with `code`; H3_MEMORY: nothing was taken, so deliver it again */
-  if (answer != H3_OK && answer != H3_KEPT) fail(at, "h3_deliver", answer);
-  if (id % 4 == 0) return pull(at, id);
+  if (answer != H3_OK) fail(at, "h3_deliver", answer);
   /* the peer's encoder stream: header sections may wait for it */
   for (uint64_t request = 0; request < 4 * REQUESTS; request += 4)
-    if (at->is_waiting[request / 4]) pull(at, request);
+    if (at->is_waiting[request / 4]) read_all(at, request, "", 0, 0);
 }
 
 /* Sends what waits on a stream, and its end. */
 static void carry_stream(side *from, side *to, uint64_t id) {
-  uint8_t bytes[PIECE];
+  char bytes[PIECE];
   size_t n;
   uint32_t fin;
   for (;;) {
@@ -173,7 +178,7 @@ static void cancel(side *at, side *other, uint64_t id) {
   if (answer != H3_OK) fail(at, "h3_reset", answer);
   answer = h3_deliver_reset(&other->h3, id, H3_CODE_REQUEST_CANCELLED, NULL); /* QUIC: RESET_STREAM with this code */
   if (answer != H3_OK && answer != H3_KEPT) fail(other, "h3_deliver_reset", answer);
-  pull(other, id);
+  read_all(other, id, "", 0, 0);
 }
 
 /* ---- a server shuts down ---- */
