@@ -26,7 +26,7 @@
 typedef struct chunk {
   STAILQ_ENTRY(chunk) next;
   const uint8_t *bytes;
-  size_t length;
+  size_t length, room; /* room: how many bytes fit after a copy */
   bool is_body; /* the application's: it learns of their acknowledgment */
 } chunk;
 
@@ -53,6 +53,7 @@ typedef struct stream {
   nghttp3_read_data_callback read_data; /* NULL: there is no body, or all of it was read */
   STAILQ_HEAD(, chunk) chunks;          /* what is not acknowledged, in order */
   chunk *unsent;                        /* the first that QUIC does not have whole */
+  chunk *last;                          /* if there is an unsent one: the last */
   size_t unsent_offset;                 /* how much of it QUIC has */
   size_t unsent_length;                 /* how many bytes of the stream QUIC does not have */
   size_t acknowledged_offset;           /* how much of the first chunk is acknowledged */
@@ -61,6 +62,7 @@ typedef struct stream {
   priority priority;
   bool is_prioritized; /* the server's application has set the priority, and the client's counts no more */
   bool is_ready, is_waiting;
+  bool is_untaken;  /* the endpoint may have bytes of the stream, since memory was refused for them */
   bool is_blocked;  /* by QUIC's flow control */
   bool awaits_data; /* read_data answered NGHTTP3_ERR_WOULDBLOCK */
   bool is_write_shut, has_ended, is_fin_offered, is_fin_taken;

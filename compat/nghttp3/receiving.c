@@ -104,6 +104,11 @@ static int tell_item(nghttp3_conn *connection, stream *s, const input *in, const
 
 static bool is_section(uint32_t kind) { return kind == H3_HEAD || kind == H3_INTERIM || kind == H3_TRAILER; }
 
+/* Was the item the last one of what came? The endpoint need not be asked then. */
+static bool is_all(const stream *s, const input *in, uint32_t kind) {
+  return (is_section(kind) || kind == H3_BODY_GIVEN) && in->length == 0 && !in->has_fin && !s->may_be_held;
+}
+
 /* Passes all items that are there, of what came before and of `in`. */
 static int tell_items(nghttp3_conn *connection, stream *s, input *in) {
   uint32_t before = H3_PENDING; /* the kind of the item before */
@@ -117,6 +122,8 @@ static int tell_items(nghttp3_conn *connection, stream *s, input *in) {
     before = item.kind;
     stream_set_waiting(connection, s, item.kind == H3_WAITING);
     error = tell_item(connection, s, in, &item, &is_last);
+    if (error || is_last || s->is_read_shut || s->is_closed || !is_all(s, in, item.kind)) continue;
+    return is_section(item.kind) ? tell_end_of_fields(connection, s, item.kind, 0) : 0;
   }
   return error;
 }
