@@ -1,4 +1,5 @@
-/* Exchanges by whichever libnghttp3 the loader finds: nghttp3 itself, or the drop-in of compat/nghttp3. scripts/compat/speed.sh compares both.
+/* Exchanges by whichever libnghttp3 the loader finds: nghttp3 itself, or the drop-in of compat/nghttp3. scripts/compat/speed.sh compares
+ * both.
  *
  *     exchange_speed DATA once KIND EXCHANGES     so many exchanges on one connection, timed by nobody
  *     exchange_speed DATA time KIND SECONDS       the microseconds of an exchange, of the fastest round */

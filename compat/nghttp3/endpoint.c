@@ -56,8 +56,8 @@ int endpoint_take(nghttp3_conn *connection, stream *s) {
 /* The length of a DATA frame's type and length (RFC 9114, section 7.1; RFC 9000, section 16). */
 static size_t frame_head_length(uint64_t payload) { return payload < 64 ? 2 : payload < 16384 ? 3 : payload < (1 << 30) ? 5 : 9; }
 
-/* Sends a piece of a body, which stays in the application's memory: the endpoint writes the head of its frame, and is told the length of the
- * payload. All memory is there before the endpoint learns of the piece. */
+/* Sends a piece of a body, which stays in the application's memory: the endpoint writes the type and length of its frame, and is told the
+ * length of the payload. All memory is there before the endpoint learns of the piece. */
 int endpoint_send_body(nghttp3_conn *connection, stream *s, const nghttp3_vec *body) {
   size_t head_length = frame_head_length(body->len), length = 0, past = 0;
   uint64_t detail = 0;

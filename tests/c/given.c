@@ -1,6 +1,7 @@
-/* No pointer that a call of include/h3.h is given is used after the call: every buffer, bytes that are given as well as results, stands in a page of its
- * own, and nobody can read or write that page once the call returned. First an exchange in which each call is made so; then streams that are cut off by
- * faults, resets and cancellations, after each of which every call is made. One line 'ok NAME' or 'failed NAME'. */
+/* No pointer that a call of include/h3.h is given is used after the call: every buffer, bytes that are given as well as results, stands in
+ * a page of its own, and nobody can read or write that page once the call returned. First streams that are cut off by faults, resets and
+ * cancellations, after each of which every call is made; then an exchange in which each call is made so. One line 'ok NAME' or
+ * 'failed NAME'. */
 #define _GNU_SOURCE
 #include <h3.h>
 #include <signal.h>
@@ -117,7 +118,8 @@ static void same_fields(h3_endpoint *e, const h3_item *item, const h3_field_size
 /* ---- an exchange ---- */
 
 enum { BODY = 900, ROUNDS = 8 };
-static const char HEAD[] = ":methodPOST:schemehttps:authoritya:path/x-namea value that is inserted", TRAILER[] = "x-checka sum that is inserted";
+static const char HEAD[] = ":methodPOST:schemehttps:authoritya:path/x-namea value that is inserted";
+static const char TRAILER[] = "x-checka sum that is inserted";
 static const h3_field_size HEAD_SIZES[] = {{7, 4}, {7, 5}, {10, 1}, {5, 1}, {6, 24}}, TRAILER_SIZES[] = {{7, 22}};
 static uint8_t body[BODY], came_body[2 * BODY];
 static size_t came_len;
