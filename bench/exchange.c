@@ -1,15 +1,13 @@
 /* Rows of whole exchanges, ours through the C interface beside nghttp3's, in one run. */
-#include "exchange.h"
+#include "exchange_kinds.h"
 #include "measure.h"
 #include <stdio.h>
 #include <stdlib.h>
 #include <string.h>
 
 /* The least ratios to nghttp3's speed that are wanted. */
-static const double REAL_TARGET = 1.4, IN_PIECES_TARGET = 1.3, SMALL_GET_TARGET = 1.3, SMALL_POST_TARGET = 1.2, LARGE_TARGET = 1.0;
-
-#define FIELD(name, value) \
-  { (uint8_t *)(name), (uint8_t *)(value), sizeof(name) - 1, sizeof(value) - 1, NGHTTP3_NV_FLAG_NONE }
+static const double REAL_TARGET = 1.4, IN_PIECES_TARGET = 1.3, SMALL_GET_TARGET = 1.3, SMALL_POST_TARGET = 1.2;
+static const double LARGE_TARGET = 1.0, IN_PLACE_TARGET = 0.9;
 
 static void row(const char *name, const char *set, exchange_kind kind, double target) {
   const contender both[CONTENDERS] = {{our_exchanges, &kind}, {peer_exchanges, &kind}, {0}};
@@ -58,42 +56,6 @@ static void memory_rows(exchange_kind kind) {
   figure_row(&idle, held[OURS], held[PEER]);
 }
 
-/* The lists of all rows. */
-typedef struct {
-  field_lists posts, answers, pages, gets, oks, one_authority;
-} list_sets;
-
-static list_sets load_sets(const char *dir) {
-  static nghttp3_nv get[] = {FIELD(":method", "GET"), FIELD(":scheme", "https"), FIELD(":authority", "www.example.com"), FIELD(":path", "/sample/path")};
-  static nghttp3_nv ok[] = {FIELD(":status", "200"), FIELD("content-type", "text/plain")};
-  static field_list small_get = {get, 4}, small_ok = {ok, 2};
-  field_lists requests = load_lists(dir, "requests"), responses = load_lists(dir, "responses");
-  list_sets sets = {.posts = with_value(&requests, "real POST", ":method", "POST"),
-                    .answers = with_value(&responses, "real POST", ":status", "200"),
-                    .pages = with_value(&requests, "real GET", ":method", "GET"),
-                    .gets = {.name = "small GET", .lists = &small_get, .count = 1},
-                    .oks = {.name = "small GET", .lists = &small_ok, .count = 1}};
-  sets.one_authority = with_value(&sets.pages, "one authority", ":authority", "localhost:7020");
-  return sets;
-}
-
-static exchange_kind real_post(const list_sets *sets) { return (exchange_kind){&sets->posts, &sets->answers, 7000, 7000, 500, 100, MOST_CARRIED, 0, 0}; }
-
-static exchange_kind small_get(const list_sets *sets) { return (exchange_kind){&sets->gets, &sets->oks, 0, 100, 500, 100, MOST_CARRIED, 0, 0}; }
-
-static exchange_kind small_post(const list_sets *sets) {
-  exchange_kind post = small_get(sets);
-  post.request_body = post.response_body = 7000;
-  return post;
-}
-
-static exchange_kind large_post(const list_sets *sets) {
-  exchange_kind large = small_get(sets);
-  large.request_body = large.response_body = LONGEST_BODY;
-  large.under_way = 10;
-  return large;
-}
-
 static void small_rows(const list_sets *sets) {
   const exchange_kind get = small_get(sets);
   rows("500 exchanges, 0/0", "500 exchanges, 4096/100", "small GET", get, SMALL_GET_TARGET);
@@ -102,24 +64,29 @@ static void small_rows(const list_sets *sets) {
   rows("20,000 exchanges, 0/0", "20,000 exchanges, 4096/100", "small GET", many, SMALL_GET_TARGET);
   growth_row(get, many);
   rows("500 exchanges, 0/0", "500 exchanges, 4096/100", "small POST", small_post(sets), SMALL_POST_TARGET);
+}
+
+/* Bodies, copied into packets and out of them, and read where they lie. */
+static void body_rows(const list_sets *sets) {
+  enum { KIB = 1 << 10, MIB = 1 << 20 };
   row("500 exchanges, 0/0", "64 KiB POST", large_post(sets), LARGE_TARGET);
+  row("500 exchanges, in place", "64 KiB POST", in_place(large_post(sets)), LARGE_TARGET);
+  row("by 1,200, copied", "1 MiB GET", long_get(sets, MIB, 1200), LARGE_TARGET);
+  row("by 1,200, in place", "1 MiB GET", in_place(long_get(sets, MIB, 1200)), IN_PLACE_TARGET);
+  row("by 64 KiB, copied", "1 MiB GET", long_get(sets, MIB, 64 * KIB), LARGE_TARGET);
+  row("by 64 KiB, in place", "1 MiB GET", in_place(long_get(sets, MIB, 64 * KIB)), LARGE_TARGET);
+  row("by 1 MiB, copied", "1 MiB GET", long_get(sets, MIB, MIB), LARGE_TARGET);
+  row("by 1 MiB, in place", "1 MiB GET", in_place(long_get(sets, MIB, MIB)), LARGE_TARGET);
+  row("by 128 KiB, copied", "16 MiB GET", long_get(sets, 16 * MIB, 128 * KIB), LARGE_TARGET);
+  row("by 128 KiB, in place", "16 MiB GET", in_place(long_get(sets, 16 * MIB, 128 * KIB)), IN_PLACE_TARGET);
 }
 
 /* So many exchanges on one connection, timed by nobody, for a program that counts instructions: scripts/bench/instructions.sh. */
-static int run_once(const list_sets *sets, const char *kind_name, size_t exchanges, const char *who) {
-  const struct {
-    const char *name;
-    exchange_kind kind;
-  } kinds[] = {{"small GET", small_get(sets)}, {"small POST", small_post(sets)}, {"real POST", real_post(sets)}, {"64 KiB POST", large_post(sets)}};
-  for (size_t k = 0; k < sizeof kinds / sizeof *kinds; k++) {
-    if (strcmp(kinds[k].name, kind_name) != 0) continue;
-    exchange_kind kind = kinds[k].kind;
-    kind.exchanges = exchanges;
-    (strcmp(who, "ours") == 0 ? our_exchanges : peer_exchanges)(&kind, 1);
-    return 0;
-  }
-  fprintf(stderr, "exchange DATA once KIND EXCHANGES ours|nghttp3\n");
-  return 2;
+static int run_once(const list_sets *sets, const char *name, size_t exchanges, const char *who) {
+  exchange_kind kind = kind_named(sets, name);
+  kind.exchanges = exchanges;
+  (strcmp(who, "ours") == 0 ? our_exchanges : peer_exchanges)(&kind, 1);
+  return 0;
 }
 
 static void all_rows(const list_sets *sets) {
@@ -127,15 +94,17 @@ static void all_rows(const list_sets *sets) {
   rows("500 exchanges, 0/0", "500 exchanges, 4096/100", "real POST", real, REAL_TARGET);
   real.piece = 1200;
   rows("in pieces of 1,200, 0/0", "in pieces of 1,200, 4096/100", "real POST", real, IN_PIECES_TARGET);
-  row("20,000 exchanges, 0/0", "real GET", (exchange_kind){&sets->pages, &sets->answers, 0, 100, 20000, 100, MOST_CARRIED, 0, 0}, REAL_TARGET);
+  exchange_kind pages = real_get(sets);
+  pages.exchanges = 20000;
+  row("20,000 exchanges, 0/0", "real GET", pages, REAL_TARGET);
   small_rows(sets);
+  body_rows(sets);
   memory_rows(small_get(sets));
   heads_rows(&sets->one_authority, &sets->answers);
 }
 
 int main(int argc, char **argv) {
   const char *dir = argc > 1 ? argv[1] : "data";
-  for (size_t i = 0; i < sizeof exchange_body; i++) exchange_body[i] = (uint8_t)('a' + i % 26);
   const list_sets sets = load_sets(dir);
   if (argc == 6 && strcmp(argv[2], "once") == 0) return run_once(&sets, argv[3], strtoul(argv[4], NULL, 10), argv[5]);
   if (argc > 2) measure_seconds = atof(argv[2]);

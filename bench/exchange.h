@@ -1,5 +1,5 @@
 /* Whole exchanges of a client and a server in one program: two endpoints of build/c/libbeanwhile_h3.a, and two of nghttp3's. Both carry the same lists and bodies, in
- * pieces that are copied into one buffer, and copy each field and each body that comes out into buffers of their own. */
+ * pieces that are copied into one buffer, and copy each field and each body that comes out into buffers of their own; or in place, where nobody copies a body. */
 #ifndef EXCHANGE_H
 #define EXCHANGE_H
 #include "lists.h"
@@ -14,9 +14,10 @@ typedef struct {
   size_t piece;                       /* the most bytes that are carried at once, at most MOST_CARRIED; 0 (not through C): each piece that an end lends
                                          is carried in a block of its own, and what comes out is counted and not copied */
   size_t table, blocked;              /* what both sides announce for QPACK */
+  int in_place;                       /* what an end gives is read where it lies, `piece` bytes at once, and what comes out is counted and not copied */
 } exchange_kind;
 
-enum { MOST_CARRIED = 1 << 17, LONGEST_BODY = 1 << 16 };
+enum { MOST_CARRIED = 1 << 20, LARGE_BODY = 1 << 16, LONGEST_BODY = 1 << 24 };
 
 /* What came out at one end. */
 typedef struct {
@@ -26,7 +27,7 @@ typedef struct {
 /* The bytes of all bodies. */
 extern uint8_t exchange_body[LONGEST_BODY];
 /* Where a piece is carried, and where what comes out is copied. */
-extern uint8_t carried[MOST_CARRIED], copied[LONGEST_BODY];
+extern uint8_t carried[MOST_CARRIED], copied[MOST_CARRIED];
 
 /* Work for contenders: each round is a connection, from its making to its end. The data are an exchange_kind. Both end the program where something
  * else comes out than was sent. */

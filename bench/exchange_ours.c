@@ -19,6 +19,7 @@ typedef struct {
   size_t lists_count, body;
   uint64_t *whole; /* streams whose end came, not yet answered or forgotten */
   size_t whole_count;
+  int is_copied; /* whether what comes out is copied */
   came_out got;
 } side;
 
@@ -52,71 +53,95 @@ static void free_given(given_list *all, size_t count) {
 
 static void read_fields(side *to, const h3_item *head) {
   static h3_field_size sizes[MOST_FIELDS];
-  done("h3_item_fields", h3_item_fields(&to->end, sizes, MOST_FIELDS, copied, LONGEST_BODY));
+  done("h3_item_fields", h3_item_fields(&to->end, sizes, MOST_FIELDS, copied, sizeof copied));
   for (size_t i = 0; i < head->fields; i++) to->got.field_bytes += sizes[i].name + sizes[i].value;
   to->got.fields += head->fields;
   to->got.heads++;
 }
 
-static void read_body(side *to) {
-  size_t len;
-  done("h3_item_bytes", h3_item_bytes(&to->end, 0, copied, sizeof copied, &len));
+static void read_body(side *to, const uint8_t *bytes, size_t len) {
+  if (to->is_copied) memcpy(copied, bytes, len);
   to->got.body += len;
 }
 
-/* Reads a stream until a pause or its end. The bytes in `carried` are overwritten next, so what is still held of them behind a pause is kept. */
-static void pull(side *to, uint64_t id) {
-  for (h3_item item;;) {
-    done("h3_pull", h3_pull(&to->end, id, &item));
+/* Bytes came on a request stream, and perhaps its end: reads them where they lie, until a pause or the end. */
+static void read_bytes(side *to, uint64_t id, const uint8_t *bytes, size_t len, int fin) {
+  size_t used;
+  for (h3_item item;; bytes += used, len -= used) {
+    done("h3_read", h3_read(&to->end, id, bytes, len, fin, &used, &item, NULL));
     switch (item.kind) {
     case H3_HEAD:
       read_fields(to, &item);
       break;
-    case H3_BODY:
-      read_body(to);
+    case H3_BODY_GIVEN:
+      read_body(to, bytes + item.number, item.len);
+      if (used == len && !fin) return; /* nothing more is there */
       break;
     case H3_END:
       to->whole[to->whole_count++] = id;
       to->got.ends++;
       return;
     case H3_PENDING:
-      done("h3_keep", h3_keep(&to->end, id));
       return;
     default:
-      stop("h3_pull gave another kind", (long)item.kind);
+      stop("h3_read gave another kind", (long)item.kind);
     }
   }
 }
 
-static void carry(side *from, side *to, uint64_t id, size_t piece) {
+/* Bytes came on a stream, in one piece. */
+static void take(side *to, uint64_t id, const uint8_t *bytes, size_t len, int fin) {
+  if (id % 4 == 0) read_bytes(to, id, bytes, len, fin);
+  else if (len) done("h3_deliver", h3_deliver(&to->end, id, bytes, len, NULL));
+}
+
+/* QUIC copies what the endpoint gives, and the body behind it, into packets. */
+static void carry_copied(side *from, side *to, uint64_t id, size_t piece) {
   size_t len, past, body_at = 0;
   uint32_t fin;
   do {
     done("h3_outgoing", h3_outgoing(&from->end, id, carried, piece, &len, &past, &fin));
-    if (past) { /* QUIC's copy into a packet */
+    if (past) {
       size_t held = past < piece - len ? past : piece - len;
       if (held < past) fin = 0;
       memcpy(carried + len, exchange_body + body_at, held);
       body_at += held, len += held;
     }
-    if (len) {
-      if (id % 4 == 0) done("h3_deliver_lent", h3_deliver_lent(&to->end, id, carried, len, NULL));
-      else done("h3_deliver", h3_deliver(&to->end, id, carried, len, NULL));
-      done("h3_advance", h3_advance(&from->end, id, len));
-    }
-    if (fin) {
-      done("h3_end_taken", h3_end_taken(&from->end, id));
-      done("h3_deliver_end", h3_deliver_end(&to->end, id, NULL));
-    }
-    if (id % 4 == 0) pull(to, id);
+    if (len) done("h3_advance", h3_advance(&from->end, id, len));
+    if (fin) done("h3_end_taken", h3_end_taken(&from->end, id));
+    if (len || fin) take(to, id, carried, len, (int)fin);
   } while ((len == piece || past) && !fin);
 }
 
+/* Reads bytes where they lie, `piece` at once, and the end with the last of them. */
+static void take_pieces(side *to, uint64_t id, const uint8_t *bytes, size_t len, size_t piece, int fin) {
+  for (; len > piece; bytes += piece, len -= piece) take(to, id, bytes, piece, 0);
+  if (len || fin) take(to, id, bytes, len, fin);
+}
+
+/* What the endpoint gives is read in the buffer that it was written into, and the body where the sender has it. */
+static void carry_in_place(side *from, side *to, uint64_t id, size_t piece) {
+  size_t len, past, body_at = 0;
+  uint32_t fin;
+  do {
+    done("h3_outgoing", h3_outgoing(&from->end, id, carried, sizeof carried, &len, &past, &fin));
+    done("h3_advance", h3_advance(&from->end, id, len + past));
+    if (fin) done("h3_end_taken", h3_end_taken(&from->end, id));
+    take_pieces(to, id, carried, len, piece, fin && !past);
+    if (past) take_pieces(to, id, exchange_body + body_at, past, piece, (int)fin);
+    body_at += past;
+  } while (past && !fin);
+}
+
+static void carry(side *from, side *to, uint64_t id, const exchange_kind *kind) {
+  (kind->in_place ? carry_in_place : carry_copied)(from, to, id, kind->piece);
+}
+
 /* Carries all that waits: the own streams first, since heads may need what stands there. */
-static void carry_all(side *from, side *to, int is_server, size_t piece) {
+static void carry_all(side *from, side *to, int is_server, const exchange_kind *kind) {
   const uint64_t own[] = {h3_control_id(is_server), h3_encoder_id(is_server), h3_decoder_id(is_server)};
-  for (size_t i = 0; i < sizeof own / sizeof *own; i++) carry(from, to, own[i], piece);
-  for (uint64_t id = 0; h3_next_to_send(&from->end, id, &id) == H3_OK; id++) carry(from, to, id, piece);
+  for (size_t i = 0; i < sizeof own / sizeof *own; i++) carry(from, to, own[i], kind);
+  for (uint64_t id = 0; h3_next_to_send(&from->end, id, &id) == H3_OK; id++) carry(from, to, id, kind);
 }
 
 static void send(side *from, uint64_t id) {
@@ -140,19 +165,19 @@ static void make(side *made, const exchange_kind *kind, int is_server) {
 static void run_connection(const exchange_kind *kind, side *client, side *server) {
   make(client, kind, 0);
   make(server, kind, 1);
-  carry_all(client, server, 0, kind->piece);
-  carry_all(server, client, 1, kind->piece);
+  carry_all(client, server, 0, kind);
+  carry_all(server, client, 1, kind);
   for (size_t opened = 0; opened < kind->exchanges;) {
     for (size_t i = 0; i < kind->under_way && opened < kind->exchanges; i++, opened++) {
       uint64_t id;
       done("h3_open_request", h3_open_request(&client->end, &id, NULL));
       send(client, id);
     }
-    carry_all(client, server, 0, kind->piece);
+    carry_all(client, server, 0, kind);
     for (size_t i = 0; i < server->whole_count; i++) send(server, server->whole[i]);
-    carry_all(server, client, 1, kind->piece);
-    carry_all(client, server, 0, kind->piece);
-    carry_all(server, client, 1, kind->piece);
+    carry_all(server, client, 1, kind);
+    carry_all(client, server, 0, kind);
+    carry_all(server, client, 1, kind);
     client->whole_count = server->whole_count = 0;
   }
   h3_free(&client->end);
@@ -164,8 +189,8 @@ void our_exchanges(void *data, uint64_t rounds) {
   given_list *requests = given(kind->requests), *responses = given(kind->responses);
   uint64_t *whole = calloc(2 * (kind->under_way + 1), sizeof *whole);
   for (; rounds; rounds--) {
-    side client = {H3_NONE_YET, requests, kind->requests->count, kind->request_body, whole, 0, {0}};
-    side server = {H3_NONE_YET, responses, kind->responses->count, kind->response_body, whole + kind->under_way + 1, 0, {0}};
+    side client = {H3_NONE_YET, requests, kind->requests->count, kind->request_body, whole, 0, !kind->in_place, {0}};
+    side server = {H3_NONE_YET, responses, kind->responses->count, kind->response_body, whole + kind->under_way + 1, 0, !kind->in_place, {0}};
     count_held_from_here();
     run_connection(kind, &client, &server);
     want_all("ours", kind, &server.got, &client.got);

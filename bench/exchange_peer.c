@@ -91,8 +91,27 @@ static size_t read_blocks(side *to, int64_t id, const nghttp3_vec *pieces, size_
   return len;
 }
 
+/* Reads each piece where it lies, `most` bytes at once. Answers how many bytes were read. */
+static size_t read_in_place(side *to, int64_t id, const nghttp3_vec *pieces, size_t count, int fin, size_t most) {
+  size_t all = 0;
+  if (!count) done("nghttp3_conn_read_stream", nghttp3_conn_read_stream(to->end, id, NULL, 0, fin));
+  for (size_t i = 0; i < count; i++) {
+    const uint8_t *bytes = pieces[i].base;
+    size_t len = pieces[i].len;
+    for (; len > most; bytes += most, len -= most) done("nghttp3_conn_read_stream", nghttp3_conn_read_stream(to->end, id, bytes, most, 0));
+    done("nghttp3_conn_read_stream", nghttp3_conn_read_stream(to->end, id, bytes, len, fin && i + 1 == count));
+    all += pieces[i].len;
+  }
+  return all;
+}
+
+static size_t read_all(side *to, int64_t id, const nghttp3_vec *pieces, size_t count, int fin, const exchange_kind *kind) {
+  if (kind->in_place) return read_in_place(to, id, pieces, count, fin, kind->piece);
+  return kind->piece ? read_gathered(to, id, pieces, count, fin, kind->piece) : read_blocks(to, id, pieces, count, fin);
+}
+
 /* Carries all that waits. */
-static void carry_all(side *from, side *to, size_t room) {
+static void carry_all(side *from, side *to, const exchange_kind *kind) {
   enum { PIECES = 16 };
   nghttp3_vec pieces[PIECES];
   for (;;) {
@@ -101,7 +120,7 @@ static void carry_all(side *from, side *to, size_t room) {
     nghttp3_ssize count = nghttp3_conn_writev_stream(from->end, &id, &fin, pieces, PIECES);
     done("nghttp3_conn_writev_stream", count);
     if (id == -1) return;
-    size_t len = room ? read_gathered(to, id, pieces, (size_t)count, fin, room) : read_blocks(to, id, pieces, (size_t)count, fin);
+    size_t len = read_all(to, id, pieces, (size_t)count, fin, kind);
     done("nghttp3_conn_add_write_offset", nghttp3_conn_add_write_offset(from->end, id, len));
     done("nghttp3_conn_add_ack_offset", nghttp3_conn_add_ack_offset(from->end, id, len));
   }
@@ -148,15 +167,15 @@ static void close_streams(side *client, side *server) {
 
 static void run_connection(const exchange_kind *kind, side *client, side *server) {
   make(client, server, kind);
-  carry_all(client, server, kind->piece);
-  carry_all(server, client, kind->piece);
+  carry_all(client, server, kind);
+  carry_all(server, client, kind);
   for (size_t opened = 0; opened < kind->exchanges;) {
     for (size_t i = 0; i < kind->under_way && opened < kind->exchanges; i++, opened++) request(client, opened);
-    carry_all(client, server, kind->piece);
+    carry_all(client, server, kind);
     for (size_t i = 0; i < server->whole_count; i++) respond(server, server->whole[i]);
-    carry_all(server, client, kind->piece);
-    carry_all(client, server, kind->piece);
-    carry_all(server, client, kind->piece);
+    carry_all(server, client, kind);
+    carry_all(client, server, kind);
+    carry_all(server, client, kind);
     close_streams(client, server);
   }
   nghttp3_conn_del(client->end);
@@ -167,7 +186,7 @@ void peer_exchanges(void *data, uint64_t rounds) {
   const exchange_kind *kind = data;
   int64_t *whole = calloc(2 * (kind->under_way + 1), sizeof *whole);
   for (; rounds; rounds--) {
-    const int is_copied = kind->piece > 0;
+    const int is_copied = kind->piece > 0 && !kind->in_place;
     side client = {NULL, kind->requests, kind->request_body, whole, 0, is_copied, {0}};
     side server = {NULL, kind->responses, kind->response_body, whole + kind->under_way + 1, 0, is_copied, {0}};
     count_held_from_here();

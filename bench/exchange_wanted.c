@@ -3,7 +3,7 @@
 #include <stdio.h>
 #include <string.h>
 
-uint8_t exchange_body[LONGEST_BODY], carried[MOST_CARRIED], copied[LONGEST_BODY];
+uint8_t exchange_body[LONGEST_BODY], carried[MOST_CARRIED], copied[MOST_CARRIED];
 
 static void count_sent(const field_lists *lists, size_t exchanges, size_t body, came_out *all) {
   *all = (came_out){.heads = exchanges, .ends = exchanges, .body = exchanges * body};

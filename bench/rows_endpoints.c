@@ -61,14 +61,14 @@ void endpoint_rows(const field_lists *requests, const field_lists *responses) {
   nghttp3_nv ok[] = {FIELD(":status", "200"), FIELD("content-type", "text/plain")};
   field_list small_get = {get, 4}, small_ok = {ok, 2};
   field_lists gets = {.name = "small GET", .lists = &small_get, .count = 1}, oks = {.name = "small GET", .lists = &small_ok, .count = 1};
-  for (size_t i = 0; i < LONGEST_BODY; i++) exchange_body[i] = (uint8_t)('a' + i % 26);
+  for (size_t i = 0; i < LARGE_BODY; i++) exchange_body[i] = (uint8_t)('a' + i % 26);
   rows("real POST", (exchange_kind){&posts, &answers, 7000, 7000, 500, 100, 0, 0, 0}, 1.4);
   exchange_kind small = {&gets, &oks, 0, 100, 500, 100, 0, 0, 0};
   rows("small GET", small, 1.3);
   idle_row();
   small.request_body = small.response_body = 7000;
   rows("small POST", small, 1.2);
-  small.request_body = small.response_body = LONGEST_BODY;
+  small.request_body = small.response_body = LARGE_BODY;
   small.under_way = 10;
   row("endpoints, 0/0", "64 KiB POST", small, 1.0);
 }

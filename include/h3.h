@@ -12,16 +12,19 @@
  *   h3_open_request(&e, &id, NULL);             // then QUIC opens the stream of this id
  *   h3_field_size f[4] = {{7,3},{7,5},{10,9},{5,1}};
  *   h3_send_head(&e, id, f, 4, ":methodGET:schemehttps:authoritylocalhost:path/", 47, NULL);
- *   h3_send_body(&e, id, body, body_len, NULL);
+ *   h3_send_body_of(&e, id, body_len, NULL);    // its length: the bytes stay with you
  *   h3_finish(&e, id, NULL);
  *
- *   for (uint64_t s = 0; !h3_next_to_send(&e, s, &s); s++) ..   // h3_outgoing, then QUIC sends it:
- *                                               // h3_advance, and h3_end_taken with the FIN
- *
- *   h3_deliver(&e, s, bytes, len, NULL);        // QUIC received stream data; then, until a pause,
- *   h3_pull(&e, s, &item);               // H3_END or a fault: the next item of the message,
- *   h3_item_fields(&e, sizes, 64, text, room);  // its fields
- *   h3_item_bytes(&e, 0, buffer, room, &n);     // or its bytes
+ *   for (uint64_t s = 0; !h3_next_to_send(&e, s, &s); s++)   // what is to be sent: n bytes in the
+ *     h3_outgoing(&e, s, buffer, room, &n, &past, &fin);     // buffer, then `past` of your body
+ *                                               // QUIC took k of them: h3_advance(&e, s, k), and
+ *                                               // with the FIN h3_end_taken(&e, s)
+ *   do {                                        // QUIC received len bytes on stream s, and fin
+ *     h3_read(&e, s, bytes, len, fin, &used, &item, NULL);   // the next item of the message:
+ *     ..                                        // a section: h3_item_fields(&e, sizes, 64, ..);
+ *                                               // H3_BODY_GIVEN: item.len bytes of a body, from
+ *     bytes += used, len -= used;               // bytes + item.number on
+ *   } while (..);                               // until a pause, H3_END or a fault
  *   h3_free(&e);
  *
  * docs/QUICKSTART.md has this as a program.
@@ -37,11 +40,11 @@
  * h3_endpoint is one pointer, owned by the caller. H3_NONE_YET (all bytes zero) holds no endpoint.
  * h3_new makes an endpoint, and h3_free frees it: each h3_new needs one h3_free. A copy of the
  * struct is the same endpoint: keep one, and move it as you like.
- * Bytes that you pass in are copied within the call, except by h3_deliver_lent: you may free or
- * change them as soon as it returns. Bytes that you get are copied into your buffer. The library
- * never returns pointers to its memory, and only h3_deliver_lent keeps a pointer of yours. What
- * does not fit into a buffer is not lost: outgoing bytes wait until h3_advance, and an item stays
- * until the next pull.
+ * No call keeps a pointer of yours: you may free or change what you pass in as soon as it returns.
+ * The library never returns pointers to its memory: bytes that you get are copied into your buffer,
+ * but for a body in bytes that you gave to h3_read, which says where it lies. What does not fit
+ * into a buffer is not lost: outgoing bytes wait until h3_advance, and an item stays until the next
+ * h3_read or h3_pull.
  * Buffers and results of one call must not overlap each other, nor the h3_endpoint.
  *
  * POINTERS
@@ -89,11 +92,11 @@
  *                            6.2), and request streams as others close.
  *   a request is to be sent  h3_open_request, and then a bidirectional stream of QUIC: both give 0,
  *                            4, 8, .. in turn (A REQUEST'S STREAM)
- *   stream data came         h3_deliver(id, bytes), in order of the stream's bytes; then pull that
- *                            stream until a pause (H3_PENDING, H3_WAITING, H3_NO_MESSAGES), H3_END
- *                            or a fault. After data on a unidirectional stream of the peer (id % 4
- *                            is 2 or 3) also pull each stream whose last pull returned H3_WAITING.
- *   the stream's FIN came    h3_deliver_end(id), after its data; then pull
+ *   stream data came, or     h3_read(id, bytes, len, fin), in order of the stream's bytes, and
+ *   the stream's FIN         again with those that are left until a pause (H3_PENDING, H3_WAITING,
+ *                            H3_NO_MESSAGES), H3_END or a fault. After data on a unidirectional
+ *                            stream of the peer (id % 4 is 2 or 3) also pull (h3_pull) each stream
+ *                            whose last item was H3_WAITING, until a pause, H3_END or a fault.
  *   RESET_STREAM came        h3_deliver_reset(id, code), then pull; drop later data of that stream
  *   STOP_SENDING came        h3_reset(id), and send RESET_STREAM (RFC 9000, section 3.5)
  *   data can be sent         h3_outgoing(id, buffer, ..): pass these bytes to QUIC, and after them
@@ -109,7 +112,7 @@
  *   the stream is closed     nothing to call
  *   the connection closes    h3_free
  *
- * Pull in the same way at a client and at a server. A server learns of a request by data on a new
+ * Read in the same way at a client and at a server. A server learns of a request by data on a new
  * stream with id % 4 == 0.
  *
  * A REQUEST'S STREAM
@@ -126,16 +129,17 @@
  * HOW TO GRANT CREDIT (RFC 9000, section 4.1)
  *
  * What was delivered is kept until it is pulled or read, an unfinished frame or instruction whole,
- * up to unfinished_limit. Bytes of a decoder stream before its side's settings are kept too, and
- * count as unread: the stream's credit bounds them.
+ * up to unfinished_limit. h3_read keeps nothing of a body that lies in your bytes. Bytes of a
+ * decoder stream before its side's settings are kept too, and count as unread: the stream's credit
+ * bounds them.
  * Of a frame of an unknown type (RFC 9114, section 9) nothing is kept while it comes.
- * For each stream of the peer add up `owed`: the bytes that were delivered and for which no credit
- * was granted. After each delivery and its pulls:
+ * For each stream of the peer add up `owed`: the bytes that came and for which no credit was
+ * granted. After h3_read reached a pause, or after a delivery and its pulls:
  *   h3_stream_state s; h3_stream(&e, id, &s);
  *   if (owed > s.unread) { grant(id, owed - s.unread); owed = s.unread; }
- * in QUIC, for the stream and for the connection. Do it for every stream with some owed after a
- * delivery on a unidirectional stream, and after H3_KEPT. Then no stream keeps more than its
- * window. A frame that is larger than the window never becomes whole: reset its stream.
+ * in QUIC, for the stream and for the connection. Do it for every stream with some owed after data
+ * on a unidirectional stream, and after H3_KEPT. Then no stream keeps more than its window. A frame
+ * that is larger than the window never becomes whole: reset its stream.
  *
  * WHICH CALL CAN FILL WHICH STREAM (so that you know which to look at; h3_next_to_send finds all)
  *
@@ -146,7 +150,7 @@
  *                                           fin, with 0 bytes if none wait)
  *   h3_goaway, h3_shutdown_notice,          the local control stream
  *   h3_shutdown
- *   h3_deliver(_lent), h3_deliver_end,      the local encoder stream (the peer's settings came),
+ *   h3_read, h3_deliver, h3_deliver_end,    the local encoder stream (the peer's settings came),
  *   h3_deliver_reset, h3_pull               the local decoder stream (the peer's encoder stream was
  *                                           read, a section was decoded, a stream was canceled)
  *   h3_cancel                               the local decoder stream
@@ -312,7 +316,8 @@ static inline const char *h3_answer_text(uint32_t answer) {
     case H3_NOT_CLIENT: return "H3_NOT_CLIENT"; case H3_GOING_AWAY: return "H3_GOING_AWAY";
     case H3_IDS_USED_UP: return "H3_IDS_USED_UP"; case H3_NOT_OPEN: return "H3_NOT_OPEN";
     case H3_OUT_OF_ORDER: return "H3_OUT_OF_ORDER"; case H3_WRONG_SIDE: return "H3_WRONG_SIDE";
-    case H3_PSEUDO_IN_TRAILER: return "H3_PSEUDO_IN_TRAILER"; case H3_TOO_LARGE: return "H3_TOO_LARGE";
+    case H3_PSEUDO_IN_TRAILER: return "H3_PSEUDO_IN_TRAILER";
+    case H3_TOO_LARGE: return "H3_TOO_LARGE";
     case H3_CRITICAL: return "H3_CRITICAL"; case H3_ENDED: return "H3_ENDED";
     case H3_NOT_REQUEST_ID: return "H3_NOT_REQUEST_ID"; case H3_RAISED: return "H3_RAISED";
     case H3_MEMORY: return "H3_MEMORY"; case H3_TABLE_LIMIT: return "H3_TABLE_LIMIT";
@@ -491,19 +496,21 @@ typedef struct {
  * that is refused decides), H3_WRONG_SIDE, H3_MALFORMED (for white space around a value
  * H3_FIELD_VALUE), H3_TOO_LARGE, H3_MEMORY. (If memory is needed to check or to send the list,
  * H3_MEMORY may come before the refusals after H3_OUT_OF_ORDER.) */
-static inline uint32_t h3_send_head(h3_endpoint *endpoint, uint64_t id, const h3_field_size *sizes, size_t count, const void *bytes, size_t len,
-                                    uint64_t *detail);
+static inline uint32_t h3_send_head(h3_endpoint *endpoint, uint64_t id, const h3_field_size *sizes,
+                                    size_t count, const void *bytes, size_t len, uint64_t *detail);
 
 /* Sends a trailer section, after which only the end comes. Send no empty one: it is allowed, but
  * some peers close the connection over it. Refused as h3_send_head, but after the refusals of the
  * list: H3_PSEUDO_IN_TRAILER, H3_MALFORMED (or H3_FIELD_VALUE), H3_TOO_LARGE, H3_MEMORY. */
-static inline uint32_t h3_send_trailer(h3_endpoint *endpoint, uint64_t id, const h3_field_size *sizes, size_t count, const void *bytes, size_t len,
-                                       uint64_t *detail);
+static inline uint32_t h3_send_trailer(h3_endpoint *endpoint, uint64_t id,
+                                       const h3_field_size *sizes, size_t count, const void *bytes,
+                                       size_t len, uint64_t *detail);
 
 /* Sends a piece of a body, as one DATA frame; no bytes write nothing. Refused, in this order:
  * H3_ARGUMENT (id not below 2^62), H3_CLOSED, H3_NOT_OPEN, H3_OUT_OF_ORDER, H3_MALFORMED (with
  * `strict`: more than content-length says), H3_MEMORY. */
-static inline uint32_t h3_send_body(h3_endpoint *endpoint, uint64_t id, const void *bytes, size_t len, uint64_t *detail);
+static inline uint32_t h3_send_body(h3_endpoint *endpoint, uint64_t id, const void *bytes,
+                                    size_t len, uint64_t *detail);
 
 /* Sends a piece of a body of `len` bytes that stay with you: the library announces one DATA frame
  * of this length, and never reads the bytes. When they are to go out, h3_outgoing says so by
@@ -511,7 +518,8 @@ static inline uint32_t h3_send_body(h3_endpoint *endpoint, uint64_t id, const vo
  * the file, until QUIC needs them no more. 0 bytes write nothing. Refused, in this order:
  * H3_ARGUMENT (id not below 2^62), H3_CLOSED, H3_NOT_OPEN, H3_OUT_OF_ORDER, H3_MALFORMED (with
  * `strict`: more than content-length says), H3_MEMORY. */
-static inline uint32_t h3_send_body_of(h3_endpoint *endpoint, uint64_t id, size_t len, uint64_t *detail);
+static inline uint32_t h3_send_body_of(h3_endpoint *endpoint, uint64_t id, size_t len,
+                                       uint64_t *detail);
 
 /* The message is whole: FIN follows what waits (h3_outgoing says when). Takes no memory. Refused,
  * in this order: H3_ARGUMENT, H3_CLOSED, H3_NOT_OPEN, H3_OUT_OF_ORDER, H3_MALFORMED (with `strict`:
@@ -580,7 +588,8 @@ static inline uint32_t h3_next_to_send(h3_endpoint *endpoint, uint64_t from, uin
  * these n + past bytes are its last ones (0 bytes if none wait), else 0. On a stream that is not
  * open nothing waits. `past` may be NULL in a program that does not call h3_send_body_of. Refused:
  * H3_ARGUMENT (id not below 2^62, or `past` is NULL and bytes that you hold follow). */
-static inline uint32_t h3_outgoing(h3_endpoint *endpoint, uint64_t id, void *buffer, size_t room, size_t *n, size_t *past, uint32_t *fin);
+static inline uint32_t h3_outgoing(h3_endpoint *endpoint, uint64_t id, void *buffer, size_t room,
+                                   size_t *n, size_t *past, uint32_t *fin);
 
 /* Removes the first n bytes that wait on a stream, also of a body that you hold: QUIC has them.
  * Refused: H3_ARGUMENT (id not below 2^62, or n is more than wait). */
@@ -594,39 +603,8 @@ static inline uint32_t h3_end_taken(h3_endpoint *endpoint, uint64_t id);
 
 /* ---- what came ---- */
 
-/* Bytes came on a stream, after those that came before. Refused, in this order: H3_ARGUMENT (id not
- * below 2^62), H3_CONNECTION (of an earlier fault), H3_NOT_RECEIVING, H3_NOT_OPEN, H3_AFTER_END,
- * H3_MEMORY (nothing was taken: deliver again), H3_KEPT (all was taken), H3_CONNECTION (what came
- * is a fault). */
-static inline uint32_t h3_deliver(h3_endpoint *endpoint, uint64_t id, const void *bytes, size_t len, uint64_t *detail);
-
-/* Delivers bytes as h3_deliver does, with no copy on a request stream: the library reads yours.
- * Leave them unchanged until one of these holds:
- *   h3_keep of the stream returned H3_OK;
- *   `unread` of h3_stream is 0, and the item that was pulled last is not of this stream (as after a
- *     pause, unless a frame is incomplete or a header section waits);
- *   h3_pull of the stream returned H3_END, or a fault that is not H3_FAULT_MEMORY;
- *   h3_cancel or h3_deliver_reset of the stream returned H3_OK, or the connection has a fault
- *     (H3_CLOSED, H3_CONNECTION), and h3_pull was called since;
- *   the endpoint was freed.
- * After H3_KEPT or a refusal the library reads none of them. Refused as h3_deliver. */
-static inline uint32_t h3_deliver_lent(h3_endpoint *endpoint, uint64_t id, const void *bytes, size_t len, uint64_t *detail);
-
-/* Copies what is still held of the bytes that were lent on a stream, and the item that was pulled
- * last: then you may free the bytes. Call it after h3_deliver_lent and its pulls if `unread` is not
- * 0. No later result changes by it. Refused: H3_ARGUMENT (id not below 2^62), H3_MEMORY (repeat the
- * call, or leave the bytes). */
-static inline uint32_t h3_keep(h3_endpoint *endpoint, uint64_t id);
-
-/* The end of a stream came (FIN). Refused as bytes are. */
-static inline uint32_t h3_deliver_end(h3_endpoint *endpoint, uint64_t id, uint64_t *detail);
-
-/* RESET_STREAM came with this application error code. Refused as bytes are; H3_AFTER_END is normal
- * if the reset came late. What came on the stream and was not pulled is dropped. */
-static inline uint32_t h3_deliver_reset(h3_endpoint *endpoint, uint64_t id, uint64_t code, uint64_t *detail);
-
-/* What a pull returns. Kinds below H3_PENDING, and H3_BODY_GIVEN, are items; H3_PENDING, H3_WAITING
- * and H3_NO_MESSAGES are pauses; the others are faults. */
+/* What h3_read and h3_pull return. Kinds below H3_PENDING, and H3_BODY_GIVEN, are items;
+ * H3_PENDING, H3_WAITING and H3_NO_MESSAGES are pauses; the others are faults. */
 enum h3_kind {
   H3_INTERIM = 1,           /* an interim response, of status 100 to 199: `fields`, `status` */
   H3_HEAD = 2,              /* the header section: `fields`, and of a response `status` */
@@ -658,9 +636,12 @@ static inline const char *h3_kind_text(uint32_t kind) {
     case H3_TOO_LARGE_HEAD: return "H3_TOO_LARGE_HEAD"; case H3_SESSION: return "H3_SESSION";
     case H3_RAW: return "H3_RAW"; case H3_END: return "H3_END";
     case H3_PENDING: return "H3_PENDING"; case H3_WAITING: return "H3_WAITING";
-    case H3_NO_MESSAGES: return "H3_NO_MESSAGES"; case H3_FAULT_CONNECTION: return "H3_FAULT_CONNECTION";
-    case H3_FAULT_MALFORMED: return "H3_FAULT_MALFORMED"; case H3_FAULT_RESET: return "H3_FAULT_RESET";
-    case H3_FAULT_CANCELED: return "H3_FAULT_CANCELED"; case H3_FAULT_MEMORY: return "H3_FAULT_MEMORY";
+    case H3_NO_MESSAGES: return "H3_NO_MESSAGES";
+    case H3_FAULT_CONNECTION: return "H3_FAULT_CONNECTION";
+    case H3_FAULT_MALFORMED: return "H3_FAULT_MALFORMED";
+    case H3_FAULT_RESET: return "H3_FAULT_RESET";
+    case H3_FAULT_CANCELED: return "H3_FAULT_CANCELED";
+    case H3_FAULT_MEMORY: return "H3_FAULT_MEMORY";
     case H3_BODY_GIVEN: return "H3_BODY_GIVEN";
     default: return "an unknown kind";
   }
@@ -675,19 +656,26 @@ enum h3_malformation {
   H3_HEAD_OF_WRONG_SIDE = 3,
   H3_PSEUDO_FIELD_IN_TRAILER = 4,
   H3_NO_HEAD = 5,
-  H3_LATE_PSEUDO_FIELD = 6,     /* a pseudo-header field stands behind a regular field (RFC 9114, section 4.3) */
+  H3_LATE_PSEUDO_FIELD = 6,     /* a pseudo-header field stands behind a regular field (RFC 9114,
+                                 * section 4.3) */
   H3_WRONG_PSEUDO_FIELD = 7,    /* a pseudo-header field is not of this side (4.3) */
   H3_REPEATED_PSEUDO_FIELD = 8, /* a pseudo-header field comes twice (4.3) */
-  H3_CONNECTION_FIELD = 9,      /* a connection-specific field, or a te that is not "trailers" in a request (4.2) */
-  H3_BAD_CONTENT_LENGTH = 10,   /* no number, twice, or not with this status (RFC 9110, section 8.6); at a server also: not as long as what came (4.1.2) */
-  H3_BAD_PROTOCOL = 11,         /* :protocol without CONNECT, or where who receives it has not announced it (RFC 8441, section 4; RFC 9220, section 3) */
+  H3_CONNECTION_FIELD = 9,      /* a connection-specific field, or a te that is not "trailers" in a
+                                 * request (4.2) */
+  H3_BAD_CONTENT_LENGTH = 10,   /* no number, twice, or not with this status (RFC 9110, section
+                                 * 8.6); at a server also: not as long as what came (4.1.2) */
+  H3_BAD_PROTOCOL = 11,         /* :protocol without CONNECT, or where who receives it has not
+                                 * announced it (RFC 8441, section 4; RFC 9220, section 3) */
   H3_BAD_CONNECT = 12,          /* CONNECT without :authority, or plain CONNECT with :scheme or :path
                                  * (4.4); a trailer section that is sent in a tunnel, or after a 2xx
                                  * response to a request that was not pulled yet */
-  H3_MISSING_PSEUDO_FIELD = 13, /* a request without :method, :scheme or :path, a response without :status (4.3.1, 4.3.2) */
+  H3_MISSING_PSEUDO_FIELD = 13, /* a request without :method, :scheme or :path, a response without
+                                 * :status (4.3.1, 4.3.2) */
   H3_BAD_SCHEME = 14,           /* empty, or does not begin with a letter (RFC 3986, section 3.1) */
-  H3_BAD_AUTHORITY = 15,        /* missing, empty, with userinfo; host twice, no authority, or unlike :authority (4.3.1; RFC 9110, section 7.2) */
-  H3_BAD_PATH = 16,             /* does not begin with '/' and is not "*" for OPTIONS, or has a fragment (4.3.1) */
+  H3_BAD_AUTHORITY = 15,        /* missing, empty, with userinfo; host twice, no authority, or
+                                 * unlike :authority (4.3.1; RFC 9110, section 7.2) */
+  H3_BAD_PATH = 16,             /* does not begin with '/' and is not "*" for OPTIONS, or has a
+                                 * fragment (4.3.1) */
   H3_BAD_STATUS = 17,           /* 101 (4.5) */
   H3_NO_TRAILER_FIELD = 18,     /* content-length or host in a trailer (RFC 9110, section 6.5.1) */
   H3_TOO_LONG = 19              /* HEADERS longer than unfinished_limit (RFC 9114, section 10.5) */
@@ -697,12 +685,18 @@ enum h3_malformation {
 static inline const char *h3_malformation_text(uint64_t malformation) {
   switch (malformation) {
     case H3_BAD_NAME: return "H3_BAD_NAME"; case H3_BAD_VALUE: return "H3_BAD_VALUE";
-    case H3_TOO_MANY: return "H3_TOO_MANY"; case H3_HEAD_OF_WRONG_SIDE: return "H3_HEAD_OF_WRONG_SIDE";
-    case H3_PSEUDO_FIELD_IN_TRAILER: return "H3_PSEUDO_FIELD_IN_TRAILER"; case H3_NO_HEAD: return "H3_NO_HEAD";
-    case H3_LATE_PSEUDO_FIELD: return "H3_LATE_PSEUDO_FIELD"; case H3_WRONG_PSEUDO_FIELD: return "H3_WRONG_PSEUDO_FIELD";
-    case H3_REPEATED_PSEUDO_FIELD: return "H3_REPEATED_PSEUDO_FIELD"; case H3_CONNECTION_FIELD: return "H3_CONNECTION_FIELD";
-    case H3_BAD_CONTENT_LENGTH: return "H3_BAD_CONTENT_LENGTH"; case H3_BAD_PROTOCOL: return "H3_BAD_PROTOCOL";
-    case H3_BAD_CONNECT: return "H3_BAD_CONNECT"; case H3_MISSING_PSEUDO_FIELD: return "H3_MISSING_PSEUDO_FIELD";
+    case H3_TOO_MANY: return "H3_TOO_MANY";
+    case H3_HEAD_OF_WRONG_SIDE: return "H3_HEAD_OF_WRONG_SIDE";
+    case H3_PSEUDO_FIELD_IN_TRAILER: return "H3_PSEUDO_FIELD_IN_TRAILER";
+    case H3_NO_HEAD: return "H3_NO_HEAD";
+    case H3_LATE_PSEUDO_FIELD: return "H3_LATE_PSEUDO_FIELD";
+    case H3_WRONG_PSEUDO_FIELD: return "H3_WRONG_PSEUDO_FIELD";
+    case H3_REPEATED_PSEUDO_FIELD: return "H3_REPEATED_PSEUDO_FIELD";
+    case H3_CONNECTION_FIELD: return "H3_CONNECTION_FIELD";
+    case H3_BAD_CONTENT_LENGTH: return "H3_BAD_CONTENT_LENGTH";
+    case H3_BAD_PROTOCOL: return "H3_BAD_PROTOCOL";
+    case H3_BAD_CONNECT: return "H3_BAD_CONNECT";
+    case H3_MISSING_PSEUDO_FIELD: return "H3_MISSING_PSEUDO_FIELD";
     case H3_BAD_SCHEME: return "H3_BAD_SCHEME"; case H3_BAD_AUTHORITY: return "H3_BAD_AUTHORITY";
     case H3_BAD_PATH: return "H3_BAD_PATH"; case H3_BAD_STATUS: return "H3_BAD_STATUS";
     case H3_NO_TRAILER_FIELD: return "H3_NO_TRAILER_FIELD"; case H3_TOO_LONG: return "H3_TOO_LONG";
@@ -735,11 +729,6 @@ typedef struct {
                       many bytes its names and values have; else 0 */
 } h3_item;
 
-/* The next item of a stream. It stays in the endpoint until the next pull: read it by
- * h3_item_fields and h3_item_bytes. A fault of the connection closes the endpoint.
- * Refused: H3_ARGUMENT (id not below 2^62); *item is not written, and the item before stays. */
-static inline uint32_t h3_pull(h3_endpoint *endpoint, uint64_t id, h3_item *item);
-
 /* Bytes came on a stream, after those that came before, and with fin = 1 its end after them: the
  * next item, and in *used how many of the bytes it took. Call it again with the bytes that are left
  * (and the same `fin`) until a pause, H3_END or a fault: after a pause all bytes were used. It does
@@ -747,24 +736,48 @@ static inline uint32_t h3_pull(h3_endpoint *endpoint, uint64_t id, h3_item *item
  * at which byte of yours a piece of the body lies (H3_BODY_GIVEN), and keeps nothing of it. Other
  * bytes are copied, and a piece of a body that comes out of those is an H3_BODY, for
  * h3_item_bytes. You may change or free your bytes as soon as it returns. If fin is 1 and len is 0,
- * the end may have come before. You may mix it with the other calls.
+ * the end may have come before. If an H3_BODY_GIVEN took the last byte and fin is 0, the next item
+ * is H3_PENDING: you need not call again. You may mix it with the other calls.
  * Refused as h3_deliver, with *item not written: H3_ARGUMENT and the refusals of bytes with *used
- * as far as the bytes went that were taken before; H3_MEMORY: nothing is lost, go on with the bytes
- * that are left. Unlike in h3_deliver, H3_MEMORY may come before the refusals of bytes.
- * H3_FAULT_MEMORY: the same. */
-static inline uint32_t h3_read(h3_endpoint *endpoint, uint64_t id, const void *bytes, size_t len, int fin, size_t *used,
-                               h3_item *item, uint64_t *detail);
+ * as far as the bytes went that were taken before; H3_MEMORY and H3_KEPT: nothing is lost, go on
+ * with the bytes that are left. Unlike in h3_deliver, H3_MEMORY may come before the refusals of
+ * bytes. H3_FAULT_MEMORY: the same. */
+static inline uint32_t h3_read(h3_endpoint *endpoint, uint64_t id, const void *bytes, size_t len,
+                               int fin, size_t *used, h3_item *item, uint64_t *detail);
+
+/* Bytes came on a stream, after those that came before: they are copied, and h3_pull tells what
+ * they say. Refused, in this order: H3_ARGUMENT (id not below 2^62), H3_CONNECTION (of an earlier
+ * fault), H3_REJECTED, H3_NOT_RECEIVING, H3_NOT_OPEN, H3_AFTER_END, H3_MEMORY (nothing was taken:
+ * deliver again), H3_KEPT (all was taken), H3_CONNECTION (what came is a fault). */
+static inline uint32_t h3_deliver(h3_endpoint *endpoint, uint64_t id, const void *bytes, size_t len,
+                                  uint64_t *detail);
+
+/* The end of a stream came (FIN). Refused as bytes are. */
+static inline uint32_t h3_deliver_end(h3_endpoint *endpoint, uint64_t id, uint64_t *detail);
+
+/* RESET_STREAM came with this application error code. Refused as bytes are; H3_AFTER_END is normal
+ * if the reset came late. What came on the stream and was not pulled is dropped. */
+static inline uint32_t h3_deliver_reset(h3_endpoint *endpoint, uint64_t id, uint64_t code,
+                                        uint64_t *detail);
+
+/* The next item of what was delivered on a stream, or of what h3_read kept. It stays in the
+ * endpoint until the next h3_pull or h3_read: get it by h3_item_fields and h3_item_bytes. A fault
+ * of the connection closes the endpoint.
+ * Refused: H3_ARGUMENT (id not below 2^62); *item is not written, and the item before stays. */
+static inline uint32_t h3_pull(h3_endpoint *endpoint, uint64_t id, h3_item *item);
 
 /* All fields of the header or trailer section that was pulled last, as they came and in their
  * order: the sizes of each at `sizes`, and all names and values at `bytes` (name, value, name,
  * value, ..), as h3_send_head takes them. `most` sizes and `room` bytes fit there: `fields` and
  * `len` of the item are enough. Any other item has no fields. Takes no memory.
  * Refused, with nothing written: H3_ROOM. */
-static inline uint32_t h3_item_fields(h3_endpoint *endpoint, h3_field_size *sizes, size_t most, void *bytes, size_t room);
+static inline uint32_t h3_item_fields(h3_endpoint *endpoint, h3_field_size *sizes, size_t most,
+                                      void *bytes, size_t room);
 
 /* The bytes of the body or of the session that were pulled last, from `from` on, as many as fit; *n
  * says how many were copied. H3_NONE if `from` is past their end or the item has no bytes. */
-static inline uint32_t h3_item_bytes(h3_endpoint *endpoint, size_t from, void *buffer, size_t room, size_t *n);
+static inline uint32_t h3_item_bytes(h3_endpoint *endpoint, size_t from, void *buffer, size_t room,
+                                     size_t *n);
 
 /* ---- priorities ---- */
 
@@ -773,7 +786,8 @@ static inline uint32_t h3_item_bytes(h3_endpoint *endpoint, size_t from, void *b
  * has several such fields, join their values by ", ". Refused, and nothing is written: H3_ARGUMENT,
  * or H3_FIELD_VALUE if the value is no dictionary (RFC 8941, section 3.2); the field is then to be
  * ignored. It needs no endpoint, and takes no memory. */
-static inline uint32_t h3_priority_read(const void *value, size_t len, uint32_t *urgency, uint32_t *incremental);
+static inline uint32_t h3_priority_read(const void *value, size_t len, uint32_t *urgency,
+                                        uint32_t *incremental);
 
 /* ---- what can be read ---- */
 
@@ -831,18 +845,25 @@ static inline uint64_t h3_decoder_id(int server) { return server ? 11 : 10; }
  * of 0: these do not test for it. A configuration is its numbers and how many they are; the first
  * is their size in bytes. h3_raw_new writes *out on H3_OK only. */
 uint32_t h3_raw_version(void);
-uint32_t h3_raw_priority_read(const uint8_t *value, size_t len, uint32_t *urgency, uint32_t *incremental);
+uint32_t h3_raw_priority_read(const uint8_t *value, size_t len, uint32_t *urgency,
+                              uint32_t *incremental);
 void h3_raw_config_default(uint64_t *numbers, size_t count);
 uint32_t h3_raw_new(const uint64_t *numbers, size_t count, uint64_t *detail, h3_endpoint *out);
 void h3_raw_free(h3_endpoint endpoint);
-uint32_t h3_raw_open_request(h3_endpoint endpoint, uint64_t *id, uint64_t *detail, h3_endpoint *out);
-uint32_t h3_raw_next_request_id(h3_endpoint endpoint, uint64_t *id, uint64_t *detail, h3_endpoint *out);
-uint32_t h3_raw_send_head(h3_endpoint endpoint, uint64_t id, const h3_field_size *sizes, size_t count, const uint8_t *bytes, size_t len,
-                            uint64_t *detail, h3_endpoint *out);
-uint32_t h3_raw_send_trailer(h3_endpoint endpoint, uint64_t id, const h3_field_size *sizes, size_t count, const uint8_t *bytes, size_t len,
-                                    uint64_t *detail, h3_endpoint *out);
-uint32_t h3_raw_send_body(h3_endpoint endpoint, uint64_t id, const uint8_t *bytes, size_t len, uint64_t *detail, h3_endpoint *out);
-uint32_t h3_raw_send_body_of(h3_endpoint endpoint, uint64_t id, size_t len, uint64_t *detail, h3_endpoint *out);
+uint32_t h3_raw_open_request(h3_endpoint endpoint, uint64_t *id, uint64_t *detail,
+                             h3_endpoint *out);
+uint32_t h3_raw_next_request_id(h3_endpoint endpoint, uint64_t *id, uint64_t *detail,
+                                h3_endpoint *out);
+uint32_t h3_raw_send_head(h3_endpoint endpoint, uint64_t id, const h3_field_size *sizes,
+                          size_t count, const uint8_t *bytes, size_t len, uint64_t *detail,
+                          h3_endpoint *out);
+uint32_t h3_raw_send_trailer(h3_endpoint endpoint, uint64_t id, const h3_field_size *sizes,
+                             size_t count, const uint8_t *bytes, size_t len, uint64_t *detail,
+                             h3_endpoint *out);
+uint32_t h3_raw_send_body(h3_endpoint endpoint, uint64_t id, const uint8_t *bytes, size_t len,
+                          uint64_t *detail, h3_endpoint *out);
+uint32_t h3_raw_send_body_of(h3_endpoint endpoint, uint64_t id, size_t len, uint64_t *detail,
+                             h3_endpoint *out);
 uint32_t h3_raw_finish(h3_endpoint endpoint, uint64_t id, uint64_t *detail, h3_endpoint *out);
 uint32_t h3_raw_reset(h3_endpoint endpoint, uint64_t id, uint64_t *detail, h3_endpoint *out);
 uint32_t h3_raw_cancel(h3_endpoint endpoint, uint64_t id, uint64_t *detail, h3_endpoint *out);
@@ -852,29 +873,36 @@ uint32_t h3_raw_shutdown(h3_endpoint endpoint, uint64_t *detail, h3_endpoint *ou
 uint32_t h3_raw_first_unseen(h3_endpoint endpoint, uint64_t *id, h3_endpoint *out);
 uint32_t h3_raw_is_drained(h3_endpoint endpoint, uint32_t *drained, h3_endpoint *out);
 uint32_t h3_raw_next_to_send(h3_endpoint endpoint, uint64_t from, uint64_t *id, h3_endpoint *out);
-uint32_t h3_raw_outgoing(h3_endpoint endpoint, uint64_t id, uint8_t *buffer, size_t room, size_t *n, size_t *past, uint32_t *fin, h3_endpoint *out);
+uint32_t h3_raw_outgoing(h3_endpoint endpoint, uint64_t id, uint8_t *buffer, size_t room, size_t *n,
+                         size_t *past, uint32_t *fin, h3_endpoint *out);
 uint32_t h3_raw_advance(h3_endpoint endpoint, uint64_t id, size_t n, h3_endpoint *out);
 uint32_t h3_raw_end_taken(h3_endpoint endpoint, uint64_t id, h3_endpoint *out);
-uint32_t h3_raw_deliver(h3_endpoint endpoint, uint64_t id, const uint8_t *bytes, size_t len, uint64_t *detail, h3_endpoint *out);
-uint32_t h3_raw_deliver_lent(h3_endpoint endpoint, uint64_t id, const uint8_t *bytes, size_t len, uint64_t *detail, h3_endpoint *out);
-uint32_t h3_raw_keep(h3_endpoint endpoint, uint64_t id, h3_endpoint *out);
+uint32_t h3_raw_deliver(h3_endpoint endpoint, uint64_t id, const uint8_t *bytes, size_t len,
+                        uint64_t *detail, h3_endpoint *out);
 uint32_t h3_raw_deliver_end(h3_endpoint endpoint, uint64_t id, uint64_t *detail, h3_endpoint *out);
-uint32_t h3_raw_deliver_reset(h3_endpoint endpoint, uint64_t id, uint64_t code, uint64_t *detail, h3_endpoint *out);
+uint32_t h3_raw_deliver_reset(h3_endpoint endpoint, uint64_t id, uint64_t code, uint64_t *detail,
+                              h3_endpoint *out);
 uint32_t h3_raw_pull(h3_endpoint endpoint, uint64_t id, h3_item *item, h3_endpoint *out);
-uint32_t h3_raw_read(h3_endpoint endpoint, uint64_t id, const uint8_t *bytes, size_t len, uint32_t fin, size_t *used, h3_item *item,
-                     uint64_t *detail, h3_endpoint *out);
-uint32_t h3_raw_item_fields(h3_endpoint endpoint, h3_field_size *sizes, size_t most, uint8_t *bytes, size_t room, h3_endpoint *out);
-uint32_t h3_raw_item_bytes(h3_endpoint endpoint, size_t from, uint8_t *buffer, size_t room, size_t *n, h3_endpoint *out);
+uint32_t h3_raw_read(h3_endpoint endpoint, uint64_t id, const uint8_t *bytes, size_t len,
+                     uint32_t fin, size_t *used, h3_item *item, uint64_t *detail, h3_endpoint *out);
+uint32_t h3_raw_item_fields(h3_endpoint endpoint, h3_field_size *sizes, size_t most, uint8_t *bytes,
+                            size_t room, h3_endpoint *out);
+uint32_t h3_raw_item_bytes(h3_endpoint endpoint, size_t from, uint8_t *buffer, size_t room,
+                           size_t *n, h3_endpoint *out);
 uint32_t h3_raw_stream(h3_endpoint endpoint, uint64_t id, h3_stream_state *state, h3_endpoint *out);
 uint32_t h3_raw_connection(h3_endpoint endpoint, h3_state *state, h3_endpoint *out);
-uint32_t h3_raw_peer_setting(h3_endpoint endpoint, uint64_t setting, uint64_t *value, h3_endpoint *out);
+uint32_t h3_raw_peer_setting(h3_endpoint endpoint, uint64_t setting, uint64_t *value,
+                             h3_endpoint *out);
 
 /* ---- the functions above, over the exports ---- */
 
-static inline const uint8_t *h3_in_(const void *bytes) { return bytes ? (const uint8_t *)bytes : (const uint8_t *)""; }
+static inline const uint8_t *h3_in_(const void *bytes) {
+  return bytes ? (const uint8_t *)bytes : (const uint8_t *)"";
+}
 
 static inline uint32_t h3_version(void) { return h3_raw_version(); }
-static inline uint32_t h3_priority_read(const void *value, size_t len, uint32_t *urgency, uint32_t *incremental) {
+static inline uint32_t h3_priority_read(const void *value, size_t len, uint32_t *urgency,
+                                        uint32_t *incremental) {
   if (!urgency || !incremental || (!value && len)) return H3_ARGUMENT;
   return h3_raw_priority_read(h3_in_(value), len, urgency, incremental);
 }
@@ -885,7 +913,9 @@ static inline void h3_config_default(h3_config *config) {
 static inline uint32_t h3_new(h3_endpoint *endpoint, const h3_config *config, uint64_t *detail) {
   uint64_t none;
   if (!endpoint || !config) return H3_ARGUMENT;
-  size_t count = config->size > sizeof *config || config->size % sizeof(uint64_t) ? 0 : (size_t)config->size / sizeof(uint64_t);
+  size_t count = config->size > sizeof *config || config->size % sizeof(uint64_t)
+                     ? 0
+                     : (size_t)config->size / sizeof(uint64_t);
   uint32_t answer = h3_raw_new((const uint64_t *)config, count, detail ? detail : &none, endpoint);
   if (answer && answer != H3_ARGUMENT) endpoint->at = NULL;
   return answer;
@@ -907,27 +937,32 @@ static inline uint32_t h3_next_request_id(h3_endpoint *endpoint, uint64_t *id, u
   if (!id) return H3_ARGUMENT;
   return h3_raw_next_request_id(*endpoint, id, detail ? detail : &none, endpoint);
 }
-static inline uint32_t h3_send_head(h3_endpoint *endpoint, uint64_t id, const h3_field_size *sizes, size_t count, const void *bytes, size_t len,
-                                      uint64_t *detail) {
+static inline uint32_t h3_send_head(h3_endpoint *endpoint, uint64_t id, const h3_field_size *sizes,
+                                    size_t count, const void *bytes, size_t len, uint64_t *detail) {
   uint64_t none; h3_field_size no_size = {0, 0};
   if (!endpoint || !endpoint->at) return H3_NO_ENDPOINT;
   if ((!sizes && count) || (!bytes && len)) return H3_ARGUMENT;
-  return h3_raw_send_head(*endpoint, id, sizes ? sizes : &no_size, count, h3_in_(bytes), len, detail ? detail : &none, endpoint);
+  return h3_raw_send_head(*endpoint, id, sizes ? sizes : &no_size, count, h3_in_(bytes), len,
+                          detail ? detail : &none, endpoint);
 }
-static inline uint32_t h3_send_trailer(h3_endpoint *endpoint, uint64_t id, const h3_field_size *sizes, size_t count, const void *bytes,
-                                              size_t len, uint64_t *detail) {
+static inline uint32_t h3_send_trailer(h3_endpoint *endpoint, uint64_t id,
+                                       const h3_field_size *sizes, size_t count, const void *bytes,
+                                       size_t len, uint64_t *detail) {
   uint64_t none; h3_field_size no_size = {0, 0};
   if (!endpoint || !endpoint->at) return H3_NO_ENDPOINT;
   if ((!sizes && count) || (!bytes && len)) return H3_ARGUMENT;
-  return h3_raw_send_trailer(*endpoint, id, sizes ? sizes : &no_size, count, h3_in_(bytes), len, detail ? detail : &none, endpoint);
+  return h3_raw_send_trailer(*endpoint, id, sizes ? sizes : &no_size, count, h3_in_(bytes), len,
+                             detail ? detail : &none, endpoint);
 }
-static inline uint32_t h3_send_body(h3_endpoint *endpoint, uint64_t id, const void *bytes, size_t len, uint64_t *detail) {
+static inline uint32_t h3_send_body(h3_endpoint *endpoint, uint64_t id, const void *bytes,
+                                    size_t len, uint64_t *detail) {
   uint64_t none;
   if (!endpoint || !endpoint->at) return H3_NO_ENDPOINT;
   if (!bytes && len) return H3_ARGUMENT;
   return h3_raw_send_body(*endpoint, id, h3_in_(bytes), len, detail ? detail : &none, endpoint);
 }
-static inline uint32_t h3_send_body_of(h3_endpoint *endpoint, uint64_t id, size_t len, uint64_t *detail) {
+static inline uint32_t h3_send_body_of(h3_endpoint *endpoint, uint64_t id, size_t len,
+                                       uint64_t *detail) {
   uint64_t none;
   if (!endpoint || !endpoint->at) return H3_NO_ENDPOINT;
   return h3_raw_send_body_of(*endpoint, id, len, detail ? detail : &none, endpoint);
@@ -977,13 +1012,15 @@ static inline uint32_t h3_next_to_send(h3_endpoint *endpoint, uint64_t from, uin
   if (!id) return H3_ARGUMENT;
   return h3_raw_next_to_send(*endpoint, from, id, endpoint);
 }
-static inline uint32_t h3_outgoing(h3_endpoint *endpoint, uint64_t id, void *buffer, size_t room, size_t *n, size_t *past, uint32_t *fin) {
+static inline uint32_t h3_outgoing(h3_endpoint *endpoint, uint64_t id, void *buffer, size_t room,
+                                   size_t *n, size_t *past, uint32_t *fin) {
   uint8_t nothing;
   size_t follow = 0;
   uint32_t none, answer;
   if (!endpoint || !endpoint->at) return H3_NO_ENDPOINT;
   if (!n) return H3_ARGUMENT;
-  answer = h3_raw_outgoing(*endpoint, id, buffer ? (uint8_t *)buffer : &nothing, buffer ? room : 0, n, past ? past : &follow, fin ? fin : &none, endpoint);
+  answer = h3_raw_outgoing(*endpoint, id, buffer ? (uint8_t *)buffer : &nothing, buffer ? room : 0,
+                           n, past ? past : &follow, fin ? fin : &none, endpoint);
   return answer == H3_OK && follow ? (uint32_t)H3_ARGUMENT : answer;
 }
 static inline uint32_t h3_advance(h3_endpoint *endpoint, uint64_t id, size_t n) {
@@ -994,28 +1031,20 @@ static inline uint32_t h3_end_taken(h3_endpoint *endpoint, uint64_t id) {
   if (!endpoint || !endpoint->at) return H3_NO_ENDPOINT;
   return h3_raw_end_taken(*endpoint, id, endpoint);
 }
-static inline uint32_t h3_deliver(h3_endpoint *endpoint, uint64_t id, const void *bytes, size_t len, uint64_t *detail) {
+static inline uint32_t h3_deliver(h3_endpoint *endpoint, uint64_t id, const void *bytes, size_t len,
+                                  uint64_t *detail) {
   uint64_t none;
   if (!endpoint || !endpoint->at) return H3_NO_ENDPOINT;
   if (!bytes && len) return H3_ARGUMENT;
   return h3_raw_deliver(*endpoint, id, h3_in_(bytes), len, detail ? detail : &none, endpoint);
-}
-static inline uint32_t h3_deliver_lent(h3_endpoint *endpoint, uint64_t id, const void *bytes, size_t len, uint64_t *detail) {
-  uint64_t none;
-  if (!endpoint || !endpoint->at) return H3_NO_ENDPOINT;
-  if (!bytes && len) return H3_ARGUMENT;
-  return h3_raw_deliver_lent(*endpoint, id, h3_in_(bytes), len, detail ? detail : &none, endpoint);
-}
-static inline uint32_t h3_keep(h3_endpoint *endpoint, uint64_t id) {
-  if (!endpoint || !endpoint->at) return H3_NO_ENDPOINT;
-  return h3_raw_keep(*endpoint, id, endpoint);
 }
 static inline uint32_t h3_deliver_end(h3_endpoint *endpoint, uint64_t id, uint64_t *detail) {
   uint64_t none;
   if (!endpoint || !endpoint->at) return H3_NO_ENDPOINT;
   return h3_raw_deliver_end(*endpoint, id, detail ? detail : &none, endpoint);
 }
-static inline uint32_t h3_deliver_reset(h3_endpoint *endpoint, uint64_t id, uint64_t code, uint64_t *detail) {
+static inline uint32_t h3_deliver_reset(h3_endpoint *endpoint, uint64_t id, uint64_t code,
+                                        uint64_t *detail) {
   uint64_t none;
   if (!endpoint || !endpoint->at) return H3_NO_ENDPOINT;
   return h3_raw_deliver_reset(*endpoint, id, code, detail ? detail : &none, endpoint);
@@ -1025,30 +1054,35 @@ static inline uint32_t h3_pull(h3_endpoint *endpoint, uint64_t id, h3_item *item
   if (!item) return H3_ARGUMENT;
   return h3_raw_pull(*endpoint, id, item, endpoint);
 }
-static inline uint32_t h3_read(h3_endpoint *endpoint, uint64_t id, const void *bytes, size_t len, int fin, size_t *used,
-                               h3_item *item, uint64_t *detail) {
+static inline uint32_t h3_read(h3_endpoint *endpoint, uint64_t id, const void *bytes, size_t len,
+                               int fin, size_t *used, h3_item *item, uint64_t *detail) {
   uint64_t none; uint32_t told; size_t n, at = 0;
   if (!endpoint || !endpoint->at) return H3_NO_ENDPOINT;
   if (!used || !item || (!bytes && len)) return H3_ARGUMENT;
   do {
     n = 0;
-    told = h3_raw_read(*endpoint, id, h3_in_(bytes) + at, len - at, fin != 0, &n, item, detail ? detail : &none, endpoint);
+    told = h3_raw_read(*endpoint, id, h3_in_(bytes) + at, len - at, fin != 0, &n, item,
+                       detail ? detail : &none, endpoint);
     if (told == H3_OK && item->kind == H3_BODY_GIVEN) item->number += at;
     at += n;
   } while (told == H3_OK && (item->kind == H3_PENDING || item->kind == H3_WAITING) && at < len);
   *used = at;
   return told;
 }
-static inline uint32_t h3_item_fields(h3_endpoint *endpoint, h3_field_size *sizes, size_t most, void *bytes, size_t room) {
+static inline uint32_t h3_item_fields(h3_endpoint *endpoint, h3_field_size *sizes, size_t most,
+                                      void *bytes, size_t room) {
   h3_field_size no_size; uint8_t nothing;
   if (!endpoint || !endpoint->at) return H3_NO_ENDPOINT;
-  return h3_raw_item_fields(*endpoint, sizes ? sizes : &no_size, sizes ? most : 0, bytes ? (uint8_t *)bytes : &nothing, bytes ? room : 0, endpoint);
+  return h3_raw_item_fields(*endpoint, sizes ? sizes : &no_size, sizes ? most : 0,
+                            bytes ? (uint8_t *)bytes : &nothing, bytes ? room : 0, endpoint);
 }
-static inline uint32_t h3_item_bytes(h3_endpoint *endpoint, size_t from, void *buffer, size_t room, size_t *n) {
+static inline uint32_t h3_item_bytes(h3_endpoint *endpoint, size_t from, void *buffer, size_t room,
+                                     size_t *n) {
   uint8_t nothing;
   if (!endpoint || !endpoint->at) return H3_NO_ENDPOINT;
   if (!n) return H3_ARGUMENT;
-  return h3_raw_item_bytes(*endpoint, from, buffer ? (uint8_t *)buffer : &nothing, buffer ? room : 0, n, endpoint);
+  return h3_raw_item_bytes(*endpoint, from, buffer ? (uint8_t *)buffer : &nothing,
+                           buffer ? room : 0, n, endpoint);
 }
 static inline uint32_t h3_stream(h3_endpoint *endpoint, uint64_t id, h3_stream_state *state) {
   if (!endpoint || !endpoint->at) return H3_NO_ENDPOINT;

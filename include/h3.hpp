@@ -136,24 +136,27 @@ class field_list {
   std::string bytes_;
 };
 
-/* What a pull returned. The same item may serve for many pulls: its memory is used again. */
+/* What a pull or a read returned. The same item may serve for many of them: its memory is used again. */
 struct item {
   h3_kind kind = H3_PENDING;
   std::uint32_t status = 0; /* of a response's header section */
   std::uint64_t number = 0; /* what the kind says */
   field_list fields;        /* of a header section or trailer section */
-  std::string body;         /* of a piece of a body, or of a session */
+  std::string body;         /* of a piece of a body, or of a session: a copy */
+  bytes given;              /* of H3_BODY_GIVEN: the piece of the body, where it lies in the bytes that were given to `read` */
 
   const char *text() const noexcept { return h3_kind_text(kind); }
   /* Nothing more can be pulled now, and nothing is wrong. */
   bool is_pause() const noexcept { return kind == H3_PENDING || kind == H3_WAITING || kind == H3_NO_MESSAGES; }
-  bool is_fault() const noexcept { return kind >= H3_FAULT_CONNECTION; }
+  bool is_fault() const noexcept { return kind >= H3_FAULT_CONNECTION && kind <= H3_FAULT_MEMORY; }
 };
 
-/* Bytes that wait on a stream, and whether the stream ends after them. */
+/* Bytes that wait on a stream: those in the room, then `past` bytes of a body that the caller holds (send_body_of); and whether the stream
+ * ends after all of them. */
 struct outgoing {
   std::size_t count = 0;
   bool is_last = false;
+  std::size_t past = 0;
 };
 
 inline h3_config client_config() noexcept {
@@ -199,6 +202,8 @@ class endpoint {
   /* The bytes are copied. */
   result send_body(std::uint64_t id, bytes piece) noexcept { return call(h3_send_body, id, piece.data(), piece.size()); }
   result send_body(std::uint64_t id, std::string_view piece) noexcept { return call(h3_send_body, id, piece.data(), piece.size()); }
+  /* A body of this length, whose bytes stay with the caller: `peek` says when they go out. */
+  result send_body_of(std::uint64_t id, std::size_t length) noexcept { return call(h3_send_body_of, id, length); }
   result finish(std::uint64_t id) noexcept { return call(h3_finish, id); }
   result reset(std::uint64_t id) noexcept { return call(h3_reset, id); }
   result cancel(std::uint64_t id) noexcept { return call(h3_cancel, id); }
@@ -226,12 +231,13 @@ class endpoint {
     if (h3_next_to_send(&raw_, from, &id) != H3_OK) return std::nullopt;
     return id;
   }
-  /* Copies the first bytes that wait into the room. They wait until `advance`. */
+  /* Copies the first bytes that wait into the room, and says how many bytes of the caller's body come next. All wait until `advance`, which
+   * counts both. */
   outgoing peek(std::uint64_t id, span<std::uint8_t> room) noexcept {
-    std::size_t count = 0;
+    std::size_t count = 0, past = 0;
     std::uint32_t fin = 0;
-    if (h3_outgoing(&raw_, id, room.data(), room.size(), &count, nullptr, &fin) != H3_OK) return {};
-    return {count, fin == 1};
+    if (h3_outgoing(&raw_, id, room.data(), room.size(), &count, &past, &fin) != H3_OK) return {};
+    return {count, fin == 1, past};
   }
   result advance(std::uint64_t id, std::size_t count) noexcept { return {h3_advance(&raw_, id, count), 0}; }
   /* QUIC has the FIN of a stream. False: no end was next. */
@@ -239,6 +245,26 @@ class endpoint {
 
   /* ---- what came ---- */
 
+  /* Bytes came on a stream, and its end after them if `is_end`: puts the next item into `into`, and into `used` how many of the bytes it
+   * took. Call it with those that are left until a pause, the end or a fault. A body is not copied: `into.given` is a part of `piece`.
+   * After H3_MEMORY go on with those that are left: nothing is lost. */
+  result read(std::uint64_t id, bytes piece, bool is_end, item &into, std::size_t &used) {
+    h3_item raw;
+    result said;
+    std::size_t from = 0, taken = 0;
+    empty(into);
+    do {
+      from += taken;
+      taken = 0;
+      said.answer = h3_read(&raw_, id, piece.data() + from, piece.size() - from, is_end, &taken, &raw, &said.detail);
+    } while (said.answer == H3_KEPT);
+    used = from + taken;
+    if (!said) return said;
+    if (raw.kind != H3_BODY_GIVEN) return copy_item(raw, into);
+    into.kind = H3_BODY_GIVEN;
+    into.given = bytes(piece.data() + from + raw.number, raw.len);
+    return said;
+  }
   result deliver(std::uint64_t id, bytes piece) noexcept { return delivered(h3_deliver, id, piece.data(), piece.size()); }
   result deliver_end(std::uint64_t id) noexcept { return delivered(h3_deliver_end, id); }
   result deliver_reset(std::uint64_t id, std::uint64_t code) noexcept { return delivered(h3_deliver_reset, id, code); }
@@ -246,17 +272,9 @@ class endpoint {
   /* Puts what comes next on a stream into `into`. */
   result pull(std::uint64_t id, item &into) {
     h3_item raw;
-    into.fields.clear();
-    into.body.clear();
+    empty(into);
     if (std::uint32_t answer = h3_pull(&raw_, id, &raw); answer != H3_OK) return {answer, 0};
-    into.kind = static_cast<h3_kind>(raw.kind);
-    into.status = raw.status;
-    into.number = raw.number;
-    if (raw.fields != 0) return read_fields(raw, into.fields);
-    into.body.resize(raw.len);
-    if (raw.len == 0) return {};
-    std::size_t count;
-    return {h3_item_bytes(&raw_, 0, into.body.data(), into.body.size(), &count), 0};
+    return copy_item(raw, into);
   }
 
   /* ---- what can be read ---- */
@@ -294,6 +312,24 @@ class endpoint {
   template <class Call>
   result send(Call made, std::uint64_t id, const field_list &list) noexcept {
     return call(made, id, list.sizes_.data(), list.sizes_.size(), list.bytes_.data(), list.bytes_.size());
+  }
+  static void empty(item &into) noexcept {
+    into.fields.clear();
+    into.body.clear();
+    into.given = bytes{};
+    into.status = 0;
+    into.number = 0;
+  }
+  /* What the item has that the endpoint holds. */
+  result copy_item(const h3_item &raw, item &into) {
+    into.kind = static_cast<h3_kind>(raw.kind);
+    into.status = raw.status;
+    into.number = raw.number;
+    if (raw.fields != 0) return read_fields(raw, into.fields);
+    into.body.resize(raw.len);
+    if (raw.len == 0) return {};
+    std::size_t count;
+    return {h3_item_bytes(&raw_, 0, into.body.data(), into.body.size(), &count), 0};
   }
   result read_fields(const h3_item &raw, field_list &into) {
     into.sizes_.resize(raw.fields);

@@ -1,7 +1,7 @@
 // Package h3 is one endpoint of an HTTP/3 connection (RFC 9114, RFC 9204), for programs that have a QUIC library: the calls of beanwhile/h3.h.
 //
-// An Endpoint reads no socket and starts no goroutine. A program delivers what came on a stream and pulls what it is (Deliver, Pull), sends
-// messages (OpenRequest, SendHead, SendBody, SendTrailer, Finish), and hands to QUIC what waits (NextToSend, Outgoing, Advance, EndTaken).
+// An Endpoint reads no socket and starts no goroutine. A program reads what came on a stream (Read; or Deliver and Pull), sends messages
+// (OpenRequest, SendHead, SendBody or SendBodyOf, SendTrailer, Finish), and hands to QUIC what waits (NextToSend, Outgoing, Advance, EndTaken).
 //
 // The library is found by pkg-config, as beanwhile-h3.
 package h3
@@ -115,6 +115,16 @@ func (e *Endpoint) SendBody(id uint64, bytes []byte) error {
 	return refusal(C.h3_send_body(&e.raw, C.uint64_t(id), start(bytes), C.size_t(len(bytes)), &detail), detail)
 }
 
+// SendBodyOf sends a piece of a body of this length, whose bytes stay with the caller: the package never reads them. OutgoingPast says when they
+// go out. Keep them until QUIC needs them no more.
+func (e *Endpoint) SendBodyOf(id uint64, length int) error {
+	var detail C.uint64_t
+	if length < 0 {
+		return Error{Answer: Argument}
+	}
+	return refusal(C.h3_send_body_of(&e.raw, C.uint64_t(id), C.size_t(length), &detail), detail)
+}
+
 // Finish says that the own message is whole: FIN goes behind what waits.
 func (e *Endpoint) Finish(id uint64) error {
 	var detail C.uint64_t
@@ -174,13 +184,24 @@ func (e *Endpoint) NextToSend(from uint64) (uint64, bool) {
 }
 
 // Outgoing copies the first bytes that wait on a stream into the buffer, and says whether the stream ends behind them. They wait until Advance.
+// It is for streams without a body of SendBodyOf: where bytes of one follow it answers none, and OutgoingPast tells of them.
 func (e *Endpoint) Outgoing(id uint64, buffer []byte) (count int, end bool) {
-	var n C.size_t
-	var fin C.uint32_t
-	if C.h3_outgoing(&e.raw, C.uint64_t(id), start(buffer), C.size_t(len(buffer)), &n, nil, &fin) != C.H3_OK {
+	count, past, end := e.OutgoingPast(id, buffer)
+	if past > 0 {
 		return 0, false
 	}
-	return int(n), fin == 1
+	return count, end
+}
+
+// OutgoingPast copies the first bytes that wait on a stream into the buffer, and says how many bytes of a body that the caller holds (SendBodyOf)
+// come next, and whether the stream ends behind both. They wait until Advance, which counts both.
+func (e *Endpoint) OutgoingPast(id uint64, buffer []byte) (count, past int, end bool) {
+	var n, held C.size_t
+	var fin C.uint32_t
+	if C.h3_outgoing(&e.raw, C.uint64_t(id), start(buffer), C.size_t(len(buffer)), &n, &held, &fin) != C.H3_OK {
+		return 0, 0, false
+	}
+	return int(n), int(held), fin == 1
 }
 
 // Advance says that QUIC has so many bytes of a stream: at most those that wait.

@@ -3,7 +3,7 @@ package h3
 // #include <h3.h>
 import "C"
 
-// Kind is what a pull handed out: an h3_kind.
+// Kind is what a read or a pull handed out: an h3_kind.
 type Kind uint32
 
 // Items, pauses (Pending, Waiting, NoMessages), and the kinds of a Fault.
@@ -24,6 +24,7 @@ const (
 	FaultReset      Kind = C.H3_FAULT_RESET
 	FaultCanceled   Kind = C.H3_FAULT_CANCELED
 	FaultMemory     Kind = C.H3_FAULT_MEMORY
+	BodyGiven       Kind = C.H3_BODY_GIVEN // of Read: a piece of the body, a part of the bytes that were given
 )
 
 // String is the kind's name in h3.h.
@@ -32,13 +33,13 @@ func (k Kind) String() string { return C.GoString(C.h3_kind_text(C.uint32_t(k)))
 // IsPause says that nothing was handed out yet, and nothing is wrong.
 func (k Kind) IsPause() bool { return k == Pending || k == Waiting || k == NoMessages }
 
-// Item is what a pull handed out: its kind, and what the kind has.
+// Item is what a read or a pull handed out: its kind, and what the kind has.
 type Item struct {
 	Kind   Kind
 	Status int     // of a response's head
 	Number uint64  // what the kind says
 	Fields []Field // of a head or trailer
-	Bytes  []byte  // of a body, or of a session
+	Bytes  []byte  // of a body, or of a session; of BodyGiven a part of the bytes that were given
 }
 
 // Value is the first value of a name, and whether there is one.
@@ -73,16 +74,44 @@ func (e *Endpoint) bytes(length int) ([]byte, error) {
 	return bytes, refusal(answer, 0)
 }
 
+// Read takes bytes that came on a stream, and its end behind them, and hands out the next item: an item, a pause, or a Fault as the error; and the
+// bytes that are left. Call it with these until a pause, End, or a Fault that is not Memory. It copies no body: the Bytes of an item of kind
+// BodyGiven are a part of those that were given. Where memory is refused nothing is lost: go on with the bytes that are left.
+func (e *Endpoint) Read(id uint64, bytes []byte, end bool) (item Item, rest []byte, err error) {
+	var raw C.h3_item
+	var used C.size_t
+	var detail C.uint64_t
+	given := bytes
+	for answer := C.uint32_t(C.H3_KEPT); answer == C.H3_KEPT; bytes = bytes[used:] {
+		used, given = 0, bytes
+		answer = C.h3_read(&e.raw, C.uint64_t(id), start(bytes), C.size_t(len(bytes)), side(end), &used, &raw, &detail)
+		if answer != C.H3_OK && answer != C.H3_KEPT {
+			return Item{}, bytes[used:], refusal(answer, detail)
+		}
+	}
+	if raw.kind == C.H3_BODY_GIVEN {
+		from, to := int(raw.number), int(raw.number)+int(raw.len)
+		return Item{Kind: BodyGiven, Bytes: given[from:to:to]}, bytes, nil
+	}
+	item, err = e.item(raw)
+	return item, bytes, err
+}
+
 // Pull hands out what comes next on a stream: an item, a pause, or a Fault as the error. Where memory is refused nothing is lost: pull again.
 func (e *Endpoint) Pull(id uint64) (Item, error) {
 	var raw C.h3_item
 	if answer := C.h3_pull(&e.raw, C.uint64_t(id), &raw); answer != C.H3_OK {
 		return Item{}, refusal(answer, 0)
 	}
+	return e.item(raw)
+}
+
+// item has what the endpoint holds of an item.
+func (e *Endpoint) item(raw C.h3_item) (Item, error) {
 	item := Item{Kind: Kind(raw.kind), Status: int(raw.status), Number: uint64(raw.number)}
 	var err error
 	switch {
-	case item.Kind >= FaultConnection:
+	case item.Kind >= FaultConnection && item.Kind <= FaultMemory:
 		return Item{Kind: item.Kind, Number: item.Number}, Fault{item.Kind, item.Number}
 	case raw.fields > 0:
 		item.Fields, err = e.fields(int(raw.fields), int(raw.len))

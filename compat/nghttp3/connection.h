@@ -26,7 +26,7 @@
 typedef struct chunk {
   STAILQ_ENTRY(chunk) next;
   const uint8_t *bytes;
-  size_t length;
+  size_t length, room; /* room: how many bytes fit after a copy */
   bool is_body; /* the application's: it learns of their acknowledgment */
 } chunk;
 
@@ -53,6 +53,7 @@ typedef struct stream {
   nghttp3_read_data_callback read_data; /* NULL: there is no body, or all of it was read */
   STAILQ_HEAD(, chunk) chunks;          /* what is not acknowledged, in order */
   chunk *unsent;                        /* the first that QUIC does not have whole */
+  chunk *last;                          /* if there is an unsent one: the last */
   size_t unsent_offset;                 /* how much of it QUIC has */
   size_t unsent_length;                 /* how many bytes of the stream QUIC does not have */
   size_t acknowledged_offset;           /* how much of the first chunk is acknowledged */
@@ -61,11 +62,13 @@ typedef struct stream {
   priority priority;
   bool is_prioritized; /* the server's application has set the priority, and the client's counts no more */
   bool is_ready, is_waiting;
+  bool is_untaken;  /* the endpoint may have bytes of the stream, since memory was refused for them */
   bool is_blocked;  /* by QUIC's flow control */
   bool awaits_data; /* read_data answered NGHTTP3_ERR_WOULDBLOCK */
   bool is_write_shut, has_ended, is_fin_offered, is_fin_taken;
 
-  size_t owed; /* bytes that came, and for which no credit was granted */
+  size_t owed;      /* bytes that came, and for which no credit was granted */
+  bool may_be_held; /* the endpoint may hold bytes that came: of a frame that is not whole, or after a head that waits */
   bool is_read_shut, is_closed;
   bool is_closing; /* QUIC closed it while a head waited: it is closed after that message */
   uint64_t close_code;
@@ -94,12 +97,12 @@ struct nghttp3_conn {
   size_t scratch_size;
 };
 
-/* What came in one call on a request stream. */
+/* What came in one call on a request stream, without what the endpoint has used of it. */
 typedef struct {
   const uint8_t *bytes;
   size_t length;
   bool has_fin;
-  bool is_delivered;
+  const uint8_t *given; /* the bytes as the endpoint was given them last: an item says where in them a body lies */
 } input;
 
 /* errors.c */
@@ -141,8 +144,7 @@ bool reserve_scratch(nghttp3_conn *connection, size_t size);
 int endpoint_take(nghttp3_conn *connection, stream *s);
 int endpoint_send_body(nghttp3_conn *connection, stream *s, const nghttp3_vec *body);
 int endpoint_next(nghttp3_conn *connection, stream *s, input *in, h3_item *item);
-int endpoint_body(nghttp3_conn *connection, const h3_item *item, const uint8_t **bytes);
-int endpoint_finish_input(nghttp3_conn *connection, stream *s, const input *in);
+int endpoint_body(nghttp3_conn *connection, const input *in, const h3_item *item, const uint8_t **bytes);
 int endpoint_deliver(nghttp3_conn *connection, int64_t id, const uint8_t *bytes, size_t length, bool has_fin);
 int append_copy(stream *s, const uint8_t *bytes, size_t length);
 

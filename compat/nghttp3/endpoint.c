@@ -3,26 +3,39 @@
 #include <string.h>
 #include "connection.h"
 
-enum { PIECE = 1024, LONGEST_FRAME_HEAD = 9 };
+enum { PIECE = 1024, SPARE = 16 }; /* SPARE: room of a chunk for the head of a DATA frame after its bytes */
 
 /* ---- what leaves ---- */
 
-static chunk *chunk_new(const uint8_t *bytes, size_t length) {
-  chunk *new = malloc(sizeof *new + length);
-  if (new) *new = (chunk){.bytes = memcpy(new + 1, bytes, length), .length = length};
+/* A chunk that has no bytes yet, and room for so many. */
+static chunk *chunk_new(size_t room) {
+  chunk *new = malloc(sizeof *new + room + SPARE);
+  if (new) *new = (chunk){.bytes = (const uint8_t *)(new + 1), .room = room + SPARE};
   return new;
 }
 
 static void append(stream *s, chunk *last) {
   STAILQ_INSERT_TAIL(&s->chunks, last, next);
+  s->last = last;
   if (!s->unsent) s->unsent = last, s->unsent_offset = 0;
   s->unsent_length += last->length;
 }
 
+/* The last chunk, if so many bytes fit after its own and QUIC does not have it whole; else NULL. */
+static chunk *last_with_room(stream *s, size_t length) {
+  return s->unsent && !s->last->is_body && s->last->room >= length ? s->last : NULL;
+}
+
+/* Where the next bytes of a chunk go, and that so many have come there. */
+static uint8_t *end_of(chunk *last) { return (uint8_t *)(last + 1) + last->length; }
+static void extend(stream *s, chunk *last, size_t length) { last->length += length, last->room -= length, s->unsent_length += length; }
+
 int append_copy(stream *s, const uint8_t *bytes, size_t length) {
-  chunk *last = chunk_new(bytes, length);
+  chunk *open = last_with_room(s, length), *last = open ? open : chunk_new(length);
   if (!last) return NGHTTP3_ERR_NOMEM;
-  append(s, last);
+  if (!open) append(s, last);
+  memcpy(end_of(last), bytes, length);
+  extend(s, last, length);
   return 0;
 }
 
@@ -30,78 +43,81 @@ int append_copy(stream *s, const uint8_t *bytes, size_t length) {
 int endpoint_take(nghttp3_conn *connection, stream *s) {
   uint8_t bytes[PIECE];
   size_t length;
+  s->is_untaken = true;
   do {
-    if (h3_outgoing(&connection->endpoint, s->endpoint_id, bytes, sizeof bytes, &length, NULL, NULL) != H3_OK || length == 0) return 0;
+    if (h3_outgoing(&connection->endpoint, s->endpoint_id, bytes, sizeof bytes, &length, NULL, NULL) != H3_OK || length == 0) break;
     if (append_copy(s, bytes, length)) return NGHTTP3_ERR_NOMEM;
     h3_advance(&connection->endpoint, s->endpoint_id, length);
   } while (length == sizeof bytes);
+  s->is_untaken = false;
   return 0;
 }
 
 /* The length of a DATA frame's type and length (RFC 9114, section 7.1; RFC 9000, section 16). */
-static size_t frame_head_length(uint64_t payload) {
-  return payload < 64 ? 2 : payload < 16384 ? 3 : payload < (1 << 30) ? 5 : LONGEST_FRAME_HEAD;
-}
+static size_t frame_head_length(uint64_t payload) { return payload < 64 ? 2 : payload < 16384 ? 3 : payload < (1 << 30) ? 5 : 9; }
 
-/* Sends a piece of a body, which stays in the application's memory: the endpoint writes the head of its frame, and is told the length of the
- * payload. All memory is there before the endpoint learns of the piece. */
+/* Sends a piece of a body, which stays in the application's memory: the endpoint writes the type and length of its frame, and is told the
+ * length of the payload. All memory is there before the endpoint learns of the piece. */
 int endpoint_send_body(nghttp3_conn *connection, stream *s, const nghttp3_vec *body) {
-  uint8_t head[LONGEST_FRAME_HEAD] = {0};
   size_t head_length = frame_head_length(body->len), length = 0, past = 0;
   uint64_t detail = 0;
   if (body->len == 0) return 0;
-  int error = endpoint_take(connection, s);
+  int error = s->is_untaken ? endpoint_take(connection, s) : 0;
   if (error) return error;
-  chunk *first = chunk_new(head, head_length), *second = malloc(sizeof *second);
-  uint32_t answer = first && second ? h3_send_body_of(&connection->endpoint, s->endpoint_id, body->len, &detail)
-                                    : H3_MEMORY;
+  chunk *open = last_with_room(s, head_length), *head = open ? open : chunk_new(head_length), *payload = malloc(sizeof *payload);
+  uint32_t answer = head && payload ? h3_send_body_of(&connection->endpoint, s->endpoint_id, body->len, &detail) : H3_MEMORY;
   if (answer != H3_OK) {
-    free(first), free(second);
+    if (!open) free(head);
+    free(payload);
     return error_of_answer(answer, detail);
   }
-  h3_outgoing(&connection->endpoint, s->endpoint_id, first + 1, head_length, &length, &past, NULL);
+  h3_outgoing(&connection->endpoint, s->endpoint_id, end_of(head), head_length, &length, &past, NULL);
   h3_advance(&connection->endpoint, s->endpoint_id, head_length + body->len);
-  *second = (chunk){.bytes = body->base, .length = body->len, .is_body = true};
-  append(s, first), append(s, second);
+  if (!open) append(s, head);
+  extend(s, head, head_length);
+  *payload = (chunk){.bytes = body->base, .length = body->len, .is_body = true};
+  append(s, payload);
   return 0;
 }
 
 /* ---- what enters ---- */
 
-static int deliver(nghttp3_conn *connection, stream *s, const input *in) {
+static bool is_pause(const h3_item *item) { return item->kind == H3_PENDING || item->kind == H3_WAITING; }
+
+static int read_on(nghttp3_conn *connection, stream *s, input *in, bool is_end, h3_item *item) {
+  size_t used = 0;
   uint64_t detail = 0;
-  uint32_t answer = H3_OK;
-  if (in->length > 0) answer = h3_deliver_lent(&connection->endpoint, s->endpoint_id, in->bytes, in->length, &detail);
-  if (in->has_fin && (answer == H3_OK || answer == H3_KEPT)) answer = h3_deliver_end(&connection->endpoint, s->endpoint_id, &detail);
-  return error_of_answer(answer, detail);
-}
-
-/* The next item of a request stream, of what came before and of `in`. */
-int endpoint_next(nghttp3_conn *connection, stream *s, input *in, h3_item *item) {
-  if (!in->is_delivered) {
-    in->is_delivered = true;
-    int error = deliver(connection, s, in);
-    if (error) return error;
+  uint32_t answer = h3_read(&connection->endpoint, s->endpoint_id, in->bytes, in->length, is_end, &used, item, &detail);
+  in->given = in->bytes;
+  if (used > 0) in->bytes += used, in->length -= used;
+  if (answer == H3_KEPT) { /* what was taken is read by the pull */
+    s->may_be_held = true;
+    answer = h3_pull(&connection->endpoint, s->endpoint_id, item);
   }
-  return h3_pull(&connection->endpoint, s->endpoint_id, item) == H3_OK ? 0 : NGHTTP3_ERR_H3_INTERNAL_ERROR;
-}
-
-/* The bytes of a body that was pulled last, until the next call of this file. */
-int endpoint_body(nghttp3_conn *connection, const h3_item *item, const uint8_t **bytes) {
-  size_t length;
-  if (!reserve_scratch(connection, item->len)) return NGHTTP3_ERR_NOMEM;
-  if (h3_item_bytes(&connection->endpoint, 0, connection->scratch, item->len, &length) != H3_OK || length != item->len)
-    return NGHTTP3_ERR_NOMEM;
-  *bytes = connection->scratch;
+  if (answer != H3_OK) return error_of_answer(answer, detail);
+  if (is_pause(item) && used > 0) s->may_be_held = true;
+  if (item->kind == H3_BODY_GIVEN) s->may_be_held = false;
   return 0;
 }
 
-/* The application may let go of what came: what the endpoint still needs of it is copied. Where memory is refused for that, the endpoint
- * would be left with bytes that are gone: it is freed, and each later call answers NGHTTP3_ERR_NOMEM or does nothing. */
-int endpoint_finish_input(nghttp3_conn *connection, stream *s, const input *in) {
-  if (!in->is_delivered || in->length == 0 || h3_keep(&connection->endpoint, s->endpoint_id) != H3_MEMORY) return 0;
-  h3_free(&connection->endpoint);
-  return NGHTTP3_ERR_NOMEM;
+/* The next item of a request stream, of what came before and of `in`, which then begins after what was used. The end comes after all items
+ * of the bytes: so a body that it cuts short is passed on as far as it came, in whichever pieces. */
+int endpoint_next(nghttp3_conn *connection, stream *s, input *in, h3_item *item) {
+  bool is_end = in->has_fin && in->length == 0 && !s->may_be_held;
+  int error = read_on(connection, s, in, is_end, item);
+  return !error && is_pause(item) && in->has_fin && !is_end ? read_on(connection, s, in, true, item) : error;
+}
+
+/* The bytes of an item that is a piece of a body: where they lie in what came, or a copy until the next call of this file. */
+int endpoint_body(nghttp3_conn *connection, const input *in, const h3_item *item, const uint8_t **bytes) {
+  size_t length;
+  if (item->kind == H3_BODY_GIVEN) {
+    *bytes = in->given + item->number;
+    return 0;
+  }
+  if (!reserve_scratch(connection, item->len)) return NGHTTP3_ERR_NOMEM;
+  *bytes = connection->scratch;
+  return h3_item_bytes(&connection->endpoint, 0, connection->scratch, item->len, &length) == H3_OK ? 0 : NGHTTP3_ERR_H3_INTERNAL_ERROR;
 }
 
 /* Bytes of a stream that has no items. */

@@ -100,7 +100,6 @@ int error_of_answer(uint32_t answer, uint64_t detail) {
     case H3_AFTER_END:
     case H3_NOT_CLIENT: return NGHTTP3_ERR_INVALID_STATE;
     case H3_TOO_LARGE: return NGHTTP3_ERR_QPACK_HEADER_TOO_LARGE;
-    case H3_NO_ENDPOINT: /* endpoint_finish_input freed it */
     case H3_MEMORY: return NGHTTP3_ERR_NOMEM;
     default: return NGHTTP3_ERR_INVALID_ARGUMENT;
   }

@@ -77,21 +77,22 @@ static int tell_end_of_fields(nghttp3_conn *connection, stream *s, uint32_t kind
 }
 
 /* The application grants credit for the bytes that recv_data gets. */
-static int tell_body(nghttp3_conn *connection, stream *s, const h3_item *item) {
+static int tell_body(nghttp3_conn *connection, stream *s, const input *in, const h3_item *item) {
   const uint8_t *bytes;
   s->owed -= item->len < s->owed ? item->len : s->owed;
   if (!connection->callbacks.recv_data || item->len == 0) return 0;
-  int error = endpoint_body(connection, item, &bytes);
+  int error = endpoint_body(connection, in, item, &bytes);
   return error ? error : CALLBACK(connection, recv_data, s->id, bytes, item->len, connection->user_data, s->user_data);
 }
 
 /* `is_last`: nothing follows now. */
-static int tell_item(nghttp3_conn *connection, stream *s, const h3_item *item, bool *is_last) {
+static int tell_item(nghttp3_conn *connection, stream *s, const input *in, const h3_item *item, bool *is_last) {
   switch (item->kind) {
     case H3_HEAD:
     case H3_INTERIM:
     case H3_TRAILER: return tell_fields(connection, s, item);
-    case H3_BODY: return tell_body(connection, s, item);
+    case H3_BODY:
+    case H3_BODY_GIVEN: return tell_body(connection, s, in, item);
     case H3_END: s->is_read_shut = true; return CALLBACK(connection, end_stream, s->id, connection->user_data, s->user_data);
     case H3_TOO_LARGE_HEAD: return refuse_message(connection, s, NGHTTP3_H3_EXCESSIVE_LOAD);
     case H3_FAULT_MALFORMED: return refuse_message(connection, s, h3_error_code(H3_FAULT_MALFORMED, item->number, connection->is_server));
@@ -102,6 +103,11 @@ static int tell_item(nghttp3_conn *connection, stream *s, const h3_item *item, b
 }
 
 static bool is_section(uint32_t kind) { return kind == H3_HEAD || kind == H3_INTERIM || kind == H3_TRAILER; }
+
+/* Was the item the last one of what came? The endpoint need not be asked then. */
+static bool is_all(const stream *s, const input *in, uint32_t kind) {
+  return (is_section(kind) || kind == H3_BODY_GIVEN) && in->length == 0 && !in->has_fin && !s->may_be_held;
+}
 
 /* Passes all items that are there, of what came before and of `in`. */
 static int tell_items(nghttp3_conn *connection, stream *s, input *in) {
@@ -115,7 +121,9 @@ static int tell_items(nghttp3_conn *connection, stream *s, input *in) {
     if (error || s->is_read_shut || s->is_closed) break;
     before = item.kind;
     stream_set_waiting(connection, s, item.kind == H3_WAITING);
-    error = tell_item(connection, s, &item, &is_last);
+    error = tell_item(connection, s, in, &item, &is_last);
+    if (error || is_last || s->is_read_shut || s->is_closed || !is_all(s, in, item.kind)) continue;
+    return is_section(item.kind) ? tell_end_of_fields(connection, s, item.kind, 0) : 0;
   }
   return error;
 }
@@ -174,7 +182,7 @@ EXPORT void nghttp3_conn_shutdown_stream_write(nghttp3_conn *connection, int64_t
 
 /* A head of the stream may be there now that waited for the peer's encoder. */
 static int resume_waiting(nghttp3_conn *connection, stream *s) {
-  input nothing = {.is_delivered = true};
+  input nothing = {0};
   stream_hold(s);
   int error = tell_items(connection, s, &nothing);
   size_t credit = error ? 0 : take_credit(connection, s);
@@ -242,11 +250,10 @@ static int read_request(nghttp3_conn *connection, stream *s, input *in, size_t *
   stream_hold(s);
   s->owed += in->length;
   int error = tell_items(connection, s, in);
-  int kept = endpoint_finish_input(connection, s, in);
   connection->has_own_bytes = true;
   *credit = take_credit(connection, s);
   stream_release(connection, s);
-  return error ? error : kept;
+  return error;
 }
 
 /* A request that comes after the local GOAWAY (RFC 9114, section 5.2). */

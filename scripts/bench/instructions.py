@@ -1,11 +1,10 @@
 #!/usr/bin/env python3
-"""A line of what callgrind counted of an exchange, and the functions that take most of it: instructions.py KIND FOLDER FUNCTIONS. The folder has the counts
-of 200 and of 700 exchanges, ours and nghttp3's."""
+"""A line of what callgrind counted of an exchange, and the functions that take most of it: instructions.py KIND FOLDER FUNCTIONS FEW MANY. The folder has
+the counts of FEW and of MANY exchanges, ours and nghttp3's."""
 import re
 import subprocess
 import sys
 
-FEW, MANY = 200, 700
 LINE = re.compile(r"\s*([\d,]+) \(\s*[\d.]+%\)\s+(.*)")
 
 
@@ -22,10 +21,10 @@ def read(path):
     return counts
 
 
-def an_exchange(folder, who):
+def an_exchange(folder, who, few, many):
     """the instructions that each function takes for one exchange"""
-    few, many = (read(f"{folder}/{exchanges}.{who}") for exchanges in (FEW, MANY))
-    return {name: (count - few.get(name, 0)) / (MANY - FEW) for name, count in many.items()}
+    before, after = (read(f"{folder}/{exchanges}.{who}") for exchanges in (few, many))
+    return {name: (count - before.get(name, 0)) / (many - few) for name, count in after.items()}
 
 
 def total(counts):
@@ -33,8 +32,8 @@ def total(counts):
 
 
 def main():
-    kind, folder, functions = sys.argv[1], sys.argv[2], int(sys.argv[3])
-    ours, peer = (an_exchange(folder, who) for who in ("ours", "nghttp3"))
+    kind, folder, functions, few, many = sys.argv[1], sys.argv[2], *map(int, sys.argv[3:])
+    ours, peer = (an_exchange(folder, who, few, many) for who in ("ours", "nghttp3"))
     print(f"| {kind} | {total(ours):,.0f} | {total(peer):,.0f} |")
     named = [(count, name) for name, count in ours.items() if not name.endswith("PROGRAM TOTALS")]
     for count, name in sorted(named, reverse=True)[:functions]:

@@ -1,6 +1,7 @@
 #!/usr/bin/env bash
 # Prints how many instructions an exchange takes, ours beside nghttp3's, over the folder LIB (default build/c): valgrind's callgrind counts 700 exchanges
-# and 200 on one connection without a dynamic table, and a five-hundredth of what lies between is one. The counts of a build are the same in each run and
+# and 200 on one connection without a dynamic table, and a five-hundredth of what lies between is one; of bodies of a MiB and more 12 and 2. KINDS
+# names some kinds of bench/exchange_kinds.c, a line each (default: all). The counts of a build are the same in each run and
 # on each machine; they say nothing of caches. FUNCTIONS=N: also the N functions that take most of ours, each without those that it calls. A library by
 # `UNTESTED=1 make lib-unproved` counts as a proved one does.
 set -euo pipefail
@@ -22,9 +23,11 @@ count() {
 
 echo "| Set | ours | nghttp3 |"
 echo "|---|---|---|"
-for kind in "small GET" "small POST" "real POST" "64 KiB POST"; do
+while read -r kind; do
+  counts=(200 700)
+  case $kind in *MiB*) counts=(2 12) ;; esac
   for who in ours nghttp3; do
-    for exchanges in 200 700; do count "$kind" "$exchanges" "$who"; done
+    for exchanges in "${counts[@]}"; do count "$kind" "$exchanges" "$who" < /dev/null; done
   done
-  python3 scripts/bench/instructions.py "$kind" "$room" "${FUNCTIONS:-0}"
-done
+  python3 scripts/bench/instructions.py "$kind" "$room" "${FUNCTIONS:-0}" "${counts[@]}"
+done <<< "${KINDS:-$(sed -nE 's/^ +\{"([^"]+)", [a-z].*/\1/p' bench/exchange_kinds.c)}"

@@ -1,7 +1,7 @@
 #!/usr/bin/env bash
 # C programs over build/c (scripts/c/lib.sh), by the machine's C compiler alone: the calls of crates/h3_cases and hostile lists of calls
 # through the header, each allocation refused in turn, large input with none refused, two endpoints under random schedules, what is held of
-# a stream and of small pieces, unknown frames, long instructions, wrong arguments, bytes that are lent or read where they lie, bodies that the caller holds, pulled
+# a stream and of small pieces, unknown frames, long instructions, wrong arguments, buffers that no call uses later, bytes that are read where they lie, bodies that the caller holds, pulled
 # lists, and the program of docs/GUIDE.md. Once as they are, and once with the sanitizers of addresses, leaks and undefined behaviour where the compiler has them
 # (large input, memory: once). Then h3.hpp, by C++17 and C++20; the binary interface (scripts/c/abi.py); how programs find the library
 # (scripts/c/test-install.sh); the packages for Go, Rust and Python (scripts/c/test-bindings.sh), and what `make dist` packs
@@ -108,7 +108,7 @@ checks() {
   compile arguments arguments
   compile limits limits
   compile priority priority
-  compile lent lent
+  compile given given
   compile read read
   compile past past
   compile details details
@@ -132,7 +132,7 @@ checks() {
     run arguments "$out/arguments" $mark
     run limits "$out/limits"
     run priority "$out/priority"
-    run lent "$out/lent"
+    run given "$out/given"
     run read "$out/read" 0 3000
     run past "$out/past" 1 2000
     run details "$out/details"
@@ -151,7 +151,7 @@ checks() {
     compile schedules schedules_checked "${flags[@]}"
     compile instructions instructions_checked "${flags[@]}"
     compile arguments arguments_checked "${flags[@]}"
-    compile lent lent_checked "${flags[@]}"
+    compile given given_checked "${flags[@]}"
     compile read read_checked "${flags[@]}"
     compile past past_checked "${flags[@]}"
     compile details details_checked "${flags[@]}"
@@ -164,7 +164,7 @@ checks() {
       run "schedules with sanitizers" "$out/schedules_checked" 1000 100
       run "instructions with sanitizers" "$out/instructions_checked"
       run "arguments with sanitizers" "$out/arguments_checked" $mark
-      run "lent with sanitizers" "$out/lent_checked"
+      run "given with sanitizers" "$out/given_checked"
       run "read with sanitizers" "$out/read_checked" 3000 1000
       run "past with sanitizers" "$out/past_checked" 5000 300
       run "details with sanitizers" "$out/details_checked"

@@ -97,14 +97,14 @@ def rust_numbers(header):
     answers, kinds, wrong = numbers(header, "h3_answer"), numbers(header, "h3_kind"), []
     told = {snake(name): int(n) for n, name in re.findall(r"^            (\d+) => Error::(\w+)", error, re.M)}
     told.update({f"H3_{name}": int(n) for name, n in re.findall(r"^const (KEPT): u32 = (\d+);", endpoint, re.M)})
+    looked_at = {f"H3_{name}": int(n) for name, n in re.findall(r"^const (PENDING|WAITING|BODY_GIVEN): u32 = (\d+);", endpoint, re.M)}
     wrong += [it for it in told.items() if answers.get(it[0]) != it[1]]
     wrong += sorted(set(answers) - set(told) - {"H3_OK", "H3_NONE", "H3_ROOM", "H3_NO_ENDPOINT"})
     known = re.findall(r"Malformation::(\w+),", re.search(r"const KNOWN.*?\];", error, re.S)[0])
     wrong += sorted(set(numbers(header, "h3_malformation").items()) ^ {(snake(name), at) for at, name in enumerate(known)})
     arms = re.findall(r"^            (\d+) => .*?(?:Item::Fault\(|Next::Pause\()?(Item|Pause|Fault|Error)::(\w+)", endpoint, re.M)
     pulled = {snake(("Fault" if of in ("Fault", "Error") else "") + name): int(n) for n, of, name in arms}
-    kinds.pop(OF_READS)
-    wrong += sorted(set(kinds.items()) ^ set(pulled.items()))
+    wrong += sorted(set(kinds.items()) ^ {*pulled.items(), *looked_at.items()})
     fields = [name for _, name in c_structs(header)["h3_config"]]
     read = [name for name, _ in sorted(re.findall(r"(\w+): numbers\[(\d+)\]", config), key=lambda it: int(it[1]))]
     written = re.findall(r"^            self\.(\w+)", config, re.M)
@@ -147,7 +147,6 @@ def snake(name):
     return "H3_" + re.sub(r"(?<!^)([A-Z])", r"_\1", name).upper()
 
 
-OF_READS = "H3_BODY_GIVEN"  # h3_read alone tells it, which no binding calls
 NAMES = {"H3_OUT_OF_MEMORY": "H3_MEMORY"}
 WITHOUT = ("h3_version", "h3_config_default", "h3_new", "h3_priority_read")  # are called where there is no endpoint
 bad = 0
@@ -178,11 +177,11 @@ def main():
     tell(not wrong, "the structs of bindings/rust have its fields", wrong)
     bound = rust_declarations()
     wrong = [(it, bound[it], declared.get(it)) for it in sorted(bound) if bound[it] != declared.get(it)]
-    tell(len(bound) == len(declared) - 4 and not wrong, "the declarations of bindings/rust are its own, but for reads, bodies by length and lent bytes", wrong)
+    tell(len(bound) == len(declared) and not wrong, "the declarations of bindings/rust are its own", wrong)
     wrong = rust_numbers(header)
     tell(not wrong, "the numbers of bindings/rust are its own", wrong)
     wrong = [*python_binding.wrong_declarations(declared), *python_binding.wrong_structs(here)]
-    tell(not wrong, "the declarations and structs of bindings/python are its own, but for reads, bodies by length and lent bytes", wrong)
+    tell(not wrong, "the declarations and structs of bindings/python are its own", wrong)
     wrong = python_binding.wrong_numbers(header, numbers, here)
     tell(not wrong, "the numbers of bindings/python are its own", wrong)
     code, answers = open("crates/h3_c/src/numbers.rt").read(), numbers(header, "h3_answer")

@@ -13,9 +13,6 @@ from beanwhile_h3 import config, errors, items, raw  # noqa: E402
 STRUCTS = {"h3_endpoint": raw.Handle, "h3_field_size": raw.FieldSize, "h3_item": raw.RawItem, "h3_stream_state": raw.RawStream,
            "h3_state": raw.RawConnection}
 NUMBERS = {"uint32_t": ctypes.c_uint32, "uint64_t": ctypes.c_uint64, "size_t": ctypes.c_size_t}
-# they take bytes that are lent, read where bytes lie, or announce a body by its length
-NOT_CALLED = {"h3_raw_send_body_of", "h3_raw_deliver_lent", "h3_raw_keep", "h3_raw_read"}
-OF_READS = ("H3_BODY_GIVEN", 17)  # h3_read alone tells it
 
 
 def kind(text):
@@ -31,7 +28,7 @@ def kind(text):
 
 def wrong_declarations(declared):
     """the exports that are declared in another way than in the header, or not at all"""
-    wanted = {name: (kind(result), [kind(it) for it in given]) for name, (result, given) in declared.items() if name not in NOT_CALLED}
+    wanted = {name: (kind(result), [kind(it) for it in given]) for name, (result, given) in declared.items()}
     here = raw.DECLARATIONS
     return [(it, wanted.get(it), here.get(it)) for it in sorted({*wanted, *here}) if wanted.get(it) != here.get(it)]
 
@@ -47,7 +44,7 @@ def wrong_numbers(header, numbers, structs):
     """the numbers that are not those of the header; `numbers` reads a list of constants there"""
     wrong = []
     for name, here in (("h3_answer", errors.Answer), ("h3_kind", items.Kind), ("h3_malformation", errors.Malformation)):
-        wrong += sorted((set(numbers(header, name).items()) - {OF_READS}) ^ {(f"H3_{it.name}", it.value) for it in here})
+        wrong += sorted(set(numbers(header, name).items()) ^ {(f"H3_{it.name}", it.value) for it in here})
     codes = re.findall(r"#define H3_CODE_(\w+) UINT64_C\((\w+)\)", header)
     wrong += sorted({(name, int(n, 16)) for name, n in codes} ^ {(it.name, it.value) for it in errors.Code})
     read = ["size", *(it.name.removeprefix("is_") for it in dataclasses.fields(config.Config))]

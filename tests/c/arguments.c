@@ -34,8 +34,7 @@ static void of_none(h3_endpoint *e) {
   IS(h3_send_trailer(e, 0, &f, 1, "ab", 2, &detail), H3_NO_ENDPOINT);
   IS(h3_send_body(e, 0, "ab", 2, &detail), H3_NO_ENDPOINT);
   IS(h3_send_body_of(e, 0, 2, &detail), H3_NO_ENDPOINT);
-  IS(h3_deliver_lent(e, 0, "ab", 2, &detail), H3_NO_ENDPOINT);
-  IS(h3_keep(e, 0), H3_NO_ENDPOINT);
+  IS(h3_read(e, 0, "ab", 2, 1, &n, &item, &detail), H3_NO_ENDPOINT);
   IS(h3_finish(e, 0, &detail), H3_NO_ENDPOINT);
   IS(h3_reset(e, 0, &detail), H3_NO_ENDPOINT);
   IS(h3_cancel(e, 0, &detail), H3_NO_ENDPOINT);
@@ -66,6 +65,7 @@ static void of_pointers(h3_endpoint *e, uint64_t id) {
   uint8_t b[4];
   size_t n = 7;
   uint32_t fin;
+  h3_item item = {.kind = 99};
   h3_field_size f = {7, 3};
   h3_config c;
   h3_endpoint none = H3_NONE_YET;
@@ -87,7 +87,12 @@ static void of_pointers(h3_endpoint *e, uint64_t id) {
   IS(h3_send_trailer(e, id, NULL, 1, ":methodGET", 10, NULL), H3_ARGUMENT);
   IS(h3_send_trailer(e, id, &f, 1, NULL, 10, NULL), H3_ARGUMENT);
   IS(h3_send_body(e, id, NULL, 64, NULL), H3_ARGUMENT);
-  IS(h3_deliver_lent(e, id, NULL, 64, NULL), H3_ARGUMENT);
+  IS(h3_read(e, id, NULL, 64, 0, &n, &item, NULL), H3_ARGUMENT);
+  IS(h3_read(e, id, "ab", 2, 0, NULL, &item, NULL), H3_ARGUMENT);
+  IS(h3_read(e, id, "ab", 2, 0, &n, NULL, NULL), H3_ARGUMENT);
+  HOLDS(n == 7 && item.kind == 99);
+  IS(h3_read(e, id, NULL, 0, 0, &n, &item, NULL), H3_OK);
+  HOLDS(n == 0 && item.kind == H3_PENDING);
   IS(h3_deliver(e, id, NULL, 64, NULL), H3_ARGUMENT);
   IS(h3_deliver(e, id, NULL, 0, NULL), H3_OK);
   IS(h3_next_to_send(e, 0, NULL), H3_ARGUMENT);
@@ -276,8 +281,11 @@ static void of_ids(h3_endpoint *e) {
     IS(h3_send_trailer(e, ids[i], &f, 1, ":methodGET", 10, &detail), H3_ARGUMENT);
     IS(h3_send_body(e, ids[i], "ab", 2, &detail), H3_ARGUMENT);
     IS(h3_send_body_of(e, ids[i], 2, &detail), H3_ARGUMENT);
-    IS(h3_deliver_lent(e, ids[i], "ab", 2, &detail), H3_ARGUMENT);
-    IS(h3_keep(e, ids[i]), H3_ARGUMENT);
+    n = 7;
+    item.kind = 99;
+    IS(h3_read(e, ids[i], "ab", 2, 1, &n, &item, &detail), H3_ARGUMENT);
+    HOLDS(n == 0 && item.kind == 99);
+    n = 7;
     IS(h3_finish(e, ids[i], &detail), H3_ARGUMENT);
     IS(h3_reset(e, ids[i], &detail), H3_ARGUMENT);
     IS(h3_cancel(e, ids[i], &detail), H3_ARGUMENT);

@@ -40,6 +40,8 @@ static void of_a_live_endpoint(void) {
 static void of_nothing_done(void) {
   h3_endpoint none = H3_NONE_YET;
   h3_field_size size = {7, 3};
+  h3_item item;
+  size_t used;
   uint64_t detail;
   TELLS(h3_open_request(&none, &detail, &detail), H3_NO_ENDPOINT, UNTOUCHED);
   TELLS(h3_finish(&none, 0, &detail), H3_NO_ENDPOINT, UNTOUCHED);
@@ -53,12 +55,15 @@ static void of_nothing_done(void) {
   TELLS(h3_send_trailer(&client, 0, NULL, 1, ":methodGET", 10, &detail), H3_ARGUMENT, UNTOUCHED);
   TELLS(h3_send_body(&client, 0, NULL, 64, &detail), H3_ARGUMENT, UNTOUCHED);
   TELLS(h3_deliver(&client, 0, NULL, 64, &detail), H3_ARGUMENT, UNTOUCHED);
-  TELLS(h3_deliver_lent(&client, 0, NULL, 64, &detail), H3_ARGUMENT, UNTOUCHED);
+  TELLS(h3_read(&client, 0, NULL, 64, 0, &used, &item, &detail), H3_ARGUMENT, UNTOUCHED);
+  TELLS(h3_read(&none, 0, "a", 1, 0, &used, &item, &detail), H3_NO_ENDPOINT, UNTOUCHED);
 }
 
 /* any other refusal writes it, with 0 where the reason names no number */
 static void of_refusals(void) {
   h3_field_size size = {7, 3};
+  h3_item item;
+  size_t used;
   uint64_t detail;
   TELLS(h3_send_head(&client, FAR, &size, 1, ":methodGET", 10, &detail), H3_ARGUMENT, 0);
   TELLS(h3_send_head(&client, 0, &size, 1, ":methodGET", 9, &detail), H3_ARGUMENT, 0);
@@ -69,6 +74,7 @@ static void of_refusals(void) {
   TELLS(h3_cancel(&client, FAR, &detail), H3_ARGUMENT, 0);
   TELLS(h3_goaway(&client, FAR, &detail), H3_ARGUMENT, 0);
   TELLS(h3_deliver(&client, FAR, "a", 1, &detail), H3_ARGUMENT, 0);
+  TELLS(h3_read(&client, FAR, "a", 1, 0, &used, &item, &detail), H3_ARGUMENT, 0);
   TELLS(h3_deliver_end(&client, FAR, &detail), H3_ARGUMENT, 0);
   TELLS(h3_deliver_reset(&client, FAR, 0, &detail), H3_ARGUMENT, 0);
   TELLS(h3_finish(&client, 0, &detail), H3_NOT_OPEN, 0);

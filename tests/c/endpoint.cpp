@@ -3,6 +3,7 @@
  * that is otherwise. */
 #include "h3.hpp"
 
+#include <algorithm>
 #include <cstdio>
 #include <cstdlib>
 #include <type_traits>
@@ -108,6 +109,65 @@ void exchange(std::size_t piece) {
   WANT(client.peer_setting(6) == client_config().max_field_section_size && !client.peer_setting(0x21));
 }
 
+/* Reads a packet of a stream, and answers how many pieces of a body lay in it. */
+std::size_t read_packet(endpoint &to, std::uint64_t id, std::vector<std::uint8_t> packet, bool is_end, message &whole) {
+  std::size_t used = 0, in_place = 0;
+  item next;
+  bytes left(packet.data(), packet.size());
+  do {
+    WANT(to.read(id, left, is_end, next, used));
+    WANT(used <= left.size() && !next.is_fault());
+    if (next.kind == H3_BODY_GIVEN) {
+      WANT(next.given.data() >= left.data() && next.given.data() + next.given.size() == left.data() + used);
+      whole.body.append(reinterpret_cast<const char *>(next.given.data()), next.given.size());
+      in_place++;
+    }
+    if (next.kind == H3_BODY) whole.body += next.body;
+    if (next.kind == H3_HEAD) whole.head = next;
+    if (next.kind == H3_TRAILER) whole.trailer = next.fields;
+    left = bytes(left.data() + used, left.size() - used);
+  } while (!next.is_pause() && next.kind != H3_END);
+  WANT(left.size() == 0 && (next.kind == H3_END) == is_end);
+  return in_place;
+}
+
+/* A body that stays with its owner goes into packets, and comes out as parts of them. */
+void bodies_in_place(std::size_t packet_size) {
+  const std::string body(5000, 'b');
+  endpoint client, server;
+  open_pair(client, server);
+  std::uint64_t id = 1;
+  WANT(client.open_request(id));
+  WANT(client.send_body_of(id, 3).answer == H3_OUT_OF_ORDER);
+  WANT(client.send_head(id, {{":method", "POST"}, {":scheme", "https"}, {":authority", "a"}, {":path", "/"}}));
+  WANT(client.send_body_of(id, body.size()));
+  WANT(client.send_body(id, std::string_view("and more")));
+  WANT(client.send_trailer(id, {{"x-count", "1"}}));
+  WANT(client.finish(id));
+  std::vector<std::uint8_t> insertions(1000); /* first, so that no section waits for them */
+  insertions.resize(client.peek(h3_encoder_id(0), insertions).count);
+  WANT(client.advance(h3_encoder_id(0), insertions.size()) && server.deliver(h3_encoder_id(0), insertions));
+  message whole;
+  std::size_t at = 0, in_place = 0;
+  for (bool is_end = false; !is_end;) {
+    std::vector<std::uint8_t> packet(packet_size);
+    outgoing next = client.peek(id, packet);
+    std::size_t held = next.past < packet_size - next.count ? next.past : packet_size - next.count;
+    std::copy_n(body.data() + at, held, packet.data() + next.count);
+    is_end = next.is_last && held == next.past;
+    at += held;
+    packet.resize(next.count + held);
+    WANT(client.advance(id, packet.size()));
+    in_place += read_packet(server, id, packet, is_end, whole);
+  }
+  WANT(client.end_taken(id) && at == body.size() && whole.body == body + "and more" && in_place > 0);
+  WANT(whole.head.fields.find(":path") == "/" && is_list(whole.trailer, {{"x-count", "1"}}));
+  item none;
+  std::size_t used = 1;
+  WANT(endpoint().read(id, bytes(), false, none, used).answer == H3_NO_ENDPOINT && used == 0);
+  WANT(server.read(id, bytes(reinterpret_cast<const std::uint8_t *>("x"), 1), false, none, used).answer == H3_AFTER_END && used == 0);
+}
+
 void ownership() {
   static_assert(!std::is_copy_constructible_v<endpoint> && std::is_nothrow_move_constructible_v<endpoint>);
   endpoint empty, first;
@@ -148,6 +208,7 @@ void refusals() {
 
 int main() {
   for (std::size_t piece : {1, 7, 100000}) exchange(piece);
+  for (std::size_t packet : {2, 100, 1200, 100000}) bodies_in_place(packet);
   ownership();
   refusals();
   std::printf("ok h3.hpp: C++ %ld\n", static_cast<long>(__cplusplus));

@@ -1,6 +1,6 @@
 /* Each allocation of an exchange between two endpoints is refused in turn: the call says so, is made again, and in the end the same items come
- * out. Nothing is left allocated. And once more with a head that waits for two insertions, where each call has to give what was worked out
- * beforehand; and a delivery, of which h3_stream says what is held of it. With no memory at all any other reason is told first.
+ * out, by deliveries and pulls, and by h3_read. Nothing is left allocated. And once more with a head that waits for two insertions, where each call
+ * has to give what was worked out beforehand; and a delivery, of which h3_stream says what is held of it. With no memory at all any other reason is told first.
  * Linked with --wrap for malloc, realloc and free. */
 #include "h3.h"
 #include <stdio.h>
@@ -61,6 +61,10 @@ static void fail(const char *what, uint32_t n) {
 static h3_endpoint ends[2];
 static char story[8192]; /* what came out, as text */
 static size_t told;
+static int reads;            /* what comes on request streams is read by h3_read */
+static int is_over[2];       /* the end of the stream that is under way came out */
+static uint8_t body_out[4096]; /* what came out of a body */
+static size_t body_out_len;
 
 static void tell(const char *word, const uint8_t *bytes, size_t len) {
   told += (size_t)snprintf(story + told, sizeof story - told, "%s:", word);
@@ -89,73 +93,114 @@ static void head(int side, uint64_t id) {
     AGAIN(h3_send_head(&ends[0], id, request, 6, asked, strlen(asked), NULL), "send_head of a request");
 }
 
+static void gather(const uint8_t *bytes, size_t len) {
+  if (body_out_len + len > sizeof body_out) fail("a body is too long", (uint32_t)len);
+  memcpy(body_out + body_out_len, bytes, len);
+  body_out_len += len;
+}
+
+static void tell_fields(int side, const h3_item *item) {
+  tell(item->kind == H3_HEAD ? "head" : "trailer", NULL, 0);
+  for (size_t i = 0; i < item->fields; i++) {
+    const uint8_t *name, *value;
+    size_t nl, vl;
+    AGAIN(field_at(&ends[side], item, i, &name, &nl, &value, &vl), "item_fields");
+    tell("name", name, nl);
+    tell("value", value, vl);
+  }
+}
+
+/* What came out goes into the story; a piece of a body lies in `bytes`, or in the endpoint. The answer: whether another item may follow. */
+static int take(int side, const h3_item *item, const uint8_t *bytes) {
+  static uint8_t copied[4096];
+  size_t n;
+  if (item->kind == H3_PENDING || item->kind == H3_WAITING) return 0;
+  if (item->kind == H3_BODY_GIVEN) {
+    gather(bytes + item->number, item->len);
+    return 1;
+  }
+  if (item->kind == H3_BODY) {
+    if (h3_item_bytes(&ends[side], 0, copied, sizeof copied, &n) || n != item->len) fail("item_bytes", 0);
+    gather(copied, n);
+    return 1;
+  }
+  if (body_out_len) tell("body", body_out, body_out_len);
+  body_out_len = 0;
+  if (item->kind == H3_HEAD || item->kind == H3_TRAILER) {
+    tell_fields(side, item);
+    return 1;
+  }
+  if (item->kind != H3_END) fail("an item of another kind", item->kind);
+  tell("end", NULL, 0);
+  is_over[side] = 1;
+  return 0;
+}
+
+/* pulls until a pause */
+static void pull_all(int side, uint64_t id) {
+  for (int faults = 0; !is_over[side];) {
+    h3_item item;
+    if (h3_pull(&ends[side], id, &item)) fail("pull", 0);
+    if (item.kind == H3_FAULT_MEMORY) {
+      if (++faults > 3) fail("pull has no memory", 0);
+    } else if (!take(side, &item, NULL)) {
+      return;
+    }
+  }
+}
+
+/* Bytes of a request stream, and perhaps its end, are read to a pause or the end. The bytes are overwritten as soon as each call returns; where it is
+ * refused memory it goes on with those that it did not use. */
+static void read_all(int side, uint64_t id, const uint8_t *bytes, size_t len, int fin) {
+  int faults = 0;
+  for (size_t used = 0;; bytes += used, len -= used) {
+    uint8_t given[200];
+    h3_item item = {0};
+    memcpy(given, bytes, len);
+    uint32_t answer = h3_read(&ends[side], id, given, len, fin, &used, &item, NULL);
+    memset(given, 0xee, sizeof given);
+    if (used > len) fail("h3_read used more than it was given", (uint32_t)used);
+    if (answer == H3_MEMORY || answer == H3_KEPT || (answer == H3_OK && item.kind == H3_FAULT_MEMORY)) {
+      if (++faults > 3) fail("h3_read has no memory", answer);
+      continue;
+    }
+    if (answer) fail("read", answer);
+    if (!take(side, &item, bytes)) {
+      if (used != len) fail("bytes are left after a pause or the end", (uint32_t)(len - used));
+      return;
+    }
+  }
+}
+
+/* a call that delivers, made again while it is refused memory; it may be taken, and read by the next delivery or pull */
+#define DELIVERED(call, what) \
+  do { \
+    uint32_t answer_; \
+    long before_ = refused; \
+    while ((answer_ = (call)) == H3_MEMORY) { \
+      /* also while something is kept: an allocation of this call was refused */ \
+      if (refused == before_) fail(what, answer_); \
+      before_ = refused; \
+    } \
+    if (answer_ != H3_OK && answer_ != H3_KEPT) fail(what, answer_); \
+  } while (0)
+
 static void carry_all(int side) {
   uint64_t id;
   while (next_with_bytes(&ends[side], 0, &id) == H3_OK) {
     uint8_t buffer[48];
     size_t n;
-    uint32_t fin, answer;
+    uint32_t fin;
     if (h3_outgoing(&ends[side], id, buffer, sizeof buffer, &n, NULL, &fin)) fail("outgoing", 0);
     if (!n) fail("outgoing gives nothing", 0);
-    long before = refused;
-    while ((answer = h3_deliver(&ends[!side], id, buffer, n, NULL)) == H3_MEMORY) {
-      /* also while something is kept: an allocation of this call was refused */
-      if (refused == before) fail("deliver", answer);
-      before = refused;
-    }
-    /* taken, and read by the next delivery or pull */
-    if (answer != H3_OK && answer != H3_KEPT) fail("deliver", answer);
+    int is_read = reads && id % 4 == 0;
+    if (is_read) read_all(!side, id, buffer, n, (int)fin);
+    else DELIVERED(h3_deliver(&ends[!side], id, buffer, n, NULL), "deliver");
     if (h3_advance(&ends[side], id, n)) fail("advance", 0);
     /* where memory is refused the end may come by itself */
     h3_stream_state s;
     if (h3_stream(&ends[side], id, &s)) fail("stream", 0);
-    if (s.is_finished && !s.waiting) {
-      before = refused;
-      while ((answer = h3_deliver_end(&ends[!side], id, NULL)) == H3_MEMORY) {
-        if (refused == before) fail("deliver_end", answer);
-        before = refused;
-      }
-      if (answer != H3_OK && answer != H3_KEPT) fail("deliver_end", answer);
-    }
-  }
-}
-
-/* pulls until a pause; what came out goes into the story */
-static void pull_all(int side, uint64_t id) {
-  for (int faults = 0;;) {
-    h3_item item;
-    static uint8_t body[4096];
-    static size_t gathered;
-    if (h3_pull(&ends[side], id, &item)) fail("pull", 0);
-    if (item.kind == H3_FAULT_MEMORY) {
-      if (++faults > 3) fail("pull has no memory", 0);
-      continue;
-    }
-    if (item.kind == H3_BODY) {
-      size_t n;
-      if (h3_item_bytes(&ends[side], 0, body + gathered, sizeof body - gathered, &n) || n != item.len) fail("item_bytes", 0);
-      gathered += n;
-      continue;
-    }
-    if (gathered) tell("body", body, gathered);
-    gathered = 0;
-    if (item.kind == H3_HEAD || item.kind == H3_TRAILER) {
-      tell(item.kind == H3_HEAD ? "head" : "trailer", NULL, 0);
-      for (size_t i = 0; i < item.fields; i++) {
-        const uint8_t *name, *value;
-        size_t nl, vl;
-        AGAIN(field_at(&ends[side], &item, i, &name, &nl, &value, &vl), "item_fields");
-        tell("name", name, nl);
-        tell("value", value, vl);
-      }
-      continue;
-    }
-    if (item.kind == H3_END) {
-      tell("end", NULL, 0);
-      return;
-    }
-    if (item.kind == H3_PENDING || item.kind == H3_WAITING) return;
-    fail("an item of another kind", item.kind);
+    if (s.is_finished && !s.waiting && !is_read) DELIVERED(h3_deliver_end(&ends[!side], id, NULL), "deliver_end");
   }
 }
 
@@ -169,6 +214,7 @@ static void exchange(void) {
   carry_all(0);
   carry_all(1);
   for (int round = 0; round < 3; round++) {
+    is_over[0] = is_over[1] = 0;
     AGAIN(h3_open_request(&ends[0], &id, NULL), "open_request");
     head(0, id);
     AGAIN(h3_send_body(&ends[0], id, body, sizeof body, NULL), "send_body");
@@ -183,9 +229,11 @@ static void exchange(void) {
     pull_all(0, id);
     carry_all(0);
   }
+  is_over[0] = is_over[1] = 0;
   AGAIN(h3_open_request(&ends[0], &id, NULL), "open_request");
   head(0, id);
   carry_all(0);
+  pull_all(1, id);
   AGAIN(h3_cancel(&ends[0], id, NULL), "cancel");
   AGAIN(h3_goaway(&ends[1], 40, NULL), "goaway");
   carry_all(0);
@@ -194,25 +242,35 @@ static void exchange(void) {
   h3_free(&ends[1]);
 }
 
-static uint8_t lent[200];
-
-/* the bytes that were lent are kept, and then overwritten */
-static void keep(int side, uint64_t id) {
-  AGAIN(h3_keep(&ends[side], id), "keep");
-  memset(lent, 0xee, sizeof lent);
-}
-
-/* what waits on a stream goes over in one delivery, and is lent. Bytes that were taken and not read are read by a delivery of none */
+/* what waits on a unidirectional stream goes over in one delivery. Bytes that were taken and not read are read by a delivery of none */
 static void carry(int side, uint64_t id) {
+  uint8_t bytes[200];
   size_t n;
-  uint32_t fin, answer;
-  if (h3_outgoing(&ends[side], id, lent, sizeof lent, &n, NULL, &fin) || !n || n == sizeof lent) fail("outgoing", 0);
+  uint32_t answer;
+  if (h3_outgoing(&ends[side], id, bytes, sizeof bytes, &n, NULL, NULL) || !n || n == sizeof bytes) fail("outgoing", 0);
   int tries = 0;
-  while ((answer = h3_deliver_lent(&ends[!side], id, lent, n, NULL)) == H3_MEMORY)
+  while ((answer = h3_deliver(&ends[!side], id, bytes, n, NULL)) == H3_MEMORY)
     if (++tries > 2) fail("deliver", answer);
   if (answer == H3_KEPT) AGAIN(h3_deliver(&ends[!side], id, "", 0, NULL), "deliver");
   else if (answer) fail("deliver", answer);
   if (h3_advance(&ends[side], id, n)) fail("advance", 0);
+}
+
+/* What waits on a request stream goes over, and is read where it lies: the item. The bytes are overwritten as soon as each call returns. */
+static h3_item carry_and_read(int side, uint64_t id) {
+  uint8_t bytes[200], given[200];
+  h3_item item = {0};
+  size_t n, used = 0;
+  uint32_t answer;
+  if (h3_outgoing(&ends[side], id, bytes, sizeof bytes, &n, NULL, NULL) || !n || n == sizeof bytes) fail("outgoing", 0);
+  if (h3_advance(&ends[side], id, n)) fail("advance", 0);
+  for (size_t at = 0, tries = 0;; at += used) {
+    memcpy(given, bytes + at, n - at);
+    answer = h3_read(&ends[!side], id, given, n - at, 0, &used, &item, NULL);
+    memset(given, 0xee, sizeof given);
+    if (answer == H3_OK && item.kind != H3_FAULT_MEMORY) return item;
+    if ((answer && answer != H3_MEMORY && answer != H3_KEPT) || ++tries > 2) fail("read", answer);
+  }
 }
 
 static h3_item pulled(int side, uint64_t id) {
@@ -242,10 +300,8 @@ static void waiting_head(void) {
   AGAIN(h3_open_request(&ends[0], &id, NULL), "open_request");
   carry(1, 3);
   AGAIN(h3_send_head(&ends[0], id, sizes, 4, head_bytes, strlen(head_bytes), NULL), "send_head");
-  carry(0, id);
-  item = pulled(1, id);
+  item = carry_and_read(0, id);
   if (item.kind != H3_WAITING || item.number != 2) fail("the head does not wait for two insertions", item.kind);
-  keep(1, id);
   carry(0, 6);
   item = pulled(1, id);
   if (item.kind != H3_HEAD || item.fields != 4) fail("the head does not come", item.kind);
@@ -363,6 +419,21 @@ static void reasons(void) {
   h3_free(e);
 }
 
+/* the exchange with each allocation refused in turn: the same items come out; answers how many there are */
+static long exchanges(const char *expected, long before) {
+  for (run_number = 0;; run_number++) {
+    refused = 0;
+    left = run_number;
+    exchange();
+    int all = left >= 0;
+    left = -1;
+    if (live != before) fail("something is left allocated", (uint32_t)(live - before));
+    if (strcmp(expected, story)) fail("other items came out", 0);
+    if (all) return run_number;
+    if (refused != 1) fail("the refusals were not one", (uint32_t)refused);
+  }
+}
+
 int main(void) {
   static char expected[sizeof story];
   long before = live;
@@ -372,19 +443,12 @@ int main(void) {
   if (live != before) fail("something is left allocated with no refusal", (uint32_t)(live - before));
   memcpy(expected, story, sizeof story);
   if (told < 4000) fail("the story is too short", (uint32_t)told);
-  for (run_number = 0;; run_number++) {
-    refused = 0;
-    left = run_number;
-    exchange();
-    int all = left >= 0;
-    left = -1;
-    if (live != before) fail("something is left allocated", (uint32_t)(live - before));
-    if (strcmp(expected, story)) fail("other items came out", 0);
-    if (all) break;
-    if (refused != 1) fail("the refusals were not one", (uint32_t)refused);
+  for (reads = 0; reads < 2; reads++) {
+    long count = exchanges(expected, before);
+    if (count < 100) fail("there were too few allocations", (uint32_t)count);
+    printf("ok memory, by %s: %ld allocations refused in turn, each call made again, the same items came out, nothing left allocated\n",
+           reads ? "h3_read" : "deliveries and pulls", count);
   }
-  if (run_number < 100) fail("there were too few allocations", (uint32_t)run_number);
-  printf("ok memory: %ld allocations refused in turn, each call made again, the same items came out, nothing left allocated\n", run_number);
   printf("ok memory, a head that waits: %ld allocations refused in turn, each call made again and answered as with memory\n", waiting_heads());
   long times = kept();
   if (times < 1) fail("no delivery was kept", 0);

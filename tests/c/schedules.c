@@ -1,7 +1,7 @@
 /* A client and a server in one program under random schedules: opens, heads, bodies, trailers, ends, resets, cancellations, bytes carried in random
  * pieces, pulls. Every item is compared with what was sent; no call may answer a fault of the connection. At the end everything that was
- * neither reset nor canceled has come out whole. Half of what is delivered is lent, each piece in a block of its own, which is overwritten and
- * freed as soon as h3.h lets it go, or h3_keep was called.
+ * neither reset nor canceled has come out whole. Half of what comes on request streams is read where it lies, each time in a block of its own,
+ * which is overwritten and freed as soon as h3_read returns.
  *
  *     schedules FIRST_SEED COUNT */
 #include "h3.h"
@@ -76,49 +76,7 @@ static uint64_t unread(int side, uint64_t id) {
   return s.unread;
 }
 
-/* the blocks that were lent to a side on a stream, and the stream whose body was pulled last there */
-typedef struct block {
-  struct block *next;
-  size_t len;
-  uint8_t bytes[];
-} block;
-
-static block *lent[2][4 * REQUESTS + 12];
-static uint64_t body_of[2];
-static unsigned long kept;
-
-static void let_go(int side, uint64_t id) {
-  for (block *b; (b = lent[side][id]); free(b)) {
-    lent[side][id] = b->next;
-    memset(b->bytes, 0xee, b->len);
-  }
-}
-
-static void keep(int side, uint64_t id) {
-  WANT(h3_keep(&ends[side], id) == H3_OK, "keep", id, 0);
-  kept += lent[side][id] != NULL;
-  let_go(side, id);
-}
-
-/* behind a pull: nothing more is read of what was lent; or sometimes what is left of it is kept */
-static void let_go_or_keep(int side, uint64_t id, int is_over) {
-  if (is_over || (!unread(side, id) && body_of[side] != id)) let_go(side, id);
-  else if (rnd(3) == 0) keep(side, id);
-}
-
-static uint32_t deliver(int side, uint64_t id, const uint8_t *bytes, size_t len, uint64_t *detail) {
-  if (rnd(2)) return h3_deliver(&ends[side], id, bytes, len, detail);
-  block *b = malloc(sizeof *b + len);
-  if (!b) exit(1);
-  memcpy(b->bytes, bytes, len);
-  b->len = len;
-  b->next = lent[side][id];
-  lent[side][id] = b;
-  uint32_t told = h3_deliver_lent(&ends[side], id, b->bytes, len, detail);
-  if (rnd(4) == 0) keep(side, id);
-  if (id % 4 && !unread(side, id)) let_go(side, id);
-  return told;
-}
+static unsigned long given; /* pieces of bodies that lay in the bytes that were given to h3_read */
 
 static void open_one(void) {
   uint64_t id;
@@ -189,65 +147,6 @@ static void cancel_one(int side) {
   if (n == H3_OK) f->canceled = 1;
 }
 
-/* hands on what waits on a stream of a side, some of it, and its end */
-static void carry(int side, uint64_t id, size_t most) {
-  static uint8_t buffer[4096];
-  size_t n;
-  uint32_t fin, told;
-  uint64_t detail = 0;
-  int request = id % 4 == 0;
-  flow *f = request ? &flows[id / 4][side] : NULL;
-  if (request && f->reset) {
-    if (!f->reset_given) {
-      told = h3_deliver_reset(&ends[!side], id, 77, &detail);
-      WANT(told == H3_OK, "deliver_reset", id, told);
-      f->reset_given = 1;
-      if (!side) seen[id / 4] = 1;
-    }
-    return;
-  }
-  if (most > sizeof buffer) most = sizeof buffer;
-  WANT(h3_outgoing(&ends[side], id, buffer, most, &n, NULL, &fin) == H3_OK, "outgoing", id, 0);
-  h3_stream_state before, after;
-  WANT(h3_stream(&ends[side], id, &before) == H3_OK, "stream", id, 0);
-  WANT(n == (before.waiting < most ? before.waiting : most), "outgoing gives fewer than fit", id, n);
-  if (n) {
-    uint64_t held = unread(!side, id);
-    told = deliver(!side, id, buffer, n, &detail);
-    WANT(told == H3_OK, "deliver", id, told == H3_CONNECTION ? detail : told);
-    /* a request's bytes are held until they are pulled, unless it was given up; others are read, as far as they are whole */
-    int is_thrown_away = request && (f->canceled || f->faulty);
-    WANT(request ? unread(!side, id) == held + (is_thrown_away ? 0 : n) : unread(!side, id) <= held + n, "unread behind a delivery", id, held);
-    if (request && !side) seen[id / 4] = 1;
-  }
-  WANT(h3_advance(&ends[side], id, n) == H3_OK, "advance", id, n);
-  WANT(h3_stream(&ends[side], id, &after) == H3_OK && after.waiting == before.waiting - n, "advance takes another count", id, n);
-  if (fin) {
-    WANT(request && f->finished && after.waiting == 0, "fin", id, 0);
-    if (!f->fin_given) {
-      told = h3_deliver_end(&ends[!side], id, &detail);
-      WANT(told == H3_OK, "deliver_end", id, told);
-      f->fin_given = 1;
-      if (!side) seen[id / 4] = 1;
-    }
-  }
-  /* sometimes it is told that the FIN was taken: it is said once, of a stream whose end is next */
-  if (rnd(2)) {
-    told = h3_end_taken(&ends[side], id);
-    WANT(told == (fin && !f->end_said ? H3_OK : H3_NONE), "end_taken", id, told);
-    if (told == H3_OK) f->end_said = 1;
-  }
-}
-
-static void carry_some(int side) {
-  uint64_t id, from = rnd(4u * REQUESTS);
-  if (next_with_bytes(&ends[side], from, &id) == H3_OK || next_with_bytes(&ends[side], 0, &id) == H3_OK) carry(side, id, 1 + rnd(rnd(2) ? 40 : 4000));
-  if (opened) {
-    uint64_t other = 4u * rnd((uint32_t)opened);
-    if (flows[other / 4][side].finished || flows[other / 4][side].reset) carry(side, other, 1 + rnd(4000));
-  }
-}
-
 /* what h3_next_to_send answers is what the streams' states say: it names ends too, until h3_end_taken */
 static void check_ends(int side) {
   uint64_t next = 0, id = 0;
@@ -276,38 +175,40 @@ static void same_fields(int side, uint64_t id, const h3_item *item, const list *
   }
 }
 
-static int pull_one(int side, int i) {
-  static uint8_t bytes[BODY];
+static void same_body(flow *f, uint64_t id, const uint8_t *bytes, size_t len) {
+  WANT(f->head_out && !f->trailer_out && len && len <= f->body_len - f->body_out, "a body", id, len);
+  WANT(!memcmp(bytes, f->body + f->body_out, len), "another body", id, f->body_out);
+  f->body_out += len;
+}
+
+/* An item came, which lies in `bytes` if it is a piece of a body there. The answer: whether another one may follow. */
+static int take(int side, int i, const h3_item *item, const uint8_t *bytes) {
+  static uint8_t copied[BODY];
   uint64_t id = 4u * (unsigned)i;
   flow *f = &flows[i][!side];
-  h3_item item;
-  uint64_t held = unread(side, id);
-  WANT(h3_pull(&ends[side], id, &item) == H3_OK, "pull", id, 0);
-  body_of[side] = item.kind == H3_BODY ? id : UINT64_MAX;
-  let_go_or_keep(side, id, item.kind == H3_END || item.kind == H3_FAULT_RESET || item.kind == H3_FAULT_CANCELED);
-  WANT(item.kind < H3_END ? unread(side, id) < held : unread(side, id) <= held, "unread behind a pull", id, held);
-  WANT(item.kind != H3_BODY || unread(side, id) + item.len <= held, "unread behind a body", id, held);
   size_t n;
   if (f->canceled && !f->faulty) {
-    WANT(item.kind == H3_FAULT_CANCELED, "a canceled stream", id, item.kind);
+    WANT(item->kind == H3_FAULT_CANCELED, "a canceled stream", id, item->kind);
     return 0;
   }
-  switch (item.kind) {
+  switch (item->kind) {
   case H3_HEAD:
     WANT(!f->head_out && f->head_sent, "a head", id, 0);
-    same_fields(side, id, &item, &f->head);
-    WANT(item.status == (side ? 0u : f->head.bytes[7] == '2' ? 200u : 404u), "a status", id, item.status);
+    same_fields(side, id, item, &f->head);
+    WANT(item->status == (side ? 0u : f->head.bytes[7] == '2' ? 200u : 404u), "a status", id, item->status);
     f->head_out = 1;
     return 1;
   case H3_BODY:
-    WANT(f->head_out && !f->trailer_out && item.len && item.len <= f->body_len - f->body_out, "a body", id, item.len);
-    WANT(h3_item_bytes(&ends[side], 0, bytes, sizeof bytes, &n) == H3_OK && n == item.len, "a body's bytes", id, n);
-    WANT(!memcmp(bytes, f->body + f->body_out, n), "another body", id, f->body_out);
-    f->body_out += n;
+    WANT(h3_item_bytes(&ends[side], 0, copied, sizeof copied, &n) == H3_OK && n == item->len, "a body's bytes", id, n);
+    same_body(f, id, copied, n);
+    return 1;
+  case H3_BODY_GIVEN:
+    given++;
+    same_body(f, id, bytes + item->number, item->len);
     return 1;
   case H3_TRAILER:
     WANT(f->head_out && f->trailer_sent && !f->trailer_out && f->body_out == f->body_len, "a trailer", id, 0);
-    same_fields(side, id, &item, &f->trailer);
+    same_fields(side, id, item, &f->trailer);
     f->trailer_out = 1;
     return 1;
   case H3_END:
@@ -317,12 +218,105 @@ static int pull_one(int side, int i) {
   case H3_PENDING:
   case H3_WAITING: return 0;
   case H3_FAULT_RESET:
-    WANT(f->reset_given && item.number == 77, "a reset", id, item.number);
+    WANT(f->reset_given && item->number == 77, "a reset", id, item->number);
     f->faulty = 1;
     return 0;
-  default: fail("an item of another kind", id, item.kind);
+  default: fail("an item of another kind", id, item->kind);
   }
   return 0;
+}
+
+static int pull_one(int side, int i) {
+  uint64_t id = 4u * (unsigned)i, held = unread(side, id);
+  h3_item item;
+  WANT(h3_pull(&ends[side], id, &item) == H3_OK, "pull", id, 0);
+  WANT(item.kind < H3_END ? unread(side, id) < held : unread(side, id) <= held, "unread behind a pull", id, held);
+  WANT(item.kind != H3_BODY || unread(side, id) + item.len <= held, "unread behind a body", id, held);
+  WANT(item.kind != H3_BODY_GIVEN, "a body that nobody gave", id, item.len);
+  return take(side, i, &item, NULL);
+}
+
+/* Bytes came on a request stream, and perhaps its end: they are read to a pause, the end or a fault. No call finds the block of the one before. */
+static void read_all(int side, int i, const uint8_t *bytes, size_t len, int fin) {
+  uint64_t id = 4u * (unsigned)i, detail = 0;
+  size_t at = 0, used = 0;
+  h3_item item;
+  do {
+    uint8_t *block = malloc(len - at + 1);
+    if (!block) exit(1);
+    memcpy(block, bytes + at, len - at);
+    uint32_t told = h3_read(&ends[side], id, block, len - at, fin, &used, &item, &detail);
+    memset(block, 0xee, len - at + 1);
+    free(block);
+    WANT(told == H3_OK && used <= len - at, "read", id, told == H3_CONNECTION ? detail : told);
+    at += used;
+  } while (take(side, i, &item, bytes + at - used));
+  WANT(at == len || item.kind == H3_FAULT_CANCELED || item.kind == H3_FAULT_RESET, "bytes are left", id, len - at);
+}
+
+/* hands on what waits on a stream of a side, some of it, and its end */
+static void carry(int side, uint64_t id, size_t most) {
+  static uint8_t buffer[4096];
+  size_t n;
+  uint32_t fin, told;
+  uint64_t detail = 0;
+  int request = id % 4 == 0;
+  flow *f = request ? &flows[id / 4][side] : NULL;
+  if (request && f->reset) {
+    if (!f->reset_given) {
+      told = h3_deliver_reset(&ends[!side], id, 77, &detail);
+      WANT(told == H3_OK, "deliver_reset", id, told);
+      f->reset_given = 1;
+      if (!side) seen[id / 4] = 1;
+    }
+    return;
+  }
+  if (most > sizeof buffer) most = sizeof buffer;
+  WANT(h3_outgoing(&ends[side], id, buffer, most, &n, NULL, &fin) == H3_OK, "outgoing", id, 0);
+  h3_stream_state before, after;
+  WANT(h3_stream(&ends[side], id, &before) == H3_OK, "stream", id, 0);
+  WANT(n == (before.waiting < most ? before.waiting : most), "outgoing gives fewer than fit", id, n);
+  int reads = request && rnd(2);
+  if (request && !side && (n || fin)) seen[id / 4] = 1;
+  if (fin && !request) fail("fin", id, 0);
+  if (n && !reads) {
+    uint64_t held = unread(!side, id);
+    told = h3_deliver(&ends[!side], id, buffer, n, &detail);
+    WANT(told == H3_OK, "deliver", id, told == H3_CONNECTION ? detail : told);
+    /* a request's bytes are held until they are pulled, unless it was given up; others are read, as far as they are whole */
+    int is_thrown_away = request && (f->canceled || f->faulty);
+    WANT(request ? unread(!side, id) == held + (is_thrown_away ? 0 : n) : unread(!side, id) <= held + n, "unread behind a delivery", id, held);
+  }
+  if (reads && (n || (fin && !f->fin_given))) {
+    f->fin_given |= (int)fin;
+    read_all(!side, (int)(id / 4), buffer, n, (int)fin);
+  }
+  WANT(h3_advance(&ends[side], id, n) == H3_OK, "advance", id, n);
+  WANT(h3_stream(&ends[side], id, &after) == H3_OK && after.waiting == before.waiting - n, "advance takes another count", id, n);
+  if (fin) {
+    WANT(f->finished && after.waiting == 0, "fin", id, 0);
+    if (!f->fin_given) {
+      told = h3_deliver_end(&ends[!side], id, &detail);
+      WANT(told == H3_OK, "deliver_end", id, told);
+      f->fin_given = 1;
+    }
+  }
+  /* sometimes it is told that the FIN was taken: it is said once, of a stream whose end is next */
+  if (rnd(2)) {
+    told = h3_end_taken(&ends[side], id);
+    WANT(told == (fin && !f->end_said ? H3_OK : H3_NONE), "end_taken", id, told);
+    if (told == H3_OK) f->end_said = 1;
+  }
+}
+
+
+static void carry_some(int side) {
+  uint64_t id, from = rnd(4u * REQUESTS);
+  if (next_with_bytes(&ends[side], from, &id) == H3_OK || next_with_bytes(&ends[side], 0, &id) == H3_OK) carry(side, id, 1 + rnd(rnd(2) ? 40 : 4000));
+  if (opened) {
+    uint64_t other = 4u * rnd((uint32_t)opened);
+    if (flows[other / 4][side].finished || flows[other / 4][side].reset) carry(side, other, 1 + rnd(4000));
+  }
 }
 
 static void run(uint64_t of) {
@@ -332,7 +326,6 @@ static void run(uint64_t of) {
   memset(flows, 0, sizeof flows);
   memset(seen, 0, sizeof seen);
   opened = 0;
-  body_of[0] = body_of[1] = UINT64_MAX;
   for (int side = 0; side < 2; side++) {
     h3_config c;
     h3_config_default(&c);
@@ -392,14 +385,13 @@ static void run(uint64_t of) {
   for (int side = 0; side < 2; side++) {
     h3_free(&ends[side]);
     h3_free(&ends[side]);
-    for (uint64_t id = 0; id < 4u * REQUESTS + 12; id++) let_go(side, id);
   }
 }
 
 int main(int argc, char **argv) {
   uint64_t first = argc > 1 ? strtoull(argv[1], NULL, 10) : 0, count = argc > 2 ? strtoull(argv[2], NULL, 10) : 200;
   for (uint64_t s = first; s < first + count; s++) run(s);
-  if (count > 50 && kept < count) fail("h3_keep seldom had something to keep", 0, kept);
+  if (count > 50 && given < count) fail("few pieces of bodies lay in the bytes that were given", 0, given);
   printf("ok schedules: %llu random schedules of two endpoints, every item as it was sent\n", (unsigned long long)count);
   return 0;
 }

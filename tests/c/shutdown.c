@@ -109,7 +109,6 @@ static void of_two_requests(void) {
   for (int again = 0; again < 2; again++) {
     IS(h3_deliver(&ends[SERVER], 12, frame, 5, &detail), H3_REJECTED);
     HOLDS(detail == H3_CODE_REQUEST_REJECTED);
-    IS(h3_deliver_lent(&ends[SERVER], 12, frame, 5, &detail), H3_REJECTED);
     item = (h3_item){.kind = 99};
     used = 9;
     IS(h3_read(&ends[SERVER], 12, frame, 5, 1, &used, &item, &detail), H3_REJECTED);

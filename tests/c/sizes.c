@@ -1,6 +1,5 @@
 /* Large input, with memory for all of it: bodies of 16 MiB, heads of 64 KiB and of 1,000 fields, 10,000 streams, 100,000 insertions and
- * deliveries of 1 MiB. Each call of the header is made at such a size: first heads are sent and pulled, and bytes copied; then lists are sent and
- * pulled, and bytes lent. No call may tell of want of memory, and no allocation may have been refused: they are counted. Linked with --wrap for
+ * deliveries of 1 MiB. Each call of the header is made at such a size: first bodies are copied, then sent by their length. No call may tell of want of memory, and no allocation may have been refused: they are counted. Linked with --wrap for
  * malloc and realloc. */
 #include "h3.h"
 #include <stdio.h>
@@ -41,7 +40,7 @@ static void fail(const char *what, uint64_t id, uint64_t number) {
 static h3_endpoint ends[2]; /* a client and a server */
 static uint8_t *piece;      /* of BODY + MIB bytes */
 static uint8_t *body;
-static int lends; /* bytes of bodies and of deliveries are lent */
+static int by_length; /* bodies are sent by their length */
 
 /* fields as h3_send_head takes them */
 typedef struct {
@@ -114,12 +113,7 @@ static size_t carry(int side, uint64_t id) {
     memcpy(piece + n, body, past); /* such a body is taken whole */
     n += past;
     if (!n) break;
-    if (lends) {
-      DONE(h3_deliver_lent(&ends[!side], id, piece, n, NULL), "h3_deliver_lent", id);
-      DONE(h3_keep(&ends[!side], id), "h3_keep", id);
-    } else {
-      DONE(h3_deliver(&ends[!side], id, piece, n, NULL), "h3_deliver", id);
-    }
+    DONE(h3_deliver(&ends[!side], id, piece, n, NULL), "h3_deliver", id);
     DONE(h3_advance(&ends[side], id, n), "h3_advance", id);
     if (n > most) most = n;
   }
@@ -171,8 +165,8 @@ static void send(int side, uint64_t id, const list *head, size_t len, const list
   h3_endpoint *end = &ends[side];
   h3_stream_state s;
   DONE(h3_send_head(end, id, head->sizes, head->count, head->bytes, head->len, NULL), "h3_send_head", id);
-  if (len && lends) DONE(h3_send_body_of(end, id, len, NULL), "h3_send_body_of", id);
-  if (len && !lends) DONE(h3_send_body(end, id, body, len, NULL), "h3_send_body", id);
+  if (len && by_length) DONE(h3_send_body_of(end, id, len, NULL), "h3_send_body_of", id);
+  if (len && !by_length) DONE(h3_send_body(end, id, body, len, NULL), "h3_send_body", id);
   if (trailer) DONE(h3_send_trailer(end, id, trailer->sizes, trailer->count, trailer->bytes, trailer->len, NULL), "h3_send_trailer", id);
   DONE(h3_finish(end, id, NULL), "h3_finish", id);
   DONE(h3_stream(end, id, &s), "h3_stream", id);
@@ -349,6 +343,50 @@ static void reads(void) {
   drop();
 }
 
+/* a message of those sizes in one piece, with its end: each item is read where it lies */
+static void read_message(uint64_t id, const list *head, size_t len, const list *trailer) {
+  size_t n, past, front, used, at = 0, out = 0;
+  uint32_t fin;
+  h3_item item;
+  DONE(h3_outgoing(&ends[0], id, piece, BODY + MIB, &n, &past, &fin), "h3_outgoing", id);
+  memcpy(piece + n, body, past);
+  front = n + past;
+  DONE(h3_advance(&ends[0], id, front), "h3_advance", id);
+  if (!fin) { /* the trailer section stands behind a body that was sent by its length */
+    DONE(h3_outgoing(&ends[0], id, piece + front, BODY + MIB - front, &n, &past, &fin), "h3_outgoing", id);
+    DONE(h3_advance(&ends[0], id, n), "h3_advance", id);
+    front += n;
+  }
+  WANT(fin == 1, "the message is not whole", id, front);
+  for (item.kind = 0; item.kind != H3_END; at += used) {
+    DONE(h3_read(&ends[1], id, piece + at, front - at, 1, &used, &item, NULL), "h3_read", id);
+    if (item.kind == H3_HEAD) same_fields(1, id, &item, head);
+    else if (item.kind == H3_TRAILER) same_fields(1, id, &item, trailer);
+    else if (item.kind == H3_BODY_GIVEN) {
+      WANT(item.len <= len - out && !memcmp(piece + at + item.number, body + out, item.len), "another body", id, out);
+      out += item.len;
+    } else WANT(item.kind == H3_END, "an item of another kind", id, item.kind);
+  }
+  WANT(at == front && out == len, "not all was read", id, at);
+}
+static void read_messages(void) {
+  static list head, trailer;
+  make();
+  carry_own();
+  for (int i = 0; i < 2; i++) {
+    uint64_t id = opened();
+    begin(&head, 0);
+    trailer.count = trailer.len = 0;
+    if (i) add_numbers(&head, "x-a", 0, FIELDS), add_numbers(&trailer, "x-b", 0, FIELDS);
+    else add(&head, "x-a", body, VALUE), add(&trailer, "x-b", body, VALUE);
+    send(0, id, &head, i ? BODY : VALUE, &trailer);
+    carry_own();
+    read_message(id, &head, i ? BODY : VALUE, &trailer);
+    carry_own();
+  }
+  drop();
+}
+
 /* a `priority` field of 1 MiB: a parameter with a long key, and the urgency */
 static void priorities(void) {
   uint32_t urgency, incremental;
@@ -363,14 +401,15 @@ int main(void) {
   if (!piece || !body) fail("the test itself has no memory", 0, 0);
   for (size_t i = 0; i < BODY; i++) body[i] = (uint8_t)('a' + i % 23);
   WANT((h3_version() & ~H3_UNPROVED) == H3_VERSION, "another version", 0, h3_version());
-  for (lends = 0; lends < 2; lends++) {
+  for (by_length = 0; by_length < 2; by_length++) {
     bodies();
     streams();
     insertions();
     deliveries();
     reads();
+    read_messages();
     priorities();
-    WANT(!refused && allocations > 100000 * (lends + 1), "allocations were refused, or not counted", lends, 0);
+    WANT(!refused && allocations > 100000 * (by_length + 1), "allocations were refused, or not counted", (uint64_t)by_length, 0);
   }
   free(piece);
   free(body);

@@ -1,8 +1,9 @@
 """One endpoint of an HTTP/3 connection (RFC 9114, with QPACK, RFC 9204): the calls of h3.h.
 
 An `Endpoint` reads no socket and starts no thread. A program delivers what came on a stream and reads its items (`Endpoint.deliver`,
-`Endpoint.items`), sends messages (`Endpoint.open_request`, `send_head`, `send_body`, `finish`), and passes what waits to QUIC
-(`next_to_send`, `outgoing`, `advance`, `end_taken`). A request goes from a client to a server, with the bytes carried in place of QUIC:
+`Endpoint.items`; or `Endpoint.read`, which copies no body), sends messages (`Endpoint.open_request`, `send_head`, `send_body`, `finish`),
+and passes what waits to QUIC (`next_to_send`, `outgoing`, `advance`, `end_taken`). A request goes from a client to a server, with the
+bytes carried in place of QUIC:
 
     >>> client, server = Endpoint(Config.client()), Endpoint(Config.server())
     >>> id = client.open_request()
@@ -27,6 +28,7 @@ from .endpoint import Endpoint
 from .errors import Answer, Code, ConnectionFault, Malformation, OutOfMemory, Refused
 from .items import (
     Body,
+    BodyGiven,
     Canceled,
     End,
     Fault,
@@ -50,6 +52,7 @@ from .state import ConnectionState, PeerLimits, Priority, StreamState, Version
 __all__ = [
     "Answer",
     "Body",
+    "BodyGiven",
     "Canceled",
     "Code",
     "Config",

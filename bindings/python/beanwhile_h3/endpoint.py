@@ -3,15 +3,16 @@
 import ctypes
 import threading
 from collections.abc import Callable, Iterable, Iterator
-from ctypes import byref, c_size_t, c_uint32, c_uint64
+from ctypes import byref, c_char, c_char_p, c_size_t, c_uint32, c_uint64, c_void_p
 from types import TracebackType
 from typing import Self
 
 from . import raw
 from .config import NUMBERS, Config
-from .errors import Answer, Malformation, refused
+from .errors import Answer, Malformation, Refused, refused
 from .items import (
     Body,
+    BodyGiven,
     Canceled,
     End,
     Field,
@@ -34,9 +35,20 @@ from .state import ConnectionState, PeerLimits, StreamState
 
 Bytes = bytes | bytearray | memoryview
 
+_FIRST_ROOM = 1 << 16
+
 
 def _as_bytes(data: Bytes) -> bytes:
     return data if isinstance(data, bytes) else bytes(memoryview(data))
+
+
+def _at(data: Bytes, view: memoryview, start: int) -> tuple[c_char_p, object]:
+    """A pointer to the bytes of a view of `data` from `start` on, and what keeps them there."""
+    if isinstance(data, bytes) or view.readonly or not view.nbytes:
+        held = data if isinstance(data, bytes) else view.tobytes()
+        return ctypes.cast(c_void_p((ctypes.cast(c_char_p(held), c_void_p).value or 0) + start), c_char_p), held
+    lent = (c_char * view.nbytes).from_buffer(view)
+    return ctypes.cast(c_void_p(ctypes.addressof(lent) + start), c_char_p), lent
 
 
 def _number(value: int) -> int:
@@ -169,6 +181,13 @@ class Endpoint:
         data = _as_bytes(data)
         self._call("h3_raw_send_body", _number(id), data, len(data))
 
+    def send_body_of(self, id: int, length: int) -> None:
+        """Sends a piece of a body of this length, whose bytes stay with the caller: the library never reads them. `outgoing_past` says when
+        they go out. 0 bytes write nothing.
+
+        Raises what `send_body` raises."""
+        self._call("h3_raw_send_body_of", _number(id), _number(length))
+
     def finish(self, id: int) -> None:
         """The message is whole: FIN follows what waits.
 
@@ -228,13 +247,27 @@ class Endpoint:
 
     def outgoing(self, id: int, most: int | None = None) -> tuple[bytes, bool]:
         """The first bytes that wait on a stream, all or at most so many, and whether the stream ends after them. They go on waiting until
-        `advance`."""
+        `advance`.
+
+        Raises `Answer.ARGUMENT`: bytes of a body follow that the caller holds (`send_body_of`)."""
+        data, past, is_last = self.outgoing_past(id, most)
+        if past:
+            raise refused(Answer.ARGUMENT)
+        return data, is_last
+
+    def outgoing_past(self, id: int, most: int | None = None) -> tuple[bytes, int, bool]:
+        """The first bytes that wait on a stream, all or at most so many; how many bytes of a body that the caller holds (`send_body_of`)
+        come next; and whether the stream ends after both. All go on waiting until `advance`, which counts both."""
         with self._lock:
-            waiting = self.stream(id).waiting
+            waiting = self.stream(id).waiting  # with the bytes that the caller holds, for which no room is needed
             room = waiting if most is None else min(_number(most), waiting)
-            buffer, count, past, end = ctypes.create_string_buffer(max(room, 1)), c_size_t(), c_size_t(), c_uint32()
-            self._plain_call("h3_raw_outgoing", id, buffer, room, byref(count), byref(past), byref(end))
-        return buffer.raw[: count.value], end.value == 1
+            found = self._outgoing(id, min(room, _FIRST_ROOM))
+            return found if len(found[0]) < _FIRST_ROOM else self._outgoing(id, room)
+
+    def _outgoing(self, id: int, room: int) -> tuple[bytes, int, bool]:
+        buffer, count, past, end = ctypes.create_string_buffer(max(room, 1)), c_size_t(), c_size_t(), c_uint32()
+        self._plain_call("h3_raw_outgoing", id, buffer, room, byref(count), byref(past), byref(end))
+        return buffer.raw[: count.value], past.value, end.value == 1
 
     def advance(self, id: int, count: int) -> None:
         """QUIC took so many bytes of a stream: any count of those that wait.
@@ -268,6 +301,41 @@ class Endpoint:
         """RESET_STREAM came with this code. Raises what `deliver` raises; `Answer.AFTER_END` is normal if it came late."""
         self._delivery("h3_raw_deliver_reset", _number(id), _number(code))
 
+    def read(self, id: int, data: Bytes, start: int = 0, is_end: bool = False) -> tuple[Item | Pause, int]:
+        """The bytes of `data` from `start` on came on a stream, after those that came before, and with `is_end` its FIN after them. Returns
+        what is next on the stream, and where the bytes begin that were not taken: call it again with that `start`, until a pause or the
+        last item. A piece of the body is a `BodyGiven`, a view of `data`; nothing of it is copied or kept. (Of a read-only memoryview the
+        bytes are copied for the call.)
+
+        Raises what `deliver` and `next_item` raise; after `OutOfMemory` nothing is lost: go on from its `start`."""
+        view = memoryview(data).cast("B")
+        if not 0 <= start <= len(view):
+            raise refused(Answer.ARGUMENT)
+        item, given = raw.RawItem(), start
+        with self._lock:
+            try:
+                while True:
+                    given, (answer, detail, used) = start, self._read(id, data, view, start, is_end, item)
+                    start += used
+                    is_pause = answer == Answer.OK and item.kind in (Kind.PENDING, Kind.WAITING)
+                    if answer != Answer.KEPT and not (is_pause and start < len(view)):
+                        break
+                if answer:
+                    raise refused(answer, detail)
+                if item.kind == Kind.BODY_GIVEN:
+                    return BodyGiven(view[given + item.number : given + item.number + item.len]), start
+                return self._held(item), start
+            except Refused as error:
+                error.start = start
+                raise
+
+    def _read(self, id: int, data: Bytes, view: memoryview, start: int, is_end: bool, item: raw.RawItem) -> tuple[int, int, int]:
+        """What the library answers of bytes that came, the detail, and how many it took."""
+        (place, _held), used, detail = _at(data, view, start), c_size_t(), c_uint64()
+        end = int(bool(is_end))
+        answer = self._answer("h3_raw_read", _number(id), place, len(view) - start, end, byref(used), byref(item), byref(detail))
+        return answer, detail.value, used.value
+
     def next_item(self, id: int) -> Item | Pause:
         """What is next on a stream: an item, or a pause. A fault of this stream alone is an item, `Fault`.
 
@@ -275,11 +343,15 @@ class Endpoint:
         with self._lock:
             item = raw.RawItem()
             self._plain_call("h3_raw_pull", _number(id), byref(item))
-            if item.kind == Kind.FAULT_CONNECTION:
-                raise refused(Answer.CONNECTION, item.number)
-            if item.kind == Kind.FAULT_MEMORY:
-                raise refused(Answer.MEMORY)
-            return _READERS[Kind(item.kind)](self, item)
+            return self._held(item)
+
+    def _held(self, item: raw.RawItem) -> Item | Pause:
+        """What the item has that the endpoint holds."""
+        if item.kind == Kind.FAULT_CONNECTION:
+            raise refused(Answer.CONNECTION, item.number)
+        if item.kind == Kind.FAULT_MEMORY:
+            raise refused(Answer.MEMORY)
+        return _READERS[Kind(item.kind)](self, item)
 
     def items(self, id: int) -> Iterator[Item]:
         """The items of a stream that are there, up to a pause or to the last one. Raises what `next_item` raises."""

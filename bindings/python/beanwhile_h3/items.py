@@ -11,7 +11,7 @@ Field = tuple[bytes, bytes]
 
 
 class Kind(enum.IntEnum):
-    """`h3_kind`: what a pull returns."""
+    """`h3_kind`: what a read or a pull returns."""
 
     INTERIM = 1
     HEAD = 2
@@ -29,6 +29,7 @@ class Kind(enum.IntEnum):
     FAULT_RESET = 14
     FAULT_CANCELED = 15
     FAULT_MEMORY = 16
+    BODY_GIVEN = 17
 
 
 @dataclass(frozen=True, slots=True)
@@ -59,6 +60,13 @@ class Body(Item):
     """A piece of the body."""
 
     data: bytes
+
+
+@dataclass(frozen=True, slots=True)
+class BodyGiven(Item):
+    """A piece of the body that lies in the bytes that were given to `read`: a view of them, no copy."""
+
+    data: memoryview
 
 
 @dataclass(frozen=True, slots=True)

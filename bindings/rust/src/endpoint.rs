@@ -1,12 +1,17 @@
 use crate::config::Config;
 use crate::error::{Error, Fault, Malformation};
 use crate::fields::{in_a_row, Fields};
-use crate::item::{Head, Item, Next, Pause};
+use crate::item::{Came, Head, Item, Next, Pause};
 use crate::raw::{self, FieldSize, Handle, RawConnection, RawItem, RawStream};
 use crate::state::{ConnectionState, PeerLimits, StreamState};
 use std::ptr;
 
 const KEPT: u32 = 5;
+
+// kinds that `read` looks at
+const PENDING: u32 = 9;
+const WAITING: u32 = 10;
+const BODY_GIVEN: u32 = 17;
 
 /// A call of the library that sends a list of fields.
 type SendsList = unsafe extern "C" fn(Handle, u64, *const FieldSize, usize, *const u8, usize, *mut u64, *mut Handle) -> u32;
@@ -135,6 +140,16 @@ impl Endpoint {
         self.call(|handle, detail, out| unsafe { raw::h3_raw_send_body(handle, id, bytes.as_ptr(), bytes.len(), detail, out) })
     }
 
+    /// Sends a piece of a body of this length, whose bytes stay with you: the library never reads them. `outgoing_past` says when they go
+    /// out. Keep them until QUIC needs them no more.
+    ///
+    /// # Errors
+    ///
+    /// Those of [`send_body`](Endpoint::send_body).
+    pub fn send_body_of(&mut self, id: u64, len: usize) -> Result<(), Error> {
+        self.call(|handle, detail, out| unsafe { raw::h3_raw_send_body_of(handle, id, len, detail, out) })
+    }
+
     /// The local message is whole: FIN goes after what waits.
     ///
     /// # Errors
@@ -221,13 +236,26 @@ impl Endpoint {
     ///
     /// # Errors
     ///
-    /// [`Error::Argument`]: the id is 2^62 or more.
+    /// [`Error::Argument`]: the id is 2^62 or more, or bytes follow that you hold (`send_body_of`).
     pub fn outgoing(&mut self, id: u64, buffer: &mut [u8]) -> Result<(usize, bool), Error> {
+        match self.outgoing_past(id, buffer)? {
+            (count, 0, is_last) => Ok((count, is_last)),
+            _ => Err(Error::Argument),
+        }
+    }
+
+    /// Copies the first bytes that wait on a stream into the buffer. Returns how many; how many bytes of a body that you hold
+    /// (`send_body_of`) come next; and whether the stream ends after both. All wait until `advance`, which counts both.
+    ///
+    /// # Errors
+    ///
+    /// [`Error::Argument`]: the id is 2^62 or more.
+    pub fn outgoing_past(&mut self, id: u64, buffer: &mut [u8]) -> Result<(usize, usize, bool), Error> {
         let (mut count, mut past, mut end) = (0, 0, 0);
         self.call(|handle, _, out| unsafe {
             raw::h3_raw_outgoing(handle, id, buffer.as_mut_ptr(), buffer.len(), &mut count, &mut past, &mut end, out)
         })?;
-        Ok((count, end == 1))
+        Ok((count, past, end == 1))
     }
 
     /// QUIC has so many bytes of a stream: at most those that wait.
@@ -272,6 +300,49 @@ impl Endpoint {
         self.delivery(|handle, detail, out| unsafe { raw::h3_raw_deliver_reset(handle, id, code, detail, out) })
     }
 
+    /// Bytes came on a stream, after those that came before, and with `end` its FIN after them. Returns what is next on the stream, and
+    /// moves `bytes` past what it took. Call it again, until a pause or the last item. A piece of the body is a part of `bytes`, and
+    /// nothing of it is copied or kept:
+    ///
+    /// ```
+    /// # use beanwhile_h3::{Came, Endpoint, Error, Item, Next};
+    /// # fn answer(server: &mut Endpoint, id: u64, packet: &[u8], end: bool, save: impl Fn(&[u8])) -> Result<(), Error> {
+    /// let mut rest = packet;
+    /// loop {
+    ///     match server.read(id, &mut rest, end)? {
+    ///         Came::Body(piece) => save(piece),
+    ///         Came::Next(Next::Item(Item::Head(_))) => server.send_head(id, &[(":status", "200")])?,
+    ///         Came::Next(Next::Item(item)) if item.is_last() => return server.finish(id),
+    ///         Came::Next(Next::Pause(_)) => return Ok(()),
+    ///         _ => {}
+    ///     }
+    /// }
+    /// # }
+    /// ```
+    ///
+    /// # Errors
+    ///
+    /// Those of [`deliver`](Endpoint::deliver) and of [`next_item`](Endpoint::next_item). After [`Error::Memory`] nothing is lost: go on
+    /// with what is left of `bytes`.
+    pub fn read<'a>(&mut self, id: u64, bytes: &mut &'a [u8], end: bool) -> Result<Came<'a>, Error> {
+        loop {
+            let (given, mut used, mut detail, mut item) = (*bytes, 0, 0, RawItem::default());
+            let (at, len, out) = (given.as_ptr(), given.len(), &mut self.handle);
+            let answer = unsafe { raw::h3_raw_read(*out, id, at, len, end.into(), &mut used, &mut item, &mut detail, out) };
+            *bytes = &given[used..];
+            let is_pause = answer == 0 && (item.kind == PENDING || item.kind == WAITING);
+            if answer == KEPT || (is_pause && !bytes.is_empty()) {
+                continue;
+            }
+            answered(answer, detail)?;
+            if item.kind == BODY_GIVEN {
+                let from = item.number as usize;
+                return Ok(Came::Body(&given[from..from + item.len]));
+            }
+            return self.next_of(item).map(Came::Next);
+        }
+    }
+
     /// What is next on a stream: an item, or a pause. All that came has been read at the pause:
     ///
     /// ```
@@ -301,11 +372,11 @@ impl Endpoint {
     pub fn next_item(&mut self, id: u64) -> Result<Next, Error> {
         let mut item = RawItem::default();
         self.call(|handle, _, out| unsafe { raw::h3_raw_pull(handle, id, &mut item, out) })?;
-        self.read(item)
+        self.next_of(item)
     }
 
-    /// What the item has that was pulled last.
-    fn read(&mut self, item: RawItem) -> Result<Next, Error> {
+    /// What the item has that the endpoint holds.
+    fn next_of(&mut self, item: RawItem) -> Result<Next, Error> {
         let number = item.number;
         Ok(Next::Item(match item.kind {
             1 => Item::Interim(self.head(item)?),

@@ -56,6 +56,15 @@ pub enum Pause {
     NoMessages,
 }
 
+/// What comes of bytes that are read where they lie ([`Endpoint::read`](crate::Endpoint::read)).
+#[derive(Debug, Clone, PartialEq, Eq)]
+pub enum Came<'a> {
+    /// A piece of the body: a part of the bytes that were given.
+    Body(&'a [u8]),
+    /// Another item, or a pause. A piece of the body that the library had to keep is an [`Item::Body`].
+    Next(Next),
+}
+
 /// What is next on a stream: an item, or a pause.
 #[derive(Debug, Clone, PartialEq, Eq)]
 pub enum Next {

@@ -1,8 +1,8 @@
 //! One endpoint of an HTTP/3 connection (RFC 9114, RFC 9204), for programs that have a QUIC library: the calls of `beanwhile/h3.h`.
 //!
-//! An [`Endpoint`] reads no socket and starts no thread. A program delivers what came on a stream and reads its items
-//! ([`Endpoint::deliver`], [`Endpoint::next_item`]), sends messages ([`Endpoint::open_request`],
-//! [`Endpoint::send_head`], [`Endpoint::send_body`], [`Endpoint::finish`]), and hands to QUIC what waits
+//! An [`Endpoint`] reads no socket and starts no thread. A program reads the items of what came on a stream ([`Endpoint::read`]; or
+//! [`Endpoint::deliver`] and [`Endpoint::next_item`], which copy), sends messages ([`Endpoint::open_request`], [`Endpoint::send_head`],
+//! [`Endpoint::send_body`] or [`Endpoint::send_body_of`], [`Endpoint::finish`]), and hands to QUIC what waits
 //! ([`Endpoint::next_to_send`], [`Endpoint::outgoing`], [`Endpoint::advance`], [`Endpoint::end_taken`]).
 //!
 //! A request goes from a client to a server, with the bytes carried by hand in place of QUIC:
@@ -64,7 +64,7 @@ pub use error::{code, Error, Fault, Malformation};
 pub use fields::{Field, Fields, FieldsIter};
 #[cfg(feature = "http")]
 pub use http_types::Protocol;
-pub use item::{Head, Item, Next, Pause};
+pub use item::{Came, Head, Item, Next, Pause};
 pub use priority::Priority;
 pub use state::{ConnectionState, PeerLimits, StreamState, Version};
 
