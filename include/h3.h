@@ -750,8 +750,7 @@ static inline uint32_t h3_pull(h3_endpoint *endpoint, uint64_t id, h3_item *item
  * the end may have come before. You may mix it with the other calls.
  * Refused as h3_deliver, with *item not written: H3_ARGUMENT and the refusals of bytes with *used
  * as far as the bytes went that were taken before; H3_MEMORY: nothing is lost, go on with the bytes
- * that are left. Unlike in h3_deliver, H3_MEMORY may come before the refusals of bytes.
- * H3_FAULT_MEMORY: the same. */
+ * that are left. H3_FAULT_MEMORY: the same. */
 static inline uint32_t h3_read(h3_endpoint *endpoint, uint64_t id, const void *bytes, size_t len, int fin, size_t *used,
                                h3_item *item, uint64_t *detail);
 
