@@ -740,8 +740,7 @@ typedef struct {
  * is H3_PENDING: you need not call again. You may mix it with the other calls.
  * Refused as h3_deliver, with *item not written: H3_ARGUMENT and the refusals of bytes with *used
  * as far as the bytes went that were taken before; H3_MEMORY and H3_KEPT: nothing is lost, go on
- * with the bytes that are left. Unlike in h3_deliver, H3_MEMORY may come before the refusals of
- * bytes. H3_FAULT_MEMORY: the same. */
+ * with the bytes that are left. H3_FAULT_MEMORY: the same. */
 static inline uint32_t h3_read(h3_endpoint *endpoint, uint64_t id, const void *bytes, size_t len,
                                int fin, size_t *used, h3_item *item, uint64_t *detail);
 
@@ -1065,7 +1064,8 @@ static inline uint32_t h3_read(h3_endpoint *endpoint, uint64_t id, const void *b
                        detail ? detail : &none, endpoint);
     if (told == H3_OK && item->kind == H3_BODY_GIVEN) item->number += at;
     at += n;
-  } while (told == H3_OK && (item->kind == H3_PENDING || item->kind == H3_WAITING) && at < len);
+  } while (told == H3_OK && at < len &&
+           (item->kind == H3_PENDING || item->kind == H3_WAITING || item->kind == H3_NO_MESSAGES));
   *used = at;
   return told;
 }

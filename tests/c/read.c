@@ -355,15 +355,30 @@ static void places(void) {
   HOLDS(used == 0 && item.kind == H3_END);
   IS(h3_read(&server, 0, "x", 1, 0, &used, &item, NULL), H3_AFTER_END);
   HOLDS(used == 0);
-  /* a unidirectional stream has no messages: what comes is delivered */
-  IS(h3_read(&server, 2, "\x00\x04\x00", 3, 0, &used, &item, NULL), H3_OK);
-  HOLDS(used == 3 && item.kind == H3_NO_MESSAGES);
   h3_free(&server);
+}
+
+/* A unidirectional stream has no messages: what comes is delivered, all of it. Here SETTINGS and two GOAWAY frames (RFC 9114, sections 7.2.4
+ * and 7.2.6). */
+static void control(void) {
+  h3_endpoint client = H3_NONE_YET;
+  h3_config c;
+  h3_item item;
+  h3_state told;
+  size_t used;
+  h3_config_default(&c);
+  IS(h3_new(&client, &c, NULL), H3_OK);
+  IS(h3_read(&client, 3, "\x00\x04\x00\x07\x01\x08\x07\x01\x04", 9, 0, &used, &item, NULL), H3_OK);
+  HOLDS(used == 9 && item.kind == H3_NO_MESSAGES);
+  IS(h3_connection(&client, &told), H3_OK);
+  HOLDS(told.has_goaway && told.goaway == 4);
+  h3_free(&client);
 }
 
 int main(int argc, char **argv) {
   uint64_t first = argc > 1 ? strtoull(argv[1], NULL, 10) : 0, count = argc > 2 ? strtoull(argv[2], NULL, 10) : 1000;
   places();
+  control();
   for (uint64_t seed = first; seed < first + count && !bad; seed++) one(seed);
   if (count >= 1000) HOLDS(given_pieces && kept_pieces && heads && waits && faults && ends);
   if (!bad)

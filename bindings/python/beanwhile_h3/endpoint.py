@@ -317,7 +317,7 @@ class Endpoint:
                 while True:
                     given, (answer, detail, used) = start, self._read(id, data, view, start, is_end, item)
                     start += used
-                    is_pause = answer == Answer.OK and item.kind in (Kind.PENDING, Kind.WAITING)
+                    is_pause = answer == Answer.OK and item.kind in (Kind.PENDING, Kind.WAITING, Kind.NO_MESSAGES)
                     if answer != Answer.KEPT and not (is_pause and start < len(view)):
                         break
                 if answer:

@@ -11,6 +11,7 @@ const KEPT: u32 = 5;
 // kinds that `read` looks at
 const PENDING: u32 = 9;
 const WAITING: u32 = 10;
+const NO_MESSAGES: u32 = 11;
 const BODY_GIVEN: u32 = 17;
 
 /// A call of the library that sends a list of fields.
@@ -330,7 +331,7 @@ impl Endpoint {
             let (at, len, out) = (given.as_ptr(), given.len(), &mut self.handle);
             let answer = unsafe { raw::h3_raw_read(*out, id, at, len, end.into(), &mut used, &mut item, &mut detail, out) };
             *bytes = &given[used..];
-            let is_pause = answer == 0 && (item.kind == PENDING || item.kind == WAITING);
+            let is_pause = answer == 0 && matches!(item.kind, PENDING | WAITING | NO_MESSAGES);
             if answer == KEPT || (is_pause && !bytes.is_empty()) {
                 continue;
             }

@@ -1,5 +1,5 @@
 -- What a read of bytes comes to, by the calls that it makes.
-use Rattle.std.proofs.Common.{◌≡◌, ℕ, ◌<◌, ◌≤◌, ◌==◌, ◌&&◌, Bool, true, false, List, [], ◌∷◌, length, take, refl, sym, ap, subst, ◌∙◌, arith}
+use Rattle.std.proofs.Common.{◌≡◌, ℕ, ◌<◌, ◌==◌, ◌&&◌, Bool, true, false, List, [], ◌∷◌, length, take, refl, sym, ap, subst, ◌∙◌, arith}
 use Rattle.std.specs.Prelude.{nat_lt, ◌^◌, Ok}
 use Rattle.std.proofs.lemmas.Bool.{eqb-true}
 use Rattle.h3_connection.specs.ReceivingContracts.{Delivers}
@@ -14,7 +14,7 @@ use Rattle.h3_c.specs.declared.items.PulledItem.{PulledItem}
 use Rattle.h3_c.specs.declared.numbers.Told.{Told}
 use Rattle.h3_c.specs.Exported.{OnStream, Pulls, UnlessRejected}
 use Rattle.h3_c.specs.Seen.{Seen}
-use Rattle.h3_c.specs.Reads.{ends_with, TakesBytes, TakesEnd}
+use Rattle.h3_c.specs.Reads.{ends_with, RefusesEnd, TakesBytes, TakesEnd}
 
 pub takes_none : (e : EndpointState) (id : ℕ) (bytes : List ℕ) → length bytes ≡ 0 → TakesBytes e e id bytes
 takes_none e id [] h = refl
@@ -43,6 +43,10 @@ pub fin_taken : (is_last is_alone : Bool) (fin used : ℕ) (bytes : List ℕ) (m
     → TakesEnd is_last is_alone mid ended id → TakesEnd (ends_with fin bytes used) (length bytes == 0) mid ended id
 fin_taken is_last is_alone fin used bytes mid ended id last alone h =
     subst (λ a. TakesEnd a (length bytes == 0) mid ended id) last (subst (λ b. TakesEnd is_last b mid ended id) alone h)
+
+-- why it is refused, by the same
+pub fin_refused : (is_alone : Bool) (bytes : List ℕ) (mid new : EndpointState) (id : ℕ) (n : Told) → is_alone ≡ (length bytes == 0) → RefusesEnd is_alone mid new id n → RefusesEnd (length bytes == 0) mid new id n
+fin_refused is_alone bytes mid new id n alone h = subst (λ b. RefusesEnd b mid new id n) alone h
 
 -- the pull behind what was taken
 pub pulls_on : (id stream : ℕ) (n : Told) (u w : Seen) (last : FieldsPull) (given : PulledItem) → stream ≡ id → stream < 2 ^ 62

@@ -1,11 +1,11 @@
 -- What is told where C's bytes or list are not copied, since there is no memory for them.
-use Rattle.std.proofs.Common.{arith, ◌≡◌, ℕ, ◌<◌, ◌≤◌, Bool, true, false, List, length, Option, Some, None, refl, ap, sym, subst, ◌∙◌, inl, inr}
+use Rattle.std.proofs.Common.{arith, ◌≡◌, ℕ, ◌<◌, ◌==◌, true, false, List, [], ◌∷◌, length, Option, Some, None, refl, ap, sym, subst, ◌∙◌, inl, inr}
 use Rattle.std.specs.Prelude.{◌≢◌, ◌^◌, Err, Result, unwrap_or}
 use Rattle.h3_field.specs.Field.{Field}
 use Rattle.h3_connection.specs.Endpoint.{EndpointHistory}
 use Rattle.h3_connection.specs.ReceivingContracts.{Delivers}
 use Rattle.h3_connection.specs.SendingContracts.{SendsBody}
-use Rattle.h3_connection.specs.State.{StandsFor}
+use Rattle.h3_connection.specs.State.{EndpointState, StandsFor}
 use Rattle.h3_connection.specs.declared.event.DeliverError.{DeliverError}
 use Rattle.h3_connection.specs.declared.event.Refusal.{Refusal}
 use Rattle.h3_connection.specs.declared.event.Refusal.TheVariants as refusal
@@ -16,7 +16,9 @@ use Rattle.h3_session.specs.declared.endpoint.lists.FieldsError.TheVariants as e
 use Rattle.h3_c.specs.Exported.{Calls, DeliversOn, OnStream, SendsCut}
 use Rattle.h3_c.specs.Giving.{RefusesFields}
 use Rattle.h3_c.specs.Numbers.{body_told, delivery_told, refusal_told, told_or_memory}
+use Rattle.h3_c.specs.Reads.{is_kept, StopsAt}
 use Rattle.h3_c.specs.Seen.{Seen}
+use Rattle.h3_c.specs.declared.connection.reading.Stop.{Stop}
 use Rattle.h3_c.specs.declared.numbers.Told.{Told}
 
 told_same : (o : Option Refusal) → told_or_memory o ≡ refusal_told (unwrap_or o refusal.OutOfMemory)
@@ -49,6 +51,24 @@ delivery_lacks v id stream bytes o n same below goes_on refuses is =
       };
       unknown = λ above. absurd (omega (arith, below, above));
     }
+
+-- what came, of a read
+not_kept : (o : Option Refusal) (bytes : List ℕ) → false ≡ is_kept (delivery_error o bytes)
+not_kept None bytes = refl
+not_kept (Some r) bytes = refl
+
+pub some_bytes : (bytes : List ℕ) → (length bytes == 0) ≡ false → 0 < length bytes
+some_bytes [] h = absurd (let wrong : true ≡ false = h in cc)
+some_bytes (byte ∷ bytes) h = omega (arith)
+
+pub read_lacks : (s : EndpointState) (id : ℕ) (bytes : List ℕ) (o : Option Refusal) (stop : Stop) → RefusesDeliveries s id o → stop.told ≡ told_or_memory o → stop.is_taken ≡ false → 0 < length bytes → StopsAt s s id bytes stop
+read_lacks s id bytes o stop refuses is taken some = record {
+  error = delivery_error o bytes;
+  told = is ∙ delivery_same o bytes;
+  refused = refuses bytes;
+  taken = taken ∙ not_kept o bytes;
+  some = some;
+}
 
 -- A list: the sizes are not those of the bytes,
 module _ (v : Seen) (place : EndpointHistory → Option Refusal) (does : List Field → Result Unit FieldsError → Type 0) (told : Told) where

@@ -5,7 +5,6 @@ pub mod Given
 pub mod Giving
 pub mod Held
 pub mod Items
-pub mod Lending
 pub mod Rows
 pub mod Numbers
 pub mod Priorities

@@ -1,16 +1,17 @@
--- What `h3_read` promises: the calls that it makes, one after another, of the bytes that it used.
-use Rattle.std.specs.Prelude.{◌≡◌, ◌⊎◌, ℕ, ◌+◌, ◌≤◌, ◌<◌, ◌&&◌, ◌==◌, nat_lt, Bool, true, false, if◌then◌else◌, List, [], ◌∷◌, length, take, Ok, Err}
+-- What `h3_read` promises: a piece of a body where it lies; else the calls that it makes, one after another, of the bytes that it used.
+use Rattle.std.specs.Prelude.{◌≡◌, ◌⊎◌, ℕ, ◌+◌, ◌≤◌, ◌<◌, ◌&&◌, ◌==◌, nat_lt, Bool, true, false, if◌then◌else◌, List, [], ◌∷◌, length, take, Option, Some, None, Ok, Err}
 use Rattle.h3_connection.specs.Calls.{IsSame}
+use Rattle.h3_connection.specs.Endpoint.{EndpointHistory}
 use Rattle.h3_connection.specs.ReceivingContracts.{Delivers, DeliversEnd}
-use Rattle.h3_connection.specs.State.{EndpointState}
+use Rattle.h3_connection.specs.State.{EndpointState, StandsFor}
 use Rattle.h3_connection.specs.declared.event.DeliverError.{DeliverError}
 use Rattle.h3_connection.specs.declared.event.DeliverError.TheVariants as deliver_error
 use Rattle.h3_connection.specs.declared.event.Refusal.TheVariants as refusal
 use Rattle.h3_incoming.specs.declared.body_place.BodyPlace.{BodyPlace}
 use Rattle.h3_incoming.specs.declared.fields.FieldsPull.TheVariants as answer
-use Rattle.h3_session.specs.ReadingBodies.{ReadsBody}
+use Rattle.h3_session.specs.ReadingBodies.{place_next, ReadsBody}
 use Rattle.h3_c.specs.Exported.{Pulls}
-use Rattle.h3_c.specs.Numbers.{delivery_told, memory, ok}
+use Rattle.h3_c.specs.Numbers.{delivery_told, ok}
 use Rattle.h3_c.specs.Seen.{Seen}
 use Rattle.h3_c.specs.declared.items.PulledItem.{PulledItem}
 use Rattle.h3_c.specs.declared.connection.reading.Stop.{Stop}
@@ -46,33 +47,56 @@ is_kept e = false
 abbrev pub taken_of : Bool → ℕ → ℕ
 taken_of is_taken count = if is_taken then count else 0
 
--- Why no bytes are taken, or all but what memory lacked for: memory for a copy of them was refused; or they were.
-abbrev pub StopsAt : EndpointState → EndpointState → ℕ → List ℕ → Stop → Type 0
-StopsAt old new id bytes stop =
-    ((stop.told ≡ memory) × (new ≡ old) × (stop.is_taken ≡ false))
-    ⊎ ((e : DeliverError) × (stop.told ≡ delivery_told {X = Unit {0}} (Err e)) × Delivers old new id bytes (Err e) × (stop.is_taken ≡ is_kept e))
+-- Why no bytes are taken, or all but what memory lacked for. That memory for a copy of them was refused is told after what else refuses them.
+pub record StopsAt (old new : EndpointState) (id : ℕ) (bytes : List ℕ) (stop : Stop) : Type 0 where
+  pub error : DeliverError
+  pub told : stop.told ≡ delivery_told {X = Unit {0}} (Err error)
+  pub refused : Delivers old new id bytes (Err error)
+  pub taken : stop.is_taken ≡ is_kept error
+  pub some : 0 < length bytes
 
--- why the end is refused
-abbrev pub RefusesEnd : EndpointState → EndpointState → ℕ → Told → Type 0
-RefusesEnd old new id n = (e : DeliverError) × (n ≡ delivery_told {X = Unit {0}} (Err e)) × DeliversEnd old new id (Err e)
+-- the end or a reset came before
+abbrev pub is_after_end : DeliverError → Bool
+is_after_end (deliver_error.Refused refusal.AfterEnd) = true
+is_after_end e = false
 
--- A read of bytes that came on a stream, with or without the end of the stream behind them, and how many of them it used.
-pub data Reads (v w : Seen) (id : ℕ) (bytes : List ℕ) (fin : ℕ) (n : Told) (before given : PulledItem) (used : ℕ) : Type 0 where
-  -- a piece of a body lies in the bytes, and nothing of them is kept
-  placed : (p : BodyPlace) → n ≡ ok → used ≡ p.offset + p.len → given ≡ place_shown p → ReadsBody v.endpoint w.endpoint id bytes p → w.last ≡ answer.Pending
-      → Reads v w id bytes fin n before given used
+-- why the end is refused: with no bytes before it, not since it had come before
+abbrev pub RefusesEnd : Bool → EndpointState → EndpointState → ℕ → Told → Type 0
+RefusesEnd is_alone old new id n = (e : DeliverError) × (n ≡ delivery_told {X = Unit {0}} (Err e)) × DeliversEnd old new id (Err e) × ((is_alone && is_after_end e) ≡ false)
+
+-- A piece of a body lies in the bytes: C gets its place, and nothing of the bytes is kept.
+pub record ReadsPlaced (v w : Seen) (id : ℕ) (bytes : List ℕ) (p : BodyPlace) (n : Told) (given : PulledItem) (used : ℕ) : Type 0 where
+  pub done : n ≡ ok
+  pub used_is : used ≡ p.offset + p.len
+  pub given_so : given ≡ place_shown p
+  pub reads : ReadsBody v.endpoint w.endpoint id bytes p
+  pub last : w.last ≡ answer.Pending
+
+-- A read of bytes that are copied, with or without the end of the stream behind them, and how many of them it used.
+pub data ReadsCopied (v w : Seen) (id : ℕ) (bytes : List ℕ) (fin : ℕ) (n : Told) (before given : PulledItem) (used : ℕ) : Type 0 where
   -- what was used, some of the bytes where there are any, is delivered, the end behind it, and the next item is pulled
   pulled : (mid ended : EndpointState) → used ≤ length bytes → (0 < length bytes → 0 < used) → TakesBytes v.endpoint mid id (take used bytes) → TakesEnd (ends_with fin bytes used) (length bytes == 0) mid ended id
-      → Pulls id n (record v { endpoint = ended }) w given → Reads v w id bytes fin n before given used
-  -- the bytes were refused, with memory for a copy of them first
+      → Pulls id n (record v { endpoint = ended }) w given → ReadsCopied v w id bytes fin n before given used
+  -- the bytes were refused
   stopped : (count : ℕ) (stop : Stop) → count ≤ length bytes → n ≡ stop.told → StopsAt v.endpoint w.endpoint id (take count bytes) stop → w.last ≡ v.last → used ≡ taken_of stop.is_taken count → given ≡ before
-      → Reads v w id bytes fin n before given used
+      → ReadsCopied v w id bytes fin n before given used
   -- the bytes were taken, and the end was refused
-  unended : (mid : EndpointState) → ends_with fin bytes used ≡ true → TakesBytes v.endpoint mid id bytes → RefusesEnd mid w.endpoint id n → w.last ≡ v.last → given ≡ before
-      → Reads v w id bytes fin n before given used
+  unended : (mid : EndpointState) → ends_with fin bytes used ≡ true → TakesBytes v.endpoint mid id bytes → RefusesEnd (length bytes == 0) mid w.endpoint id n → w.last ≡ v.last → given ≡ before
+      → ReadsCopied v w id bytes fin n before given used
 
 -- The same from an endpoint at which nothing changed before.
-pub record ReadsNext (v w : Seen) (id : ℕ) (bytes : List ℕ) (fin : ℕ) (n : Told) (before given : PulledItem) (used : ℕ) : Type 0 where
+pub record CopiesNext (v w : Seen) (id : ℕ) (bytes : List ℕ) (fin : ℕ) (n : Told) (before given : PulledItem) (used : ℕ) : Type 0 where
   pub start : EndpointState
-  pub same : (start ≡ v.endpoint) ⊎ IsSame v.endpoint start
-  pub reads : Reads (record v { endpoint = start }) w id bytes fin n before given used
+  pub same : IsSame v.endpoint start
+  pub reads : ReadsCopied (record v { endpoint = start }) w id bytes fin n before given used
+
+-- where the first piece of a body lies; else the bytes are copied
+abbrev pub ReadsAt : Option BodyPlace → Seen → Seen → ℕ → List ℕ → ℕ → Told → PulledItem → PulledItem → ℕ → Type 0
+ReadsAt (Some p) v w id bytes fin n before given used = ReadsPlaced v w id bytes p n given used
+ReadsAt None v w id bytes fin n before given used = CopiesNext v w id bytes fin n before given used
+
+-- A read of bytes that came on a stream: a piece of a body is told by its place exactly where the endpoint reads one so (`place_next`).
+pub record ReadsNext (v w : Seen) (id : ℕ) (bytes : List ℕ) (fin : ℕ) (n : Told) (before given : PulledItem) (used : ℕ) : Type 0 where
+  pub place : Option BodyPlace
+  pub is_next : (e : EndpointHistory) → StandsFor v.endpoint e → place ≡ place_next e id bytes
+  pub reads : ReadsAt place v w id bytes fin n before given used

@@ -18,7 +18,6 @@ use std::marker::Model;
 mod ending;
 mod heads;
 mod items;
-mod lending;
 mod outgoing;
 mod reading;
 mod receiving;

@@ -3,7 +3,6 @@
 mod ending;
 mod heads;
 mod items;
-mod lending;
 mod making;
 mod outgoing;
 mod priority;

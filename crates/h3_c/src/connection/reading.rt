@@ -1,15 +1,13 @@
 //! What came and is read where it lies.
 ghost use Rattle.std.specs.Prelude.{◌≡◌, ◌<◌, ◌≤◌, ◌^◌, true, length, Err, IfErr, OnOk};
-ghost use Rattle.h3_connection.specs.declared.event.DeliverError.TheVariants as deliver_error;
-ghost use Rattle.h3_connection.specs.declared.event.Refusal.TheVariants as refusal;
 ghost use Rattle.h3_session.specs.Shutdown.{is_rejected_in};
 ghost use Rattle.h3_c.specs.Exported.{OnStream, UnlessRejected};
 ghost use Rattle.h3_c.specs.Numbers.{delivery_told};
-ghost use Rattle.h3_c.specs.Reads.{ends_with, is_kept, place_shown, taken_of, EndsThere, Reads, ReadsNext, RefusesEnd, StopsAt, TakesBytes, TakesEnd};
+ghost use Rattle.h3_c.specs.Reads.{ends_with, is_after_end, is_kept, place_shown, taken_of, EndsThere, ReadsCopied, ReadsNext, RefusesEnd, StopsAt, TakesBytes, TakesEnd};
 
 use super::Connection;
 use crate::items::PulledItem;
-use crate::numbers::{MEMORY, OK, Told, delivered};
+use crate::numbers::{OK, Told, delivered, or_memory};
 use bytes::Bytes;
 use h3_coding::coding::BufExt;
 use h3_connection::event::{DeliverError, Refusal};
@@ -59,7 +57,7 @@ impl Connection {
         item: &mut PulledItem,
     ) -> Told
         requires { used.old ≡ 0 }
-        ensures { Reads self.old self.new id bytes.now fin result item.old item.new used.new }
+        ensures { ReadsCopied self.old self.new id bytes.now fin result item.old item.new used.new }
     {
         let count = self.front_len(id, bytes);
         if let Err(stop) = self.take(alloc, id, &bytes[..count]) {
@@ -86,7 +84,7 @@ impl Connection {
         first_frame_len(bytes)
     }
 
-    // The bytes are delivered, where there are any: a copy of them.
+    // The bytes are delivered, where there are any: a copy of them. Want of memory for it is told after what else refuses them.
     #[tactic(auto, using(crate::proofs::Reading::takes_none, crate::proofs::Reading::takes_some))]
     fn take(&mut self, alloc: Global, id: StreamId, bytes: &[u8]) -> Result<(), Stop>
         ensures last { self.new.last ≡ self.old.last }
@@ -96,13 +94,13 @@ impl Connection {
         if bytes.is_empty() {
             return Ok(());
         }
-        let Ok(bytes) = Bytes::copy_from_slice(alloc, bytes) else {
+        let Ok(copy) = Bytes::copy_from_slice(alloc, bytes) else {
             return Err(Stop {
-                told: MEMORY,
+                told: or_memory(self.endpoint.bytes_refusal(id)),
                 is_taken: false,
             });
         };
-        match self.endpoint.deliver(id, bytes) {
+        match self.endpoint.deliver(id, copy) {
             Ok(()) => Ok(()),
             Err(e) => Err(stopped(e)),
         }
@@ -112,7 +110,7 @@ impl Connection {
     fn take_fin(&mut self, id: StreamId, is_last: bool, is_alone: bool) -> Result<(), Told>
         ensures last { self.new.last ≡ self.old.last }
         ensures ok { OnOk result (TakesEnd is_last is_alone self.old.endpoint self.new.endpoint id) }
-        ensures refused { IfErr result (λ told. (is_last ≡ true) × RefusesEnd self.old.endpoint self.new.endpoint id told) }
+        ensures refused { IfErr result (λ told. (is_last ≡ true) × RefusesEnd is_alone self.old.endpoint self.new.endpoint id told) }
     {
         if is_last {
             return self.take_end(id, is_alone);
@@ -124,7 +122,7 @@ impl Connection {
     fn take_end(&mut self, id: StreamId, is_alone: bool) -> Result<(), Told>
         ensures last { self.new.last ≡ self.old.last }
         ensures ok { OnOk result (EndsThere is_alone self.old.endpoint self.new.endpoint id) }
-        ensures refused { IfErr result (λ told. RefusesEnd self.old.endpoint self.new.endpoint id told) }
+        ensures refused { IfErr result (λ told. RefusesEnd is_alone self.old.endpoint self.new.endpoint id told) }
     {
         match self.endpoint.deliver_end(id) {
             Ok(()) => Ok(()),
@@ -176,7 +174,7 @@ fn taken_of(stop: Stop, count: usize) -> usize
 
 // Whether the end or a reset came before.
 fn is_after_end(e: &DeliverError) -> bool
-    ensures { result ≡ true → e.now ≡ deliver_error.Refused refusal.AfterEnd }
+    ensures { result ≡ is_after_end e.now }
 {
     matches!(e, DeliverError::Refused(Refusal::AfterEnd))
 }

@@ -1,7 +1,7 @@
 -- A read by a delivery, the end and a pull.
 use Rattle.std.proofs.Common.{refl, sym, ◌∙◌}
-use Rattle.h3_c.specs.Reads.Reads.{pulled, stopped, unended}
-use Rattle.h3_c.proofs.Reading.{all_taken, fin_taken, pulls_on}
+use Rattle.h3_c.specs.Reads.ReadsCopied.{pulled, stopped, unended}
+use Rattle.h3_c.proofs.Reading.{all_taken, fin_refused, fin_taken, pulls_on}
 use Rattle.h3_c.proofs.connection.Connection.read_copied.Goals as goal
 
 pub returns-in-Err : goal.returns-in-Err
@@ -10,7 +10,8 @@ returns-in-Err c = stopped c.front_len-count.result c.in-Err.stop c.front_len-co
 pub returns-in-Err-take_fin : goal.returns-in-Err-take_fin
 returns-in-Err-take_fin c =
     unended c.take.new.self.endpoint (sym c.is_behind-is_last.ensures ∙ c.in-Err-take_fin.ensures.refused.0)
-    (all_taken _ _ _ _ c.args.fin _ (sym c.is_behind-is_last.ensures ∙ c.in-Err-take_fin.ensures.refused.0) c.in_default.ensures.ok) c.in-Err-take_fin.ensures.refused.1
+    (all_taken _ _ _ _ c.args.fin _ (sym c.is_behind-is_last.ensures ∙ c.in-Err-take_fin.ensures.refused.0) c.in_default.ensures.ok)
+    (fin_refused c.is_empty.result c.args.bytes.now _ _ _ _ c.is_empty.ensures c.in-Err-take_fin.ensures.refused.1)
     (c.in-Err-take_fin.ensures.last ∙ c.in_default.ensures.last) refl
 
 pub returns : goal.returns
