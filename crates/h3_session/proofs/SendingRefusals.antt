@@ -10,10 +10,13 @@ use Rattle.h3_outgoing.specs.HistoryLaws.{head_taken, body_taken, end_taken, sen
 use Rattle.h3_outgoing.specs.Sent as sent
 use Rattle.h3_streams.specs.PlacedLaws.{critical_stands}
 use Rattle.h3_connection.specs.Endpoint.{EndpointHistory, is_critical_id}
+use Rattle.h3_connection.specs.KeptGoaways.{keeps_last}
+use Rattle.h3_connection.specs.KeptGoawayLaws.{last_kept}
+use Rattle.h3_connection.specs.Lasts.{last_id}
 use Rattle.h3_connection.specs.Outgoing.{Outgoing, nothing_sent, is_sent_off, takes_body, takes_head}
 use Rattle.h3_connection.specs.Pulling.{is_client, is_for}
 use Rattle.h3_connection.specs.OwnIds.{other}
-use Rattle.h3_connection.specs.Refusals.{Sender, SenderStream, first_of, needed, not_next, of_list, or_later, raised, refusal_of_body, refusal_of_end, refusal_of_goaway, refusal_of_head, refusal_of_trailer, refusal_to_stop, seen}
+use Rattle.h3_connection.specs.Refusals.{Sender, SenderStream, first_of, needed, not_next, of_list, or_later, raised, refusal_of_body, refusal_of_end, refusal_of_goaway, refusal_of_head, refusal_of_trailer, refusal_to_open, refusal_to_stop, seen}
 use Rattle.h3_connection.specs.Sending.{closed_or, outgoing_at, is_open, open_refusal, body_refusal, finish_refusal, reset_refusal, goaway_refusal, seen_at, sender_at}
 use Rattle.h3_connection.specs.State.{EndpointState, RequestState, StandsFor, IsOfOutgoing, SameAt, kept_at}
 use Rattle.h3_connection.specs.StreamSets.{stream_at}
@@ -84,7 +87,10 @@ broken_same s e fields h =
 
 -- Opening a request stream.
 pub open_refusal_is : (s : EndpointState) (e : EndpointHistory) → StandsFor s e → open_refused s ≡ open_refusal e
-open_refusal_is s e h = rw (h.closed, h.side, h.peer, h.next_id) refl
+open_refusal_is s e h =
+    ap (λ p. closed_or s.closed (refusal_to_open s.side (last_id p.goaways) s.next_id)) h.peer
+    ∙ ap (λ o. closed_or s.closed (refusal_to_open s.side o s.next_id)) (last_kept (keeps_last e.announced.choices) e.peer.goaways)
+    ∙ rw (h.closed, h.side, h.next_id) refl
 
 -- Finishing.
 pub end_refusal_is : (s : EndpointState) (e : EndpointHistory) (id : ℕ) → StandsFor s e → end_refused s id ≡ finish_refusal e id

@@ -2,7 +2,7 @@
 use Rattle.std.proofs.Common.{◌≡◌, ℕ, ◌-◌, ◌<◌, Bool, true, false, if◌then◌else◌, List, [], ◌∷◌, ◌++◌, append-nil, append_assoc, length, Option, Some, None, refl, ap, sym, ◌∙◌, subst, arith}
 use Rattle.std.specs.Prelude.{slice_get}
 use Rattle.h3_proto.specs.declared.stream.Side.{Side}
-use Rattle.h3_connection.specs.KeptGoaways.{kept_goaways, kept_peer, kept_found}
+use Rattle.h3_connection.specs.KeptGoaways.{alone, kept_peer, kept_found}
 use Rattle.h3_connection.specs.KeptGoawayLaws.{peer_twice, reads_alike}
 use Rattle.h3_connection.specs.Lasts.{last_id}
 use Rattle.h3_connection.specs.PeerReading.{Peer, PeerFound, with_unread, read_peer}
@@ -70,16 +70,15 @@ stopped last limit side old next h =
 pub stops_kept : (last : Bool) (limit : ℕ) (side : Side) (old mid next new : Peer) → KeepsFront last limit side old mid → ReadsFront limit side mid next → new ≡ kept_peer last next → StopsReading last limit side old new
 stops_kept last limit side old mid next new a b is = subst (StopsReading last limit side old) (sym is) (stopped last limit side old next (behind last limit side old mid next a b))
 
--- ids with a last one are some
-pub some_ids : (ids : List ℕ) (id : ℕ) → last_id ids ≡ Some id → 0 < length ids
-some_ids [] id is = absurd (cc)
-some_ids (first ∷ ids) id is = omega arith
-
+-- ids with no last one are none, and stay so
 at_end : (first : ℕ) (ids : List ℕ) → slice_get (first ∷ ids) (length ids) ≡ None → first ∷ ids ≡ []
 at_end first [] is = absurd (cc)
 at_end first (second ∷ ids) is = absurd (let nothing = at_end second ids is in cc)
 
--- and those with none are none
-pub no_ids : (ids : List ℕ) → last_id ids ≡ None → ids ≡ []
+no_ids : (ids : List ℕ) → last_id ids ≡ None → ids ≡ []
 no_ids [] is = refl
 no_ids (first ∷ ids) is = at_end first ids (ap (slice_get (first ∷ ids)) (let place : length ids ≡ length (first ∷ ids) - 1 = omega arith in place) ∙ is)
+
+pub none_changed : (last : Bool) (p : Peer) → last_id p.goaways ≡ None → p ≡ kept_peer last p
+none_changed true p is = ap (λ ids. record p { goaways = ids }) (no_ids p.goaways is ∙ sym (ap alone is))
+none_changed false p is = refl

@@ -274,6 +274,7 @@ impl PeerControl {
     }
 
     /// Lets go of all ids of GOAWAY frames but the last, where that is kept alone. It takes no memory.
+    #[tactic(auto, using(crate::proofs::KeptFronts::none_changed))]
     fn keep_goaways(&mut self, last_alone: bool)
         ensures { self.new ≡ kept_peer last_alone self.old }
     {
