@@ -247,7 +247,7 @@ static void of_goaways(void) {
   has_goaway(last);
   bounded("GOAWAY frames", before, GOAWAY_BYTES);
   HOLDS(live <= before + GOAWAY_BYTES);
-  IS(h3_deliver(&ends[CLIENT], h3_control_id(SERVER), piece, goaway(piece, last + 4), &detail), H3_CLOSED);
+  IS(h3_deliver(&ends[CLIENT], h3_control_id(SERVER), piece, goaway(piece, last + 4), &detail), H3_CONNECTION);
   HOLDS(detail == 0x108); /* H3_ID_ERROR */
   drop();
 }
