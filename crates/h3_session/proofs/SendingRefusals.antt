@@ -1,6 +1,6 @@
 -- The refusals by what is stored are those of every history that it stands for: both are of one sender.
 use Rattle.std.proofs.Common.{◌≡◌, ℕ, Bool, true, false, if◌then◌else◌, List, [], ◌∷◌, Option, Some, None, refl, ap, sym, ◌∙◌}
-use Rattle.std.specs.Prelude.{◌≢◌, not, ◌&&◌, nat_lt, option_map, is_some, unwrap_or}
+use Rattle.std.specs.Prelude.{◌≢◌, ◌^◌, not, ◌&&◌, nat_le, nat_lt, option_map, is_some, unwrap_or}
 use Rattle.h3_header.specs.Head.{Head, has_pseudo}
 use Rattle.h3_field.specs.Field.{Field}
 use Rattle.h3_messages.specs.Content.{may_end}
@@ -16,7 +16,7 @@ use Rattle.h3_connection.specs.Lasts.{last_id}
 use Rattle.h3_connection.specs.Outgoing.{Outgoing, nothing_sent, is_sent_off, takes_body, takes_head}
 use Rattle.h3_connection.specs.Pulling.{is_client, is_for}
 use Rattle.h3_connection.specs.OwnIds.{other}
-use Rattle.h3_connection.specs.Refusals.{Sender, SenderStream, first_of, needed, not_next, of_list, or_later, raised, refusal_of_body, refusal_of_end, refusal_of_goaway, refusal_of_head, refusal_of_trailer, refusal_to_open, refusal_to_stop, seen}
+use Rattle.h3_connection.specs.Refusals.{Sender, SenderStream, first_of, going_away, needed, not_next, of_list, or_later, raised, refusal_of_body, refusal_of_end, refusal_of_goaway, refusal_of_head, refusal_of_trailer, refusal_to_open, refusal_to_stop, seen}
 use Rattle.h3_connection.specs.Sending.{closed_or, outgoing_at, is_open, open_refusal, body_refusal, finish_refusal, reset_refusal, goaway_refusal, seen_at, sender_at}
 use Rattle.h3_connection.specs.State.{EndpointState, RequestState, StandsFor, IsOfOutgoing, SameAt, kept_at}
 use Rattle.h3_connection.specs.StreamSets.{stream_at}
@@ -200,6 +200,18 @@ three_take_none false b c p q r h g k is = two_take_none b c q r g k is
 unless_it_closed : (closed : Option ℕ) (o : Option Refusal) → o ≢ Some refusal.OutOfMemory → closed_or closed o ≢ Some refusal.OutOfMemory
 unless_it_closed (Some code) o h is = absurd (cc)
 unless_it_closed None o h is = h is
+
+pub open_takes_none : (s : EndpointState) → open_refused s ≢ Some refusal.OutOfMemory
+open_takes_none s = unless_it_closed s.closed (refusal_to_open s.side (last_id s.peer.goaways) s.next_id) (by (not (is_client s.side)) (last_id s.peer.goaways) (nat_le (2 ^ 62) s.next_id))
+  where
+    used_up : (b : Bool) → (let rule : Option Refusal = if b then Some refusal.IdsUsedUp else None in rule) ≢ Some refusal.OutOfMemory
+    used_up true is = absurd (cc)
+    used_up false is = absurd (cc)
+
+    by : (b : Bool) (last : Option ℕ) (far : Bool) → (let rule : Option Refusal = if b then Some refusal.NotClient else going_away last (if far then Some refusal.IdsUsedUp else None) in rule) ≢ Some refusal.OutOfMemory
+    by true last far is = absurd (cc)
+    by false (Some id) far is = absurd (cc)
+    by false None far is = used_up far is
 
 pub end_takes_none : (s : EndpointState) (id : ℕ) → end_refused s id ≢ Some refusal.OutOfMemory
 end_takes_none s id =
