@@ -404,7 +404,7 @@ static void goaway_rows(size_t count) {
   carry(SERVER, h3_control_id(SERVER));
   before = held;
   for (size_t i = 0; i < count; i++) done("h3_deliver", 3, h3_deliver(&ends[CLIENT], h3_control_id(SERVER), "\x07\x01\x00", 3, NULL));
-  row("a GOAWAY frame of the peer", size, (held - before) / (double)count, "bytes", 0);
+  row("a GOAWAY frame of the peer", size, (held - before) / (double)count, "bytes", 0.01);
   drop();
 }
 

@@ -445,7 +445,8 @@ typedef struct {
                                        * too many, it drops the lowest: from then on sections on
                                        * streams up to that id name no entry of the table, unless
                                        * one there is not yet acknowledged. So no cancellation is a
-                                       * fault. 2^62 - 1 and more: all ids are kept */
+                                       * fault. Of the peer's GOAWAY frames the last id alone is
+                                       * kept. 2^62 - 1 and more: all ids of both are kept */
   uint64_t reject_requests;           /* whether a server rejects requests from the id of its
                                        * last GOAWAY on: H3_REJECTED (1) */
 } h3_config;

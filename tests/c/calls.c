@@ -221,6 +221,7 @@ static void choose(h3_config *config, const char *word) {
       {"encoder_table", offsetof(h3_config, encoder_table)},
       {"economical_table", offsetof(h3_config, economical_table)},
       {"unfinished_limit", offsetof(h3_config, unfinished_limit)},
+      {"kept_ids", offsetof(h3_config, kept_ids)},
   };
   size_t len = strcspn(word, "=");
   uint64_t value = word[len] ? strtoull(word + len + 1, NULL, 10) : 1;

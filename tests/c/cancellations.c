@@ -1,6 +1,7 @@
 /* Requests that are opened and canceled before the settings came, cancellations that come before the first byte of their request, and
- * floods of cancellations of ids far apart: none is a fault, none costs more memory than a bound, and what counts as canceled is still
- * answered. Linked with --wrap for malloc, realloc and free. One line 'ok NAME' or 'failed NAME'. */
+ * floods of cancellations of ids far apart and of GOAWAY frames: none is a fault, none costs more memory than a bound, what counts as
+ * canceled is still answered, and the last GOAWAY holds. Linked with --wrap for malloc, realloc and free. One line 'ok NAME' or
+ * 'failed NAME'. */
 #include "counted.h"
 #include "h3.h"
 #include <string.h>
@@ -12,9 +13,10 @@
 enum {
   KEPT_IDS = 1000,                /* so many ids of canceled streams are kept by default */
   CANCELED_BYTES = 24 * KEPT_IDS, /* and so many bytes (blocks of malloc are rounded up) */
+  GOAWAY_BYTES = 64,              /* of GOAWAY frames the last one's id alone is kept: a block of few ids */
 };
 
-enum { EARLY = 40000, BEFORE_THEIR_BYTES = 1500, FAR_IDS = 4475000, PIECE = 1024 };
+enum { EARLY = 40000, BEFORE_THEIR_BYTES = 1500, FAR_IDS = 4475000, GOAWAYS = 1000000, PIECE = 1024 };
 
 static uint8_t piece[PIECE + 16];
 
@@ -200,6 +202,56 @@ static void of_few_cancellations(void) {
   drop();
 }
 
+/* a GOAWAY frame (RFC 9114, section 7.2.6) whose id has eight bytes */
+static size_t goaway(uint8_t *to, uint64_t id) {
+  to[0] = 7;
+  to[1] = 8;
+  for (int i = 0; i < 8; i++) to[2 + i] = (uint8_t)(id >> (56 - 8 * i));
+  to[2] |= 0xc0;
+  return 10;
+}
+
+/* so many GOAWAY frames go to the client, each id below the one before it by this distance */
+static void go_away(uint64_t from, uint64_t count, uint64_t distance) {
+  size_t n = 0;
+  uint32_t answer = H3_OK;
+  for (uint64_t i = 0; i < count && answer == H3_OK; i++) {
+    n += goaway(piece + n, from - distance * i);
+    if (n < PIECE && i + 1 < count) continue;
+    answer = h3_deliver(&ends[CLIENT], h3_control_id(SERVER), piece, n, NULL);
+    n = 0;
+  }
+  IS(answer, H3_OK);
+}
+
+/* the client's last GOAWAY: it opens no request, and a greater id is a fault */
+static void has_goaway(uint64_t id) {
+  h3_state state;
+  uint64_t opened, detail = 0;
+  IS(h3_connection(&ends[CLIENT], &state), H3_OK);
+  HOLDS(state.has_goaway == 1 && state.goaway == id);
+  IS(h3_open_request(&ends[CLIENT], &opened, &detail), H3_GOING_AWAY);
+  HOLDS(detail == id);
+}
+
+static void of_goaways(void) {
+  const uint64_t first = (UINT64_C(1) << 62) - 4, last = first - 4 * (GOAWAYS - 1);
+  uint64_t detail = 0;
+  make();
+  carry_own();
+  size_t before = live;
+  most_live = live;
+  go_away(first, GOAWAYS, 0);
+  has_goaway(first);
+  go_away(first, GOAWAYS, 4);
+  has_goaway(last);
+  bounded("GOAWAY frames", before, GOAWAY_BYTES);
+  HOLDS(live <= before + GOAWAY_BYTES);
+  IS(h3_deliver(&ends[CLIENT], h3_control_id(SERVER), piece, goaway(piece, last + 4), &detail), H3_CONNECTION);
+  HOLDS(detail == 0x108); /* H3_ID_ERROR */
+  drop();
+}
+
 int main(void) {
   begin_request(&request, "GET");
   begin_response(&response, "200");
@@ -208,9 +260,10 @@ int main(void) {
   of_cancellations_ahead();
   of_far_cancellations();
   of_few_cancellations();
+  of_goaways();
   if (!bad)
     printf("ok cancellations: %d requests canceled before the settings, %d before their first byte, %d ids far apart: no fault, and at most "
-           "%d bytes for the ids\n",
-        EARLY, BEFORE_THEIR_BYTES, FAR_IDS, CANCELED_BYTES);
+           "%d bytes for the ids; %d GOAWAY frames: at most %d\n",
+        EARLY, BEFORE_THEIR_BYTES, FAR_IDS, CANCELED_BYTES, 2 * GOAWAYS, GOAWAY_BYTES);
   return bad;
 }

@@ -6,3 +6,4 @@ pub mod NextIds
 pub mod Values
 pub mod RowLaws
 pub mod Reading
+pub mod Shown

@@ -9,6 +9,7 @@ pub mod MalformationCodes
 pub mod FaultTexts
 pub mod OwnIds
 pub mod Lasts
+pub mod LastLaws
 pub mod PeerReading
 pub mod ExcessiveInstructions
 pub mod ExcessiveInstructionLaws
@@ -22,6 +23,8 @@ pub mod Arrivals
 pub mod Skipping
 pub mod SkippingLaws
 pub mod PeerReadingLaws
+pub mod KeptGoaways
+pub mod KeptGoawayLaws
 pub mod Incoming
 pub mod Pulling
 pub mod StrictPulls

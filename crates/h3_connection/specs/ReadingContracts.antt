@@ -2,6 +2,7 @@
 use Rattle.std.specs.Prelude.{◌≡◌, ◌≤◌, ℕ, ◌++◌, Bool, List, [], length, Option}
 use Rattle.h3_connection.specs.Bounds.{StandsBounded}
 use Rattle.h3_connection.specs.Endpoint.{EndpointHistory, bytes_waiting}
+use Rattle.h3_connection.specs.KeptGoaways.{keeps_last, kept_goaways}
 use Rattle.h3_connection.specs.Shown.{has_outgoing, is_finished, is_reset, table_sizes, waiting_heads, block_tries, peer_limits}
 use Rattle.h3_connection.specs.State.{EndpointState, StandsFor}
 use Rattle.h3_connection.specs.declared.event.PeerLimits.{PeerLimits}
@@ -39,9 +40,9 @@ ShowsReset s id result = Shows (λ e. is_reset e id) s result
 abbrev pub ShowsSettings : EndpointState → Option (List (ℕ × ℕ)) → Type 0
 ShowsSettings s result = Shows (λ e. e.peer.settings) s result
 
--- `peer_goaways`: the ids of the GOAWAY frames that were read, in order
+-- `peer_goaways`: the ids of the GOAWAY frames that were read, in order; or the last one alone where a choice limits the ids that are kept
 abbrev pub ShowsGoaways : EndpointState → List ℕ → Type 0
-ShowsGoaways s result = Shows (λ e. e.peer.goaways) s result
+ShowsGoaways s result = Shows (λ e. kept_goaways (keeps_last e.announced.choices) e.peer.goaways) s result
 
 -- `table_size`, `waiting_heads`, `sent` and `block_tries`
 abbrev pub ShowsSizes : EndpointState → TableSizes → Type 0

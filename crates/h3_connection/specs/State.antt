@@ -11,6 +11,7 @@ use Rattle.std.specs.Ordering.{nat_cmp}
 use Rattle.h3_proto.specs.declared.stream.Side.{Side}
 use Rattle.h3_qpack.specs.EncoderState.{encoder_state}
 use Rattle.h3_connection.specs.Incoming.{Incoming}
+use Rattle.h3_connection.specs.KeptGoaways.{keeps_last, kept_peer}
 use Rattle.h3_connection.specs.Lasts.{last_id}
 use Rattle.h3_connection.specs.Listeners.{Decoding, Encoding}
 use Rattle.h3_connection.specs.Unidirectional.{Unidirectional, untold, is_critical}
@@ -143,7 +144,8 @@ pub record StandsFor (s : EndpointState) (e : EndpointHistory) : Type 0 where
   pub control_on : s.control_on ≡ e.control_on
   pub encoder_on : s.encoder_on ≡ e.encoder_on
   pub decoder_on : s.decoder_on ≡ e.decoder_on
-  pub peer : s.peer ≡ e.peer
+  -- of the ids of its GOAWAY frames the last one alone may be kept
+  pub peer : s.peer ≡ kept_peer (keeps_last e.announced.choices) e.peer
   pub decoding : s.decoding ≡ e.decoding
   pub encoder : s.encoding.encoder ≡ encoder_state e.encoder
   pub decoder_unread : s.encoding.unread ≡ e.decoder_unread

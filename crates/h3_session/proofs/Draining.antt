@@ -9,6 +9,8 @@ use Rattle.h3_connection.specs.Delivering.{incoming_at}
 use Rattle.h3_connection.specs.Endpoint.{EndpointHistory, own_waiting}
 use Rattle.h3_connection.specs.EndsWaiting.{has_end}
 use Rattle.h3_connection.specs.Incoming.{nothing_came}
+use Rattle.h3_connection.specs.KeptGoaways.{keeps_last}
+use Rattle.h3_connection.specs.KeptGoawayLaws.{last_kept}
 use Rattle.h3_connection.specs.Lasts.{last_id}
 use Rattle.h3_connection.specs.NextWaiting.{has_waiting}
 use Rattle.h3_connection.specs.Outgoing.{is_sent_off, nothing_sent}
@@ -304,7 +306,9 @@ shows_control s e h = control_waiting e s.own.control h.own.control
 
 -- Whether no request is still to come: at a client,
 pub no_more_client : (s : EndpointState) (e : EndpointHistory) → StandsFor s e → s.side ≡ Client → is_some (last_id s.peer.goaways) ≡ takes_no_more e.side e
-no_more_client s e h is = ap (λ p. is_some (last_id p.goaways)) h.peer ∙ sym (ap (λ side. takes_no_more side e) (sym h.side ∙ is))
+no_more_client s e h is =
+    ap (λ p. is_some (last_id p.goaways)) h.peer ∙ ap (λ o. is_some o) (last_kept (keeps_last e.announced.choices) e.peer.goaways)
+    ∙ sym (ap (λ side. takes_no_more side e) (sym h.side ∙ is))
 
 -- and at a server
 pub no_more_server : (s : EndpointState) (e : EndpointHistory) (n : ℕ) → StandsFor s e → s.side ≡ Server → IfSome s.last_goaway (λ earlier. earlier < 2 ^ 62) → ShowsFirstUnseen s n → is_named s.last_goaway n ≡ takes_no_more e.side e

@@ -1,5 +1,4 @@
 mod Behind
-pub mod LastIds
 pub mod SendingStands
 pub mod SendingRefusals
 pub mod SendingCalls

@@ -22,7 +22,7 @@ use Rattle.h3_requests.specs.Refused.{end_refused_at, outgoing_in, reset_refused
 use Rattle.h3_session.proofs.Opened.{stands_same}
 use Rattle.h3_session.specs.Refused.{streams_of, end_refused, is_critical_in, critical_refused, reset_refused, goaway_refused, open_refused}
 use Rattle.h3_session.proofs.ReceivingCancel.{requests_same}
-use Rattle.h3_session.proofs.SendingRefusals.{open_refusal_is, end_refusal_is, reset_refusal_is, goaway_refusal_is, end_takes_none, reset_takes_none, goaway_takes_none, critical_first, critical_left}
+use Rattle.h3_session.proofs.SendingRefusals.{open_refusal_is, end_refusal_is, reset_refusal_is, goaway_refusal_is, open_takes_none, end_takes_none, reset_takes_none, goaway_takes_none, critical_first, critical_left}
 use Rattle.h3_session.proofs.SendingStands.{opened_stands, goaway_stands_for}
 
 -- What is untouched is the same.
@@ -149,6 +149,13 @@ opens_here s new id sets same is =
       opens = acts open_refusal (λ e. record (opened_at e e.next_id None) { next_id = e.next_id + 4 }) s (record s { requests = new; next_id = s.next_id + 4 })
           (λ e h. sym (open_refusal_is s e h) ∙ is) (λ e h. opened_stands s e new h sets);
       id = λ opened result. let here : id ≡ opened = cc in sym here ∙ same;
+    }
+
+pub open_refuses : (s : EndpointState) (r : Refusal) → open_refused s ≡ Some r → Opens s s (Err r)
+open_refuses s r is =
+    record {
+      opens = refuses open_refusal (λ e. record (opened_at e e.next_id None) { next_id = e.next_id + 4 }) s r (λ e h. sym (open_refusal_is s e h) ∙ is) (λ memory. open_takes_none s (is ∙ ap Some memory));
+      id = λ opened result. absurd (cc);
     }
 
 pub opens : (s now : EndpointState) (new : Streams RequestState) (id : ℕ) → s ≡ now → open_refused now ≡ None → Sets s.requests new id fresh_request → id ≡ s.next_id

@@ -1,6 +1,6 @@
 -- The refusals by what is stored are those of every history that it stands for: both are of one sender.
 use Rattle.std.proofs.Common.{◌≡◌, ℕ, Bool, true, false, if◌then◌else◌, List, [], ◌∷◌, Option, Some, None, refl, ap, sym, ◌∙◌}
-use Rattle.std.specs.Prelude.{◌≢◌, not, ◌&&◌, nat_lt, option_map, is_some, unwrap_or}
+use Rattle.std.specs.Prelude.{◌≢◌, ◌^◌, not, ◌&&◌, nat_le, nat_lt, option_map, is_some, unwrap_or}
 use Rattle.h3_header.specs.Head.{Head, has_pseudo}
 use Rattle.h3_field.specs.Field.{Field}
 use Rattle.h3_messages.specs.Content.{may_end}
@@ -10,10 +10,13 @@ use Rattle.h3_outgoing.specs.HistoryLaws.{head_taken, body_taken, end_taken, sen
 use Rattle.h3_outgoing.specs.Sent as sent
 use Rattle.h3_streams.specs.PlacedLaws.{critical_stands}
 use Rattle.h3_connection.specs.Endpoint.{EndpointHistory, is_critical_id}
+use Rattle.h3_connection.specs.KeptGoaways.{keeps_last}
+use Rattle.h3_connection.specs.KeptGoawayLaws.{last_kept}
+use Rattle.h3_connection.specs.Lasts.{last_id}
 use Rattle.h3_connection.specs.Outgoing.{Outgoing, nothing_sent, is_sent_off, takes_body, takes_head}
 use Rattle.h3_connection.specs.Pulling.{is_client, is_for}
 use Rattle.h3_connection.specs.OwnIds.{other}
-use Rattle.h3_connection.specs.Refusals.{Sender, SenderStream, first_of, needed, not_next, of_list, or_later, raised, refusal_of_body, refusal_of_end, refusal_of_goaway, refusal_of_head, refusal_of_trailer, refusal_to_stop, seen}
+use Rattle.h3_connection.specs.Refusals.{Sender, SenderStream, first_of, going_away, needed, not_next, of_list, or_later, raised, refusal_of_body, refusal_of_end, refusal_of_goaway, refusal_of_head, refusal_of_trailer, refusal_to_open, refusal_to_stop, seen}
 use Rattle.h3_connection.specs.Sending.{closed_or, outgoing_at, is_open, open_refusal, body_refusal, finish_refusal, reset_refusal, goaway_refusal, seen_at, sender_at}
 use Rattle.h3_connection.specs.State.{EndpointState, RequestState, StandsFor, IsOfOutgoing, SameAt, kept_at}
 use Rattle.h3_connection.specs.StreamSets.{stream_at}
@@ -84,7 +87,10 @@ broken_same s e fields h =
 
 -- Opening a request stream.
 pub open_refusal_is : (s : EndpointState) (e : EndpointHistory) → StandsFor s e → open_refused s ≡ open_refusal e
-open_refusal_is s e h = rw (h.closed, h.side, h.peer, h.next_id) refl
+open_refusal_is s e h =
+    ap (λ p. closed_or s.closed (refusal_to_open s.side (last_id p.goaways) s.next_id)) h.peer
+    ∙ ap (λ o. closed_or s.closed (refusal_to_open s.side o s.next_id)) (last_kept (keeps_last e.announced.choices) e.peer.goaways)
+    ∙ rw (h.closed, h.side, h.next_id) refl
 
 -- Finishing.
 pub end_refusal_is : (s : EndpointState) (e : EndpointHistory) (id : ℕ) → StandsFor s e → end_refused s id ≡ finish_refusal e id
@@ -194,6 +200,18 @@ three_take_none false b c p q r h g k is = two_take_none b c q r g k is
 unless_it_closed : (closed : Option ℕ) (o : Option Refusal) → o ≢ Some refusal.OutOfMemory → closed_or closed o ≢ Some refusal.OutOfMemory
 unless_it_closed (Some code) o h is = absurd (cc)
 unless_it_closed None o h is = h is
+
+pub open_takes_none : (s : EndpointState) → open_refused s ≢ Some refusal.OutOfMemory
+open_takes_none s = unless_it_closed s.closed (refusal_to_open s.side (last_id s.peer.goaways) s.next_id) (by (not (is_client s.side)) (last_id s.peer.goaways) (nat_le (2 ^ 62) s.next_id))
+  where
+    used_up : (b : Bool) → (let rule : Option Refusal = if b then Some refusal.IdsUsedUp else None in rule) ≢ Some refusal.OutOfMemory
+    used_up true is = absurd (cc)
+    used_up false is = absurd (cc)
+
+    by : (b : Bool) (last : Option ℕ) (far : Bool) → (let rule : Option Refusal = if b then Some refusal.NotClient else going_away last (if far then Some refusal.IdsUsedUp else None) in rule) ≢ Some refusal.OutOfMemory
+    by true last far is = absurd (cc)
+    by false (Some id) far is = absurd (cc)
+    by false None far is = used_up far is
 
 pub end_takes_none : (s : EndpointState) (id : ℕ) → end_refused s id ≢ Some refusal.OutOfMemory
 end_takes_none s id =

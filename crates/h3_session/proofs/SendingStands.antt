@@ -10,6 +10,7 @@ use Rattle.h3_connection.specs.Delivering.{opened_at}
 use Rattle.h3_connection.specs.Endpoint.{EndpointHistory, Own, goaway_encoding}
 use Rattle.h3_connection.specs.Incoming.{nothing_came}
 use Rattle.h3_connection.specs.Lasts.{last_id}
+use Rattle.h3_connection.specs.LastLaws.{last_appended}
 use Rattle.h3_connection.specs.Listeners.{Encoding}
 use Rattle.h3_connection.specs.OwnIds.{control_id, encoder_id, decoder_id}
 use Rattle.h3_connection.specs.Outgoing.{nothing_sent}
@@ -20,7 +21,6 @@ use Rattle.h3_connection.specs.StreamSetLaws.{set-distinct}
 use Rattle.h3_connection.specs.StandsLaws.{own_same, reached_same, still_there, part_set, sent_set}
 use Rattle.h3_unidirectional.specs.Owned.{waiting_on, having_taken}
 use Rattle.h3_unidirectional.specs.OwnLaws.{goaway_stands, instructions_stand, taken_stands}
-use Rattle.h3_session.proofs.LastIds.{last_appended}
 
 -- a stream on which nothing was sent
 fresh_sent : IsOfOutgoing nothing_sent nothing_waits

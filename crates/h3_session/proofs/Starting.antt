@@ -1,5 +1,5 @@
 -- What a new endpoint stores stands for the history of a new endpoint.
-use Rattle.std.proofs.Common.{arith, ◌≡◌, ℕ, List, [], Option, None, refl, sym, subst, append-nil}
+use Rattle.std.proofs.Common.{arith, ◌≡◌, ℕ, Bool, true, false, List, [], Option, None, refl, sym, subst, append-nil}
 use Rattle.h3_coding.specs.Encodings.{encoding}
 use Rattle.h3_wire.specs.StreamHeaders.{control_encoding}
 use Rattle.h3_proto.specs.declared.stream.Side.{Side}
@@ -7,6 +7,8 @@ use Rattle.h3_proto.specs.declared.stream.Side.TheVariants.{Client, Server}
 use Rattle.h3_connection.specs.declared.arrival.Arrival.{Arrival}
 use Rattle.h3_connection.specs.declared.setup.Announced.{Announced}
 use Rattle.h3_connection.specs.Endpoint.{new_endpoint}
+use Rattle.h3_connection.specs.KeptGoaways.{keeps_last, kept_peer}
+use Rattle.h3_connection.specs.PeerReading.{nothing_read}
 use Rattle.h3_connection.specs.State.{EndpointState, IsReached, OwnStands, RequestState, StandsFor, TakesWhatIsThere}
 use Rattle.h3_connection.specs.StreamSets.{Streams}
 use Rattle.h3_streams.specs.Placed.{StreamsState, first_streams}
@@ -45,6 +47,11 @@ stored side announced requests streams kept = record {
   sent = 0;
 }
 
+-- nothing is kept of nothing
+nothing_kept : (last : Bool) → nothing_read ≡ kept_peer last nothing_read
+nothing_kept true = refl
+nothing_kept false = refl
+
 first_stands : (side : Side) (announced : Announced) → StandsFor (stored side announced [] (first_streams announced) []) (new_endpoint side announced)
 first_stands side announced = record {
   side = refl;
@@ -58,7 +65,7 @@ first_stands side announced = record {
   control_on = refl;
   encoder_on = refl;
   decoder_on = refl;
-  peer = refl;
+  peer = nothing_kept (keeps_last announced.choices);
   decoding = refl;
   encoder = refl;
   decoder_unread = refl;

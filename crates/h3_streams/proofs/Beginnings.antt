@@ -6,6 +6,7 @@ use Rattle.h3_field.specs.Instruction.{decoder_bytes}
 use Rattle.h3_connection.specs.Control.{Found, read_control, read_encoder, read_decoder, listened_to, kept_unread, after_peer, if_learned, then_decoder, increment}
 use Rattle.h3_connection.specs.Endpoint.{EndpointHistory, limit_of, replied}
 use Rattle.h3_connection.specs.ExcessiveInstructions.{hear_up_to, listen_up_to}
+use Rattle.h3_connection.specs.KeptGoaways.{keeps_last, kept_peer}
 use Rattle.h3_connection.specs.Listeners.{Decoding, Encoding, hearing_fault, heard_more, after_hearing, insertions_heard}
 use Rattle.h3_connection.specs.LimitedHearingLaws.{hears_nothing}
 use Rattle.h3_connection.specs.LimitedListeningLaws.{listens_nothing}
@@ -38,7 +39,7 @@ control_begins s x e id h told none =
     let p = with_unread e.peer [] in
     let f = record e { control_on = Some id } in
     let read : read_peer (limit_of e) e.side (with_unread e.peer (e.peer.unread ++ [])) ≡ (p, None) = ap (λ l. read_peer (limit_of e) e.side (with_unread e.peer l)) (none_behind e.peer.unread nothing) ∙ nothing_read_on (limit_of e) e.side e.peer in
-    let same : x.peer ≡ p = h.peer ∙ ap (λ l. with_unread e.peer l) nothing in
+    let same : x.peer ≡ kept_peer (keeps_last e.announced.choices) p = h.peer ∙ ap (λ l. kept_peer (keeps_last e.announced.choices) (with_unread e.peer l)) nothing in
     let new = record e { control_on = Some id; peer = p } in
     record {
       new = new;

@@ -1,6 +1,7 @@
 -- Bytes of the peer's decoder stream.
 use Rattle.std.proofs.Common.{◌≡◌, ℕ, Bool, true, false, if◌then◌else◌, List, [], ◌∷◌, ◌++◌, Option, Some, None, refl, ap, sym, subst, ◌∙◌}
 use Rattle.std.specs.Prelude.{is_some}
+use Rattle.h3_proto.specs.declared.config.Choices.{Choices}
 use Rattle.h3_proto.specs.declared.stream.Side.{Side}
 use Rattle.h3_qpack.specs.EncoderHistory.{EncoderHistory}
 use Rattle.h3_qpack.specs.EncoderState.{encoder_state}
@@ -57,46 +58,46 @@ read_by s x e id bytes n fault false h told unknown (same, kept) =
           (stands_decoder s x e id n e.encoder h told state h.reached.unlearned),
     )
 
-pub decoder_read : (x : StreamsState) (id : ℕ) (bytes : List ℕ) (n : Encoding) (fault : Option ℕ) (known : Bool) (limit : ℕ) → false ≡ is_second x.decoder_on id → known ≡ is_some x.peer.settings
-    → ListensIf limit known bytes x.encoding n fault
-    → (s : EndpointState) (e : EndpointHistory) (side : Side) → IsRead s x e side limit id Decoder → Reads s fault (record x { decoder_on = Some id; encoding = n }) (heard_as e id Decoder bytes)
-decoder_read x id bytes n fault known limit first knows listens s e side r =
+pub decoder_read : (x : StreamsState) (id : ℕ) (bytes : List ℕ) (n : Encoding) (fault : Option ℕ) (known : Bool) (choices : Choices) → false ≡ is_second x.decoder_on id → known ≡ is_some x.peer.settings
+    → ListensIf choices.unfinished_limit known bytes x.encoding n fault
+    → (s : EndpointState) (e : EndpointHistory) (side : Side) → IsRead s x e side choices id Decoder → Reads s fault (record x { decoder_on = Some id; encoding = n }) (heard_as e id Decoder bytes)
+decoder_read x id bytes n fault known choices first knows listens s e side r =
     let h = r.stands in
     let here : is_second e.decoder_on id ≡ false = ap (λ o. is_second o id) (sym h.decoder_on) ∙ sym first in
     let knows' : is_some e.peer.settings ≡ known = ap (λ p. is_some p.settings) (sym h.peer) ∙ sym knows in
     let f = record e { decoder_on = Some id } in
     subst (Reads s fault (record x { decoder_on = Some id; encoding = n })) (sym (first_found (read_decoder f bytes) e.decoder_on e id here))
-    (rw knows' (read_by s x e id bytes n fault known h (told_peer s x e side limit id Decoder refl r) knows' (subst (λ m. ListensIf m known bytes x.encoding n fault) (sym r.limit_is) listens)))
+    (rw knows' (read_by s x e id bytes n fault known h (told_peer s x e side choices id Decoder refl r) knows' (subst (λ m. ListensIf m known bytes x.encoding n fault) (sym (ap (λ (c : Choices). c.unfinished_limit) r.choices_are)) listens)))
 
 -- a front of them was read
-decoder_held : (x : StreamsState) (id : ℕ) (bytes : List ℕ) (n : Encoding) (left : List Arrival) (limit : ℕ) → false ≡ is_second x.decoder_on id → true ≡ is_some x.peer.settings
-    → ((t : EncoderHistory) → x.encoding.encoder ≡ encoder_state t → StopsListening limit t (record x.encoding { unread = x.encoding.unread ++ bytes }) n) → left ≡ BytesCame id [] ∷ []
-    → (s : EndpointState) (e : EndpointHistory) (side : Side) → IsRead s x e side limit id Decoder
+decoder_held : (x : StreamsState) (id : ℕ) (bytes : List ℕ) (n : Encoding) (left : List Arrival) (choices : Choices) → false ≡ is_second x.decoder_on id → true ≡ is_some x.peer.settings
+    → ((t : EncoderHistory) → x.encoding.encoder ≡ encoder_state t → StopsListening choices.unfinished_limit t (record x.encoding { unread = x.encoding.unread ++ bytes }) n) → left ≡ BytesCame id [] ∷ []
+    → (s : EndpointState) (e : EndpointHistory) (side : Side) → IsRead s x e side choices id Decoder
     → Stops Decoder s x (record x { decoder_on = Some id; encoding = n }) e id bytes left
-decoder_held x id bytes n left limit first knows stopped is s e side r =
+decoder_held x id bytes n left choices first knows stopped is s e side r =
     let h = r.stands in
     let y = record x { decoder_on = Some id; encoding = n } in
     let here : is_second e.decoder_on id ≡ false = ap (λ o. is_second o id) (sym h.decoder_on) ∙ sym first in
     let known : is_some e.peer.settings ≡ true = ap (λ p. is_some p.settings) (sym h.peer) ∙ sym knows in
     let pairs = some_settings e.peer.settings known in
     let l = stopped e.encoder h.encoder in
-    let part = subst (λ m. ListensPart m e.encoder l.after (e.decoder_unread ++ bytes) n.unread) (sym r.limit_is) (subst (λ u. ListensPart limit e.encoder l.after (u ++ bytes) n.unread) h.decoder_unread l.part) in
+    let part = subst (λ m. ListensPart m e.encoder l.after (e.decoder_unread ++ bytes) n.unread) (sym (ap (λ (c : Choices). c.unfinished_limit) r.choices_are)) (subst (λ u. ListensPart choices.unfinished_limit e.encoder l.after (u ++ bytes) n.unread) h.decoder_unread l.part) in
     let stops : StopsAt s y (held_as e id (Decoder, bytes)) (BytesCame id [] ∷ []) (BytesCame id [] ∷ []) = record {
       after = record e { decoder_on = Some id; encoder = l.after; decoder_unread = n.unread };
       reads = λ more. ReadsSome.Steps (ReadsOn.Listens refl pairs.1 part) ReadsSome.Stays;
-      stands = stands_decoder s x e id n l.after h (told_peer s x e side limit id Decoder refl r) l.state (λ unknown. absurd (known_not_none e.peer.settings known unknown));
+      stands = stands_decoder s x e id n l.after h (told_peer s x e side choices id Decoder refl r) l.state (λ unknown. absurd (known_not_none e.peer.settings known unknown));
       kinds = one_peer e.side id [] r.kind;
     } in
     Stops.Held here (subst (StopsAt s y (held_as e id (Decoder, bytes)) (BytesCame id [] ∷ [])) (sym is) stops)
 
 -- the reading was refused memory
-pub decoder_stopped : (x : StreamsState) (id : ℕ) (bytes : List ℕ) (n : Encoding) (left : Left) (known : Bool) (stop : Stop) (limit : ℕ) → false ≡ is_second x.decoder_on id
-    → known ≡ is_some x.peer.settings → ListenedPart limit stop known bytes x.encoding n → left ≡ left_by stop id
-    → (s : EndpointState) (e : EndpointHistory) (side : Side) → IsRead s x e side limit id Decoder
+pub decoder_stopped : (x : StreamsState) (id : ℕ) (bytes : List ℕ) (n : Encoding) (left : Left) (known : Bool) (stop : Stop) (choices : Choices) → false ≡ is_second x.decoder_on id
+    → known ≡ is_some x.peer.settings → ListenedPart choices.unfinished_limit stop known bytes x.encoding n → left ≡ left_by stop id
+    → (s : EndpointState) (e : EndpointHistory) (side : Side) → IsRead s x e side choices id Decoder
     → Stops Decoder s x (record x { decoder_on = Some id; encoding = n }) e id bytes (left_arrivals left)
-decoder_stopped x id bytes n left known Held limit first knows (is_known, part) is s e side r =
-    decoder_held x id bytes n (left_arrivals left) limit first (sym is_known ∙ knows) part (ap left_arrivals is) s e side r
-decoder_stopped x id bytes n left known (Unheld back) limit first knows (same, kept) is s e side r =
+decoder_stopped x id bytes n left known Held choices first knows (is_known, part) is s e side r =
+    decoder_held x id bytes n (left_arrivals left) choices first (sym is_known ∙ knows) part (ap left_arrivals is) s e side r
+decoder_stopped x id bytes n left known (Unheld back) choices first knows (same, kept) is s e side r =
     let new = record x { decoder_on = Some id; encoding = n } in
     let with_id : new ≡ record x { decoder_on = Some id } = ap (λ q. record x { decoder_on = Some id; encoding = q }) kept in
     Stops.Unheld (ap (λ o. is_second o id) (sym r.stands.decoder_on) ∙ sym first) (ap left_arrivals is ∙ ap (λ l. BytesCame id l ∷ []) same) with_id

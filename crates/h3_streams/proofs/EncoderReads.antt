@@ -2,6 +2,7 @@
 use Rattle.std.proofs.Common.{◌≡◌, ℕ, ◌-◌, ◌==◌, Bool, true, false, if◌then◌else◌, List, [], ◌∷◌, ◌++◌, append-nil, flat_map, Option, Some, refl, ap, sym, subst, ◌∙◌}
 use Rattle.h3_field.specs.Instruction.{decoder_bytes}
 use Rattle.h3_field.specs.Instruction.DecoderInstruction.{Increment}
+use Rattle.h3_proto.specs.declared.config.Choices.{Choices}
 use Rattle.h3_proto.specs.declared.stream.Side.{Side}
 use Rattle.h3_qpack.specs.Increments.{increment_for}
 use Rattle.h3_connection.specs.declared.arrival.Arrival.{Arrival}
@@ -39,47 +40,47 @@ with_increment s x e id n d after h told is =
 pub first_found : (role_found : Found) (on : Option ℕ) (e : EndpointHistory) (id : ℕ) → is_second on id ≡ false → unless_second (is_second on id) e role_found ≡ role_found
 first_found found on e id first = ap (λ b. unless_second b e found) first
 
-pub encoder_read : (x : StreamsState) (id : ℕ) (bytes : List ℕ) (d : Decoding) (fault : Option ℕ) (after : List ℕ) (limit : ℕ) → false ≡ is_second x.encoder_on id → Hears limit x.decoding d bytes fault x.own.decoder after
-    → (s : EndpointState) (e : EndpointHistory) (side : Side) → IsRead s x e side limit id Encoder → Reads s fault (record x { encoder_on = Some id; decoding = d; own = record x.own { decoder = after } }) (heard_as e id Encoder bytes)
-encoder_read x id bytes d fault after limit first hears s e side r =
+pub encoder_read : (x : StreamsState) (id : ℕ) (bytes : List ℕ) (d : Decoding) (fault : Option ℕ) (after : List ℕ) (choices : Choices) → false ≡ is_second x.encoder_on id → Hears choices.unfinished_limit x.decoding d bytes fault x.own.decoder after
+    → (s : EndpointState) (e : EndpointHistory) (side : Side) → IsRead s x e side choices id Encoder → Reads s fault (record x { encoder_on = Some id; decoding = d; own = record x.own { decoder = after } }) (heard_as e id Encoder bytes)
+encoder_read x id bytes d fault after choices first hears s e side r =
     let h = r.stands in
     let y = record x { encoder_on = Some id; decoding = d; own = record x.own { decoder = after } } in
     let f = record e { encoder_on = Some id } in
     let here : is_second e.encoder_on id ≡ false = ap (λ o. is_second o id) (sym h.encoder_on) ∙ sym first in
-    let k = subst (λ n. Hears n e.decoding d bytes fault x.own.decoder after) (sym r.limit_is) (subst (λ o. Hears limit o d bytes fault x.own.decoder after) h.decoding hears) in
+    let k = subst (λ n. Hears n e.decoding d bytes fault x.own.decoder after) (sym (ap (λ (c : Choices). c.unfinished_limit) r.choices_are)) (subst (λ o. Hears choices.unfinished_limit o d bytes fault x.own.decoder after) h.decoding hears) in
     let all = heard_more (limit_of e) e.decoding bytes in
     let stands = subst (λ q. StandsFor (placed s (record x { encoder_on = Some id; decoding = q; own = record x.own { decoder = after } })) (read_encoder f bytes).0) (sym k.table)
-    (with_increment s x e id (insertions_heard e.decoding all) (after_hearing all) after h (told_peer s x e side limit id Encoder refl r) k.increment) in
+    (with_increment s x e id (insertions_heard e.decoding all) (after_hearing all) after h (told_peer s x e side choices id Encoder refl r) k.increment) in
     subst (Reads s fault y) (sym (first_found (read_encoder f bytes) e.encoder_on e id here)) (k.fault, stands)
 
 -- a front of them was read
-encoder_held : (x : StreamsState) (id : ℕ) (bytes : List ℕ) (d : Decoding) (after : List ℕ) (left : List Arrival) (limit : ℕ) → false ≡ is_second x.encoder_on id
-    → HearsPart limit (record x.decoding { unread = x.decoding.unread ++ bytes }) d → after ≡ x.own.decoder ++ increment_for (d.decoder.table.inserted - x.decoding.decoder.table.inserted) → left ≡ BytesCame id [] ∷ []
-    → (s : EndpointState) (e : EndpointHistory) (side : Side) → IsRead s x e side limit id Encoder
+encoder_held : (x : StreamsState) (id : ℕ) (bytes : List ℕ) (d : Decoding) (after : List ℕ) (left : List Arrival) (choices : Choices) → false ≡ is_second x.encoder_on id
+    → HearsPart choices.unfinished_limit (record x.decoding { unread = x.decoding.unread ++ bytes }) d → after ≡ x.own.decoder ++ increment_for (d.decoder.table.inserted - x.decoding.decoder.table.inserted) → left ≡ BytesCame id [] ∷ []
+    → (s : EndpointState) (e : EndpointHistory) (side : Side) → IsRead s x e side choices id Encoder
     → Stops Encoder s x (record x { encoder_on = Some id; decoding = d; own = record x.own { decoder = after } }) e id bytes left
-encoder_held x id bytes d after left limit first part wrote is s e side r =
+encoder_held x id bytes d after left choices first part wrote is s e side r =
     let h = r.stands in
     let y = record x { encoder_on = Some id; decoding = d; own = record x.own { decoder = after } } in
     let here : is_second e.encoder_on id ≡ false = ap (λ o. is_second o id) (sym h.encoder_on) ∙ sym first in
-    let part' = subst (λ n. HearsPart n (record e.decoding { unread = e.decoding.unread ++ bytes }) d) (sym r.limit_is) (subst (λ (o : Decoding). HearsPart limit (record o { unread = o.unread ++ bytes }) d) h.decoding part) in
+    let part' = subst (λ n. HearsPart n (record e.decoding { unread = e.decoding.unread ++ bytes }) d) (sym (ap (λ (c : Choices). c.unfinished_limit) r.choices_are)) (subst (λ (o : Decoding). HearsPart choices.unfinished_limit (record o { unread = o.unread ++ bytes }) d) h.decoding part) in
     let wrote' = subst (λ (o : Decoding). after ≡ x.own.decoder ++ increment_for (d.decoder.table.inserted - o.decoder.table.inserted)) h.decoding wrote in
     let n = d.decoder.table.inserted - e.decoding.decoder.table.inserted in
     let new = replied (record e { encoder_on = Some id; decoding = d }) (increment n) in
     let stops : StopsAt s y (held_as e id (Encoder, bytes)) (BytesCame id [] ∷ []) (BytesCame id [] ∷ []) = record {
       after = new;
       reads = λ more. ReadsSome.Steps (ReadsOn.Hears refl part') ReadsSome.Stays;
-      stands = with_increment s x e id n d after h (told_peer s x e side limit id Encoder refl r) wrote';
+      stands = with_increment s x e id n d after h (told_peer s x e side choices id Encoder refl r) wrote';
       kinds = one_peer e.side id [] r.kind;
     } in
     Stops.Held here (subst (StopsAt s y (held_as e id (Encoder, bytes)) (BytesCame id [] ∷ [])) (sym is) stops)
 
 -- the reading was refused memory
-pub encoder_stopped : (x : StreamsState) (id : ℕ) (bytes : List ℕ) (d : Decoding) (after : List ℕ) (left : Left) (stop : Stop) (limit : ℕ) → false ≡ is_second x.encoder_on id
-    → HeardPart limit stop bytes x.decoding d x.own.decoder after → left ≡ left_by stop id
-    → (s : EndpointState) (e : EndpointHistory) (side : Side) → IsRead s x e side limit id Encoder
+pub encoder_stopped : (x : StreamsState) (id : ℕ) (bytes : List ℕ) (d : Decoding) (after : List ℕ) (left : Left) (stop : Stop) (choices : Choices) → false ≡ is_second x.encoder_on id
+    → HeardPart choices.unfinished_limit stop bytes x.decoding d x.own.decoder after → left ≡ left_by stop id
+    → (s : EndpointState) (e : EndpointHistory) (side : Side) → IsRead s x e side choices id Encoder
     → Stops Encoder s x (record x { encoder_on = Some id; decoding = d; own = record x.own { decoder = after } }) e id bytes (left_arrivals left)
-encoder_stopped x id bytes d after left Held limit first (part, wrote) is s e side r = encoder_held x id bytes d after (left_arrivals left) limit first part wrote (ap left_arrivals is) s e side r
-encoder_stopped x id bytes d after left (Unheld back) limit first (same, kept, nothing) is s e side r =
+encoder_stopped x id bytes d after left Held choices first (part, wrote) is s e side r = encoder_held x id bytes d after (left_arrivals left) choices first part wrote (ap left_arrivals is) s e side r
+encoder_stopped x id bytes d after left (Unheld back) choices first (same, kept, nothing) is s e side r =
     let new = record x { encoder_on = Some id; decoding = d; own = record x.own { decoder = after } } in
     let with_id : new ≡ record x { encoder_on = Some id } = ap (λ q. record x { encoder_on = Some id; decoding = q; own = record x.own { decoder = after } }) kept
     ∙ ap (λ l. record x { encoder_on = Some id; own = record x.own { decoder = l } }) nothing in

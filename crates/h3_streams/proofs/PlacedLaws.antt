@@ -5,6 +5,7 @@ use Rattle.h3_connection.specs.Unidirectional.{Unidirectional, Role, is_critical
 use Rattle.h3_connection.specs.Unidirectional.Role.{Untold, Control, Encoder, Decoder, Session, Push, Ignored}
 use Rattle.h3_connection.specs.Delivering.{unidirectional_at}
 use Rattle.h3_connection.specs.Endpoint.{EndpointHistory, replied}
+use Rattle.h3_connection.specs.KeptGoaways.{keeps_last, kept_peer}
 use Rattle.h3_connection.specs.Sending.{pull_peer}
 use Rattle.h3_connection.specs.StandsLaws.{stands_unidirectional}
 use Rattle.h3_connection.specs.State.{EndpointState, StandsFor, kept_at, OwnStands, IsToldPeer, OwnState}
@@ -47,7 +48,7 @@ pub record StreamsStand (x : StreamsState) (e : EndpointHistory) : Type 0 where
   pub control_on : x.control_on ≡ e.control_on
   pub encoder_on : x.encoder_on ≡ e.encoder_on
   pub decoder_on : x.decoder_on ≡ e.decoder_on
-  pub peer : x.peer ≡ e.peer
+  pub peer : x.peer ≡ kept_peer (keeps_last e.announced.choices) e.peer
   pub decoding : x.decoding ≡ e.decoding
   pub encoder : x.encoding.encoder ≡ encoder_state e.encoder
   pub decoder_unread : x.encoding.unread ≡ e.decoder_unread
@@ -126,10 +127,10 @@ some_on id h = absurd (cc)
 
 -- The peer's control stream is read as such from now on, or is read on.
 pub stands_control : (s : EndpointState) (x : StreamsState) (e : EndpointHistory) (id : ℕ) (p : Peer) → StandsFor (placed s x) e → IsToldPeer e.side e.unidirectional id → (p.settings ≡ None → e.peer.settings ≡ None)
-    → StandsFor (placed s (record x { control_on = Some id; peer = p })) (record e { control_on = Some id; peer = p })
+    → StandsFor (placed s (record x { control_on = Some id; peer = kept_peer (keeps_last e.announced.choices) p })) (record e { control_on = Some id; peer = p })
 stands_control s x e id p h told known =
     let f = record e { control_on = Some id; peer = p } in
-    stands_placed s x (record x { control_on = Some id; peer = p }) e f h refl (record {
+    stands_placed s x (record x { control_on = Some id; peer = kept_peer (keeps_last e.announced.choices) p }) e f h refl (record {
       unidirectional = h.unidirectional;
       control_on = refl;
       encoder_on = h.encoder_on;

@@ -13,6 +13,7 @@ use crate::left::Left;
 use crate::streams::ConnectionStreams;
 use bytes::Bytes;
 use h3_connection::arrival::MOST_HELD;
+use h3_proto::config::Choices;
 use h3_proto::error::Code;
 use h3_proto::stream::{Side, StreamId};
 use h3_unidirectional::stream::Received;
@@ -56,18 +57,18 @@ impl ConnectionStreams {
 
     /// Bytes came on a unidirectional stream of the peer, which is not closed. They tell its role, or are for it: what is for the
     /// control, encoder and decoder stream is read, up to the first fault, and that is answered. A frame of the control stream that says a
-    /// length above `most` is one, and so is an instruction of the encoder or decoder stream that is longer. Where memory is refused, what
-    /// was read stands, and the answer is what is still to be read.
+    /// length above the limit of the endpoint's choices is one, and so is an instruction of the encoder or decoder stream that is longer.
+    /// Where memory is refused, what was read stands, and the answer is what is still to be read.
     pub fn bytes(
         &mut self,
         alloc: Global,
         side: Side,
-        most: u64,
+        choices: Choices,
         id: StreamId,
         bytes: Bytes,
     ) -> Result<Option<Code>, Left>
-        ensures ok { IfOk result (λ fault. (s : EndpointState) (e : EndpointHistory) → IsDue s self.old e side most id → Reads s fault self.new (bytes_at e id bytes PeerUnidirectional)) }
-        ensures err { IfErr result (λ left. (s : EndpointState) (e : EndpointHistory) → IsDue s self.old e side most id → StopsAt s self.new e (BytesCame id bytes ∷ []) (left_arrivals left)) }
+        ensures ok { IfOk result (λ fault. (s : EndpointState) (e : EndpointHistory) → IsDue s self.old e side choices id → Reads s fault self.new (bytes_at e id bytes PeerUnidirectional)) }
+        ensures err { IfErr result (λ left. (s : EndpointState) (e : EndpointHistory) → IsDue s self.old e side choices id → StopsAt s self.new e (BytesCame id bytes ∷ []) (left_arrivals left)) }
     {
         if !self.has_room(id, bytes.len()) {
             return Err(Left::of(id, bytes));
@@ -75,9 +76,9 @@ impl ConnectionStreams {
         match self.unidirectional.receive(alloc, id, bytes) {
             Ok(Received::Nothing) => Ok(None),
             Ok(Received::Push) => Ok(Some(push_fault(side))),
-            Ok(Received::Control(rest)) => self.control_bytes(alloc, side, most, id, rest),
-            Ok(Received::Encoder(rest)) => self.encoder_bytes(most, id, rest),
-            Ok(Received::Decoder(rest)) => self.decoder_bytes(most, id, rest),
+            Ok(Received::Control(rest)) => self.control_bytes(alloc, side, choices, id, rest),
+            Ok(Received::Encoder(rest)) => self.encoder_bytes(choices, id, rest),
+            Ok(Received::Decoder(rest)) => self.decoder_bytes(choices, id, rest),
             Err(back) => Err(Left::of(id, back)),
         }
     }

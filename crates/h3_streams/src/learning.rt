@@ -1,10 +1,12 @@
 //! The peer's settings, and the table that they allow (RFC 9204, sections 3.2.3 and 4.3.1).
 ghost use Rattle.std.specs.Prelude.{◌≡◌, ◌+◌, ◌≤◌, None, vec_len, IfOk, OnErr};
 ghost use Rattle.std.specs.Vec.{vec_capacity};
-ghost use Rattle.h3_connection.specs.PartReading.{PeerReadsPart};
+ghost use Rattle.h3_connection.specs.KeptGoaways.{keeps_last, kept_found};
 ghost use Rattle.h3_connection.specs.PeerReading.{read_peer};
+ghost use Rattle.h3_unidirectional.specs.Fronts.{KeepsPart};
 ghost use Rattle.h3_streams.specs.Stopping.{Learns};
 
+use h3_proto::config::Choices;
 use h3_proto::error::Code;
 use h3_proto::stream::Side;
 use h3_qpack::reserved::{CAPACITY_LEN, put_capacity};
@@ -28,8 +30,8 @@ fn use_settings(peer: &PeerControl, encoding: &mut Encoding, out: &mut Vec<u8>)
     put_capacity(capacity, out);
 }
 
-/// Reads the peer's control stream, of frames up to `most`, while its settings have not come. As soon as they are read the table that they allow is used, and
-/// its capacity written on `out`: the room for that is taken before, so that no want of memory comes between. The fault is that of
+/// Reads the peer's control stream by these choices, while its settings have not come. As soon as they are read the table that they allow is
+/// used, and its capacity written on `out`: the room for that is taken before, so that no want of memory comes between. The fault is that of
 /// the reading. Where memory is refused a front of the frames was read.
 #[tactic(auto, using(crate::proofs::Allowed::nothing_read))]
 pub(crate) fn read_first(
@@ -38,11 +40,11 @@ pub(crate) fn read_first(
     out: &mut Vec<u8>,
     alloc: Global,
     side: Side,
-    most: u64,
+    choices: Choices,
 ) -> Result<Option<Code>, AllocError>
     requires unknown { peer.old.settings ≡ None }
-    ensures ok { IfOk result (λ fault. read_peer most side peer.old ≡ (peer.new, fault)) }
-    ensures err { OnErr result (PeerReadsPart most side peer.old peer.new) }
+    ensures ok { IfOk result (λ fault. kept_found (keeps_last choices) (read_peer choices.unfinished_limit side peer.old) ≡ (peer.new, fault)) }
+    ensures err { OnErr result (KeepsPart (keeps_last choices) choices.unfinished_limit side peer.old peer.new) }
     ensures learns { Learns encoding.old encoding.new out.old.items out.new.items peer.new.settings }
 {
     // (not reached: before the settings came nothing was inserted)
@@ -52,7 +54,7 @@ pub(crate) fn read_first(
     let Ok(()) = out.reserve(CAPACITY_LEN) else {
         return Err(AllocError);
     };
-    let outcome = peer.read(alloc, side, most);
+    let outcome = peer.read(alloc, side, choices);
     use_settings(peer, encoding, out);
     outcome
 }

@@ -14,6 +14,7 @@ use crate::left::Left;
 use crate::readers::{hear, hold, listen};
 use crate::streams::ConnectionStreams;
 use bytes::Bytes;
+use h3_proto::config::Choices;
 use h3_proto::error::Code;
 use h3_proto::stream::{Side, StreamId};
 use std::alloc::Global;
@@ -30,42 +31,52 @@ fn is_second(first: Option<StreamId>, id: StreamId) -> bool
 
 impl ConnectionStreams {
     /// Bytes for the encoder stream: of the first such stream, whose role was told before or is told now. A second one is a fault, and so is
-    /// an instruction that is longer than `most`.
+    /// an instruction that is longer than the limit of the endpoint's choices.
     pub(crate) fn encoder_bytes(
         &mut self,
-        most: u64,
+        choices: Choices,
         id: StreamId,
         bytes: Bytes,
     ) -> Result<Option<Code>, Left>
-        ensures ok { IfOk result (λ fault. (s : EndpointState) (e : EndpointHistory) (side : Side) → IsRead s self.old e side most id Encoder → Reads s fault self.new (heard_as e id Encoder bytes)) }
-        ensures err { IfErr result (λ left. (s : EndpointState) (e : EndpointHistory) (side : Side) → IsRead s self.old e side most id Encoder → Stops Encoder s self.old self.new e id bytes (left_arrivals left)) }
+        ensures ok { IfOk result (λ fault. (s : EndpointState) (e : EndpointHistory) (side : Side) → IsRead s self.old e side choices id Encoder → Reads s fault self.new (heard_as e id Encoder bytes)) }
+        ensures err { IfErr result (λ left. (s : EndpointState) (e : EndpointHistory) (side : Side) → IsRead s self.old e side choices id Encoder → Stops Encoder s self.old self.new e id bytes (left_arrivals left)) }
     {
         if is_second(self.encoder_on, id) {
             return Ok(Some(Code::H3_STREAM_CREATION_ERROR));
         }
         self.encoder_on = Some(id);
-        let stop = match hear(&mut self.decoding, most, &mut self.own.decoder, bytes) {
+        let stop = match hear(
+            &mut self.decoding,
+            choices.unfinished_limit,
+            &mut self.own.decoder,
+            bytes,
+        ) {
             Ok(fault) => return Ok(fault),
             Err(stop) => stop,
         };
         Err(stop.left(id))
     }
 
-    /// Bytes for the decoder stream, likewise. Before the settings they are held, up to `most`.
+    /// Bytes for the decoder stream, likewise. Before the settings they are held, up to that limit.
     pub(crate) fn decoder_bytes(
         &mut self,
-        most: u64,
+        choices: Choices,
         id: StreamId,
         bytes: Bytes,
     ) -> Result<Option<Code>, Left>
-        ensures ok { IfOk result (λ fault. (s : EndpointState) (e : EndpointHistory) (side : Side) → IsRead s self.old e side most id Decoder → Reads s fault self.new (heard_as e id Decoder bytes)) }
-        ensures err { IfErr result (λ left. (s : EndpointState) (e : EndpointHistory) (side : Side) → IsRead s self.old e side most id Decoder → Stops Decoder s self.old self.new e id bytes (left_arrivals left)) }
+        ensures ok { IfOk result (λ fault. (s : EndpointState) (e : EndpointHistory) (side : Side) → IsRead s self.old e side choices id Decoder → Reads s fault self.new (heard_as e id Decoder bytes)) }
+        ensures err { IfErr result (λ left. (s : EndpointState) (e : EndpointHistory) (side : Side) → IsRead s self.old e side choices id Decoder → Stops Decoder s self.old self.new e id bytes (left_arrivals left)) }
     {
         if is_second(self.decoder_on, id) {
             return Ok(Some(Code::H3_STREAM_CREATION_ERROR));
         }
         self.decoder_on = Some(id);
-        let stop = match listen(&mut self.encoding, most, self.peer.has_settings(), bytes) {
+        let stop = match listen(
+            &mut self.encoding,
+            choices.unfinished_limit,
+            self.peer.has_settings(),
+            bytes,
+        ) {
             Ok(fault) => return Ok(fault),
             Err(stop) => stop,
         };
@@ -73,17 +84,17 @@ impl ConnectionStreams {
     }
 
     /// Bytes for the control stream: of the first such stream, whose role was told before or is told now. A second one is a fault, and so is
-    /// a frame that says a length above `most`.
+    /// a frame that says a length above that limit.
     pub(crate) fn control_bytes(
         &mut self,
         alloc: Global,
         side: Side,
-        most: u64,
+        choices: Choices,
         id: StreamId,
         bytes: Bytes,
     ) -> Result<Option<Code>, Left>
-        ensures ok { IfOk result (λ fault. (s : EndpointState) (e : EndpointHistory) → IsRead s self.old e side most id Control → Reads s fault self.new (heard_as e id Control bytes)) }
-        ensures err { IfErr result (λ left. (s : EndpointState) (e : EndpointHistory) → IsRead s self.old e side most id Control → Stops Control s self.old self.new e id bytes (left_arrivals left)) }
+        ensures ok { IfOk result (λ fault. (s : EndpointState) (e : EndpointHistory) → IsRead s self.old e side choices id Control → Reads s fault self.new (heard_as e id Control bytes)) }
+        ensures err { IfErr result (λ left. (s : EndpointState) (e : EndpointHistory) → IsRead s self.old e side choices id Control → Stops Control s self.old self.new e id bytes (left_arrivals left)) }
     {
         if is_second(self.control_on, id) {
             return Ok(Some(Code::H3_STREAM_CREATION_ERROR));
@@ -93,7 +104,7 @@ impl ConnectionStreams {
             Ok(()) => {}
             Err(back) => return Err(Left::of(id, back)),
         }
-        self.frames(alloc, side, most, id)
+        self.frames(alloc, side, choices, id)
     }
 
     /// Reads what is held of the control stream.
@@ -101,16 +112,16 @@ impl ConnectionStreams {
         &mut self,
         alloc: Global,
         side: Side,
-        most: u64,
+        choices: Choices,
         id: StreamId,
     ) -> Result<Option<Code>, Left>
-        ensures ok { IfOk result (λ fault. ReadsHeld self.old self.new side most id fault) }
-        ensures err { IfErr result (λ left. StopsHeld self.old self.new side most id (left_arrivals left)) }
+        ensures ok { IfOk result (λ fault. ReadsHeld self.old self.new side choices id fault) }
+        ensures err { IfErr result (λ left. StopsHeld self.old self.new side choices id (left_arrivals left)) }
     {
         if !self.peer.has_settings() {
-            return self.first_frames(alloc, side, most, id);
+            return self.first_frames(alloc, side, choices, id);
         }
-        let Ok(fault) = self.peer.read(alloc, side, most) else {
+        let Ok(fault) = self.peer.read(alloc, side, choices) else {
             return Err(Left::held(id));
         };
         Ok(fault)
@@ -122,17 +133,24 @@ impl ConnectionStreams {
         &mut self,
         alloc: Global,
         side: Side,
-        most: u64,
+        choices: Choices,
         id: StreamId,
     ) -> Result<Option<Code>, Left>
         requires { self.old.peer.settings ≡ None }
-        ensures ok { IfOk result (λ fault. ReadsHeld self.old self.new side most id fault) }
-        ensures err { IfErr result (λ left. StopsHeld self.old self.new side most id (left_arrivals left)) }
+        ensures ok { IfOk result (λ fault. ReadsHeld self.old self.new side choices id fault) }
+        ensures err { IfErr result (λ left. StopsHeld self.old self.new side choices id (left_arrivals left)) }
     {
         let out = self.own.encoder.bytes_mut();
-        match read_first(&mut self.peer, &mut self.encoding, out, alloc, side, most) {
+        match read_first(
+            &mut self.peer,
+            &mut self.encoding,
+            out,
+            alloc,
+            side,
+            choices,
+        ) {
             Ok(Some(code)) => Ok(Some(code)),
-            Ok(None) => self.early_replies(most),
+            Ok(None) => self.early_replies(choices.unfinished_limit),
             Err(_) => Err(Left {
                 id,
                 bytes: Bytes::new(),

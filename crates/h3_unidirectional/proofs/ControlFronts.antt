@@ -17,9 +17,9 @@ use Rattle.h3_wire.specs.declared.proto.frame.Frame.TheVariants as frame
 use Rattle.h3_connection.specs.Codes.{excessive_load}
 use Rattle.h3_connection.specs.PeerReading.{Peer, PeerFound, with_unread, read_max_push, read_frame, at_front, unless_excessive, read_peer}
 use Rattle.h3_unidirectional.proofs.PeerLaws.{peer_frame, peer_fault, peer_less}
-use Rattle.h3_unidirectional.specs.Fronts.{ReadsFront, StopsReading}
+use Rattle.h3_unidirectional.specs.Fronts.{ReadsFront}
 use Rattle.h3_unidirectional.proofs.FrameFronts.{Precedes, followed_by, frame_front, unknown_front}
-use Rattle.h3_connection.specs.PeerReadingLaws.{frame_keeps, peer_step, step_excessive, nothing_read_on}
+use Rattle.h3_connection.specs.PeerReadingLaws.{frame_keeps, peer_step, step_excessive}
 
 -- the same finding, over other bytes
 abbrev over : PeerFound → List ℕ → PeerFound
@@ -73,7 +73,6 @@ from_front limit side old new front split goes_on =
     record {
       front = front;
       split = split;
-      read = ap (λ l. read_peer limit side (with_unread old l)) (sym (append-nil front)) ∙ goes_on [] ∙ nothing_read_on limit side new;
       goes_on = goes_on;
     }
 
@@ -111,17 +110,6 @@ frame_read limit side p new f rest small gives does =
     let again : read_frame side (with_unread p more) p.settings f ≡ (with_unread new more, None) = frame_over side (with_unread p rest) p.settings f more ∙ ap (λ x. over x more) does in
     known_alike limit side p ((u.front ++ w.front) ++ more) (w.front ++ more) (ap known (append_assoc u.front w.front more) ∙ u.alike (w.front ++ more))
     ∙ peer_frame limit side (with_unread p (w.front ++ more)) f more (with_unread new more, None) short here again)
-
--- one front behind the other
-pub then_front : (limit : ℕ) (side : Side) (old mid new : Peer) → ReadsFront limit side old mid → ReadsFront limit side mid new → ReadsFront limit side old new
-then_front limit side old mid new a b =
-    from_front limit side old new (a.front ++ b.front)
-    (a.split ∙ ap (λ l. a.front ++ l) b.split ∙ sym (append_assoc a.front b.front new.unread))
-    (λ more. ap (λ l. read_peer limit side (with_unread old l)) (append_assoc a.front b.front more) ∙ a.goes_on (b.front ++ more) ∙ b.goes_on more)
-
--- the whole is read as what is left
-pub behind_front : (limit : ℕ) (side : Side) (old mid : Peer) → ReadsFront limit side old mid → read_peer limit side mid ≡ read_peer limit side old
-behind_front limit side old mid a = sym (ap (λ l. read_peer limit side (with_unread old l)) a.split ∙ a.goes_on mid.unread)
 
 -- room for another GOAWAY frame changes none
 same_goaways : (side : Side) (p : Peer) (goaways rest : List ℕ) (f : Frame PayloadLen) (x : PeerFound) → goaways ≡ p.goaways → read_frame side (record p { unread = rest; goaways = goaways }) p.settings f ≡ x → read_frame side (with_unread p rest) p.settings f ≡ x
@@ -163,17 +151,6 @@ one_excessive limit side p goaways left large same none =
 pub refused_front : (limit : ℕ) (side : Side) (p : Peer) (goaways left : List ℕ) (e : FrameStreamError) → goaways ≡ p.goaways → Gives (Err e) p.unread left → ReadsFront limit side p (record p { unread = left; goaways = goaways })
 refused_front limit side p goaways left e same gives =
     subst (λ g. ReadsFront limit side p (record p { unread = left; goaways = g })) (sym same) (unknown_passed limit side p left (left_known e p.unread left gives))
-
--- where memory is refused, what was read stands
-pub stops_reading : (limit : ℕ) (side : Side) (old new : Peer) → ReadsFront limit side old new → StopsReading limit side old new
-stops_reading limit side old new h =
-    record {
-      part = record { front = h.front; rest = new.unread; cut = h.split; read = with_unread new []; reads = h.read; left = refl };
-      resumes = λ more. sym (ap (λ l. read_peer limit side (with_unread old (l ++ more))) h.split ∙ ap (λ l. read_peer limit side (with_unread old l)) (append_assoc h.front new.unread more) ∙ h.goes_on (new.unread ++ more));
-    }
-
-pub stops_later : (limit : ℕ) (side : Side) (old mid new : Peer) → ReadsFront limit side old mid → ReadsFront limit side mid new → StopsReading limit side old new
-stops_later limit side old mid new a b = stops_reading limit side old new (then_front limit side old mid new a b)
 
 -- more bytes are kept behind what is unread
 pub kept_more : {A E : Type 0} (r : Result A E) (stored p : Peer) (unread bytes : List ℕ) → stored ≡ p → OnOk r (unread ≡ stored.unread ++ bytes) → OnOk r (with_unread stored unread ≡ with_unread p (p.unread ++ bytes))

@@ -1,5 +1,6 @@
 pub mod FrameFronts
 pub mod ControlFronts
+pub mod KeptFronts
 mod InstructionFronts
 mod Excess
 mod WindowLaws

@@ -5,13 +5,16 @@ ghost use Rattle.h3_proto.specs.declared.stream.Side.{Side};
 ghost use Rattle.h3_wire.specs.Known.{refusal};
 ghost use Rattle.h3_wire.specs.UnknownSize.{held_length};
 ghost use Rattle.h3_connection.specs.Codes.{settings_code, refusal_code};
+ghost use Rattle.h3_connection.specs.KeptGoaways.{keeps_last, kept_found, kept_peer};
 ghost use Rattle.h3_connection.specs.Lasts.{last_id};
 ghost use Rattle.h3_connection.specs.PeerReading.{Peer, nothing_read, with_unread, is_no_goaway, read_goaway, read_max_push, read_frame, refused_code, read_peer};
 ghost use Rattle.h3_unidirectional.specs.Fronts.{ReadsFront, StopsReading};
 ghost use Rattle.h3_unidirectional.specs.Judged.{done, ReadsOne};
 
+use crate::limits::keeps_last;
 use bytes::Bytes;
 use h3_coding::varint::VarInt;
+use h3_proto::config::Choices;
 use h3_proto::error::Code;
 use h3_proto::frame::{Settings, SettingsError};
 use h3_proto::push::PushId;
@@ -125,7 +128,7 @@ impl PeerControl {
         self.settings.is_some()
     }
 
-    /// The ids of the GOAWAY frames, in order.
+    /// The ids of the GOAWAY frames that are kept, in order.
     pub fn goaways(&self) -> &[VarInt]
         ensures { result.now ≡ self.now.goaways }
     {
@@ -270,16 +273,40 @@ impl PeerControl {
         }
     }
 
-    /// Reads all whole frames, up to the first fault, and answers that fault. One that says a length above `most` is a fault, whether its
-    /// payload came or not (RFC 9114, section 10.5). Where memory is refused the frames that were read stand, and the others stay unread:
-    /// the next reading goes on with them, and answers what this one would have.
-    #[tactic(auto, using(crate::proofs::ControlFronts::no_front, crate::proofs::ControlFronts::then_front, crate::proofs::ControlFronts::behind_front, crate::proofs::ControlFronts::stops_later))]
-    pub fn read(&mut self, alloc: Global, side: Side, most: u64) -> Result<Option<Code>, AllocError>
-        ensures ok { IfOk result (λ fault. read_peer most side self.old ≡ (self.new, fault)) }
-        ensures refused { OnErr result (StopsReading most side self.old self.new) }
+    /// Lets go of all ids of GOAWAY frames but the last, where that is kept alone. It takes no memory.
+    #[tactic(auto, using(crate::proofs::KeptFronts::none_changed))]
+    fn keep_goaways(&mut self, last_alone: bool)
+        ensures { self.new ≡ kept_peer last_alone self.old }
     {
-        loop {
-            match self.read_one(alloc, side, most) {
+        if !last_alone {
+            return;
+        }
+        let Some(last) = self.last_goaway() else {
+            return;
+        };
+        self.goaways[0] = last;
+        self.goaways.truncate(1);
+    }
+
+    /// Reads all whole frames, up to the first fault, and answers that fault. One that says a length above the limit of the choices is a
+    /// fault, whether its payload came or not (RFC 9114, section 10.5). Where the choices limit the ids that are kept, each GOAWAY frame's
+    /// id takes the place of the last. Where memory is refused the frames that were read stand, and the others stay unread: the next
+    /// reading goes on with them, and answers what this one would have.
+    #[tactic(auto, using(crate::proofs::KeptFronts::none_kept, crate::proofs::KeptFronts::then_kept, crate::proofs::KeptFronts::all_kept, crate::proofs::KeptFronts::stops_kept))]
+    pub fn read(
+        &mut self,
+        alloc: Global,
+        side: Side,
+        choices: Choices,
+    ) -> Result<Option<Code>, AllocError>
+        ensures ok { IfOk result (λ fault. kept_found (keeps_last choices) (read_peer choices.unfinished_limit side self.old) ≡ (self.new, fault)) }
+        ensures refused { OnErr result (StopsReading (keeps_last choices) choices.unfinished_limit side self.old self.new) }
+    {
+        // (the label names the loop in its proof)
+        'frames: loop {
+            let progress = self.read_one(alloc, side, choices.unfinished_limit);
+            self.keep_goaways(keeps_last(choices));
+            match progress {
                 Ok(Progress::Ends(fault)) => return Ok(fault),
                 Ok(Progress::GoesOn) => {}
                 Err(e) => return Err(e),

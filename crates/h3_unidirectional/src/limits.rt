@@ -4,6 +4,7 @@ ghost use Rattle.std.specs.Prelude.{◌≡◌, ◌+◌, ◌≤◌, ◌&&◌, nat
 ghost use Rattle.h3_proto.specs.Config.{is_limit};
 ghost use Rattle.h3_connection.specs.Endpoint.{most_kept};
 ghost use Rattle.h3_connection.specs.ExcessiveInstructions.{missing};
+ghost use Rattle.h3_connection.specs.KeptGoaways.{keeps_last};
 ghost use Rattle.h3_unidirectional.specs.Windows.{window, is_longer};
 
 use h3_coding::varint::VarInt;
@@ -27,6 +28,13 @@ pub(crate) fn most_kept(choices: Choices) -> Option<usize>
     } else {
         None
     }
+}
+
+/// Whether of the ids of GOAWAY frames the last one alone is kept.
+pub(crate) fn keeps_last(choices: Choices) -> bool
+    ensures { result ≡ keeps_last choices }
+{
+    is_limit(choices.extensions.kept_ids)
 }
 
 /// How many bytes are known to be missing.

@@ -1,5 +1,8 @@
 //! What can be read.
 ghost use Rattle.std.specs.Prelude.{◌≡◌, ◌≤◌, ◌^◌};
+ghost use Rattle.h3_connection.specs.Endpoint.{EndpointHistory};
+ghost use Rattle.h3_connection.specs.Lasts.{last_id};
+ghost use Rattle.h3_connection.specs.State.{StandsFor};
 ghost use Rattle.h3_c.specs.Exported.{OnStream};
 ghost use Rattle.h3_c.specs.Numbers.{ok};
 ghost use Rattle.h3_c.specs.Showing.{ShowsStream, ShowsConnection, ShowsSetting};
@@ -7,6 +10,7 @@ ghost use Rattle.h3_c.specs.Showing.{ShowsStream, ShowsConnection, ShowsSetting}
 use super::Connection;
 use crate::numbers::{ARGUMENT, NONE, OK, Told};
 use crate::state::{ConnectionState, StreamState};
+use h3_coding::varint::VarInt;
 use h3_proto::frame::SettingId;
 use h3_proto::stream::StreamId;
 
@@ -30,6 +34,14 @@ impl Connection {
         OK
     }
 
+    // The id of the peer's last GOAWAY frame.
+    #[tactic(auto, using(crate::proofs::Shown::last_shown))]
+    fn last_goaway(&self) -> Option<VarInt>
+        ensures { (e : EndpointHistory) → StandsFor self.now.endpoint e → result ≡ last_id e.peer.goaways }
+    {
+        self.endpoint.peer_goaways().last().copied()
+    }
+
     /// The connection's state.
     pub(crate) fn connection(&self, state: &mut ConnectionState) -> Told
         ensures { (result ≡ ok) × ShowsConnection self.now state.new }
@@ -47,7 +59,7 @@ impl Connection {
             has_goaway: 0,
             has_settings: 0,
         };
-        if let Some(id) = self.endpoint.peer_goaways().last() {
+        if let Some(id) = self.last_goaway() {
             shown.goaway = id.into_inner();
             shown.has_goaway = 1;
         }

@@ -134,8 +134,11 @@ impl Endpoint {
         ensures reads { ReadsEach self.old (BytesCame id bytes) result self.new }
         ensures kept { self.new.kept ≡ self.old.kept }
     {
-        let most = self.announced.choices.unfinished_limit;
-        let left = match self.streams.bytes(self.alloc, self.side, most, id, bytes) {
+        let choices = self.announced.choices;
+        let left = match self
+            .streams
+            .bytes(self.alloc, self.side, choices, id, bytes)
+        {
             Ok(fault) => return Ok(fault),
             Err(left) => left,
         };

@@ -46,7 +46,7 @@ impl Endpoint {
         self.streams.peer.settings()
     }
 
-    /// The ids of the peer's GOAWAY frames, in order.
+    /// The ids of the peer's GOAWAY frames, in order. If `kept_ids` of the choices limits the ids that are kept, it is the last one alone.
     pub fn peer_goaways(&self) -> &[VarInt]
         ensures { ShowsGoaways self.now result.now }
     {

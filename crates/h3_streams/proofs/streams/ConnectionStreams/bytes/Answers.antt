@@ -6,7 +6,7 @@ use Rattle.h3_streams.proofs.ArrivedBytes.{untaken, nothing_read, push_read, rol
 use Rattle.h3_streams.proofs.streams.ConnectionStreams.bytes.Goals as goal
 
 pub returns-then-not-has_room-clause-err : goal.returns-then-not-has_room-clause-err
-returns-then-not-has_room-clause-err c = untaken c.args.self.now c.args.self.now.unidirectional c.args.side c.args.most c.args.id c.args.bytes _ _ (record { each = λ q. refl }) refl c.of.ensures
+returns-then-not-has_room-clause-err c = untaken c.args.self.now c.args.self.now.unidirectional c.args.side c.args.choices c.args.id c.args.bytes _ _ (record { each = λ q. refl }) refl c.of.ensures
 
 pub returns-in-Ok-Nothing-clause-ok : goal.returns-in-Ok-Nothing-clause-ok
 returns-in-Ok-Nothing-clause-ok c =
