@@ -1,4 +1,5 @@
 #include "http3_list.h"
+#include "qlog.h"
 #include <stdlib.h>
 #include <string.h>
 
@@ -12,6 +13,8 @@ enum {
   LINGER = 5000,             /* milliseconds of silence behind which a connection that takes no more requests is closed */
   NOTICE = 1000              /* milliseconds between the first GOAWAY and the last: requests that were on their way come */
 };
+
+static const uint64_t ANY_ID = (UINT64_C(1) << 62) - 4;
 
 /* Bytes that came on a stream, and its end. */
 typedef struct http3_chunk {
@@ -30,6 +33,7 @@ typedef struct {
 struct http3 {
   quic_connection *quic;
   const http3_setup *setup;
+  qlog *log; /* NULL: none */
   h3_endpoint endpoint;
   table found;                                 /* the requests by their ids */
   TAILQ_HEAD(requests, http3_request) requests; /* the same in the order in which they were opened */
@@ -39,6 +43,7 @@ struct http3 {
   bool leaving;        /* GOAWAY was sent, or came: no more are opened */
   bool shut;           /* a server's: from the last GOAWAY on nothing is taken that did not come before */
   uint64_t goaway;     /* a client's: the id of the last GOAWAY that came */
+  bool is_told;        /* the log has the peer's settings */
   uint64_t leaving_at; /* when http3_leave was called first, by quic_time; 0: never */
 };
 
@@ -128,6 +133,21 @@ static void cut_off(http3_request *request, uint64_t code) {
 
 /* ---- what came ---- */
 
+static void tell_section(http3_request *request, const h3_item *item) {
+  http3 *h = request->connection;
+  http3_list *list = h->log && item->kind != H3_TOO_LARGE_HEAD ? http3_fields(h, item) : NULL;
+  qlog_section(h->log, false, request->entry.id, list);
+  free(list);
+  request->has_head = true;
+  h->setup->events->head(request, item);
+}
+
+static void tell_body(http3_request *request, const uint8_t *bytes, size_t count) {
+  http3 *h = request->connection;
+  qlog_piece(h->log, request->entry.id, count);
+  h->setup->events->body(request, bytes, count);
+}
+
 /* Bytes that the endpoint kept: their header section waited, or they are of a WebTransport session. */
 static void tell_kept(http3_request *request, const h3_item *item) {
   http3 *h = request->connection;
@@ -135,7 +155,7 @@ static void tell_kept(http3_request *request, const h3_item *item) {
   size_t count = 0;
   for (size_t from = 0; from < item->len; from += count) {
     if (h3_item_bytes(&h->endpoint, from, bytes, sizeof bytes, &count) != H3_OK) return;
-    h->setup->events->body(request, bytes, count);
+    tell_body(request, bytes, count);
   }
 }
 
@@ -167,11 +187,8 @@ static bool tell(http3_request *request, const h3_item *item, const uint8_t *giv
   case H3_HEAD:
   case H3_INTERIM:
   case H3_TRAILER:
-  case H3_TOO_LARGE_HEAD:
-    request->has_head = true;
-    h->setup->events->head(request, item);
-    return true;
-  case H3_BODY_GIVEN: h->setup->events->body(request, given + item->number, item->len); return true;
+  case H3_TOO_LARGE_HEAD: tell_section(request, item); return true;
+  case H3_BODY_GIVEN: tell_body(request, given + item->number, item->len); return true;
   case H3_BODY:
   case H3_RAW: tell_kept(request, item); return true;
   case H3_SESSION:
@@ -294,13 +311,16 @@ static void reject_from(http3 *h, uint64_t id) {
   }
 }
 
-/* A client looks for the server's GOAWAY. */
-static void look_for_goaway(http3 *h) {
+/* The peer's settings, for the log, and at a client the server's GOAWAY. */
+static void look_at_state(http3 *h) {
   h3_state state;
-  if (h->setup->server || h3_connection(&h->endpoint, &state) != H3_OK || !state.has_goaway) return;
-  if (h->leaving && state.goaway == h->goaway) return;
+  if ((h->setup->server && !h->log) || h3_connection(&h->endpoint, &state) != H3_OK) return;
+  if (state.has_settings && !h->is_told) qlog_settings(h->log, false, state.peer_section, state.peer_table, state.peer_blocked);
+  h->is_told = state.has_settings;
+  if (h->setup->server || !state.has_goaway || (h->leaving && state.goaway == h->goaway)) return;
   h->leaving = true;
   h->goaway = state.goaway;
+  qlog_goaway(h->log, false, state.goaway);
   if (h->setup->events->going_away) h->setup->events->going_away(h, h->setup->user);
   reject_from(h, state.goaway);
 }
@@ -315,20 +335,23 @@ static void pull_others(http3 *h, uint64_t id) {
     request->waiting = false;
     release(request);
   }
-  look_for_goaway(h);
+  look_at_state(h);
 }
 
 /* GOAWAY was sent: the peer opens no more requests. */
-static void said_goaway(http3 *h, uint32_t answer) {
+static void said_goaway(http3 *h, uint64_t id, uint32_t answer) {
   h->leaving = true;
+  qlog_goaway(h->log, true, id);
   quic_wake(h->quic, 0);
   if (answer != H3_OK) quic_close(h->quic, H3_CODE_INTERNAL_ERROR);
 }
 
 /* From the requests on of which nothing came yet, none is taken. */
 static void shut(http3 *h) {
+  uint64_t id = 0;
   h->shut = true;
-  said_goaway(h, h3_shutdown(&h->endpoint, NULL));
+  h3_first_unseen(&h->endpoint, &id);
+  said_goaway(h, id, h3_shutdown(&h->endpoint, NULL));
 }
 
 static bool is_request(uint64_t id) { return id % 4 == 0; }
@@ -343,7 +366,7 @@ static http3_request *take(http3 *h, uint64_t id) {
       return NULL;
     }
   /* the peer is told while it can still use as many streams as it may have opened: none is rejected */
-  if (is_new && !h->leaving && h->next_id + 4 * QUIC_STREAMS >= h->end_id) said_goaway(h, h3_goaway(&h->endpoint, h->end_id, NULL));
+  if (is_new && !h->leaving && h->next_id + 4 * QUIC_STREAMS >= h->end_id) said_goaway(h, h->end_id, h3_goaway(&h->endpoint, h->end_id, NULL));
   return find(h, id);
 }
 
@@ -464,8 +487,8 @@ static bool ask_for_bodies(http3 *h) {
   return asked;
 }
 
-/* A connection that takes no more requests is closed when nothing is left to be done. All is acknowledged then, but its reader may not have it yet, and
- * would lose it: the peer is the one to close, or does nothing any more. */
+/* A connection that takes no more requests is closed when nothing is left to be done. All is acknowledged then, but its reader may not have it
+ * yet, and would lose it: the peer is the one to close, or does nothing any more. */
 static void close_if_drained(http3 *h) {
   uint32_t is_drained = 0;
   if (!h->leaving || !TAILQ_EMPTY(&h->requests)) return;
@@ -529,6 +552,10 @@ static void *opened(quic_connection *quic, void *user) {
     free(h);
     return NULL;
   }
+  char peer[QUIC_PLACE];
+  quic_peer(quic, peer);
+  h->log = qlog_begin(setup->qlog, setup->server, peer);
+  qlog_settings(h->log, true, config.max_field_section_size, config.table, config.blocked);
   setup->events->ready(h, setup->user);
   return h;
 }
@@ -537,6 +564,7 @@ static void closed(void *owner, const quic_ending *ending) {
   http3 *h = owner;
   for (http3_request *request; (request = TAILQ_FIRST(&h->requests));) drop(request);
   h3_free(&h->endpoint);
+  qlog_end(h->log, ending);
   h->setup->events->over(h->setup->user, ending);
   free(h);
 }
@@ -549,7 +577,7 @@ void http3_leave(void *owner) {
   if (!h->setup->server) return;
   if (h->leaving_at == 0) {
     h->leaving_at = time;
-    said_goaway(h, h3_shutdown_notice(&h->endpoint, NULL));
+    said_goaway(h, ANY_ID, h3_shutdown_notice(&h->endpoint, NULL));
   } else if (!h->shut && time - h->leaving_at > NOTICE)
     shut(h);
 }
@@ -571,6 +599,7 @@ http3_request *http3_open(http3 *h, bool *going_away) {
 bool http3_interim(http3_request *request, const http3_list *list) {
   http3 *h = request->connection;
   if (h3_send_head(&h->endpoint, request->entry.id, list->sizes, list->count, list_bytes(list), list->len, NULL) != H3_OK) return false;
+  qlog_section(h->log, true, request->entry.id, list);
   quic_wake(h->quic, 0);
   return true;
 }
@@ -580,6 +609,7 @@ bool http3_head(http3_request *request, const http3_list *list) { return request
 bool http3_trailer(http3_request *request, const http3_list *list) {
   http3 *h = request->connection;
   if (h3_send_trailer(&h->endpoint, request->entry.id, list->sizes, list->count, list_bytes(list), list->len, NULL) != H3_OK) return false;
+  qlog_section(h->log, true, request->entry.id, list);
   quic_wake(h->quic, 0);
   return true;
 }
@@ -607,6 +637,7 @@ size_t http3_room(http3_request *request) {
 static bool body_given(http3_request *request, uint32_t answer, size_t count) {
   if (answer != H3_OK) return false;
   request->unsent += count;
+  if (count > 0) qlog_data(request->connection->log, request->entry.id, count);
   quic_wake(request->connection->quic, 0);
   return true;
 }

@@ -57,6 +57,7 @@ typedef struct {
   uint64_t sessions; /* a server's: so many WebTransport sessions are taken on a connection, as the settings say; 0: none */
   uint64_t requests; /* a server's: at most so many are taken on a connection, and GOAWAY sends the client to another before; 0: no limit */
   size_t data;       /* how many bytes `data` of a request has; 0: it is NULL at first */
+  const char *qlog;  /* a folder where each connection has a file of its events (qlog.h); NULL: none */
   const http3_events *events;
   void *user;
 } http3_setup;
@@ -133,7 +134,8 @@ uint64_t http3_waiting(http3_request *);
 size_t http3_room(http3_request *);
 /* Sends a piece of the body. false: refused. */
 bool http3_body(http3_request *, const uint8_t *bytes, size_t count);
-/* Sends a body, or the rest of one, by its length: `read` is asked for its bytes when QUIC has room, and they are not copied again. false: refused. */
+/* Sends a body, or the rest of one, by its length: `read` is asked for its bytes when QUIC has room, and writes them where QUIC keeps them. false:
+ * refused. */
 bool http3_body_of(http3_request *, size_t count);
 /* The message is whole. */
 void http3_finish(http3_request *);

@@ -25,7 +25,7 @@ make_checked() {
 make_client() {
   # shellcheck disable=SC2046,SC2086
   build gcc $SANITIZERS -std=c11 -D_GNU_SOURCE -Wall -Wextra -Werror -Iexamples/c -o "$work/$1" "scripts/interop/$1.c" examples/c/http3*.c \
-    examples/c/quic*.c examples/c/{timers,tls,buffer,ending,report}.c \
+    examples/c/quic*.c examples/c/{qlog,timers,tls,buffer,ending,report}.c \
     $(pkg-config --cflags --libs beanwhile-h3 libngtcp2 libngtcp2_crypto_gnutls gnutls)
 }
 
