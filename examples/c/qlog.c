@@ -50,7 +50,8 @@ qlog *qlog_begin(const char *folder, bool server, const char *peer) {
   }
   fprintf(log->file,
           "\x1e{\"file_schema\":\"urn:ietf:params:qlog:file:sequential\",\"serialization_format\":\"application/qlog+json-seq\","
-          "\"title\":\"with %s\",\"trace\":{\"vantage_point\":{\"type\":\"%s\"},\"event_schemas\":[\"urn:ietf:params:qlog:events:http3\"],"
+          "\"title\":\"with %s\",\"trace\":{\"vantage_point\":{\"type\":\"%s\"},"
+          "\"event_schemas\":[\"urn:ietf:params:qlog:events:http3\",\"urn:ietf:params:qlog:events:quic\"],"
           "\"common_fields\":{\"time_format\":\"relative_to_epoch\",\"reference_time\":{\"clock_type\":\"system\","
           "\"epoch\":\"1970-01-01T00:00:00.000Z\"}}}}\n",
           peer, server ? "server" : "client");
