@@ -543,7 +543,8 @@ static void *opened(quic_connection *quic, void *user) {
   h->end_id = setup->requests > 0 && setup->requests < UINT64_MAX / 16 ? 4 * setup->requests : UINT64_MAX;
   h3_config_default(&config);
   config.server = setup->server;
-  config.webtransport = config.extended_connect = config.datagram = setup->sessions > 0;
+  config.webtransport = config.datagram = setup->sessions > 0;
+  config.extended_connect = setup->sessions > 0 || setup->tunnels;
   config.max_webtransport_sessions = setup->sessions;
   bool made = h3_new(&h->endpoint, &config, NULL) == H3_OK;
   for (int i = 0; made && i < 3; i++) made = quic_open(quic, true) == (int64_t)h3_control_id(setup->server) + 4 * i;
@@ -711,6 +712,11 @@ void http3_resume(http3_request *request) {
 }
 
 void http3_peer(http3 *h, char text[QUIC_PLACE]) { quic_peer(h->quic, text); }
+
+bool http3_has_settings(http3 *h) {
+  h3_state state;
+  return h3_connection(&h->endpoint, &state) == H3_OK && state.has_settings;
+}
 
 void http3_close(http3 *h, uint64_t code) { quic_close(h->quic, code); }
 

@@ -55,6 +55,7 @@ typedef struct {
 typedef struct {
   bool server;
   uint64_t sessions; /* a server's: so many WebTransport sessions are taken on a connection, as the settings say; 0: none */
+  bool tunnels;      /* a server's: extended CONNECT is announced (RFC 9220). The endpoint takes connect-udp and webtransport as `:protocol` */
   uint64_t requests; /* a server's: at most so many are taken on a connection, and GOAWAY sends the client to another before; 0: no limit */
   size_t data;       /* how many bytes `data` of a request has; 0: it is NULL at first */
   const char *qlog;  /* a folder where each connection has a file of its events (qlog.h); NULL: none */
@@ -96,6 +97,8 @@ extern const quic_events http3_over_quic;
 http3_request *http3_open(http3 *, bool *going_away);
 /* Who the peer is: an address and port, as text. */
 void http3_peer(http3 *, char text[QUIC_PLACE]);
+/* Whether the peer's settings came. Before, and where they do not announce it, no extended CONNECT can be sent. */
+bool http3_has_settings(http3 *);
 /* Closes the connection with a code of RFC 9114, section 8.1. */
 void http3_close(http3 *, uint64_t code);
 

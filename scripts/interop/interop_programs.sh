@@ -93,6 +93,22 @@ check "serve: a client with another server's token" taken_with_token "${ports[1]
 
 check "serve --version" bash -c "'$serve' --version | grep -q '^serve of Beanwhile [0-9]'"
 check "serve --help" bash -c "'$serve' --help | grep -q -- '--drain=SECONDS'"
+described() { # PROGRAM, OPTION..: a manual page without a warning, that has each option
+  local page=examples/c/$1.1 option
+  shift
+  ! LC_ALL=C.UTF-8 man --warnings -E UTF-8 -Tutf8 -Z -l "$page" 2>&1 > /dev/null | tee -a "$work/log" | grep -q . || return 1
+  for option; do
+    if ! sed 's/\\-/-/g' "$page" | grep -qF -- "$option"; then
+      echo "$option" >> "$work/log"
+      return 1
+    fi
+  done
+}
+options_of() { "$@" 2>&1 | grep -oE -- '--[a-z-]+' | sort -u; } # COMMAND..: those that it tells
+# shellcheck disable=SC2046
+check "serve: a manual page with all its options" described serve $(options_of "$serve" --help)
+# shellcheck disable=SC2046
+check "proxy: a manual page with all its options" described proxy $(options_of "$work/checked/proxy")
 is_ready() { # PORT: the service manager is told
   python3 - "$work/notify" "$serve" 127.0.0.1 "$1" "$cert" "$key" "$folder" > "$work/got" 2>> "$work/log" <<'PYTHON'
 import os, socket, subprocess, sys
@@ -112,7 +128,8 @@ certificate() { # NAME, FILE, FILE of the key
     -addext "subjectAltName=DNS:$1" 2>> "$work/log"
 }
 build certificate other.example "$work/other.pem" "$work/other_key.pem"
-serving "${ports[9]}" operated.log "$serve" --log "$work/access.log" --certificate "$work/other.pem,$work/other_key.pem"
+mkdir "$work/qlog"
+serving "${ports[9]}" operated.log "$serve" --log "$work/access.log" --qlog "$work/qlog" --certificate "$work/other.pem,$work/other_key.pem"
 operated=$last
 shows() { gives "$folder/hello.txt" "$work/checked/fetch" --address 127.0.0.1 --trust "$2" "https://$3:$1/hello.txt"; }
 check "serve: a second certificate, by its name" shows "${ports[9]}" "$work/other.pem" other.example
@@ -137,6 +154,24 @@ counts() { # PROCESS
   sleep 0.5
   grep -E "^connections [0-9]+ open, [0-9]+ taken, 0 refused" "$work/operated.log" | tee -a "$work/log" | grep -q "4xx 1"
 }
+events() { # FOLDER: the first connection asked for a file of 6 bytes
+  sleep 1
+  python3 - "$1"/*-0.sqlog >> "$work/log" 2>&1 <<'PYTHON'
+import json, sys
+head, *events = [json.loads(record) for record in open(sys.argv[1], encoding="utf-8").read().split("\x1e")[1:]]
+assert head["file_schema"] == "urn:ietf:params:qlog:file:sequential" and head["trace"]["vantage_point"] == {"type": "server"}, head
+said = [(event["name"], event["data"]) for event in events]
+settings = {data["initiator"]: data for name, data in said if name == "http3:parameters_set"}
+assert all(settings[of]["max_field_section_size"] == 65536 and settings[of]["max_table_capacity"] == 4096 for of in ("local", "remote")), settings
+frames = [(name, data["frame"]) for name, data in said if name.startswith("http3:frame")]
+assert [name for name, _ in frames] == ["http3:frame_parsed"] + 2 * ["http3:frame_created"], frames
+asked, answered, body = [frame for _, frame in frames]
+assert {"name": ":path", "value": "/hello.txt"} in asked["headers"] and {"name": ":status", "value": "200"} in answered["headers"], frames
+assert body == {"frame_type": "data", "raw": {"payload_length": 6}} and said[-1][0] == "quic:connection_closed", said
+assert [event["time"] for event in events] == sorted(event["time"] for event in events)
+PYTHON
+}
+check "serve --qlog: the events of a request" events "$work/qlog"
 check "serve: counts at SIGUSR1" counts "$operated"
 kill -TERM "$operated"
 check "serve: it ends, with a log" ended "$operated" 40

@@ -7,11 +7,11 @@ lib=${LIB:-$PWD/build/c}
 . scripts/interop/checks.sh
 . scripts/interop/programs.sh
 
-make_programs proxy
+make_programs proxy count
 make_checked
-for name in origin leave; do make_client "$name"; done
+for name in origin leave tunnel; do make_client "$name"; done
 head -c 50000 "$big" > "$folder/part.bin"
-mapfile -t ports < <(python3 scripts/interop/ports.py 14)
+mapfile -t ports < <(python3 scripts/interop/ports.py 17)
 
 proxy() { # PORT, LOG, PORT of the server, options
   local port=$1 log=$2 to=$3
@@ -74,6 +74,12 @@ check "proxy: a rejected request goes out again" says again "${ours[@]}" "$to/re
 check "proxy: a request whose connection was lost goes out again" says again "${ours[@]}" "$to/lost"
 check "proxy: an early answer" says early "${ours[@]}" --post "$big" "$to/early"
 check "proxy: a silent server gives 504" refuses "status 504" "${ours[@]}" "$to/silent"
+check "proxy: CONNECT-UDP is not taken, since it is not announced" says "refused here" "$work/tunnel" "$cert" "${ports[7]}" connect-udp
+proxy "${ports[14]}" proxy_tunnels.log "${ports[6]}" --tunnels
+fourth=$last
+check "proxy --tunnels: CONNECT-UDP, 100 capsules there and back" says "200 100 ended" "$work/tunnel" "$cert" "${ports[14]}" connect-udp
+check "proxy --tunnels: a session of WebTransport is not taken" says "501 0 ended" "$work/tunnel" "$cert" "${ports[14]}" webtransport
+check "proxy --tunnels: the core takes no WebSockets" says "refused here" "$work/tunnel" "$cert" "${ports[14]}" websocket
 proxy "${ports[8]}" proxy_none.log "${ports[9]}"
 third=$last
 check "proxy: no server gives 503" refuses "status 503" "${ours[@]}" "$(url "${ports[8]}" /)"
@@ -94,6 +100,22 @@ held() { # PORT, PROCESS: 100 requests whose client reads nothing, and another c
   [ $(($(kib "$2" VmHWM) - before)) -le 20480 ]
 }
 check "proxy: 100 requests of a reader that grants no credit: within 20 MiB, and another client goes on" held "${ports[10]}" "$plain"
+
+# ---- under valgrind ----
+
+under_valgrind=(valgrind -q --leak-check=full --error-exitcode=9)
+start "${ports[15]}" valgrind.log "${under_valgrind[@]}" "$work/plain/proxy" --trust "$cert" 127.0.0.1 "${ports[15]}" "$cert" "$key" \
+  127.0.0.1 "${ports[0]}" localhost
+# on a busy machine valgrind's first handshakes may take longer than the ten seconds that they may
+for _ in 1 2 3; do if works "${ours[@]}" "$(url "${ports[15]}" /hello.txt)"; then break; fi; done
+head -c 500000 "$big" > "$folder/half.bin"
+echo "500000 $(hash_of "$folder/half.bin")" > "$work/half_posted"
+head -c 300 "$work/thousand" > "$work/fifty"
+check "valgrind, proxy: 500 kB" gives "$folder/half.bin" "${ours[@]}" "$(url "${ports[15]}" /half.bin)"
+check "valgrind, proxy: POST of 500 kB" gives "$work/half_posted" "${ours[@]}" --post "$folder/half.bin" "$(url "${ports[15]}" /answer)"
+check "valgrind, proxy: 50 requests" gives "$work/fifty" "${ours[@]}" --count 50 --parallel 10 "$(url "${ports[15]}" /hello.txt)"
+check "valgrind, proxy: a request that is reset" works "${ours[@]}" --cancel 100000 --post "$folder/half.bin" "$(url "${ports[15]}" /answer)"
+check "valgrind, proxy: no leak and no error of memory" stop "$last"
 
 # ---- the end ----
 
@@ -119,7 +141,7 @@ proxy "${ports[13]}" proxy_restarts.log "${ports[12]}"
 process=$last
 check "proxy: its server ends under 1,000 requests, and starts again: none is lost" restarts "${ports[13]}" "${ports[12]}" "$server"
 kill -TERM "$process" "$last"
-kill -TERM "$first" "$second" "$third" "$plain"
-for process in $first $second $third $plain; do check "proxy: it ends" ended "$process" 40; done
-for log in proxy proxy_gtls proxy_go proxy_origin proxy_none proxy_leaves proxy_restarts origin serve ends restarted; do check "proxy: no leak and no error of memory, $log" is_silent "$log.log"; done
+kill -TERM "$first" "$second" "$third" "$fourth" "$plain"
+for process in $first $second $third $fourth $plain; do check "proxy: it ends" ended "$process" 40; done
+for log in proxy proxy_gtls proxy_go proxy_origin proxy_none proxy_tunnels proxy_leaves proxy_restarts origin serve ends restarted; do check "proxy: no leak and no error of memory, $log" is_silent "$log.log"; done
 [ "$failed" -eq 0 ]

@@ -9,7 +9,7 @@ make_programs() {
   fi
   export PKG_CONFIG_PATH=$lib GO111MODULE=off GOPATH=/usr/share/gocode GOCACHE=${GOCACHE:-$work/go}
   [ -n "${LIB:-}" ] || build make -s lib
-  build make -s -C examples/c LIB="$lib" OUT="$work/plain"
+  build make -s -j2 -C examples/c LIB="$lib" OUT="$work/plain"
   build go build -o "$work/peer" scripts/interop/peer.go
   build go build -o "$work/hostile" scripts/interop/hostile.go
   make_served
@@ -18,14 +18,15 @@ make_programs() {
 SANITIZERS="-O1 -g -fsanitize=address,undefined -fno-sanitize-recover=undefined"
 # the programs with sanitizers
 make_checked() {
-  build make -s -C examples/c LIB="$lib" OUT="$work/checked" CFLAGS="$SANITIZERS"
+  build make -s -j2 -C examples/c LIB="$lib" OUT="$work/checked" CFLAGS="$SANITIZERS"
   ours=("$work/checked/fetch" --address 127.0.0.1 --trust "$cert")
 }
-# make_client NAME: a program of this folder, over what the examples in C share
+# make_client NAME: a program of this folder with sanitizers, over what the examples in C share; make_checked came before
 make_client() {
+  local objects=$work/checked/objects
   # shellcheck disable=SC2046,SC2086
-  build gcc $SANITIZERS -std=c11 -D_GNU_SOURCE -Wall -Wextra -Werror -Iexamples/c -o "$work/$1" "scripts/interop/$1.c" examples/c/http3*.c \
-    examples/c/quic*.c examples/c/{qlog,timers,tls,buffer,ending,report}.c \
+  build gcc $SANITIZERS -std=c11 -D_GNU_SOURCE -Wall -Wextra -Werror -Iexamples/c -o "$work/$1" "scripts/interop/$1.c" "$objects"/http3*.o \
+    "$objects"/quic*.o "$objects"/{qlog,timers,tls,buffer,ending,report}.o \
     $(pkg-config --cflags --libs beanwhile-h3 libngtcp2 libngtcp2_crypto_gnutls gnutls)
 }
 
