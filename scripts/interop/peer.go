@@ -31,6 +31,15 @@ import (
 	"github.com/lucas-clemente/quic-go/http3"
 )
 
+// limit is how long a request may take: a minute, or PEER_SECONDS
+func limit() time.Duration {
+	seconds, err := strconv.Atoi(os.Getenv("PEER_SECONDS"))
+	if err != nil {
+		return time.Minute
+	}
+	return time.Duration(seconds) * time.Second
+}
+
 func fail(err error) {
 	if err != nil {
 		fmt.Fprintln(os.Stderr, "peer:", err)
@@ -73,7 +82,7 @@ func newClient(trusted string) (*http.Client, func() error) {
 		fail(fmt.Errorf("no certificate in %s", trusted))
 	}
 	tripper := &http3.RoundTripper{TLSClientConfig: &tls.Config{RootCAs: pool}, DisableCompression: true}
-	return &http.Client{Transport: tripper, Timeout: time.Minute}, tripper.Close
+	return &http.Client{Transport: tripper, Timeout: limit()}, tripper.Close
 }
 
 // the whole body of an answer with status 200

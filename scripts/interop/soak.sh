@@ -34,20 +34,21 @@ quiet() { # LOG, PROCESS
     if [ "$(figure "$1" "$2" connections)" = 0 ]; then return; fi
   done
 }
-# client NAME, COMMAND..: one that may have all it asks for, in the background; what it says stands in a file of its own
+# client NAME, COMMAND..: one that may have all it asks for, in the background; what it says stands in a file of its own. It has ten minutes: one
+# that stands still fails, and not one that is slow since the machine is busy.
 client() {
   local name=$1
   shift
-  timeout -k 5 120 "$@" > /dev/null 2> "$work/said.$name" &
+  PEER_SECONDS=600 timeout -k 5 660 "$@" > /dev/null 2> "$work/said.$name" &
   jobs[$!]=$name
 }
 # one round of all kinds of clients at a port
 round() { # PORT
   local at="localhost:$1" process status
   local -A jobs=()
-  client files "$work/plain/fetch" --address 127.0.0.1 --trust "$cert" --seconds 100 --count 20 --parallel 5 "$(url "$1" /big.bin)"
-  client requests "$work/plain/fetch" --address 127.0.0.1 --trust "$cert" --seconds 100 --count 500 --parallel 50 "$(url "$1" /hello.txt)"
-  client posts "$work/plain/fetch" --address 127.0.0.1 --trust "$cert" --seconds 100 --post "$big" "$(url "$1" /answer)"
+  client files "$work/plain/fetch" --address 127.0.0.1 --trust "$cert" --seconds 600 --count 20 --parallel 5 "$(url "$1" /big.bin)"
+  client requests "$work/plain/fetch" --address 127.0.0.1 --trust "$cert" --seconds 600 --count 500 --parallel 50 "$(url "$1" /hello.txt)"
+  client posts "$work/plain/fetch" --address 127.0.0.1 --trust "$cert" --seconds 600 --post "$big" "$(url "$1" /answer)"
   client slow "$work/peer" slow "$cert" 3000000 "$(url "$1" /big.bin)"
   client cancels "$work/peer" cancel "$cert" "$(url "$1" /big.bin)" 5
   client resets "$work/peer" resets "$cert" 2000 "$at"
@@ -68,9 +69,10 @@ round() { # PORT
 # what the servers say of clients stands in their logs: the last lines of each, where a client had not all
 show_logs() { for name in serve proxy; do tail -n 20 "$work/$name.log" | sed "s/^/  $name: /"; done; }
 
+# the readers that read nothing hold 100 requests each until --timeout: the pool has room for the others beside them
 program serve.log "$work/plain/serve" 127.0.0.1 "${ports[0]}" "$cert" "$key" "$folder"
 server=$last
-program proxy.log "$work/plain/proxy" --trust "$cert" --timeout 10 127.0.0.1 "${ports[1]}" "$cert" "$key" 127.0.0.1 "${ports[0]}" localhost
+program proxy.log "$work/plain/proxy" --trust "$cert" --pool 16 127.0.0.1 "${ports[1]}" "$cert" "$key" 127.0.0.1 "${ports[0]}" localhost
 proxy=$last
 for port in "${ports[@]}"; do round "$port"; done
 for name in serve:$server proxy:$proxy; do quiet "${name%:*}.log" "${name#*:}"; done
