@@ -275,7 +275,7 @@ static void reject(http3_request *request, uint64_t code) {
 static void read_request(http3_request *request, const uint8_t *bytes, size_t count, bool end) {
   http3 *h = request->connection;
   uint64_t id = request->entry.id, code = 0;
-  h3_item item;
+  h3_item item = {0};
   size_t used;
   bool goes_on = true;
   request->waiting = false;
@@ -287,8 +287,8 @@ static void read_request(http3_request *request, const uint8_t *bytes, size_t co
     bytes += used;
     count -= used;
   }
-  if (request->settled) deliver(h, id, bytes, count, end);
-  else if (goes_on && (count > 0 || end)) hold(request, true, bytes, count, end);
+  if (request->settled && item.kind != H3_END) deliver(h, id, bytes, count, end);
+  if (!request->settled && goes_on && (count > 0 || end)) hold(request, true, bytes, count, end);
   go_on(request);
 }
 
