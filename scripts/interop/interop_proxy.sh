@@ -108,7 +108,7 @@ under_valgrind=(valgrind -q --leak-check=full --error-exitcode=9)
 start "${ports[15]}" valgrind.log "${under_valgrind[@]}" "$work/plain/proxy" --trust "$cert" 127.0.0.1 "${ports[15]}" "$cert" "$key" \
   127.0.0.1 "${ports[0]}" localhost
 # on a busy machine valgrind's first handshakes may take longer than the ten seconds that they may
-for _ in 1 2 3; do if works "${ours[@]}" "$(url "${ports[15]}" /hello.txt)"; then break; fi; done
+for _ in $(seq 10); do if works "${ours[@]}" "$(url "${ports[15]}" /hello.txt)"; then break; fi; done
 head -c 500000 "$big" > "$folder/half.bin"
 echo "500000 $(hash_of "$folder/half.bin")" > "$work/half_posted"
 head -c 300 "$work/thousand" > "$work/fifty"
