@@ -117,8 +117,11 @@ static void answer_file(http3_request *request, const asked *asked) {
   work *work = request->data;
   work->file = files_open(asked->path);
   if (!work->file) return answer_text(request, "404", "no such file\n");
-  if (!answer_found(request, asked)) return http3_give_up(request, H3_CODE_INTERNAL_ERROR);
-  if (work->head_only || work->from == work->end) http3_finish(request);
+  bool is_sent = answer_found(request, asked);
+  if (work->head_only) work->end = work->from;
+  if (is_sent && work->from < work->end) is_sent = http3_body_of(request, (size_t)(work->end - work->from));
+  if (!is_sent) return http3_give_up(request, H3_CODE_INTERNAL_ERROR);
+  http3_finish(request);
 }
 
 /* ---- what HTTP/3 tells ---- */
@@ -169,21 +172,16 @@ static void on_failed(http3_request *request, const h3_item *item) {
 
 static void on_stopped(http3_request *request) { ((work *)request->data)->entry.failed = "stopped"; }
 
-/* The next pieces of a file. */
-static void on_room(http3_request *request) {
+/* The next piece of a file. */
+static bool on_read(http3_request *request, uint8_t *bytes, size_t count) {
   work *work = request->data;
-  uint8_t room[16 * 1024];
-  if (!work->file) return;
-  for (size_t most; work->from < work->end && (most = http3_room(request)) > 0;) {
-    size_t count = most < sizeof room ? most : sizeof room;
-    if (count > work->end - work->from) count = (size_t)(work->end - work->from);
-    const uint8_t *bytes = files_read(work->file, work->from, room, &count);
-    bool is_given = bytes && (bytes == room ? http3_body(request, bytes, count) : http3_body_held(request, bytes, count));
-    if (!is_given) return http3_give_up(request, H3_CODE_INTERNAL_ERROR);
-    work->from += count;
-    work->entry.sent += count;
+  if (!files_read(work->file, work->from, bytes, count)) {
+    work->entry.failed = "the file was cut";
+    return false;
   }
-  if (work->from == work->end) http3_finish(request);
+  work->from += count;
+  work->entry.sent += count;
+  return true;
 }
 
 static void on_freed(http3_request *request) {
@@ -205,4 +203,4 @@ static void on_over(void *user, const quic_ending *ending) {
 }
 
 const http3_events answers_events = {.ready = on_ready, .head = on_head, .body = on_body, .end = on_end, .failed = on_failed,
-                                     .stopped = on_stopped, .room = on_room, .freed = on_freed, .over = on_over};
+                                     .stopped = on_stopped, .read = on_read, .freed = on_freed, .over = on_over};

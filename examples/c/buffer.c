@@ -8,13 +8,11 @@ struct piece {
   uint8_t bytes[];
 };
 
-bool buffer_give(buffer *buffer, const uint8_t *bytes, size_t count) {
-  if (count == 0) return true;
+uint8_t *buffer_extend(buffer *buffer, size_t count) {
   struct piece *piece = malloc(sizeof *piece + count);
-  if (!piece) return false;
+  if (!piece) return NULL;
   piece->next = NULL;
   piece->count = count;
-  memcpy(piece->bytes, bytes, count);
   if (buffer->last) buffer->last->next = piece;
   else buffer->first = piece;
   buffer->last = piece;
@@ -23,7 +21,13 @@ bool buffer_give(buffer *buffer, const uint8_t *bytes, size_t count) {
     buffer->next_at = buffer->given;
   }
   buffer->given += count;
-  return true;
+  return piece->bytes;
+}
+
+bool buffer_give(buffer *buffer, const uint8_t *bytes, size_t count) {
+  uint8_t *place = count > 0 ? buffer_extend(buffer, count) : NULL;
+  if (place) memcpy(place, bytes, count);
+  return count == 0 || place;
 }
 
 size_t buffer_untaken(const buffer *buffer, ngtcp2_vec *pieces, size_t limit, size_t *total) {

@@ -14,6 +14,8 @@ typedef struct {
   bool ended, end_taken;
 } buffer;
 
+/* The end is moved by so many bytes, which the caller writes at once. NULL: out of memory, nothing has changed. */
+uint8_t *buffer_extend(buffer *, size_t count);
 /* Copies bytes to the end. false: out of memory, nothing has changed. */
 bool buffer_give(buffer *, const uint8_t *bytes, size_t count);
 /* The bytes that QUIC has not taken, as at most `limit` pieces. Returns how many pieces there are; `total` is the bytes in them. */

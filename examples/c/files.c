@@ -180,13 +180,19 @@ const char *files_type(const shared_file *file) { return types_of(file->path); }
 
 const http3_list *files_head(const shared_file *file) { return file->head; }
 
-const uint8_t *files_read(const shared_file *file, uint64_t from, uint8_t *room, size_t *count) {
-  uint64_t left = file->length - from; /* the file may have grown since */
-  if (left < *count) *count = (size_t)left;
-  if (file->file < 0) return file->bytes + from;
-  ssize_t done = pread(file->file, room, *count, (off_t)from);
-  *count = done > 0 ? (size_t)done : 0;
-  return done > 0 ? room : NULL;
+bool files_read(const shared_file *file, uint64_t from, uint8_t *bytes, size_t count) {
+  if (file->bytes) {
+    memcpy(bytes, file->bytes + from, count);
+    return true;
+  }
+  while (count > 0) {
+    ssize_t done = pread(file->file, bytes, count, (off_t)from);
+    if (done <= 0) return false;
+    from += (uint64_t)done;
+    bytes += done;
+    count -= (size_t)done;
+  }
+  return true;
 }
 
 void files_sweep(void) {

@@ -23,8 +23,8 @@ time_t files_changed_at(const shared_file *file);
 const char *files_type(const shared_file *file);
 /* The head of an answer that has the file as its body. */
 const http3_list *files_head(const shared_file *file);
-/* The bytes from an offset on: *count of them, where they lie in a file that is kept, else as many as fit, at `room`. NULL: it has shrunk. */
-const uint8_t *files_read(const shared_file *file, uint64_t from, uint8_t *room, size_t *count);
+/* Copies so many bytes from an offset on. false: it has shrunk, or cannot be read. */
+bool files_read(const shared_file *file, uint64_t from, uint8_t *bytes, size_t count);
 /* Closes what was opened before this second and nobody uses. Call it each second. */
 void files_sweep(void);
 /* Frees what is kept for a second, and the folder. */

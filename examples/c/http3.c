@@ -1,7 +1,7 @@
 #include "http3_list.h"
+#include "qlog.h"
 #include <stdlib.h>
 #include <string.h>
-#include <time.h>
 
 enum {
   PIECE = 16 * 1024,         /* bytes that are moved at once */
@@ -10,8 +10,8 @@ enum {
                                  * header section of 64 KiB has up to 240 KiB in the Huffman code */
   GRACE = 100,               /* milliseconds that a client has for an answer before it is told to send no more */
   SECTION_GRACE = 2000,      /* the same for one whose header section is too long, and who may read no answer until it is sent */
-  LINGER = 5,                /* seconds of silence behind which a connection that takes no more requests is closed */
-  NOTICE = 1                 /* seconds between the first GOAWAY and the last: requests that were on their way come */
+  LINGER = 5000,             /* milliseconds of silence behind which a connection that takes no more requests is closed */
+  NOTICE = 1000              /* milliseconds between the first GOAWAY and the last: requests that were on their way come */
 };
 
 static const uint64_t ANY_ID = (UINT64_C(1) << 62) - 4;
@@ -33,15 +33,18 @@ typedef struct {
 struct http3 {
   quic_connection *quic;
   const http3_setup *setup;
+  qlog *log; /* NULL: none */
   h3_endpoint endpoint;
   table found;                                 /* the requests by their ids */
   TAILQ_HEAD(requests, http3_request) requests; /* the same in the order in which they were opened */
   other others[QUIC_OTHERS];
-  uint64_t next_id;  /* behind the last request that came */
-  uint64_t end_id;   /* requests from here on are not taken */
-  bool leaving;      /* GOAWAY was sent, or came: no more are opened */
-  uint64_t goaway;   /* a client's: the id of the last GOAWAY that came */
-  time_t leaving_at; /* when http3_leave was called first; 0: never */
+  uint64_t next_id;    /* behind the last request that came */
+  uint64_t end_id;     /* a server's: where the requests end that the setup lets the connection have */
+  bool leaving;        /* GOAWAY was sent, or came: no more are opened */
+  bool shut;           /* a server's: from the last GOAWAY on nothing is taken that did not come before */
+  uint64_t goaway;     /* a client's: the id of the last GOAWAY that came */
+  bool is_told;        /* the log has the peer's settings */
+  uint64_t leaving_at; /* when http3_leave was called first, by quic_time; 0: never */
 };
 
 static http3_request *find(const http3 *h, uint64_t id) { return table_find(&h->found, id); }
@@ -106,7 +109,7 @@ static void drop(http3_request *request) {
   http3 *h = request->connection;
   for (chunk *chunk; (chunk = take_held(request));) free(chunk);
   if (request->settled) grant_request(request);
-  if (!request->sent) h3_reset(&h->endpoint, request->entry.id, NULL); /* it reads no more of a body that was lent */
+  if (!request->sent) h3_reset(&h->endpoint, request->entry.id, NULL);
   table_remove(&h->found, &request->entry);
   TAILQ_REMOVE(&h->requests, request, order);
   h->setup->events->freed(request);
@@ -130,13 +133,29 @@ static void cut_off(http3_request *request, uint64_t code) {
 
 /* ---- what came ---- */
 
-static void tell_body(http3_request *request, const h3_item *item) {
+static void tell_section(http3_request *request, const h3_item *item) {
+  http3 *h = request->connection;
+  http3_list *list = h->log && item->kind != H3_TOO_LARGE_HEAD ? http3_fields(h, item) : NULL;
+  qlog_section(h->log, false, request->entry.id, list);
+  free(list);
+  request->has_head = true;
+  h->setup->events->head(request, item);
+}
+
+static void tell_body(http3_request *request, const uint8_t *bytes, size_t count) {
+  http3 *h = request->connection;
+  qlog_piece(h->log, request->entry.id, count);
+  h->setup->events->body(request, bytes, count);
+}
+
+/* Bytes that the endpoint kept: their header section waited, or they are of a WebTransport session. */
+static void tell_kept(http3_request *request, const h3_item *item) {
   http3 *h = request->connection;
   uint8_t bytes[PIECE];
-  size_t count;
+  size_t count = 0;
   for (size_t from = 0; from < item->len; from += count) {
-    if (h3_item_bytes(&h->endpoint, from, bytes, sizeof bytes, &count) != H3_OK && count == 0) return;
-    h->setup->events->body(request, bytes, count);
+    if (h3_item_bytes(&h->endpoint, from, bytes, sizeof bytes, &count) != H3_OK) return;
+    tell_body(request, bytes, count);
   }
 }
 
@@ -161,19 +180,17 @@ static void settle(http3_request *request, const h3_item *item) {
   if (item->kind != H3_FAULT_CANCELED) h->setup->events->failed(request, item);
 }
 
-/* Tells what a pull handed out. false: nothing more is there. */
-static bool tell(http3_request *request, const h3_item *item) {
+/* Tells what was read; a piece of the body may lie in the bytes that were given. false: nothing more is there. */
+static bool tell(http3_request *request, const h3_item *item, const uint8_t *given) {
   http3 *h = request->connection;
   switch (item->kind) {
   case H3_HEAD:
   case H3_INTERIM:
   case H3_TRAILER:
-  case H3_TOO_LARGE_HEAD:
-    request->has_head = true;
-    h->setup->events->head(request, item);
-    return true;
+  case H3_TOO_LARGE_HEAD: tell_section(request, item); return true;
+  case H3_BODY_GIVEN: tell_body(request, given + item->number, item->len); return true;
   case H3_BODY:
-  case H3_RAW: tell_body(request, item); return true;
+  case H3_RAW: tell_kept(request, item); return true;
   case H3_SESSION:
     if (h->setup->events->session) h->setup->events->session(request, item->number);
     else http3_give_up(request, H3_CODE_REQUEST_REJECTED);
@@ -195,15 +212,14 @@ static void go_on(http3_request *request) {
   grant_request(request);
 }
 
-/* Pulls a request until it pauses or ends. Returns whether its end came: then the endpoint holds none of its bytes. */
-static bool pull(http3_request *request) {
-  h3_item item = {0};
+/* Pulls what the endpoint kept of a request, until it pauses or ends. */
+static void pull(http3_request *request) {
+  h3_item item;
   request->waiting = false;
   do
     if (request->settled || request->paused || h3_pull(&request->connection->endpoint, request->entry.id, &item) != H3_OK) break;
-  while (tell(request, &item));
+  while (tell(request, &item, NULL));
   go_on(request);
-  return item.kind == H3_END;
 }
 
 /* Pulls a unidirectional stream. No messages are expected on it, but the bytes of a WebTransport session, where the program wants such. */
@@ -214,7 +230,7 @@ static void pull_stream(http3 *h, uint64_t id) {
     if ((request && request->settled) || h3_pull(&h->endpoint, id, &item) != H3_OK) return;
     if (item.kind == H3_FAULT_CONNECTION) return quic_close(h->quic, item.number);
     if (item.kind == H3_SESSION && h->setup->events->session && !(request = add(h, id))) return quic_close(h->quic, H3_CODE_INTERNAL_ERROR);
-  } while (request ? tell(request, &item) : item.kind < H3_END);
+  } while (request ? tell(request, &item, NULL) : item.kind < H3_END);
 }
 
 static void pull_others(http3 *h, uint64_t id);
@@ -222,29 +238,58 @@ static void pull_others(http3 *h, uint64_t id);
 /* A request is held back while the program takes nothing of it, or its header section waits: what came stays here, piece for piece. */
 static bool is_held_back(const http3_request *request) { return !request->settled && (request->paused || request->waiting); }
 
-/* false: out of memory. */
-static bool hold(http3_request *request, const uint8_t *bytes, size_t count, bool end) {
+/* Keeps a copy, before what is held or after it. */
+static void hold(http3_request *request, bool is_first, const uint8_t *bytes, size_t count, bool end) {
   chunk *chunk = malloc(sizeof *chunk + count);
-  if (!chunk) return false;
+  if (!chunk) return quic_close(request->connection->quic, H3_CODE_INTERNAL_ERROR);
   chunk->count = count;
   chunk->end = end;
   if (count > 0) memcpy(chunk->bytes, bytes, count);
-  STAILQ_INSERT_TAIL(&request->held, chunk, order);
+  if (is_first) STAILQ_INSERT_HEAD(&request->held, chunk, order);
+  else STAILQ_INSERT_TAIL(&request->held, chunk, order);
   request->held_count += count;
-  return true;
 }
 
-/* The endpoint gets what came on a stream, and the program what it makes of it. `request` is NULL for a unidirectional stream. */
-static void deliver(http3 *h, uint64_t id, http3_request *request, const uint8_t *bytes, size_t count, bool end) {
+/* The endpoint gets what came on a unidirectional stream, or on one of which nothing more is wanted. Its end may have come before. */
+static bool deliver(http3 *h, uint64_t id, const uint8_t *bytes, size_t count, bool end) {
   uint64_t code = 0;
-  uint32_t answer = h3_deliver_lent(&h->endpoint, id, bytes, count, &code);
+  uint32_t answer = h3_deliver(&h->endpoint, id, bytes, count, &code);
   if (end && (answer == H3_OK || answer == H3_KEPT)) answer = h3_deliver_end(&h->endpoint, id, &code);
-  if (answer != H3_OK && answer != H3_KEPT) return refuse(h, answer, code);
-  if (request && pull(request)) return;
-  if (!request) pull_others(h, id);
-  /* the bytes are freed now, and some may be held */
-  answer = h3_keep(&h->endpoint, id);
-  if (answer != H3_OK) refuse(h, answer, 0);
+  if (answer == H3_OK || answer == H3_KEPT || answer == H3_AFTER_END) return true;
+  refuse(h, answer, code);
+  return false;
+}
+
+/* A server that shuts down processes nothing of a request: its client may send it on another connection. */
+static void reject(http3_request *request, uint64_t code) {
+  quic_connection *quic = request->connection->quic;
+  int64_t id = (int64_t)request->entry.id;
+  quic_reset(quic, id, code);
+  quic_stop(quic, id, code);
+  request->settled = true;
+  drop(request);
+}
+
+/* The endpoint reads what came on a request's stream, and the program gets what it makes of it. The bytes behind a pause of the program's stay
+ * here. */
+static void read_request(http3_request *request, const uint8_t *bytes, size_t count, bool end) {
+  http3 *h = request->connection;
+  uint64_t id = request->entry.id, code = 0;
+  h3_item item = {0};
+  size_t used;
+  bool goes_on = true;
+  request->waiting = false;
+  while (goes_on && !request->settled && !request->paused) {
+    uint32_t answer = h3_read(&h->endpoint, id, bytes, count, end, &used, &item, &code);
+    if (answer == H3_REJECTED) return reject(request, code);
+    if (answer != H3_OK) return refuse(h, answer, code);
+    goes_on = tell(request, &item, bytes);
+    bytes += used;
+    count -= used;
+  }
+  if (request->settled && item.kind != H3_END) deliver(h, id, bytes, count, end);
+  if (!request->settled && goes_on && (count > 0 || end)) hold(request, true, bytes, count, end);
+  go_on(request);
 }
 
 /* What was held back goes on, as far as the program takes it. */
@@ -252,7 +297,7 @@ static void release(http3_request *request) {
   if (is_held_back(request)) return;
   pull(request);
   for (chunk *chunk; !is_held_back(request) && (chunk = take_held(request)); free(chunk))
-    deliver(request->connection, request->entry.id, request, chunk->bytes, chunk->count, chunk->end);
+    read_request(request, chunk->bytes, chunk->count, chunk->end);
   grant_request(request);
 }
 
@@ -266,13 +311,16 @@ static void reject_from(http3 *h, uint64_t id) {
   }
 }
 
-/* A client looks for the server's GOAWAY. */
-static void look_for_goaway(http3 *h) {
+/* The peer's settings, for the log, and at a client the server's GOAWAY. */
+static void look_at_state(http3 *h) {
   h3_state state;
-  if (h->setup->server || h3_connection(&h->endpoint, &state) != H3_OK || !state.has_goaway) return;
-  if (h->leaving && state.goaway == h->goaway) return;
+  if ((h->setup->server && !h->log) || h3_connection(&h->endpoint, &state) != H3_OK) return;
+  if (state.has_settings && !h->is_told) qlog_settings(h->log, false, state.peer_section, state.peer_table, state.peer_blocked);
+  h->is_told = state.has_settings;
+  if (h->setup->server || !state.has_goaway || (h->leaving && state.goaway == h->goaway)) return;
   h->leaving = true;
   h->goaway = state.goaway;
+  qlog_goaway(h->log, false, state.goaway);
   if (h->setup->events->going_away) h->setup->events->going_away(h, h->setup->user);
   reject_from(h, state.goaway);
 }
@@ -287,35 +335,38 @@ static void pull_others(http3 *h, uint64_t id) {
     request->waiting = false;
     release(request);
   }
-  look_for_goaway(h);
+  look_at_state(h);
 }
 
-/* Tells the peer to open no more requests. Those below `end` that come all the same are taken. */
-static void say_goaway(http3 *h, uint64_t end) {
+/* GOAWAY was sent: the peer opens no more requests. */
+static void said_goaway(http3 *h, uint64_t id, uint32_t answer) {
   h->leaving = true;
-  h->end_id = end;
+  qlog_goaway(h->log, true, id);
   quic_wake(h->quic, 0);
-  if (h3_goaway(&h->endpoint, end, NULL) != H3_OK) quic_close(h->quic, H3_CODE_INTERNAL_ERROR);
+  if (answer != H3_OK) quic_close(h->quic, H3_CODE_INTERNAL_ERROR);
+}
+
+/* From the requests on of which nothing came yet, none is taken. */
+static void shut(http3 *h) {
+  uint64_t id = 0;
+  h->shut = true;
+  h3_first_unseen(&h->endpoint, &id);
+  said_goaway(h, id, h3_shutdown(&h->endpoint, NULL));
 }
 
 static bool is_request(uint64_t id) { return id % 4 == 0; }
 
 /* The request on a stream. At a server the first bytes on a stream open it, and all before it (RFC 9000, section 2.1), which may come later.
- * NULL: it is not taken. */
+ * NULL: it is over. */
 static http3_request *take(http3 *h, uint64_t id) {
   bool is_new = h->setup->server && id >= h->next_id;
-  if (is_new && id >= h->end_id) {
-    quic_reset(h->quic, (int64_t)id, H3_CODE_REQUEST_REJECTED);
-    quic_stop(h->quic, (int64_t)id, H3_CODE_REQUEST_REJECTED);
-    return NULL;
-  }
   for (; is_new && h->next_id <= id; h->next_id += 4)
     if (!add(h, h->next_id)) {
       quic_close(h->quic, H3_CODE_INTERNAL_ERROR);
       return NULL;
     }
-  /* the peer is told while it can still use as many streams as it may have opened: none is refused */
-  if (is_new && !h->leaving && h->end_id - h->next_id <= 4 * QUIC_STREAMS) say_goaway(h, h->end_id);
+  /* the peer is told while it can still use as many streams as it may have opened: none is rejected */
+  if (is_new && !h->leaving && h->next_id + 4 * QUIC_STREAMS >= h->end_id) said_goaway(h, h->end_id, h3_goaway(&h->endpoint, h->end_id, NULL));
   return find(h, id);
 }
 
@@ -324,11 +375,11 @@ static void received(void *owner, int64_t stream, const uint8_t *bytes, size_t c
   uint64_t id = (uint64_t)stream;
   http3_request *request = is_request(id) ? take(h, id) : NULL;
   size_t *owed = request ? &request->owed : is_request(id) ? NULL : owed_for(h, id);
-  if (!owed) return quic_consumed(h->quic, stream, count); /* it is not taken */
+  if (!owed) return quic_consumed(h->quic, stream, count); /* it is over */
   *owed += count;
-  bool is_in_turn = !request || !(is_held_back(request) || request->resumed || !STAILQ_EMPTY(&request->held));
-  if (is_in_turn) return deliver(h, id, request, bytes, count, end);
-  if (!hold(request, bytes, count, end)) quic_close(h->quic, H3_CODE_INTERNAL_ERROR);
+  if (request && (is_held_back(request) || request->resumed || !STAILQ_EMPTY(&request->held))) hold(request, false, bytes, count, end);
+  else if (request) read_request(request, bytes, count, end);
+  else if (deliver(h, id, bytes, count, end)) pull_others(h, id);
 }
 
 static void was_reset(void *owner, int64_t stream, uint64_t reason) {
@@ -338,6 +389,7 @@ static void was_reset(void *owner, int64_t stream, uint64_t reason) {
   if (is_request(id) && (!request || request->settled)) return;
   for (chunk *chunk; request && (chunk = take_held(request));) free(chunk);
   uint32_t answer = h3_deliver_reset(&h->endpoint, id, reason, &code);
+  if (answer == H3_REJECTED && request) return reject(request, code);
   if (answer != H3_OK && answer != H3_KEPT) return refuse(h, answer, code);
   if (request) request->paused = false; /* its end is a fault, which comes at once */
   if (request) pull(request);
@@ -367,6 +419,24 @@ static void stream_closed(void *owner, int64_t stream) {
 
 /* ---- what goes out ---- */
 
+/* Gives QUIC bytes, and the end behind them. false: the connection is closed, for want of memory. */
+static bool move(http3 *h, uint64_t id, const uint8_t *bytes, size_t count, bool end) {
+  if (quic_send(h->quic, (int64_t)id, bytes, count, end)) return true;
+  quic_close(h->quic, H3_CODE_INTERNAL_ERROR);
+  return false;
+}
+
+/* The program writes the next bytes of a body of http3_body_of where QUIC keeps them. false: it cannot, or there is no memory. */
+static bool move_body(http3_request *request, size_t count, bool end) {
+  http3 *h = request->connection;
+  uint64_t id = request->entry.id;
+  uint8_t *place = quic_send_here(h->quic, (int64_t)id, count);
+  if (place && h->setup->events->read(request, place, count)) return !end || move(h, id, NULL, 0, true);
+  if (place) http3_give_up(request, H3_CODE_INTERNAL_ERROR);
+  else quic_close(h->quic, H3_CODE_INTERNAL_ERROR);
+  return false;
+}
+
 /* Moves what waits on a stream to QUIC, as far as it has room, and the end after it, once. Returns whether anything was moved. The request is
  * NULL if the stream is not that of one. */
 static bool move_out(http3 *h, uint64_t id, http3_request *request) {
@@ -374,16 +444,11 @@ static bool move_out(http3 *h, uint64_t id, http3_request *request) {
   for (bool moved = false;; moved = true) {
     size_t room = quic_room(h->quic, (int64_t)id), count, past;
     uint32_t end;
-    if (h3_outgoing(&h->endpoint, id, bytes, room < PIECE ? room : PIECE, &count, &past, &end) != H3_OK) return moved;
+    if (room > PIECE) room = PIECE; /* what QUIC keeps is freed piece by piece */
+    if (h3_outgoing(&h->endpoint, id, bytes, room, &count, &past, &end) != H3_OK) return moved;
     if (past > room - count) past = room - count, end = 0;
-    if (past > 0 && !request) return moved;
     if (count == 0 && past == 0 && !end) return moved;
-    if (!quic_send(h->quic, (int64_t)id, bytes, count, end && past == 0) ||
-        (past > 0 && !quic_send(h->quic, (int64_t)id, request->body, past, end))) {
-      quic_close(h->quic, H3_CODE_INTERNAL_ERROR);
-      return false;
-    }
-    if (past > 0) request->body += past, request->body_count -= past;
+    if (!move(h, id, bytes, count, end && past == 0) || (past > 0 && !move_body(request, past, end))) return false;
     h3_advance(&h->endpoint, id, count + past);
     if (!end) continue;
     h3_end_taken(&h->endpoint, id); /* h3_next_to_send names the stream no longer */
@@ -415,15 +480,24 @@ static bool ask_for_bodies(http3 *h) {
   bool asked = false;
   http3_request *request;
   TAILQ_FOREACH(request, &h->requests, order) {
-    if (http3_room(request) == 0) continue;
+    if (!h->setup->events->room || http3_room(request) == 0) continue;
     h->setup->events->room(request);
     asked = true;
   }
   return asked;
 }
 
-/* All is acknowledged, but its reader may not have it yet, and would lose it: the peer is the one to close, or does nothing any more. */
-static bool is_silent(const http3 *h) { return quic_silence(h->quic) >= 1000 * LINGER && time(NULL) - h->leaving_at > LINGER; }
+/* A connection that takes no more requests is closed when nothing is left to be done. All is acknowledged then, but its reader may not have it
+ * yet, and would lose it: the peer is the one to close, or does nothing any more. */
+static void close_if_drained(http3 *h) {
+  uint32_t is_drained = 0;
+  if (!h->leaving || !TAILQ_EMPTY(&h->requests)) return;
+  quic_wake(h->quic, 1000);
+  if (quic_silence(h->quic) < LINGER || quic_time() - h->leaving_at <= LINGER) return;
+  if (h->setup->server && !h->shut) shut(h); /* of the requests that the peer may still have some may not come */
+  h3_is_drained(&h->endpoint, &is_drained);
+  if (is_drained) quic_close(h->quic, H3_CODE_NO_ERROR);
+}
 
 /* Tells the peer to send no more of a request, when its time has come. */
 static void stop_in_time(http3_request *request) {
@@ -453,9 +527,7 @@ static void fill(void *owner) {
     if (request->closed && request->settled) drop(request);
     else stop_in_time(request);
   }
-  if (!h->leaving || !TAILQ_EMPTY(&h->requests)) return;
-  if (is_silent(h)) quic_close(h->quic, H3_CODE_NO_ERROR);
-  else quic_wake(h->quic, 1000);
+  close_if_drained(h);
 }
 
 /* ---- the connection ---- */
@@ -468,10 +540,11 @@ static void *opened(quic_connection *quic, void *user) {
   h->quic = quic;
   h->setup = setup;
   TAILQ_INIT(&h->requests);
-  h->end_id = setup->requests > 0 && setup->requests < ANY_ID / 4 ? 4 * setup->requests : UINT64_MAX;
+  h->end_id = setup->requests > 0 && setup->requests < UINT64_MAX / 16 ? 4 * setup->requests : UINT64_MAX;
   h3_config_default(&config);
   config.server = setup->server;
-  config.webtransport = config.extended_connect = config.datagram = setup->sessions > 0;
+  config.webtransport = config.datagram = setup->sessions > 0;
+  config.extended_connect = setup->sessions > 0 || setup->tunnels;
   config.max_webtransport_sessions = setup->sessions;
   bool made = h3_new(&h->endpoint, &config, NULL) == H3_OK;
   for (int i = 0; made && i < 3; i++) made = quic_open(quic, true) == (int64_t)h3_control_id(setup->server) + 4 * i;
@@ -480,14 +553,19 @@ static void *opened(quic_connection *quic, void *user) {
     free(h);
     return NULL;
   }
+  char peer[QUIC_PLACE];
+  quic_peer(quic, peer);
+  h->log = qlog_begin(setup->qlog, setup->server, peer);
+  qlog_settings(h->log, true, config.max_field_section_size, config.table, config.blocked);
   setup->events->ready(h, setup->user);
   return h;
 }
 
 static void closed(void *owner, const quic_ending *ending) {
   http3 *h = owner;
-  h3_free(&h->endpoint); /* first: bodies that were lent go with their requests */
   for (http3_request *request; (request = TAILQ_FIRST(&h->requests));) drop(request);
+  h3_free(&h->endpoint);
+  qlog_end(h->log, ending);
   h->setup->events->over(h->setup->user, ending);
   free(h);
 }
@@ -496,13 +574,13 @@ const quic_events http3_over_quic = {opened, received, was_reset, was_stopped, s
 
 void http3_leave(void *owner) {
   http3 *h = owner;
-  time_t now = time(NULL);
+  uint64_t time = quic_time();
   if (!h->setup->server) return;
   if (h->leaving_at == 0) {
-    h->leaving_at = now;
-    if (!h->leaving) say_goaway(h, ANY_ID);
-  } else if (now - h->leaving_at > NOTICE && h->end_id > h->next_id)
-    say_goaway(h, h->next_id);
+    h->leaving_at = time;
+    said_goaway(h, ANY_ID, h3_shutdown_notice(&h->endpoint, NULL));
+  } else if (!h->shut && time - h->leaving_at > NOTICE)
+    shut(h);
 }
 
 /* ---- what programs call ---- */
@@ -522,6 +600,7 @@ http3_request *http3_open(http3 *h, bool *going_away) {
 bool http3_interim(http3_request *request, const http3_list *list) {
   http3 *h = request->connection;
   if (h3_send_head(&h->endpoint, request->entry.id, list->sizes, list->count, list_bytes(list), list->len, NULL) != H3_OK) return false;
+  qlog_section(h->log, true, request->entry.id, list);
   quic_wake(h->quic, 0);
   return true;
 }
@@ -531,6 +610,7 @@ bool http3_head(http3_request *request, const http3_list *list) { return request
 bool http3_trailer(http3_request *request, const http3_list *list) {
   http3 *h = request->connection;
   if (h3_send_trailer(&h->endpoint, request->entry.id, list->sizes, list->count, list_bytes(list), list->len, NULL) != H3_OK) return false;
+  qlog_section(h->log, true, request->entry.id, list);
   quic_wake(h->quic, 0);
   return true;
 }
@@ -558,6 +638,7 @@ size_t http3_room(http3_request *request) {
 static bool body_given(http3_request *request, uint32_t answer, size_t count) {
   if (answer != H3_OK) return false;
   request->unsent += count;
+  if (count > 0) qlog_data(request->connection->log, request->entry.id, count);
   quic_wake(request->connection->quic, 0);
   return true;
 }
@@ -566,12 +647,8 @@ bool http3_body(http3_request *request, const uint8_t *bytes, size_t count) {
   return body_given(request, h3_send_body(&request->connection->endpoint, request->entry.id, bytes, count, NULL), count);
 }
 
-bool http3_body_held(http3_request *request, const uint8_t *bytes, size_t count) {
-  if (request->body_count > 0 && bytes != request->body + request->body_count) return http3_body(request, bytes, count);
-  if (!body_given(request, h3_send_body_of(&request->connection->endpoint, request->entry.id, count, NULL), count)) return false;
-  if (request->body_count == 0) request->body = bytes;
-  request->body_count += count;
-  return true;
+bool http3_body_of(http3_request *request, size_t count) {
+  return body_given(request, h3_send_body_of(&request->connection->endpoint, request->entry.id, count, NULL), count);
 }
 
 bool http3_raw(http3_request *request, const uint8_t *bytes, size_t count, bool end) {
@@ -635,6 +712,11 @@ void http3_resume(http3_request *request) {
 }
 
 void http3_peer(http3 *h, char text[QUIC_PLACE]) { quic_peer(h->quic, text); }
+
+bool http3_has_settings(http3 *h) {
+  h3_state state;
+  return h3_connection(&h->endpoint, &state) == H3_OK && state.has_settings;
+}
 
 void http3_close(http3 *h, uint64_t code) { quic_close(h->quic, code); }
 

@@ -20,8 +20,6 @@ typedef struct http3_request {
   size_t held_count;               /* bytes of them */
   size_t owed;    /* bytes that came, for which the peer has got no further credit: they are held here or by the endpoint */
   size_t unsent;  /* bytes of the body that the endpoint holds since QUIC had no room for them */
-  const uint8_t *body; /* the next bytes of the body that http3_body_held was given */
-  size_t body_count;   /* how many they are */
   uint64_t stop_at; /* when the peer is told to send no more of it, by quic_time; 0: never */
   bool waiting;   /* its header section needs what the peer's encoder stream has not brought yet */
   bool paused;    /* the program takes nothing of it now */
@@ -44,7 +42,9 @@ typedef struct {
                                                                     * H3_FAULT_RESET with H3_REQUEST_REJECTED: the server's GOAWAY says that it
                                                                     * does not process this request, and another connection may have it */
   void (*stopped)(http3_request *);                                /* the peer reads nothing more of what is sent. May be NULL */
-  void (*room)(http3_request *);                                   /* http3_room bytes of the body may be sent */
+  void (*room)(http3_request *);                                   /* http3_room bytes of the body may be sent. May be NULL */
+  bool (*read)(http3_request *, uint8_t *bytes, size_t count);     /* write the next bytes of a body of http3_body_of here. false: it cannot be had,
+                                                                    * and the stream is reset. NULL: there are no such bodies */
   void (*freed)(http3_request *);                                  /* the last call: free what is in `data` */
   void (*going_away)(http3 *, void *user);                         /* a client's: no more requests can be opened. May be NULL */
   void (*over)(void *user, const quic_ending *);                   /* the connection has ended */
@@ -55,8 +55,10 @@ typedef struct {
 typedef struct {
   bool server;
   uint64_t sessions; /* a server's: so many WebTransport sessions are taken on a connection, as the settings say; 0: none */
+  bool tunnels;      /* a server's: extended CONNECT is announced (RFC 9220). The endpoint takes connect-udp and webtransport as `:protocol` */
   uint64_t requests; /* a server's: at most so many are taken on a connection, and GOAWAY sends the client to another before; 0: no limit */
   size_t data;       /* how many bytes `data` of a request has; 0: it is NULL at first */
+  const char *qlog;  /* a folder where each connection has a file of its events (qlog.h); NULL: none */
   const http3_events *events;
   void *user;
 } http3_setup;
@@ -95,6 +97,8 @@ extern const quic_events http3_over_quic;
 http3_request *http3_open(http3 *, bool *going_away);
 /* Who the peer is: an address and port, as text. */
 void http3_peer(http3 *, char text[QUIC_PLACE]);
+/* Whether the peer's settings came. Before, and where they do not announce it, no extended CONNECT can be sent. */
+bool http3_has_settings(http3 *);
 /* Closes the connection with a code of RFC 9114, section 8.1. */
 void http3_close(http3 *, uint64_t code);
 
@@ -133,9 +137,9 @@ uint64_t http3_waiting(http3_request *);
 size_t http3_room(http3_request *);
 /* Sends a piece of the body. false: refused. */
 bool http3_body(http3_request *, const uint8_t *bytes, size_t count);
-/* Sends a piece that QUIC copies when it has room: it stays where it is, unchanged, until `freed` is called. One that does not lie right after
- * the bytes that are still held is copied. false: refused. */
-bool http3_body_held(http3_request *, const uint8_t *bytes, size_t count);
+/* Sends a body, or the rest of one, by its length: `read` is asked for its bytes when QUIC has room, and writes them where QUIC keeps them. false:
+ * refused. */
+bool http3_body_of(http3_request *, size_t count);
 /* The message is whole. */
 void http3_finish(http3_request *);
 /* Sends bytes on a bidirectional stream of a WebTransport session, as they are, and with `end` its end. false: out of memory. */
@@ -161,7 +165,7 @@ const char *http3_why(const h3_item *);
 /* Why a connection ended. */
 const char *http3_why_over(const quic_ending *);
 /* A server takes no further request on the connection: GOAWAY goes out, and, if this is called on and on, a second later the GOAWAY from which on
- * requests are refused (RFC 9114, section 5.2). What was begun ends at its reader's speed; then the peer closes the connection, or it is closed
+ * requests are rejected (RFC 9114, section 5.2). What was begun ends at its reader's speed; then the peer closes the connection, or it is closed
  * here after five seconds in which the peer did nothing but PING. */
 void http3_leave(void *http3);
 #endif

@@ -51,15 +51,17 @@ void pool_begin(const pool_setup *given) {
 }
 
 /* The connection that has the fewest requests of those that may have more. NULL: there is none. */
-static upstream *least_busy(void) {
+static upstream *least_busy(bool needs_settings) {
   upstream *found = NULL;
-  for (upstream *at = upstreams; at < upstreams + POOL_MOST; at++)
-    if (at->connection && !at->going_away && (!found || at->requests < found->requests)) found = at;
+  for (upstream *at = upstreams; at < upstreams + POOL_MOST; at++) {
+    if (!at->connection || at->going_away || (found && at->requests >= found->requests)) continue;
+    if (!needs_settings || http3_has_settings(at->connection)) found = at;
+  }
   return found;
 }
 
-http3_request *pool_open(void) {
-  upstream *upstream = least_busy();
+http3_request *pool_open(bool is_tunnel) {
+  upstream *upstream = least_busy(is_tunnel);
   http3_request *request = upstream ? http3_open(upstream->connection, &upstream->going_away) : NULL;
   if (request) upstream->requests++;
   return request;
@@ -102,9 +104,9 @@ bool pool_tend(bool is_waiting) {
   for (size_t i = 0; i < setup.most; i++) {
     if (sockets[i] && !tend_one(i)) is_reached = false;
     if (!sockets[i]) place = i;
-    else if (!upstreams[i].was_there) begun++;
+    else if (!upstreams[i].was_there || (upstreams[i].connection && !http3_has_settings(upstreams[i].connection))) begun++;
   }
-  const upstream *least = least_busy();
+  const upstream *least = least_busy(false);
   bool is_needed = begun == 0 && (is_waiting || (least && least->requests >= BUSY));
   if (is_needed && place < setup.most && quic_time() >= try_at && !make_one(place)) is_reached = false;
   if (!is_reached) try_at = quic_time() + AGAIN;

@@ -14,8 +14,9 @@ typedef struct {
 } pool_setup;
 
 void pool_begin(const pool_setup *);
-/* Opens a request on the connection that has the fewest. NULL: none has room now, and pool_tend makes another one if there may be one. */
-http3_request *pool_open(void);
+/* Opens a request on the connection that has the fewest; an extended CONNECT (is_tunnel) wants one whose settings came. NULL: none has room now, and
+ * pool_tend makes another one if there may be one. */
+http3_request *pool_open(bool is_tunnel);
 /* A request of the pool is over: call it in `freed`. */
 void pool_freed(const http3_request *);
 /* Makes connections if requests wait, and frees those that ended, that go away, or that nobody has used for a while. Returns false if the

@@ -7,6 +7,7 @@
  *   --window KIB         what the server may send of an answer whose client does not read: so much is kept (128)
  *   --connections N      at most so many of clients at once (10,000)
  *   --drain SECONDS      what was begun has so long at the end (60)
+ *   --tunnels            CONNECT-UDP goes through (RFC 9298), by capsules
  *
  * Bodies go through as they come: the reader of each sets its pace, and a window on each side is all that is kept. A request that the server did not
  * process (GOAWAY, H3_REQUEST_REJECTED), or whose connection was lost before an answer if it may be repeated, is sent again.
@@ -36,7 +37,7 @@ typedef struct exchange {
   http3_list *head, *trailer;    /* of the request, to be sent again: NULL once an answer came */
   uint8_t *body;                 /* of the request, likewise */
   size_t body_count;
-  bool is_waiting, front_ended, answered, over;
+  bool is_waiting, is_tunnel, front_ended, answered, over;
   bool body_lost; /* more of the body went than is kept */
   unsigned tries;
   uint64_t moved_at; /* when something moved last */
@@ -46,6 +47,7 @@ typedef TAILQ_HEAD(exchanges, exchange) exchanges;
 
 static exchanges all = TAILQ_HEAD_INITIALIZER(all), waiting = TAILQ_HEAD_INITIALIZER(waiting);
 static uint64_t timeout = 30000; /* milliseconds */
+static bool takes_tunnels;
 
 /* Something of it moved: it is the last one to be given up. */
 static void moved(exchange *exchange) {
@@ -123,7 +125,7 @@ static void finish_back(exchange *exchange) {
 
 /* Sends what came of the request, if there is a connection for it. */
 static void begin(exchange *exchange) {
-  http3_request *back = pool_open();
+  http3_request *back = pool_open(exchange->is_tunnel);
   if (!back) return wait(exchange);
   wait_no_more(exchange);
   exchange->tries++;
@@ -161,10 +163,13 @@ static void front_over(void *user, const quic_ending *ending) { (void)user, (voi
 
 /* A new request: its fields go on, or (a status) an answer says why not. */
 static const char *read_request(exchange *exchange, const http3_list *list) {
-  char method[16], hops[16] = "", peer[QUIC_PLACE];
+  char method[16], hops[16] = "", protocol[16] = "", peer[QUIC_PLACE];
   http3_wanted wanted[] = {{.name = ":method", .value = method, .room = sizeof method},
-                           {.name = "max-forwards", .value = hops, .room = sizeof hops, .optional = true}};
-  if (!http3_find(list, wanted, 2) || strcmp(method, "CONNECT") == 0 || strcmp(method, "TRACE") == 0) return "501";
+                           {.name = "max-forwards", .value = hops, .room = sizeof hops, .optional = true},
+                           {.name = ":protocol", .value = protocol, .room = sizeof protocol, .optional = true}};
+  if (!http3_find(list, wanted, 3) || strcmp(method, "TRACE") == 0) return "501";
+  exchange->is_tunnel = takes_tunnels && strcmp(protocol, "connect-udp") == 0;
+  if (strcmp(method, "CONNECT") == 0 && !exchange->is_tunnel) return "501";
   if (strcmp(method, "OPTIONS") == 0 && strcmp(hops, "0") == 0) return "204"; /* RFC 9110, section 7.6.2 */
   if (forward_is_loop(list)) return "508";
   http3_peer(exchange->front->connection, peer);
@@ -380,12 +385,13 @@ static void run(quic_socket *front, uint64_t drain) {
 typedef struct {
   unsigned long long pool, timeout, window, connections, drain;
   const char *trusted;
+  bool tunnels;
 } options;
 
 /* The options, before the seven words. */
 static bool read_options(int count, char **arguments, options *options) {
   static const struct option known[] = {{"trust", 1, 0, 't'},       {"pool", 1, 0, 'p'},  {"timeout", 1, 0, 's'}, {"window", 1, 0, 'w'},
-                                        {"connections", 1, 0, 'c'}, {"drain", 1, 0, 'd'}, {0, 0, 0, 0}};
+                                        {"connections", 1, 0, 'c'}, {"drain", 1, 0, 'd'}, {"tunnels", 0, 0, 'u'}, {0, 0, 0, 0}};
   for (int option; (option = getopt_long(count, arguments, "+", known, NULL)) != -1;) {
     unsigned long long *number = option == 'p'   ? &options->pool
                                  : option == 's' ? &options->timeout
@@ -395,7 +401,8 @@ static bool read_options(int count, char **arguments, options *options) {
                                                  : NULL;
     char *end = NULL;
     if (option == 't') options->trusted = optarg;
-    if (option == 't') continue;
+    if (option == 'u') options->tunnels = true;
+    if (option == 't' || option == 'u') continue;
     if (!number || *optarg < '0' || *optarg > '9') return false;
     *number = strtoull(optarg, &end, 10);
     if (*end) return false;
@@ -412,18 +419,19 @@ static const http3_events BACK = {.ready = back_ready, .head = back_head, .body 
 int main(int count, char **arguments) {
   options options = {.pool = 4, .timeout = 30, .window = 128, .connections = 10000, .drain = 60};
   if (!read_options(count, arguments, &options)) {
-    fprintf(stderr, "proxy [--trust FILE] [--pool N] [--timeout SECONDS] [--window KIB] [--connections N] [--drain SECONDS] "
+    fprintf(stderr, "proxy [--trust FILE] [--pool N] [--timeout SECONDS] [--window KIB] [--connections N] [--drain SECONDS] [--tunnels] "
                     "ADDRESS PORT CERTIFICATE KEY TO_ADDRESS TO_PORT TO_NAME\n");
     return 2;
   }
   char **words = arguments + optind;
-  http3_setup setup = {.server = true, .requests = 100000, .data = sizeof(exchange), .events = &FRONT};
+  http3_setup setup = {.server = true, .tunnels = options.tunnels, .requests = 100000, .data = sizeof(exchange), .events = &FRONT};
   quic_pair pair = {words[2], words[3]};
   quic_identity identity = {.pairs = &pair, .count = 1};
   quic_limits limits;
   quic_limits_default(&limits);
   limits.connections = (size_t)options.connections;
   timeout = 1000 * options.timeout;
+  takes_tunnels = options.tunnels;
   ending_await();
   sigaction(SIGUSR1, &(struct sigaction){.sa_handler = on_signal}, NULL);
   forward_begin();

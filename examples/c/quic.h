@@ -111,6 +111,8 @@ int64_t quic_open(quic_connection *, bool unidirectional);
 size_t quic_room(const quic_connection *, int64_t stream);
 /* Gives bytes to be sent, copied, and with `end` the end of the stream. false: out of memory, nothing was taken. */
 bool quic_send(quic_connection *, int64_t stream, const uint8_t *bytes, size_t count, bool end);
+/* The same with no copy: the next `count` bytes (not 0) are those that the caller writes here, before any other call. NULL: out of memory. */
+uint8_t *quic_send_here(quic_connection *, int64_t stream, size_t count);
 /* RESET_STREAM: nothing more is sent on the stream. */
 void quic_reset(quic_connection *, int64_t stream, uint64_t code);
 /* STOP_SENDING: nothing more is wanted of the stream. */

@@ -78,15 +78,27 @@ size_t quic_room(const quic_connection *connection, int64_t id) {
   return (size_t)least(most - kept, credit(connection, id, stream ? stream->out.given - stream->out.taken : 0));
 }
 
+/* So many bytes were given to a stream, or its end. */
+static void given(quic_connection *connection, stream *stream, size_t count) {
+  connection->kept += count;
+  connection->untaken += count;
+  quic_due(connection);
+  if (!stream->queue && has_more(stream)) line_up(stream, &connection->ready);
+}
+
 bool quic_send(quic_connection *connection, int64_t id, const uint8_t *bytes, size_t count, bool end) {
   stream *stream = find_or_add(connection, id);
   if (!stream || !buffer_give(&stream->out, bytes, count)) return false;
-  connection->kept += count;
-  connection->untaken += count;
   if (end) stream->out.ended = true;
-  quic_due(connection);
-  if (!stream->queue && has_more(stream)) line_up(stream, &connection->ready);
+  given(connection, stream, count);
   return true;
+}
+
+uint8_t *quic_send_here(quic_connection *connection, int64_t id, size_t count) {
+  stream *stream = find_or_add(connection, id);
+  uint8_t *place = stream ? buffer_extend(&stream->out, count) : NULL;
+  if (place) given(connection, stream, count);
+  return place;
 }
 
 void quic_reset(quic_connection *connection, int64_t id, uint64_t code) {

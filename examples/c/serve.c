@@ -15,12 +15,13 @@
 #include <stdio.h>
 #include <stdlib.h>
 #include <string.h>
+#include <unistd.h>
 
-enum { WORDS = 5, PAIRS = 16, SEGMENTS = 256 };
+enum { WORDS = 5, PAIRS = 16, SEGMENTS = 256, QLOG };
 
 typedef struct {
   const char *words[WORDS]; /* address, port, certificate, key, folder */
-  const char *log;
+  const char *log, *qlog;
   quic_pair pairs[PAIRS];
   size_t count; /* of pairs */
   quic_limits quic;
@@ -34,6 +35,7 @@ static const struct argp_option known[] = {
     {"handshakes", 'h', "N", 0, "while so many have not ended, a client has to show its address by Retry (100)", 0},
     {"drain", 'd', "SECONDS", 0, "what was begun has so long at the end (60)", 0},
     {"log", 'l', "FILE", 0, "a line for each request; - is standard output", 0},
+    {"qlog", QLOG, "FOLDER", 0, "a file of the events of HTTP/3 there for each connection, for debugging", 0},
     {"no-segments", SEGMENTS, NULL, 0, "a system call for each packet, as a capture at the socket needs", 0},
     {0}};
 
@@ -61,6 +63,7 @@ static error_t read_option(int key, char *text, struct argp_state *state) {
   case 'h': read_number(state, text, &chosen.handshakes); return 0;
   case 'd': read_number(state, text, &chosen.drain); return 0;
   case 'l': chosen.log = text; return 0;
+  case QLOG: chosen.qlog = text; return 0;
   case SEGMENTS: chosen.quic.one_by_one = true; return 0;
   case ARGP_KEY_ARG:
     if (state->arg_num >= WORDS) argp_usage(state);
@@ -112,7 +115,7 @@ static void tick(quic_socket *socket) {
 }
 
 static int serve(void) {
-  http3_setup setup = {.server = true, .requests = chosen.requests, .data = answers_data, .events = &answers_events};
+  http3_setup setup = {.server = true, .requests = chosen.requests, .data = answers_data, .qlog = chosen.qlog, .events = &answers_events};
   quic_identity shown = identity();
   quic_socket *socket = quic_listen(chosen.words[0], chosen.words[1], &shown, &chosen.quic, &http3_over_quic, &setup);
   if (!socket) return 1;
@@ -138,7 +141,10 @@ int main(int count, char **arguments) {
   chosen.pairs[0] = (quic_pair){chosen.words[2], chosen.words[3]};
   chosen.quic.connections = (size_t)chosen.connections;
   chosen.quic.handshakes = (size_t)chosen.handshakes;
-  const char *missing = !files_begin(chosen.words[4]) ? chosen.words[4] : !access_open(chosen.log) ? chosen.log : NULL;
+  const char *missing = !files_begin(chosen.words[4])                          ? chosen.words[4]
+                        : !access_open(chosen.log)                             ? chosen.log
+                        : chosen.qlog && access(chosen.qlog, W_OK | X_OK) != 0 ? chosen.qlog
+                                                                               : NULL;
   if (missing) perror(missing);
   types_begin();
   await_signals();

@@ -121,14 +121,12 @@ static void on_freed(http3_request *request) {
   free(work);
 }
 
-static void on_room(http3_request *request) { (void)request; } /* no body is sent */
-
 static void on_ready(http3 *h, void *user) { (void)h, (void)user; }
 
 static void on_over(void *user, const quic_ending *ending) { (void)user, (void)ending; }
 
 int main(int count, char **arguments) {
-  static const http3_events events = {.ready = on_ready, .head = on_head, .body = on_body, .end = on_end, .failed = on_failed, .room = on_room,
+  static const http3_events events = {.ready = on_ready, .head = on_head, .body = on_body, .end = on_end, .failed = on_failed,
                                       .freed = on_freed, .over = on_over, .session = on_session};
   http3_setup setup = {.server = true, .sessions = SESSIONS, .events = &events};
   if (count != 5) {

@@ -19,7 +19,6 @@ const (
 	piece     = 16 * 1024  // bytes that are moved at once
 	heldLimit = 264 * 1024 // bytes of a stream that the endpoint may hold: a header section of 64 KiB has up to 256 KiB in the Huffman code
 	streams   = 100        // requests that a client may have at once
-	anyID     = 1<<62 - 4  // the greatest id of a request
 
 	grace        = 100 * time.Millisecond // that a client has for an answer before it is told to send no more
 	sectionGrace = 2 * time.Second        // the same where its header section is too long: it may read no answer until that is sent
@@ -35,6 +34,8 @@ func codeOf(err error, server bool) streamCode {
 	switch {
 	case err == errTooLarge:
 		return h3.ExcessiveLoad
+	case errors.Is(err, h3.Rejected):
+		return h3.RequestRejected
 	case errors.As(err, &fault):
 		return streamCode(fault.Code(server))
 	}
@@ -72,9 +73,7 @@ type Connection struct {
 	broken   error          // why the connection is over
 	writers  sync.WaitGroup // those of the own streams
 
-	taking  sync.Mutex    // a server's, of the next three; it is taken before the lock
-	nextID  uint64        // behind the last request that came
-	endID   uint64        // requests from here on are not taken
+	endID   uint64        // a server's: where the requests end that the connection may have; 0: nowhere
 	leaving chan struct{} // closed: the peer was told by GOAWAY to open no more requests
 	active  atomic.Int64  // requests of which Done was not said: those that Accept gave, and those of a Transport
 }
@@ -120,11 +119,7 @@ func NewConnection(connection quicConnection, trace *trace, requests uint64) (*C
 	if err != nil {
 		return nil, err
 	}
-	c := &Connection{endpoint: endpoint, quic: connection, trace: trace, leaving: make(chan struct{})}
-	c.endID = anyID
-	if requests > 0 {
-		c.endID = 4 * requests
-	}
+	c := &Connection{endpoint: endpoint, quic: connection, trace: trace, leaving: make(chan struct{}), endID: 4 * requests}
 	c.inserted = sync.NewCond(&c.lock)
 	for i := 0; i < 3; i++ {
 		stream, err := connection.OpenUniStream()
@@ -240,6 +235,9 @@ func (c *Connection) deliver(id uint64, bytes []byte, end error) error {
 	} else if code, isReset := resetCode(end); err == nil && isReset {
 		err = c.endpoint.DeliverReset(id, code)
 	}
+	if errors.Is(err, h3.Rejected) { // this server shuts down: nothing of the request was processed
+		return err
+	}
 	if err != nil {
 		return c.fail(err)
 	}
@@ -336,71 +334,63 @@ func (c *Connection) Open(ctx context.Context) (*Request, error) {
 	return c.newRequest(stream, false), nil
 }
 
-// Accept waits for a client's next request.
+// Accept waits for a client's next request. The peer is told to open no more while it can still use as many streams as it may have opened: so none
+// is rejected.
 func (c *Connection) Accept() (*Request, error) {
-	for {
-		stream, err := c.quic.AcceptStream(context.Background())
-		if err != nil {
-			return nil, err
-		}
-		if id := uint64(stream.StreamID()); c.take(id) {
-			return c.newRequest(stream, true), nil
-		}
-		stream.CancelRead(h3.RequestRejected)
-		stream.CancelWrite(h3.RequestRejected)
+	stream, err := c.quic.AcceptStream(context.Background())
+	if err != nil {
+		return nil, err
 	}
-}
-
-// take says whether a request is taken. The peer is told to open no more while it can still use as many streams as it may have opened: so none
-// is refused.
-func (c *Connection) take(id uint64) bool {
-	c.taking.Lock()
-	defer c.taking.Unlock()
-	if id >= c.endID {
-		return false
-	}
-	c.nextID = id + 4
 	c.active.Add(1)
-	if c.endID-c.nextID <= 4*streams {
-		c.sayGoaway(c.endID)
+	if c.endID > 0 && uint64(stream.StreamID())+4+4*streams >= c.endID {
+		c.sayGoaway(func() error {
+			if c.isLeaving() {
+				return nil
+			}
+			return c.endpoint.Goaway(c.endID)
+		})
 	}
-	return true
+	return c.newRequest(stream, true), nil
 }
 
-// sayGoaway tells the peer to open no more requests. Those below `end` that come all the same are taken. No request is taken meanwhile.
-func (c *Connection) sayGoaway(end uint64) {
+// isLeaving says whether GOAWAY was sent. The lock is held.
+func (c *Connection) isLeaving() bool {
 	select {
 	case <-c.leaving:
-		if end == c.endID {
-			return
-		}
+		return true
 	default:
-		close(c.leaving)
+		return false
 	}
-	c.endID = end
+}
+
+// sayGoaway makes a call of the endpoint that sends GOAWAY: the peer opens no more requests.
+func (c *Connection) sayGoaway(say func() error) {
 	c.lock.Lock()
 	defer c.lock.Unlock()
-	if err := c.endpoint.Goaway(end); err != nil {
+	if c.broken != nil {
+		return
+	}
+	if err := say(); err != nil {
 		c.fail(err)
+	}
+	if !c.isLeaving() {
+		close(c.leaving)
 	}
 	c.wakeOwn()
 }
 
-// Leave takes no further request but those that are on their way (RFC 9114, section 5.2). It waits for these.
+// Leave takes no further request but those that are on their way (RFC 9114, section 5.2). It waits for these; the endpoint rejects those that come
+// later.
 func (c *Connection) Leave() {
-	c.taking.Lock()
-	c.sayGoaway(c.endID)
-	c.taking.Unlock()
+	c.sayGoaway(c.endpoint.ShutdownNotice)
 	select {
 	case <-c.quic.Context().Done():
 	case <-time.After(notice):
 	}
-	c.taking.Lock()
-	c.sayGoaway(c.nextID)
-	c.taking.Unlock()
+	c.sayGoaway(c.endpoint.Shutdown)
 }
 
-// Done says that a request is over: answered, or given up.
+// Done says that a request is over: answered, rejected, or given up.
 func (r *Request) Done() { r.connection.active.Add(-1) }
 
 // state is what TLS says of the connection.
@@ -590,5 +580,10 @@ func (r *Request) read() error {
 	count, end := r.stream.Read(buffer[:])
 	r.connection.lock.Lock()
 	r.unreadable = end
-	return r.connection.deliver(r.id, buffer[:count], end)
+	err := r.connection.deliver(r.id, buffer[:count], end)
+	if errors.Is(err, h3.Rejected) {
+		r.stream.CancelWrite(h3.RequestRejected)
+		r.stream.CancelRead(h3.RequestRejected)
+	}
+	return err
 }

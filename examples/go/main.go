@@ -1,6 +1,6 @@
 // h3go holds HTTP/3 connections with the library behind include/h3.h, over quic-go (Debian's golang-github-lucas-clemente-quic-go-dev).
 //
-//	h3go serve [-requests N] [-handler] ADDRESS CERTIFICATE KEY FOLDER
+//	h3go serve [-requests N] [-drain DURATION] [-handler] ADDRESS CERTIFICATE KEY FOLDER
 //	    files below a folder; POST is answered with the count and SHA-256 of its body. -handler: by an http.Handler. -requests: at most so many on a connection, GOAWAY
 //	    goes out when 100 are left (100,000; 0: no limit). SIGTERM and SIGINT: GOAWAY, and what was begun ends, whatever its reader's speed; the second one cuts it off
 //	h3go fetch [-post FILE] [-head] [-count N] [-parallel N] [-cancel BYTES] [-verbose] TRUSTED URL

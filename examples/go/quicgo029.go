@@ -7,7 +7,6 @@ package main
 import (
 	"context"
 	"crypto/tls"
-	"errors"
 
 	"github.com/lucas-clemente/quic-go"
 	"github.com/lucas-clemente/quic-go/logging"
@@ -21,35 +20,28 @@ type (
 	sendStream     = quic.SendStream
 	quicConfig     = quic.Config
 	streamCode     = quic.StreamErrorCode
+	streamError    = quic.StreamError
 	closeCode      = quic.ApplicationErrorCode
 	streamID       = logging.StreamID
 	frame          = logging.Frame
 	streamFrame    = logging.StreamFrame
 	resetFrame     = logging.ResetStreamFrame
+	pingFrame      = logging.PingFrame
+	ackFrame       = logging.AckFrame
 )
 
-var tracingKey any = quic.ConnectionTracingKey
+var (
+	tracingKey any = quic.ConnectionTracingKey
+	dial           = quic.DialAddrContext
+	listen         = quic.ListenAddr
+)
 
-func dial(ctx context.Context, address string, tls *tls.Config, config *quicConfig) (quicConnection, error) {
-	return quic.DialAddrContext(ctx, address, tls, config)
-}
-
-func listen(address string, tls *tls.Config, config *quicConfig) (quicListener, error) {
-	return quic.ListenAddr(address, tls, config)
-}
+// isOfPeer says whether the peer reset a stream, and not this side.
+func isOfPeer(_ *streamError) bool { return true }
 
 // tlsOf is what TLS says of a connection.
 func tlsOf(connection quicConnection) tls.ConnectionState {
 	return connection.ConnectionState().TLS.ConnectionState
-}
-
-// resetCode is the code with which the peer reset a stream.
-func resetCode(err error) (code uint64, isReset bool) {
-	var reset *quic.StreamError
-	if !errors.As(err, &reset) {
-		return 0, false
-	}
-	return uint64(reset.ErrorCode), true
 }
 
 // packets tells a trace of the packets of its connection.
@@ -63,9 +55,9 @@ func (p packets) SentPacket(_ *logging.ExtendedHeader, _ logging.ByteCount, _ *l
 	p.sent(frames)
 }
 
-// ReceivedPacket sees that the peer is there.
-func (p packets) ReceivedPacket(*logging.ExtendedHeader, logging.ByteCount, []logging.Frame) {
-	p.listen()
+// ReceivedPacket sees what the peer does.
+func (p packets) ReceivedPacket(_ *logging.ExtendedHeader, _ logging.ByteCount, frames []logging.Frame) {
+	p.received(frames)
 }
 
 // UpdatedMetrics sees what is acknowledged.

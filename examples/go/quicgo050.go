@@ -7,7 +7,6 @@ package main
 import (
 	"context"
 	"crypto/tls"
-	"errors"
 
 	"github.com/quic-go/quic-go"
 	"github.com/quic-go/quic-go/logging"
@@ -21,34 +20,27 @@ type (
 	sendStream     = quic.SendStream
 	quicConfig     = quic.Config
 	streamCode     = quic.StreamErrorCode
+	streamError    = quic.StreamError
 	closeCode      = quic.ApplicationErrorCode
 	streamID       = logging.StreamID
 	frame          = logging.Frame
 	streamFrame    = logging.StreamFrame
 	resetFrame     = logging.ResetStreamFrame
+	pingFrame      = logging.PingFrame
+	ackFrame       = logging.AckFrame
 )
 
-var tracingKey any = quic.ConnectionTracingKey
+var (
+	tracingKey any = quic.ConnectionTracingKey
+	dial           = quic.DialAddr
+	listen         = quic.ListenAddr
+)
 
-func dial(ctx context.Context, address string, tls *tls.Config, config *quicConfig) (quicConnection, error) {
-	return quic.DialAddr(ctx, address, tls, config)
-}
-
-func listen(address string, tls *tls.Config, config *quicConfig) (quicListener, error) {
-	return quic.ListenAddr(address, tls, config)
-}
+// isOfPeer says whether the peer reset a stream, and not this side.
+func isOfPeer(reset *streamError) bool { return reset.Remote }
 
 // tlsOf is what TLS says of a connection.
 func tlsOf(connection quicConnection) tls.ConnectionState { return connection.ConnectionState().TLS }
-
-// resetCode is the code with which the peer reset a stream.
-func resetCode(err error) (code uint64, isReset bool) {
-	var reset *quic.StreamError
-	if !errors.As(err, &reset) || !reset.Remote {
-		return 0, false
-	}
-	return uint64(reset.ErrorCode), true
-}
 
 // into has quic-go tell the tracer of each connection, and its trace of the packets.
 func (t *tracer) into(config *quicConfig) {
@@ -61,10 +53,14 @@ func (t *tracer) into(config *quicConfig) {
 			SentShortHeaderPacket: func(_ *logging.ShortHeader, _ logging.ByteCount, _ logging.ECN, _ *logging.AckFrame, frames []logging.Frame) {
 				made.sent(frames)
 			},
-			ReceivedLongHeaderPacket:  func(*logging.ExtendedHeader, logging.ByteCount, logging.ECN, []logging.Frame) { made.listen() },
-			ReceivedShortHeaderPacket: func(*logging.ShortHeader, logging.ByteCount, logging.ECN, []logging.Frame) { made.listen() },
-			UpdatedMetrics:            func(_ *logging.RTTStats, _, _ logging.ByteCount, count int) { made.fly(count) },
-			Close:                     made.forget,
+			ReceivedLongHeaderPacket: func(_ *logging.ExtendedHeader, _ logging.ByteCount, _ logging.ECN, frames []logging.Frame) {
+				made.received(frames)
+			},
+			ReceivedShortHeaderPacket: func(_ *logging.ShortHeader, _ logging.ByteCount, _ logging.ECN, frames []logging.Frame) {
+				made.received(frames)
+			},
+			UpdatedMetrics: func(_ *logging.RTTStats, _, _ logging.ByteCount, count int) { made.fly(count) },
+			Close:          made.forget,
 		}
 	}
 }

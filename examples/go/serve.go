@@ -173,6 +173,7 @@ func takeRequests(connection *Connection, answer func(*Request) error) {
 type server struct {
 	answer   func(*Request) error
 	requests uint64        // at most so many are taken on a connection
+	drain    time.Duration // what was begun has so long at the end
 	leave    chan struct{} // closed: what was begun is to end
 	traces   tracer
 }
@@ -244,7 +245,15 @@ func (s *server) run(listener quicListener) {
 			session.CloseWithError(h3.NoError, "")
 		}
 	}()
-	connections.Wait()
+	over := make(chan struct{})
+	go func() {
+		defer close(over)
+		connections.Wait()
+	}()
+	select {
+	case <-over:
+	case <-time.After(s.drain):
+	}
 }
 
 // leaveAt tells a server to leave at the first signal, and ends the program at the second.
@@ -268,17 +277,18 @@ func answerOf(name string, byHandler bool) func(*Request) error {
 func serveCommand(words []string) error {
 	options := flag.NewFlagSet("serve", flag.ExitOnError)
 	requests := options.Uint64("requests", 100000, "at most so many requests on a connection: GOAWAY goes out when 100 are left (0: no limit)")
+	drain := options.Duration("drain", time.Minute, "what was begun has so long at the end")
 	byHandler := options.Bool("handler", false, "the folder is served by an http.Handler")
 	options.Parse(words)
 	if options.NArg() != 4 {
-		return errors.New("serve [-requests N] [-handler] ADDRESS CERTIFICATE KEY FOLDER")
+		return errors.New("serve [-requests N] [-drain DURATION] [-handler] ADDRESS CERTIFICATE KEY FOLDER")
 	}
 	address := options.Arg(0)
 	pair, err := tls.LoadX509KeyPair(options.Arg(1), options.Arg(2))
 	if err != nil {
 		return err
 	}
-	s := &server{answer: answerOf(options.Arg(3), *byHandler), requests: *requests, leave: make(chan struct{})}
+	s := &server{answer: answerOf(options.Arg(3), *byHandler), requests: *requests, drain: *drain, leave: make(chan struct{})}
 	config := settings.Clone()
 	s.traces.into(config)
 	listener, err := listen(address, &tls.Config{Certificates: []tls.Certificate{pair}, NextProtos: []string{"h3"}}, config)

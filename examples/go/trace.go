@@ -14,7 +14,7 @@ type trace struct {
 	lock     sync.Mutex
 	ending   map[streamID]bool // streams that were closed, and whose end is in no packet yet
 	inFlight int               // packets that are neither acknowledged nor lost
-	heard    time.Time         // when a packet came last
+	heard    time.Time         // when the peer did something last; a PING is nothing
 }
 
 // sent sees the ends of streams go out.
@@ -37,10 +37,25 @@ func (t *trace) sent(frames []frame) {
 func (t *trace) fly(packets int) {
 	t.lock.Lock()
 	defer t.lock.Unlock()
+	if packets < t.inFlight {
+		t.heard = time.Now()
+	}
 	t.inFlight = packets
 }
 
-// listen begins the time again in which nothing has come.
+// received sees what a packet of the peer's has. One with PING alone keeps a connection open, and asks for nothing.
+func (t *trace) received(frames []frame) {
+	for _, frame := range frames {
+		switch frame.(type) {
+		case *pingFrame, *ackFrame:
+		default:
+			t.listen()
+			return
+		}
+	}
+}
+
+// listen begins the time again in which the peer did nothing.
 func (t *trace) listen() {
 	t.lock.Lock()
 	defer t.lock.Unlock()
@@ -64,7 +79,7 @@ func (t *trace) closeStream(stream sendStream) error {
 	return err
 }
 
-// isSilent says whether the peer's QUIC has all that was sent, and nothing has come of it for so long.
+// isSilent says whether the peer's QUIC has all that was sent, and did nothing for so long.
 func (t *trace) isSilent(long time.Duration) bool {
 	t.lock.Lock()
 	defer t.lock.Unlock()

@@ -84,10 +84,11 @@ start() {
   limited "$@" > "$work/$log" 2>&1 &
   last=$!
   pids+=("$last")
-  for _ in $(seq 100); do
-    if listens "$port"; then return; fi
+  for _ in $(seq 600); do # under valgrind, on a busy machine
+    if listens "$port" || ! kill -0 "$last" 2> /dev/null; then break; fi
     sleep 0.1
   done
+  if listens "$port"; then return; fi
   cp "$work/$log" "$work/log"
   bad "a server that listens: $*"
 }

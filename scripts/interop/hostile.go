@@ -5,21 +5,27 @@
 //	hostile TRUSTED ADDRESS tiny BYTES        /big.bin, read in a stream window of so many bytes: how many came
 //	hostile TRUSTED ADDRESS idle COUNT        COUNT connections, until the input ends
 //	hostile TRUSTED ADDRESS pings SECONDS     a connection with one request, and then only PING: when it ended, and how
+//	hostile TRUSTED ADDRESS late SECONDS      a request each 5 ms for so long, whatever GOAWAY says: how many below its last id were answered, and how
+//	                                          many others rejected. It fails where one below was not, where another one was, and where there are none
 //	hostile TRUSTED ADDRESS first             a connection: 'taken', or why it is refused
 //	hostile TRUSTED ADDRESS token OTHER       the same with a token (NEW_TOKEN) that the server at the address OTHER gave
 package main
 
 import (
+	"bufio"
 	"context"
 	"crypto/tls"
 	"crypto/x509"
+	"errors"
 	"fmt"
 	"io"
 	"os"
 	"strconv"
+	"sync"
 	"time"
 
 	"github.com/lucas-clemente/quic-go"
+	"github.com/lucas-clemente/quic-go/quicvarint"
 )
 
 const settings = "\x00\x04\x00"
@@ -123,6 +129,90 @@ func (c client) pings(seconds int) {
 	}
 }
 
+// goaways reads the server's control stream to its end: the ids of its GOAWAY frames
+func goaways(connection quic.Connection, said func(id uint64)) {
+	for {
+		stream, err := connection.AcceptUniStream(context.Background())
+		if err != nil {
+			return
+		}
+		reader := quicvarint.NewReader(bufio.NewReader(stream))
+		if kind, err := quicvarint.Read(reader); err != nil || kind != 0 {
+			go io.Copy(io.Discard, stream)
+			continue
+		}
+		for err == nil {
+			var kind, length uint64
+			if kind, err = quicvarint.Read(reader); err != nil {
+				break
+			}
+			if length, err = quicvarint.Read(reader); err != nil {
+				break
+			}
+			if kind == 7 {
+				var id uint64
+				id, err = quicvarint.Read(reader)
+				said(id)
+				continue
+			}
+			_, err = io.CopyN(io.Discard, reader, int64(length))
+		}
+		return
+	}
+}
+
+func (c client) late(seconds int) {
+	const answered, rejected, other = 0, 1, 2
+	var lock sync.Mutex
+	var requests sync.WaitGroup
+	last, counts := uint64(1<<62), map[bool]*[3]int{true: {}, false: {}} // by whether the id is below that of the last GOAWAY
+	became := map[uint64]int{}
+	connection := c.dial(nil)
+	go goaways(connection, func(id uint64) {
+		lock.Lock()
+		defer lock.Unlock()
+		last = id
+	})
+	end := time.Now().Add(time.Duration(seconds) * time.Second)
+	for time.Now().Before(end) {
+		stream, err := connection.OpenStreamSync(context.Background())
+		must(err)
+		requests.Add(1)
+		go func() {
+			defer requests.Done()
+			_, err := stream.Write(get("/hello.txt")) // it may have been stopped
+			if err == nil {
+				stream.Close()
+			}
+			body, err := io.ReadAll(stream)
+			var reset *quic.StreamError
+			what := other
+			if err == nil && len(body) > 0 {
+				what = answered
+			} else if errors.As(err, &reset) && reset.ErrorCode == 0x10b {
+				what = rejected
+			}
+			lock.Lock()
+			defer lock.Unlock()
+			became[uint64(stream.StreamID())] = what
+			if len(became) == 10 {
+				fmt.Println("there")
+			}
+		}()
+		time.Sleep(5 * time.Millisecond)
+	}
+	requests.Wait()
+	for id, what := range became {
+		counts[id < last][what]++
+	}
+	below, above := counts[true], counts[false]
+	fmt.Printf("below %d: %d answered, %d rejected, %d others; from there on: %d answered, %d rejected, %d others\n", last, below[answered], below[rejected],
+		below[other], above[answered], above[rejected], above[other])
+	if below[answered] == 0 || below[rejected]+below[other] > 0 || above[rejected] == 0 || above[answered]+above[other] > 0 {
+		os.Exit(1)
+	}
+}
+
 func (c client) first(tokens quic.TokenStore) {
 	config := &quic.Config{HandshakeIdleTimeout: 3 * time.Second, TokenStore: tokens}
 	connection, err := quic.DialAddrContext(context.Background(), c.address, c.tls, config)
@@ -175,6 +265,6 @@ func main() {
 		count, err = strconv.Atoi(os.Args[4])
 		must(err)
 	}
-	map[string]func(int){"streams": c.streams, "window": c.window, "tiny": c.tiny, "idle": c.idle, "pings": c.pings,
+	map[string]func(int){"streams": c.streams, "window": c.window, "tiny": c.tiny, "idle": c.idle, "pings": c.pings, "late": c.late,
 		"first": func(int) { c.first(nil) }}[os.Args[3]](count)
 }

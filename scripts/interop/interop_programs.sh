@@ -5,48 +5,16 @@ set -uo pipefail
 cd "$(dirname "$0")/../.."
 lib=${LIB:-$PWD/build/c}
 . scripts/interop/checks.sh
+. scripts/interop/programs.sh
 
-if ! bash scripts/dev/packages.sh examples-c examples-go; then
-  bad "packages"
-  exit 1
-fi
-export PKG_CONFIG_PATH=$lib GO111MODULE=off GOPATH=/usr/share/gocode GOCACHE=${GOCACHE:-$work/go}
-SANITIZERS="-O1 -g -fsanitize=address,undefined -fno-sanitize-recover=undefined"
-[ -n "${LIB:-}" ] || build make -s lib
-build make -s -C examples/c LIB="$lib" OUT="$work/checked" CFLAGS="$SANITIZERS"
-build make -s -C examples/c LIB="$lib" OUT="$work/plain"
-build go build -o "$work/peer" scripts/interop/peer.go
-build go build -o "$work/hostile" scripts/interop/hostile.go
-with_quic() { # PROGRAM: of scripts/interop, over examples/c
-  # shellcheck disable=SC2046
-  gcc -O1 -g -std=c11 -D_GNU_SOURCE -Wall -Wextra -Werror -Iexamples/c -o "$work/$1" "scripts/interop/$1.c" examples/c/quic*.c examples/c/timers.c \
-    examples/c/tls.c examples/c/buffer.c $(pkg-config --cflags --libs libngtcp2 libngtcp2_crypto_gnutls gnutls)
-}
-build with_quic settings_first
-build with_quic parts
-make_served
-ours=("$work/checked/fetch" --address 127.0.0.1 --trust "$cert")
+make_programs
+make_checked
+for name in settings_first parts leave; do make_client "$name"; done
+head -c 50000 "$big" > "$folder/part.bin"
 serve=$work/checked/serve
 hostile=("$work/hostile" "$cert")
 mapfile -t ports < <(python3 scripts/interop/ports.py 16)
 
-serving() { # PORT, LOG, options of serve; `last` is its process, and not that of `timeout`
-  local port=$1 log=$2 timed
-  shift 2
-  start "$port" "$log" "$@" 127.0.0.1 "$port" "$cert" "$key" "$folder"
-  timed=$last
-  read -r last < "/proc/$timed/task/$timed/children"
-}
-says() { # TEXT, COMMAND..: the command ends well and prints this alone
-  local text=$1
-  shift
-  works "$@" && [ "$(cat "$work/got")" = "$text" ]
-}
-ended() { # PROCESS, SECONDS: is it gone by then?
-  timeout "$2" tail --pid="$1" -f /dev/null
-}
-is_silent() { ! grep -qE "Sanitizer|runtime error" "$work/$1"; }
-kib() { sed -n "s/^$2:[^0-9]*\([0-9]*\) kB/\1/p" "/proc/$1/status"; }
 used() { echo $(($(cut -d' ' -f14,15 "/proc/$1/stat" | tr ' ' '+'))); }
 
 # ---- what is given by hand ----
@@ -125,6 +93,22 @@ check "serve: a client with another server's token" taken_with_token "${ports[1]
 
 check "serve --version" bash -c "'$serve' --version | grep -q '^serve of Beanwhile [0-9]'"
 check "serve --help" bash -c "'$serve' --help | grep -q -- '--drain=SECONDS'"
+described() { # PROGRAM, OPTION..: a manual page without a warning, that has each option
+  local page=examples/c/$1.1 option
+  shift
+  ! LC_ALL=C.UTF-8 man --warnings -E UTF-8 -Tutf8 -Z -l "$page" 2>&1 > /dev/null | tee -a "$work/log" | grep -q . || return 1
+  for option; do
+    if ! sed 's/\\-/-/g' "$page" | grep -qF -- "$option"; then
+      echo "$option" >> "$work/log"
+      return 1
+    fi
+  done
+}
+options_of() { "$@" 2>&1 | grep -oE -- '--[a-z-]+' | sort -u; } # COMMAND..: those that it tells
+# shellcheck disable=SC2046
+check "serve: a manual page with all its options" described serve $(options_of "$serve" --help)
+# shellcheck disable=SC2046
+check "proxy: a manual page with all its options" described proxy $(options_of "$work/checked/proxy")
 is_ready() { # PORT: the service manager is told
   python3 - "$work/notify" "$serve" 127.0.0.1 "$1" "$cert" "$key" "$folder" > "$work/got" 2>> "$work/log" <<'PYTHON'
 import os, socket, subprocess, sys
@@ -144,7 +128,8 @@ certificate() { # NAME, FILE, FILE of the key
     -addext "subjectAltName=DNS:$1" 2>> "$work/log"
 }
 build certificate other.example "$work/other.pem" "$work/other_key.pem"
-serving "${ports[9]}" operated.log "$serve" --log "$work/access.log" --certificate "$work/other.pem,$work/other_key.pem"
+mkdir "$work/qlog"
+serving "${ports[9]}" operated.log "$serve" --log "$work/access.log" --qlog "$work/qlog" --certificate "$work/other.pem,$work/other_key.pem"
 operated=$last
 shows() { gives "$folder/hello.txt" "$work/checked/fetch" --address 127.0.0.1 --trust "$2" "https://$3:$1/hello.txt"; }
 check "serve: a second certificate, by its name" shows "${ports[9]}" "$work/other.pem" other.example
@@ -169,6 +154,24 @@ counts() { # PROCESS
   sleep 0.5
   grep -E "^connections [0-9]+ open, [0-9]+ taken, 0 refused" "$work/operated.log" | tee -a "$work/log" | grep -q "4xx 1"
 }
+events() { # FOLDER: the first connection asked for a file of 6 bytes
+  sleep 1
+  python3 - "$1"/*-0.sqlog >> "$work/log" 2>&1 <<'PYTHON'
+import json, sys
+head, *events = [json.loads(record) for record in open(sys.argv[1], encoding="utf-8").read().split("\x1e")[1:]]
+assert head["file_schema"] == "urn:ietf:params:qlog:file:sequential" and head["trace"]["vantage_point"] == {"type": "server"}, head
+said = [(event["name"], event["data"]) for event in events]
+settings = {data["initiator"]: data for name, data in said if name == "http3:parameters_set"}
+assert all(settings[of]["max_field_section_size"] == 65536 and settings[of]["max_table_capacity"] == 4096 for of in ("local", "remote")), settings
+frames = [(name, data["frame"]) for name, data in said if name.startswith("http3:frame")]
+assert [name for name, _ in frames] == ["http3:frame_parsed"] + 2 * ["http3:frame_created"], frames
+asked, answered, body = [frame for _, frame in frames]
+assert {"name": ":path", "value": "/hello.txt"} in asked["headers"] and {"name": ":status", "value": "200"} in answered["headers"], frames
+assert body == {"frame_type": "data", "raw": {"payload_length": 6}} and said[-1][0] == "quic:connection_closed", said
+assert [event["time"] for event in events] == sorted(event["time"] for event in events)
+PYTHON
+}
+check "serve --qlog: the events of a request" events "$work/qlog"
 check "serve: counts at SIGUSR1" counts "$operated"
 kill -TERM "$operated"
 check "serve: it ends, with a log" ended "$operated" 40
@@ -213,10 +216,7 @@ beside_idle() { # PORT, PROCESS
   "${hostile[@]}" "127.0.0.1:$1" idle 1000 < "$work/idle" > "$work/there" &
   local client=$! before status
   exec 4> "$work/idle"
-  for _ in $(seq 300); do
-    if grep -q there "$work/there"; then break; fi
-    sleep 0.1
-  done
+  await "$work/there" there
   before=$(used "$2")
   works "${ours[@]}" --count 500 "$(url "$1" /hello.txt)"
   status=$?
@@ -239,22 +239,51 @@ check "serve: SETTINGS come before the bodies, over 300 KB a second" settings_co
 
 # ---- the end ----
 
-ends_beside_pings() { # PORT, PROCESS
+ends_beside_pings() { # PORT, PROCESS, what a new client is told
   "${hostile[@]}" "127.0.0.1:$1" pings 30 > "$work/pings" &
   local client=$!
-  for _ in $(seq 50); do
-    if grep -q there "$work/pings"; then break; fi
-    sleep 0.1
-  done
+  await "$work/pings" there || return 1
   kill -TERM "$2"
   sleep 0.5
-  says "refused: CONNECTION_REFUSED" "${hostile[@]}" "127.0.0.1:$1" first || return 1
+  says "$3" "${hostile[@]}" "127.0.0.1:$1" first || return 1
   wait "$client"
   cp "$work/pings" "$work/log"
   grep -q "Application error 0x100" "$work/pings" && ended "$2" 12
 }
 serving "${ports[6]}" pings.log "$serve"
-check "serve: SIGTERM beside a client that pings: the end within 12 s, new clients are refused" ends_beside_pings "${ports[6]}" "$last"
+check "serve: SIGTERM beside a client that pings: the end within 12 s, new clients are refused" ends_beside_pings "${ports[6]}" "$last" \
+  "refused: CONNECTION_REFUSED"
+go_serving() { running "$1" "$2" "$work/h3go" serve "127.0.0.1:$1" "$cert" "$key" "$folder"; } # PORT, LOG
+build make -s -C examples/go LIB="$lib" OUT="$work"
+go_serving "${ports[12]}" go_pings.log
+check "h3go: SIGTERM beside a client that pings: the end within 12 s" ends_beside_pings "${ports[12]}" "$last" taken
+rejects_late() { # PROCESS, PORT: a client that goes on whatever GOAWAY says
+  within 30 "${hostile[@]}" "127.0.0.1:$2" late 5 > "$work/late" &
+  local client=$!
+  await "$work/late" there || return 1
+  kill -TERM "$1"
+  wait "$client"
+  local status=$?
+  tail -n 1 "$work/late" | tee -a "$work/log"
+  return $status
+}
+# leaves NAME, PROCESS, PORT, another port where there is such a server, too
+leaves() {
+  check "$1: SIGTERM under 1,000 requests of four clients: none is lost" loses_none "$2" "$3" "$4"
+  check "$1: it ends then" ended "$2" 20
+}
+serving "${ports[10]}" leaves.log "$serve"
+process=$last
+serving "${ports[11]}" late.log "$serve"
+late=$last
+leaves serve "$process" "${ports[10]}" "${ports[11]}"
+check "serve: what is below the last GOAWAY is answered, all else rejected" rejects_late "$late" "${ports[11]}"
+go_serving "${ports[13]}" go_leaves.log
+process=$last
+go_serving "${ports[14]}" go_late.log
+late=$last
+leaves h3go "$process" "${ports[13]}" "${ports[14]}"
+check "h3go: what is below the last GOAWAY is answered, all else rejected" rejects_late "$late" "${ports[14]}"
 ends_in_time() { # PORT, PROCESS
   within 30 "$work/peer" slow "$cert" 100000 "$(url "$1" /big.bin)" > "$work/got" &
   local client=$!
@@ -269,5 +298,5 @@ serving "${ports[7]}" drain.log "$serve" --drain 2
 check "serve --drain 2: the end within 4 s beside a slow reader" ends_in_time "${ports[7]}" "$last"
 kill -TERM "$server" 
 check "serve: it ends" ended "$server" 40
-for log in serve.log operated.log limited.log pings.log drain.log; do check "serve: no leak and no error of memory, $log" is_silent "$log"; done
+for log in serve.log operated.log limited.log pings.log drain.log leaves.log late.log; do check "serve: no leak and no error of memory, $log" is_silent "$log"; done
 [ "$failed" -eq 0 ]

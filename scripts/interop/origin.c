@@ -1,6 +1,7 @@
 /* origin ADDRESS PORT CERTIFICATE KEY: a server for a proxy's checks, which does on each path one thing that a proxy has to pass on.
  *
  *   /all     an interim response, fields, a body and a trailer section
+ *   /udp     of CONNECT-UDP: what comes, capsules and all
  *   /echo    the body that comes, at the reader's pace, and the trailer section that came
  *   /reset   a part of a body, then a reset with H3_EXCESSIVE_LOAD
  *   /reject  the first time H3_REQUEST_REJECTED, then a body
@@ -61,7 +62,7 @@ static void on_head(http3_request *request, const h3_item *item) {
     return;
   }
   if (!http3_values(request->connection, item, &wanted, 1)) abort();
-  work->is_echo = strcmp(path, "/echo") == 0;
+  work->is_echo = strcmp(path, "/echo") == 0 || strcmp(path, "/udp") == 0;
   work->is_reset = strcmp(path, "/reset") == 0;
   if (work->is_echo || work->is_reset) begin_body(request);
   else if (strcmp(path, "/all") == 0) answer_all(request);
@@ -124,7 +125,7 @@ static void on_over(void *user, const quic_ending *ending) { (void)user, (void)e
 int main(int count, char **words) {
   static const http3_events events = {.ready = on_ready, .head = on_head, .body = on_body, .end = on_end, .failed = on_failed,
                                       .stopped = on_stopped, .room = on_room, .freed = on_freed, .over = on_over};
-  http3_setup setup = {.server = true, .data = sizeof(work), .events = &events};
+  http3_setup setup = {.server = true, .tunnels = true, .data = sizeof(work), .events = &events};
   if (count != 5) return 2;
   ending_await();
   quic_pair pair = {words[3], words[4]};

@@ -31,6 +31,18 @@ import (
 	"github.com/lucas-clemente/quic-go/http3"
 )
 
+// on a busy machine a handshake may take longer than the five seconds that are the default
+var patient = &quic.Config{HandshakeIdleTimeout: 30 * time.Second, KeepAlivePeriod: 10 * time.Second, MaxIncomingStreams: -1}
+
+// limit is how long a request may take: a minute, or PEER_SECONDS
+func limit() time.Duration {
+	seconds, err := strconv.Atoi(os.Getenv("PEER_SECONDS"))
+	if err != nil {
+		return time.Minute
+	}
+	return time.Duration(seconds) * time.Second
+}
+
 func fail(err error) {
 	if err != nil {
 		fmt.Fprintln(os.Stderr, "peer:", err)
@@ -72,8 +84,8 @@ func newClient(trusted string) (*http.Client, func() error) {
 	if !pool.AppendCertsFromPEM(text) {
 		fail(fmt.Errorf("no certificate in %s", trusted))
 	}
-	tripper := &http3.RoundTripper{TLSClientConfig: &tls.Config{RootCAs: pool}, DisableCompression: true}
-	return &http.Client{Transport: tripper, Timeout: time.Minute}, tripper.Close
+	tripper := &http3.RoundTripper{TLSClientConfig: &tls.Config{RootCAs: pool}, DisableCompression: true, QuicConfig: patient}
+	return &http.Client{Transport: tripper, Timeout: limit()}, tripper.Close
 }
 
 // the whole body of an answer with status 200
@@ -299,7 +311,7 @@ func connect(trusted, address string) (quic.Connection, error) {
 	fail(err)
 	pool := x509.NewCertPool()
 	pool.AppendCertsFromPEM(text)
-	return quic.DialAddr(address, &tls.Config{RootCAs: pool, ServerName: "localhost", NextProtos: []string{"h3"}}, nil)
+	return quic.DialAddr(address, &tls.Config{RootCAs: pool, ServerName: "localhost", NextProtos: []string{"h3"}}, patient)
 }
 
 func resets(connection quic.Connection, count int) error {
@@ -321,7 +333,7 @@ func resets(connection quic.Connection, count int) error {
 			continue
 		}
 		stream.Close()
-		stream.SetReadDeadline(time.Now().Add(10 * time.Second))
+		stream.SetReadDeadline(time.Now().Add(limit()))
 		var text []byte
 		if text, err = io.ReadAll(stream); err == nil {
 			fmt.Printf("%d reset, then %d bytes\n", count, len(text))

@@ -7,16 +7,9 @@ cd "$(dirname "$0")/../.."
 seconds=${1:-1800}
 lib=${LIB:-$PWD/build/c}
 . scripts/interop/checks.sh
+. scripts/interop/programs.sh
 
-if ! bash scripts/dev/packages.sh examples-c examples-go proxy; then
-  bad "packages"
-  exit 1
-fi
-export PKG_CONFIG_PATH=$lib GO111MODULE=off GOPATH=/usr/share/gocode GOCACHE=${GOCACHE:-$work/go}
-build make -s -C examples/c LIB="$lib" OUT="$work/plain"
-build go build -o "$work/peer" scripts/interop/peer.go
-build go build -o "$work/hostile" scripts/interop/hostile.go
-make_served
+make_programs
 mapfile -t ports < <(python3 scripts/interop/ports.py 2)
 whole=0
 not_whole=0
@@ -41,37 +34,45 @@ quiet() { # LOG, PROCESS
     if [ "$(figure "$1" "$2" connections)" = 0 ]; then return; fi
   done
 }
+# client NAME, COMMAND..: one that may have all it asks for, in the background; what it says stands in a file of its own. It has ten minutes: one
+# that stands still fails, and not one that is slow since the machine is busy.
+client() {
+  local name=$1
+  shift
+  PEER_SECONDS=600 timeout -k 5 660 "$@" > /dev/null 2> "$work/said.$name" &
+  jobs[$!]=$name
+}
 # one round of all kinds of clients at a port
 round() { # PORT
-  local at="localhost:$1" jobs=() job
-  within 120 "$work/plain/fetch" --address 127.0.0.1 --trust "$cert" --count 20 --parallel 5 "$(url "$1" /big.bin)" > /dev/null &
-  jobs+=($!)
-  within 120 "$work/plain/fetch" --address 127.0.0.1 --trust "$cert" --count 500 --parallel 50 "$(url "$1" /hello.txt)" > /dev/null &
-  jobs+=($!)
-  within 120 "$work/plain/fetch" --address 127.0.0.1 --trust "$cert" --post "$big" "$(url "$1" /answer)" > /dev/null &
-  jobs+=($!)
-  within 120 "$work/peer" slow "$cert" 3000000 "$(url "$1" /big.bin)" > /dev/null &
-  jobs+=($!)
-  within 120 "$work/peer" cancel "$cert" "$(url "$1" /big.bin)" 5 > /dev/null &
-  jobs+=($!)
-  within 120 "$work/peer" resets "$cert" 2000 "$at" > /dev/null &
-  jobs+=($!)
+  local at="localhost:$1" process status
+  local -A jobs=()
+  client files "$work/plain/fetch" --address 127.0.0.1 --trust "$cert" --seconds 600 --count 20 --parallel 5 "$(url "$1" /big.bin)"
+  client requests "$work/plain/fetch" --address 127.0.0.1 --trust "$cert" --seconds 600 --count 500 --parallel 50 "$(url "$1" /hello.txt)"
+  client posts "$work/plain/fetch" --address 127.0.0.1 --trust "$cert" --seconds 600 --post "$big" "$(url "$1" /answer)"
+  client slow "$work/peer" slow "$cert" 3000000 "$(url "$1" /big.bin)"
+  client cancels "$work/peer" cancel "$cert" "$(url "$1" /big.bin)" 5
+  client resets "$work/peer" resets "$cert" 2000 "$at"
   "$work/hostile" "$cert" "127.0.0.1:$1" window 3 > /dev/null 2>&1 &
   "$work/hostile" "$cert" "127.0.0.1:$1" streams 100 > /dev/null 2>&1 &
   timeout 1 "$work/peer" slow "$cert" 100000 "$(url "$1" /big.bin)" > /dev/null 2>&1 & # it vanishes
-  for job in "${!jobs[@]}"; do
-    if wait "${jobs[$job]}"; then
+  for process in "${!jobs[@]}"; do
+    wait "$process"
+    status=$?
+    if [ $status -eq 0 ]; then
       whole=$((whole + 1))
     else
-      echo "port $1, client $job of the round: status $?, $(tail -n 1 "$work/log")"
       not_whole=$((not_whole + 1))
+      echo "$(date -u +%T) port $1, ${jobs[$process]}: status $status, $(tail -n 2 "$work/said.${jobs[$process]}" | tr '\n' ' ')"
     fi
   done
 }
+# what the servers say of clients stands in their logs: the last lines of each, where a client had not all
+show_logs() { for name in serve proxy; do tail -n 20 "$work/$name.log" | sed "s/^/  $name: /"; done; }
 
+# the readers that read nothing hold 100 requests each until --timeout: the pool has room for the others beside them
 program serve.log "$work/plain/serve" 127.0.0.1 "${ports[0]}" "$cert" "$key" "$folder"
 server=$last
-program proxy.log "$work/plain/proxy" --trust "$cert" --timeout 10 127.0.0.1 "${ports[1]}" "$cert" "$key" 127.0.0.1 "${ports[0]}" localhost
+program proxy.log "$work/plain/proxy" --trust "$cert" --pool 16 127.0.0.1 "${ports[1]}" "$cert" "$key" 127.0.0.1 "${ports[0]}" localhost
 proxy=$last
 for port in "${ports[@]}"; do round "$port"; done
 for name in serve:$server proxy:$proxy; do quiet "${name%:*}.log" "${name#*:}"; done
@@ -87,6 +88,7 @@ while [ $SECONDS -lt $end ]; do
 done
 for name in serve:$server proxy:$proxy; do quiet "${name%:*}.log" "${name#*:}"; done
 echo "$rounds rounds, $whole clients had all, $not_whole had not"
+[ "$not_whole" -eq 0 ] || show_logs
 : > "$work/log"
 check "every client that may have all had it" test "$not_whole" -eq 0
 stays() { # NAME:PROCESS, WORD, MORE: the figure is at most so much above what it was
