@@ -6,7 +6,7 @@ An edit of crates/*/refused with a line `judged:` has a line `witness: INPUT` wh
 
   witness: tests/talk/order.talk
   witness: crates/h3_cases/stdin, memory             how often memory is asked for, or how much
-  witness: tests/talk/order.talk, refusing 7-9       the seventh to the ninth call for memory is refused
+  witness: tests/talk/order.talk, refusing 7-9       the seventh to the ninth call for memory is refused; where calls have moved since, others may show it
 
 An edit that a program could run and that no run shows has a line `unseen: WHY` in its place. All of these are in one build beside the
 right bodies (scripts/gate/variants.py). For each crate a line 'ok CRATE: ..' says how many its
@@ -137,7 +137,19 @@ def judge(runs, variant, void):
         return is_said, None if is_said else "no run shows it: let 'make witnessed FIND=1' find a witness, or say in a line 'unseen: WHY' why there is none"
     if not variant.parts:
         return False, f"it has a witness, and no run can have it: {variant.why}"
-    return runs.shown(variant, edit.witness)
+    shown = runs.shown(variant, edit.witness)
+    return shown if shown[0] or "refusing" not in edit.witness else with_others_refused(runs, variant, shown)
+
+
+def with_others_refused(runs, variant, shown):
+    """the same where calls for memory have moved: another one that is refused may show it"""
+    name = variant.edit.witness.partition(", ")[0]
+    for given, which in refusals(runs):
+        if given.name == name and variant.number in runs.right(given, which).asked:
+            again = runs.shown(variant, f"{name}, refusing {which}")
+            if again[0]:
+                return again
+    return shown
 
 
 def check(runs, made, void):
