@@ -23,7 +23,8 @@ type Config struct {
 	// greater of the two announced sizes, if that is more. A lower limit is refused.
 	UnfinishedLimit uint64
 	// KeptIDs bounds the ids of canceled streams that the local encoder keeps (RFC 9204, section 4.4.2). Above the bound it drops the lowest
-	// id: sections on streams up to it use no table from then on. 2^62 - 1 or more: no bound.
+	// id: sections on streams up to it use no table from then on. Of the peer's GOAWAY ids the last one alone is kept. 2^62 - 1 or more: no
+	// bound.
 	KeptIDs uint64
 	// RejectRequests: a server refuses requests from its last GOAWAY id on.
 	RejectRequests bool

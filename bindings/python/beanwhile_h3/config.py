@@ -47,7 +47,8 @@ class Config:
     unfinished_limit: int
     """The longest frame but DATA, in bytes, that is kept until it is whole; 0: the least limit. h3.h says what a longer one does."""
     kept_ids: int
-    """How many ids of streams that the peer canceled the local encoder keeps (RFC 9204, section 4.4.2)."""
+    """How many ids of streams that the peer canceled the local encoder keeps (RFC 9204, section 4.4.2). With a bound below 2^62 - 1 the last
+    of the peer's GOAWAY ids alone is kept."""
     reject_requests: bool
     """A server refuses requests from its last GOAWAY id on."""
 

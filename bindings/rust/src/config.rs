@@ -48,7 +48,8 @@ pub struct Config {
     /// `table` if that is more. A lower one is refused. With 2^62 - 1 or more there is no limit.
     pub unfinished_limit: u64,
     /// How many ids of streams that the peer canceled the local encoder keeps (RFC 9204, section 4.4.2). If there is one too many, it drops
-    /// the lowest, and sections on streams up to it use no table from then on. With 2^62 - 1 or more all are kept.
+    /// the lowest, and sections on streams up to it use no table from then on. Of the peer's GOAWAY ids the last one alone is kept. With
+    /// 2^62 - 1 or more all are kept.
     pub kept_ids: u64,
     /// A server refuses requests from its last GOAWAY id on.
     pub reject_requests: bool,

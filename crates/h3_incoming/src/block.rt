@@ -13,7 +13,6 @@ use h3_connection::event::Fault;
 use h3_connection::place::Place;
 use h3_field::{FieldBlock, Fields};
 use h3_proto::stream::Side;
-use h3_wire::buf::own;
 use http::StatusCode;
 use std::alloc::{AllocError, Global};
 use std::marker::Model;
@@ -94,18 +93,6 @@ impl BlockPull {
     {
         self.told = Told::Message(kind, status);
         self.block = block;
-    }
-
-    /// Puts a copy in a block of its own in the place of the bytes of a body or session that have none. Nothing else changes, also at an
-    /// `Err`: memory was refused.
-    pub fn own(&mut self, alloc: Global) -> Result<(), AllocError>
-        ensures { self.new ≡ self.old }
-    {
-        match &mut self.told {
-            Told::Plain(Plain::Body(bytes)) => own(bytes, alloc),
-            Told::Plain(Plain::Raw(bytes)) => own(bytes, alloc),
-            _ => Ok(()),
-        }
     }
 
     // Nothing is told, and the memory of these fields is kept.

@@ -21,7 +21,6 @@ mod body;
 mod frames;
 mod front;
 mod left;
-mod owning;
 mod pull;
 mod reading;
 mod sections;

@@ -102,7 +102,8 @@ pub struct Choices {
 /// What an end chooses that changes an answer of the plain calls. By default nothing.
 #[derive(Clone, Copy, Debug)]
 pub struct Extensions {
-    /// The most ids of canceled streams that its encoder keeps. 2^62 - 1 or more: all.
+    /// The most ids of canceled streams that its encoder keeps; below 2^62 - 1 it also keeps the last id alone of the peer's GOAWAY frames.
+    /// 2^62 - 1 or more: all.
     pub kept_ids: u64,
     /// A request that first comes from the id of its last GOAWAY on is refused (RFC 9114, section 5.2).
     pub requests_rejected: bool,
@@ -268,7 +269,8 @@ impl Config {
 
     /// The most ids of streams that the peer canceled which the local encoder keeps (RFC 9204, section 4.4.2). If there is one too many, the
     /// least is let go, and from then on sections on each stream up to it are written without the table, unless one there is not yet
-    /// acknowledged. 2^62 - 1 by default, and then all are kept; a greater value is the same.
+    /// acknowledged. Of the ids in the peer's GOAWAY frames (RFC 9114, section 5.2) the last one alone is kept. 2^62 - 1 by default, and then
+    /// all of both are kept; a greater value is the same.
     pub fn with_kept_ids(mut self, max: u64) -> Self
         ensures { result ≡ record self { choices = record self.choices { extensions = record self.choices.extensions { kept_ids = max } } } }
     {

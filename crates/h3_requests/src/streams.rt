@@ -15,7 +15,6 @@ use std::marker::Model;
 mod answering;
 mod ending;
 mod judged;
-mod owning;
 mod pulling;
 mod reading;
 mod receiving;

@@ -25,7 +25,6 @@ mod heads;
 mod lacking;
 mod lists;
 mod next;
-mod owning;
 mod pulling;
 mod reading;
 mod receiving;

@@ -110,7 +110,7 @@ ghost use Rattle.h3_connection.specs.Calls.{IsSame};
 ghost use Rattle.h3_session.specs.SendingLists.{SendsFieldList, SendsTrailerList};
 ghost use Rattle.h3_session.specs.declared.endpoint.lists.FieldsError.{FieldsError};
 
-/// A list that is sent, as a head or as a trailer, leaves an endpoint with its bounds, and so does a call that changes nothing (`own_unread`). So each
+/// A list that is sent, as a head or as a trailer, leaves an endpoint with its bounds, and so does a call that changes nothing. So each
 /// call of an endpoint does, by its contract alone, whether it was answered, refused, or refused memory (`endpoints_stay_bounded`).
 pub fn lists_leave_endpoints_bounded()
     ensures fields { (old new : EndpointState) (id : ℕ) (fields : List Field) (result : Result Unit FieldsError) → SendsFieldList old new id fields result → StandsBounded old → StandsBounded new }

@@ -14,12 +14,10 @@ use std::marker::Model;
 
 mod block;
 mod element;
-mod owning;
 mod pieces;
 mod queue;
 mod singles;
 
-pub use owning::own;
 pub use pieces::{Cursor, Piece};
 
 /// Pieces, none of them empty. A contract sees the pieces as byte lists, of which `concat` is all
@@ -146,7 +144,6 @@ impl<T: Buf> BufList<T> {
         ensures left { self.old.room ≤ self.new.room + 1 }
     {
         self.front = Some(piece);
-        self.behind.count_front();
     }
 
     // How many bytes there are.

@@ -3,11 +3,10 @@ ghost use Rattle.std.specs.Prelude.{◌≡◌, ◌<◌, ◌≤◌, ◌++◌, [],
 ghost use Rattle.h3_wire.specs.Elements.{all_of, cuts};
 ghost use Rattle.h3_wire.specs.Pieces.{chunk_of, first_bytes, first_size, without};
 
-use super::own;
 use super::pieces::Piece;
 use super::singles::{Singles, single};
 use bytes::{Buf, Bytes};
-use std::alloc::{AllocError, Global};
+use std::alloc::AllocError;
 
 /// One piece, or several of one byte.
 #[derive(Debug, Drop)]
@@ -117,16 +116,6 @@ impl Element<Bytes> {
         match self {
             Element::Singles(run) => run.push(byte),
             Element::Whole(_) | Element::Shared(_) => false,
-        }
-    }
-
-    // Puts a copy in the place of a piece that has no block of its own, or of a list.
-    pub(crate) fn own(&mut self, alloc: Global) -> Result<(), AllocError>
-        ensures { self.new ≡ self.old }
-    {
-        match self {
-            Element::Whole(piece) => own(piece, alloc),
-            Element::Shared(_) | Element::Singles(_) => Ok(()),
         }
     }
 }

@@ -32,10 +32,8 @@ const KEPT: usize = 64;
 /// Pieces, none of them empty. A contract sees the pieces as byte lists, and how many more fit.
 #[derive(Drop)]
 pub(super) struct Queue<T: Buf> {
-    pub(super) bufs: VecDeque<Element<T>>,
+    bufs: VecDeque<Element<T>>,
     len: usize,
-    // of the last pieces, of which one can stand before the queue, at most how many were added since `own`
-    pub(super) added: usize,
     // where small pieces are copied to; none behind the last element
     block: Block,
 }
@@ -64,7 +62,6 @@ impl<T: Buf> Queue<T> {
         Queue {
             bufs: VecDeque::new(alloc),
             len: 0,
-            added: 0,
             block: None,
         }
     }
@@ -126,14 +123,6 @@ impl<T: Buf> Queue<T> {
         self.bufs.reserve_exact(more_room(count))
     }
 
-    // One more piece was added, which stands before the queue.
-    #[inline]
-    pub(super) fn count_front(&mut self)
-        ensures { self.new ≡ self.old }
-    {
-        self.added = self.added.saturating_add(1);
-    }
-
     // Adds an element, for which there is room.
     #[inline]
     pub(super) fn append(&mut self, element: Element<T>)
@@ -144,7 +133,6 @@ impl<T: Buf> Queue<T> {
         ensures left { self.old.room ≤ self.new.room + 1 }
     {
         self.len += element.remaining();
-        self.added = self.added.saturating_add(1);
         self.bufs.push_back_reserved(element);
     }
 

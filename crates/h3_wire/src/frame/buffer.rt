@@ -195,14 +195,6 @@ impl FrameBuffer {
         self.unread.take_first_chunk()
     }
 
-    /// Puts a copy in the place of each piece that has no block of its own, and was not looked at before. Nothing else changes, also at an
-    /// `Err`: memory was refused, and the next call does the rest.
-    pub fn own(&mut self, alloc: Global) -> Result<(), AllocError>
-        ensures { self.new ≡ self.old }
-    {
-        self.unread.own(alloc)
-    }
-
     /// Whether no byte is unread, and there is no memory for any: then there is nothing to let go of.
     pub fn is_bare(&self) -> bool
         ensures { result ≡ true → self.now.pieces ≡ [] }

@@ -173,13 +173,6 @@ impl FrameBytes {
         self.kept.take_first_chunk()
     }
 
-    /// `BufList::own` of what is kept.
-    pub(super) fn own(&mut self, alloc: Global) -> Result<(), AllocError>
-        ensures { self.new ≡ self.old }
-    {
-        self.kept.own(alloc)
-    }
-
     /// How many bytes came and were not read.
     pub(super) fn len(&self) -> usize
         ensures { result ≡ length (concat self.now.pieces) }
