@@ -6,7 +6,7 @@ In a copy of the crates the body of a function with edits becomes
 
 and in the module for LLVM `is` becomes a comparison with the number that tests/witness/wrong.c reads. Nothing is proved. The programs are h3_cases, h3_talk and
 the library for C, under which the programs of tests/c run. An edit with a line `judged:` is one of these, unless it changes what no run has (a definition or a
-law), or a constant, whose value is computed before. The program in tests/witness/layers calls what none of these does. Edits that do not compile are found by the places of the errors, and left out."""
+law), or a constant, whose value is computed before. The program in tests/witness/layers.rattle calls what none of these does. Edits that do not compile are found by the places of the errors, and left out."""
 import collections
 import concurrent.futures
 import dataclasses
@@ -111,7 +111,9 @@ def write_tree(tree, variants, sources):
                 os.symlink(f"{ROOT}/crates/{name}/{part}", f"{tree}/crates/{name}/{part}")
     with open(f"{tree}/crates.txt", "a", encoding="utf-8") as it:
         it.write(LAYERS)
-    shutil.copytree(f"{ROOT}/tests/witness/layers/src", f"{tree}/crates/witness_layers/src")
+    # its name does not end in .rt, since `rt ci` wants each such file in a crate of crates.txt
+    os.makedirs(f"{tree}/crates/witness_layers/src")
+    shutil.copyfile(f"{ROOT}/tests/witness/layers.rattle", f"{tree}/crates/witness_layers/src/main.rt")
     of_body = collections.defaultdict(list)
     for it in variants:
         for file, opens, end, wrong in it.parts:
