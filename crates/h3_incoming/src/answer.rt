@@ -1,6 +1,6 @@
-//! What a pull answers, written in one place: as a `Pull`, whose heads and trailers are headers, as a `FieldsPull`, which has the lists of
-//! fields that came, or as a `BlockPull`, which has them in memory that serves again. An answer with a header is large: one that is returned
-//! is moved from call to call, and each call clears the room for it.
+//! What a pull answers, written in one place. In a `Pull` header and trailer sections are `Header`s. A `FieldsPull` has the lists of fields
+//! that came, and a `BlockPull` has them in memory that serves again. An answer with a `Header` is large: one that is returned is moved
+//! from call to call, and each call clears the room for it.
 ghost use Rattle.std.specs.Prelude.{◌≡◌, Option, None, List, IfOk, IfSome, OnOk, OnErr, false, []};
 ghost use Rattle.h3_field.specs.Field.{Field};
 ghost use Rattle.h3_header.specs.BadPart.{IsHeadUnlessMany};
@@ -24,7 +24,7 @@ use h3_proto::stream::Side;
 use h3_proto::webtransport::SessionId;
 use std::alloc::{AllocError, Global};
 
-/// An answer that has no head or trailer.
+/// An answer that has no header or trailer section.
 #[derive(Drop)]
 pub enum Plain {
     /// The next piece of the content.
@@ -33,13 +33,13 @@ pub enum Plain {
     Raw(Bytes),
     /// The stream is one of this WebTransport session.
     Session(SessionId),
-    /// In the place of a head or trailer that is too large: its size.
+    /// In the place of a header or trailer section that is too large: its size.
     TooLarge(u64),
     /// The stream has ended.
     End,
     /// The next item isn't there yet.
     Pending,
-    /// The next head or trailer needs so many insertions.
+    /// The next header or trailer section needs so many insertions.
     Waiting(usize),
     /// There is none, for this fault.
     Fault(Fault),
@@ -47,36 +47,37 @@ pub enum Plain {
     NoMessages,
 }
 
-/// What stands where a field section stands.
+/// What a field section is at its place.
 #[derive(Clone, Copy, Debug, PartialEq, Eq)]
 pub enum MessageKind {
-    /// A head with a status from 100 to 199.
+    /// A header section with a status from 100 to 199.
     Interim,
-    /// Another head.
+    /// Another header section.
     Head,
-    /// A trailer.
+    /// A trailer section.
     Trailer,
 }
 
-/// Where the answer of a pull is written.
+/// What the answer of a pull is written into.
 pub trait Answer: Drop {
-    // The answer, whatever heads and trailers are kept as.
+    // The answer, whatever header and trailer sections are kept as.
     ghost told: { Self → Pull };
 
-    // The list of a head or trailer that is kept as one.
+    // The list of a header or trailer section that is kept as one.
     ghost listed: { Self → Option (List Field) };
 
     // The lists for which such an answer asks for memory.
     ghost asks: { List Field → Type 0 };
 
-    /// An answer with no head or trailer takes the place of what was there.
+    /// An answer with no header or trailer section takes the place of what was there.
     fn give(&mut self, answer: Plain)
         ensures is { told self.new ≡ plain_pull answer }
         ensures none { listed self.new ≡ None };
 
-    /// Tells what a decoded list is, and puts the head or trailer that it is at this place there, for this side. What is malformed is told
-    /// alone. An `Err` tells that memory was refused: of a list for which such an answer asks for it; and of none that is malformed, unless
-    /// it has more fields than a map has names for. An answer that keeps lists is told what the list is where that is known.
+    /// Returns what a decoded list is, and writes the header or trailer section that it is at this place, for this side. Of a malformed
+    /// list it only returns why it is malformed. An `Err` says that an allocation failed: only for a list for which such an answer asks for
+    /// memory. It is returned for no malformed list, unless that has more fields than a map has names for. An answer that keeps lists
+    /// learns what the list is, if that is known.
     fn give_message(
         &mut self,
         alloc: Global,
@@ -92,11 +93,11 @@ pub trait Answer: Drop {
         ensures memory { OnErr result (asks fields) }
         ensures good { OnErr result (IsHeadUnlessMany fields) };
 
-    /// Whether heads and trailers are kept as their lists, of which no header is made.
+    /// Whether header and trailer sections are kept as their lists, of which no `Header` is made.
     fn keeps_lists() -> bool;
 
-    /// An empty block for the fields of a section, with the memory of the last answer where that kept one. What is told then is not said:
-    /// the caller gives an answer behind.
+    /// An empty block for the fields of a section, with the memory of the last answer if that kept one. What the answer is then is not
+    /// said: the caller gives one after this call.
     fn room(&mut self, alloc: Global) -> FieldBlock
         ensures { result ≡ [] };
 
@@ -105,7 +106,7 @@ pub trait Answer: Drop {
         ensures { result ≡ fault_told (told self.now) };
 }
 
-/// Puts a value in the place of another, which is let go.
+/// Puts a value in the place of another, which is dropped.
 pub fn put<T: Drop>(place: &mut T, value: T)
     ensures { place.new ≡ value }
 {
@@ -128,7 +129,7 @@ pub fn pause<O: Answer>(out: &mut O)
     out.give(Plain::Pending);
 }
 
-/// The next head or trailer needs so many insertions.
+/// The next header or trailer section needs so many insertions.
 pub fn wait<O: Answer>(out: &mut O, count: usize)
     ensures is { O.told out.new ≡ pull.Waiting count }
     ensures none { O.listed out.new ≡ None }
@@ -136,7 +137,7 @@ pub fn wait<O: Answer>(out: &mut O, count: usize)
     out.give(Plain::Waiting(count));
 }
 
-/// The stream has ended, and all of it was handed out.
+/// The stream has ended, and all of it was returned.
 pub fn end<O: Answer>(out: &mut O)
     ensures is { O.told out.new ≡ pull.Item item.End }
     ensures none { O.listed out.new ≡ None }
@@ -152,7 +153,7 @@ pub fn no_messages<O: Answer>(out: &mut O)
     out.give(Plain::NoMessages);
 }
 
-/// An answer that was made elsewhere, where it has no header. One that has is told as want of memory.
+/// An answer that was made elsewhere, if it has no `Header`. One that has becomes `Fault::Memory`.
 pub fn give_made<O: Answer>(out: &mut O, answer: Pull)
     ensures is { has_header answer ≡ false → O.told out.new ≡ answer }
     ensures none { O.listed out.new ≡ None }
@@ -160,7 +161,7 @@ pub fn give_made<O: Answer>(out: &mut O, answer: Pull)
     out.give(plain_of(answer));
 }
 
-// The same answer, where it has no header.
+// The same answer, if it has no `Header`.
 fn plain_of(answer: Pull) -> Plain
     ensures { has_header answer ≡ false → plain_pull result ≡ answer }
 {
@@ -186,7 +187,7 @@ fn plain_of_item(item: Item) -> Plain
     }
 }
 
-/// What a head or trailer of this outline is at a place, for a side.
+/// What a header or trailer section of this outline is at a place, for a side.
 pub(crate) fn kind_at(side: Side, place: Place, outline: &Outline) -> MessageKind
     ensures { result ≡ kind_at side place outline.now.status }
 {

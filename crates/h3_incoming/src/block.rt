@@ -1,4 +1,4 @@
-//! The answer of a pull whose heads and trailers are the lists of fields that came, in a block of memory that serves again.
+//! The answer of a pull whose header and trailer sections are the lists of fields that came, in a block of memory that serves again.
 ghost use Rattle.std.specs.Prelude.{◌≡◌, ◌<◌, ℕ, List, Option, length, IfSome};
 ghost use Rattle.h3_field.specs.Field.{Field};
 ghost use Rattle.h3_header.specs.Reads.{head_of_fields};
@@ -18,17 +18,17 @@ use std::alloc::{AllocError, Global};
 use std::marker::Model;
 use std::mem;
 
-/// What is told beside the fields of a head or trailer.
+/// What an answer says beside the fields of a header or trailer section.
 #[derive(Drop)]
 pub enum Told {
-    /// The fields are those of a head or trailer, and this is the status of a response's head.
+    /// The fields are those of a header or trailer section, and this is the status of a response's header section.
     Message(MessageKind, Option<StatusCode>),
     /// There is none.
     Plain(Plain),
 }
 
-/// An answer as `FieldsPull` has it, whose fields lie in a block: the next head or trailer is written where the last one was, and takes
-/// memory only where it is longer. A contract sees the `FieldsPull` that it stands for.
+/// An answer as `FieldsPull` has it, whose fields lie in a block. The next header or trailer section is written in the place of the last
+/// one, and takes memory only if it is longer. A contract sees the `FieldsPull` that it stands for.
 #[derive(Drop)]
 pub struct BlockPull {
     told: Told,
@@ -57,7 +57,7 @@ impl BlockPull {
         }
     }
 
-    /// What is told, the fields aside.
+    /// What the answer says, the fields aside.
     pub fn told(&self) -> &Told
         ensures is { self.now ≡ told_with result.now (fields_kept self.now) }
         ensures status { HasStatus result.now (fields_kept self.now) }
@@ -65,28 +65,28 @@ impl BlockPull {
         &self.told
     }
 
-    /// The block with the fields of a head or trailer. Behind another answer it holds anything.
+    /// The block with the fields of a header or trailer section. After another answer it holds anything.
     pub fn block(&self) -> &FieldBlock
         ensures { IfSome (list_of self.now) (λ fields. result.now ≡ fields) }
     {
         &self.block
     }
 
-    /// The fields of a head or trailer, as they came and in the order in which they came. Behind another answer they are any.
+    /// The fields of a header or trailer section, as they came and in the order in which they came. After another answer they are any.
     pub fn fields(&self) -> Fields<'_>
         ensures { IfSome (list_of self.now) (λ fields. result ≡ fields) }
     {
         self.block.fields()
     }
 
-    /// The status of a response's head, as its header has it. It takes no look at the fields.
+    /// The status of a response's header section, as its `Header` has it. It takes no look at the fields.
     pub fn status(&self) -> Option<StatusCode>
         ensures { result ≡ status_kept self.now }
     {
         status_of(&self.told)
     }
 
-    // The fields of a head or trailer with this status, or none.
+    // The fields of a header or trailer section with this status, or none.
     fn hold(&mut self, kind: MessageKind, status: Option<StatusCode>, block: FieldBlock)
         requires { status ≡ (head_of_fields block).status }
         ensures { self.new ≡ answer.Item (listed_as kind block) }
@@ -95,7 +95,7 @@ impl BlockPull {
         self.block = block;
     }
 
-    // Nothing is told, and the memory of these fields is kept.
+    // The answer is that the next item isn't there yet, and the memory of these fields is kept.
     fn keep(&mut self, block: FieldBlock)
         ensures { self.new ≡ answer.Pending }
     {
@@ -157,7 +157,7 @@ impl Answer for BlockPull {
     }
 }
 
-// The status of what is told.
+// The status that the answer has.
 fn status_of(told: &Told) -> Option<StatusCode>
     ensures { (fields : List Field) → HasStatus told.now fields → result ≡ status_kept (told_with told.now fields) }
 {
@@ -167,7 +167,7 @@ fn status_of(told: &Told) -> Option<StatusCode>
     }
 }
 
-// The fault that is told.
+// The fault that the answer has.
 fn fault_of(told: &Told) -> Option<Fault>
     ensures { (fields : List Field) → result ≡ fault_told (pull_of (told_with told.now fields)) }
 {

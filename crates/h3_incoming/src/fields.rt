@@ -1,4 +1,4 @@
-//! The answer of a pull whose heads and trailers are the lists of fields that came, with no header made of them.
+//! The answer of a pull whose header and trailer sections are the lists of fields that came, with no `Header` made of them.
 ghost use Rattle.std.specs.Prelude.{◌≡◌, ◌<◌, length, IfOk, IfSome, OnOk, OnErr, None};
 ghost use Rattle.h3_header.specs.BadPart.{IsHeadUnlessMany};
 ghost use Rattle.h3_header.specs.Head.{Head};
@@ -23,7 +23,7 @@ use http::StatusCode;
 use std::alloc::{AllocError, Global};
 use std::marker::Model;
 
-/// The fields of a head or trailer, as they came and in the order in which they came: `Header::try_from` takes them.
+/// The fields of a header or trailer section, as they came and in the order in which they came: `Header::try_from` takes them.
 #[derive(Drop)]
 pub struct FieldList {
     fields: Vec<HeaderField>,
@@ -65,7 +65,7 @@ impl FieldList {
         self.fields
     }
 
-    /// The status of a response's head, as its header has it. It takes no look at the fields.
+    /// The status of a response's header section, as its `Header` has it. It takes no look at the fields.
     pub fn status(&self) -> Option<StatusCode>
         ensures { result ≡ (head_of_fields self.now).status }
     {
@@ -73,25 +73,25 @@ impl FieldList {
     }
 }
 
-/// What a pull hands out, as `h3_connection::event::Item` has it, but for heads and trailers: of these it has the fields, as they came and in
-/// the order in which they came.
+/// What a pull returns, as `h3_connection::event::Item` has it, but for header and trailer sections. Of these it has the fields, as they
+/// came and in the order in which they came.
 #[derive(Drop)]
 pub enum FieldsItem {
-    /// A head with a status from 100 to 199, which is not the last one.
+    /// A header section with a status from 100 to 199, which is not the last one.
     Interim(FieldList),
-    /// The head of a request, or the final head of a response.
+    /// The header section of a request, or of a final response.
     Head(FieldList),
     /// The next piece of the content, as the pieces came that were delivered.
     Body(Bytes),
-    /// The trailer, behind which nothing but the end comes.
+    /// The trailer section, after which nothing but the end comes.
     Trailer(FieldList),
-    /// In the place of a head or trailer whose size is above the own section size: that size.
+    /// In the place of a header or trailer section whose size is above the local section size: that size.
     TooLarge(u64),
     /// The stream is one of this WebTransport session, and no message.
     Session(SessionId),
     /// The next piece of such a stream, as it came.
     Raw(Bytes),
-    /// The stream has ended, and all of it was handed out.
+    /// The stream has ended, and all of it was returned.
     End,
 }
 
@@ -102,7 +102,7 @@ pub enum FieldsPull {
     Item(FieldsItem),
     /// The next item isn't there yet.
     Pending,
-    /// The next head or trailer needs so many insertions.
+    /// The next header or trailer section needs so many insertions.
     Waiting(usize),
     /// There is none, for this fault.
     Fault(Fault),
@@ -195,7 +195,7 @@ fn give_fields(
     }
 }
 
-// A head or trailer of this outline, whose fields are copied.
+// A header or trailer section of this outline, whose fields are copied.
 fn give_copies(
     out: &mut FieldsPull,
     alloc: Global,

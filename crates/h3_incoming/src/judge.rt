@@ -30,7 +30,7 @@ use std::alloc::{AllocError, Global};
 /// What a field section is at its place.
 #[derive(Drop)]
 pub(crate) enum Judged {
-    /// It is handed out, and this is the place behind it, the content that is left to come, and what is known of that of a response.
+    /// It is returned, and this is the place after it, the content that is left to come, and what is known of that of a response.
     HandsOut(Place, Content, Option<Content>),
     /// Why it is malformed, and what is known of the content of a response.
     Malformed(Malformation, Option<Content>),
@@ -46,8 +46,8 @@ pub(crate) fn names_entries(decoded: &BlockWithin) -> bool
     }
 }
 
-/// What a decoded field section is at a place, whose fields stand in this block: the item that is handed out of it is written. One whose fields sum to more than was announced is
-/// told by its size alone.
+/// What a decoded field section is at a place, whose fields stand in this block. The item that is returned of it is written to `out`. Of
+/// one whose fields sum to more than was announced, that item is its size alone.
 pub(crate) fn judge<O: Answer>(
     alloc: Global,
     side: Side,
@@ -96,8 +96,8 @@ fn judge_large<O: Answer>(
     Judged::HandsOut(behind, expected, known)
 }
 
-// A section that is not. Want of memory is told only of a list for which such an answer asks for memory; and of no list that is malformed,
-// unless it has more fields than a map has names for.
+// A section that is not too large. An allocation fails only for a list for which such an answer asks for memory. It fails for no malformed
+// list, unless that has more fields than a map has names for.
 fn judge_fields<O: Answer>(
     alloc: Global,
     side: Side,
@@ -141,7 +141,7 @@ fn judge_fields<O: Answer>(
     }
 }
 
-// A head or a trailer of this outline, whose list breaks this rule or none, and behind which so much content is left.
+// A header or trailer section of this outline, whose list breaks this rule or none, and after which so much content is left.
 fn judge_message(
     side: Side,
     place: Place,
@@ -161,7 +161,7 @@ fn judge_message(
     }
 }
 
-// A head: a client reads responses, interim ones among them, and a server requests.
+// A header section: a client reads responses, interim ones among them, and a server requests.
 fn judge_head(
     side: Side,
     behind: Content,
@@ -193,7 +193,7 @@ fn is_client(side: Side) -> bool
     }
 }
 
-// A trailer, which has no pseudo-header field (RFC 9114, section 4.3).
+// A trailer section, which has no pseudo-header field (RFC 9114, section 4.3).
 fn judge_trailer(
     behind: Content,
     known: Option<Content>,
@@ -212,7 +212,7 @@ fn judge_trailer(
     Judged::HandsOut(Place::AfterTrailer, behind, known)
 }
 
-// The place behind a section that is too large: a client goes on to wait for the final head behind an interim one.
+// The place after a section that is too large: after an interim response, a client goes on to wait for the final one.
 fn place_behind(side: Side, place: Place, status: Option<Vec<u8>>) -> Place
     ensures { (fields : List Field) → option_map (λ v. v.items) status ≡ last_value (codes ":status") fields → result ≡ next_place side place fields }
 {
@@ -232,7 +232,7 @@ fn place_behind(side: Side, place: Place, status: Option<Vec<u8>>) -> Place
     }
 }
 
-// Whether a status is one of an interim head.
+// Whether a status is one of an interim response.
 fn counts_as_interim(status: Option<Vec<u8>>) -> bool
     ensures { result ≡ is_interim_text (option_map (λ v. v.items) status) }
 {

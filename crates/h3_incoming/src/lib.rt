@@ -1,5 +1,5 @@
-//! A request stream at its receiver (RFC 9114, section 4): what came on it, and how far its message was handed out. What a pull
-//! answers rests on this stream, the decoder's table and what was announced alone.
+//! A request stream at its receiver (RFC 9114, section 4): what came on it, and how much of its message was returned. What a pull answers
+//! rests on this stream, the decoder's table and what was announced alone.
 #![tactic(auto)]
 
 pub mod answer;

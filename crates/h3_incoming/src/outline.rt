@@ -1,4 +1,4 @@
-//! What a list of fields reads as, told where its fields lie.
+//! What a list of fields reads as: the fields are read where they lie.
 ghost use Rattle.std.specs.Prelude.{◌≡◌, ◌≤◌, ◌<◌, [], All, true, Some, None, IfOk, IfSome, OnErr, length, fold, option_map, is_some};
 ghost use Rattle.h3_header.specs.BadPart.{bad_part, refusal_of, AreGood};
 ghost use Rattle.h3_header.specs.Head.{trailer_head};
@@ -20,7 +20,7 @@ use h3_proto::stream::Side;
 use http::StatusCode;
 use std::alloc::{AllocError, Global};
 
-/// What of a header tells where it may stand in a message (RFC 9114, sections 4.1 and 4.3).
+/// What of a header says at which place of a message it may stand (RFC 9114, sections 4.1 and 4.3).
 #[derive(Clone, Copy)]
 pub struct Outline {
     method: bool,
@@ -59,7 +59,7 @@ impl Outline {
         }
     }
 
-    /// Whether a side sends such heads: a client those of requests, a server those of responses.
+    /// Whether a side sends such header sections: a client those of requests, a server those of responses.
     pub fn is_sent_by(&self, side: Side) -> bool
         ensures { result ≡ is_sent_outline side self.now }
     {
@@ -69,7 +69,7 @@ impl Outline {
         }
     }
 
-    /// Whether a side reads such heads: a client those of responses, a server those of requests.
+    /// Whether a side reads such header sections: a client those of responses, a server those of requests.
     pub fn is_read_by(&self, side: Side) -> bool
         ensures { result ≡ is_read_outline side self.now }
     {
@@ -144,7 +144,7 @@ pub fn read_list(alloc: Global, fields: &Fields<'_>) -> Result<ListRead, AllocEr
     Ok(read_short(fields))
 }
 
-/// The same where it may be known.
+/// The same, but it may be known already.
 #[inline(always)]
 pub(crate) fn read_unless(
     known: Option<ListRead>,
@@ -180,8 +180,8 @@ fn read_short(fields: &Fields<'_>) -> ListRead
     ListRead::Head(outline)
 }
 
-/// The same, by the walk that the rules of strict messages ask for, where nothing is malformed of any field. The walk keeps the first
-/// `:status`, and the last one counts here: where there are two it does not tell.
+/// The same, by the walk that the rules of strict messages ask for, if nothing is malformed of any field. The walk keeps the first
+/// `:status`, and the last one counts here: if there are two, the answer is `None`.
 #[inline(always)]
 pub fn read_survey(survey: &Survey<'_>) -> Option<ListRead>
     requires few { length survey.now.fields.now ≤ 24576 }
@@ -233,7 +233,7 @@ fn read_long(alloc: Global, fields: &Fields<'_>) -> Result<ListRead, AllocError>
     }
 }
 
-// Whether a header has `:method`: one with a status has it where it is no response, and another where it is a request.
+// Whether a header has `:method`: one with a status has it if it is no response, and another if it is a request.
 fn has_method(header: &Header) -> bool
     ensures { result ≡ is_some header.now.method }
 {
@@ -255,7 +255,7 @@ fn status_of(digits: &[u8]) -> Option<StatusCode>
     }
 }
 
-/// Why a list is malformed of which a field is by itself.
+/// Why a list is malformed of which a field is malformed by itself.
 pub fn malformation_by(part: BadPart) -> Malformation
     ensures { result ≡ malformation_of (refusal_of part) }
 {
@@ -265,8 +265,8 @@ pub fn malformation_by(part: BadPart) -> Malformation
     }
 }
 
-/// What a list is of which no header was made. Want of memory is told where it was told, and of no list that is malformed, which is judged
-/// without memory, unless it has more fields than a map has names for.
+/// What a list is of which no `Header` was made. An `Err` says that an allocation failed: only if `error` names no malformation. It is
+/// returned for no malformed list, which is judged without memory, unless that has more fields than a map has names for.
 pub(crate) fn read_refused(fields: &Fields<'_>, error: &HeaderError) -> Result<ListRead, AllocError>
     ensures ok { IfOk result (λ r. (why : HeadRefusal) × Tells fields.now error.now why × (r ≡ read.Malformed (malformation_of why))) }
     ensures memory { OnErr result (told error.now ≡ None) }
@@ -281,7 +281,7 @@ pub(crate) fn read_refused(fields: &Fields<'_>, error: &HeaderError) -> Result<L
     }
 }
 
-// Why a list is no header's. Want of memory tells nothing.
+// Why a list is no header's. `OutOfMemory` says nothing of that.
 fn malformation(e: &HeaderError) -> Option<Malformation>
     ensures { result ≡ option_map malformation_of (told e.now) }
 {

@@ -13,7 +13,7 @@ use h3_qpack::{BlockWithin, Decoder, DecoderError, SliceCursor};
 /// What a decoder makes of a field section.
 #[derive(Drop)]
 pub(crate) enum Tried {
-    /// Its fields stand in the block, or their sum passes the limit: then this and their last status are told.
+    /// Its fields stand in the block, or they sum to more than the limit: then it has the sum and their last status.
     Decoded(BlockWithin),
     /// It needs so many insertions, and not all were read.
     Missing(usize),
@@ -21,8 +21,9 @@ pub(crate) enum Tried {
     OutOfMemory,
 }
 
-/// Decodes a field section into a block, of which what it held before is let go. Where its fields sum to more than the limit none is kept. Want of memory is told only of a section whose
-/// prefix is good, whose insertions were read, and whose first line has a string or is of a field.
+/// Decodes a field section into a block, which keeps nothing of what it held before. If its fields sum to more than the limit, none is
+/// kept. `OutOfMemory` is returned only for a section whose prefix is good, whose insertions were read, and whose first line has a string
+/// or is of a field.
 pub(crate) fn try_section(
     decoder: &Decoder,
     bytes: &[u8],

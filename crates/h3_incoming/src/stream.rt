@@ -1,4 +1,4 @@
-//! What came on a request stream, and how far it was handed out.
+//! What came on a request stream, and how much of it was returned.
 ghost use Rattle.std.specs.Prelude.{◌≡◌, ◌+◌, ◌<◌, ◌≤◌, ◌^◌, ◌++◌, length, true, IfErr, OnOk, OnErr};
 ghost use Rattle.std.specs.List.{concat};
 ghost use Rattle.h3_connection.specs.declared.event.StreamFault.TheVariants.{Reset, Canceled};
@@ -26,7 +26,7 @@ mod reading;
 mod sections;
 mod unread;
 
-/// What came on a request stream, and how far its message was handed out. A contract sees it as the definitions' `Incoming`.
+/// What came on a request stream, and how much of its message was returned. A contract sees it as the definitions' `Incoming`.
 #[derive(Drop)]
 pub struct IncomingStream {
     unread: FrameBuffer,
@@ -34,7 +34,7 @@ pub struct IncomingStream {
     section: Option<Bytes>,
     // how much of a begun payload of DATA is still to come out
     body_left: usize,
-    // how much content is left behind that; in front of a response's head what its request said of it
+    // how much content is left after that; in front of a response's header section what its request said of it
     content: Content,
     // what of the content of its response is known at a server
     response: Option<Content>,
@@ -46,7 +46,7 @@ pub struct IncomingStream {
     ended: bool,
     was_reset: bool,
     is_over: bool,
-    // whether bytes came behind the end that was handed out
+    // whether bytes came after the end that was returned
     came_behind: bool,
     fault: Option<StreamFault>,
 }
@@ -110,8 +110,8 @@ impl IncomingStream {
         }
     }
 
-    /// More bytes came. They are kept as they are, with no copy but of small pieces; those of a stream that was given up are thrown away, and
-    /// those of an unknown frame that is under way are let go. An `Err` changes nothing, and hands the bytes back: memory was refused.
+    /// More bytes came. They are kept as they are, with no copy but of small pieces. Those of a stream that was given up are thrown away,
+    /// and those of an unknown frame that is under way are freed. An `Err` changes nothing, and returns the bytes: an allocation failed.
     #[tactic(auto, using(crate::proofs::SomePieces::some_with))]
     pub fn deliver(&mut self, bytes: Bytes) -> Result<(), Bytes>
         requires { length (concat self.old.unread) + length bytes < 2 ^ 64 }
@@ -132,7 +132,7 @@ impl IncomingStream {
         }
     }
 
-    // Where an unknown frame is under way at the front, its bytes are let go.
+    // If an unknown frame is under way at the front, its bytes are freed.
     #[inline(always)]
     pub(super) fn spare(&mut self)
         ensures { self.new ≡ self.old }
@@ -149,8 +149,8 @@ impl IncomingStream {
         self.ended = true;
     }
 
-    /// Its sender cut it off, with this code of an application. It is given up, unless it was before. The first time, the peer's
-    /// encoder is told (RFC 9204, section 2.2.2.2). An `Err` changes nothing.
+    /// Its sender reset it, with this code of an application. It is given up, unless it was before. The first time, the peer's encoder
+    /// learns that (RFC 9204, section 2.2.2.2). An `Err` changes nothing.
     pub fn reset(
         &mut self,
         alloc: Global,
@@ -170,7 +170,7 @@ impl IncomingStream {
         Ok(())
     }
 
-    /// Nothing more of it is wanted. It is given up, unless it was before. The first time, the peer's encoder is told. An `Err`
+    /// The application needs no more of it. It is given up, unless it was before. The first time, the peer's encoder learns that. An `Err`
     /// changes nothing.
     pub fn cancel(
         &mut self,
@@ -189,7 +189,7 @@ impl IncomingStream {
         Ok(())
     }
 
-    /// This content is awaited of it, until its head comes. A stream of which that came, or nothing more comes, stays as it is.
+    /// This content is awaited of it, until its header section comes. A stream of which that came, or nothing more comes, stays as it is.
     pub fn await_content(&mut self, content: Content)
         ensures { self.new ≡ awaiting self.old content }
     {
@@ -198,7 +198,7 @@ impl IncomingStream {
         }
     }
 
-    // Whether its head is still to come.
+    // Whether its header section is still to come.
     fn awaits_head(&self) -> bool
         ensures { result ≡ awaits_head self.now }
     {
@@ -234,16 +234,16 @@ impl IncomingStream {
         self.unread.len()
     }
 
-    /// The required insert count that the next field section waited for at its try (RFC 9204, section 2.2.1), or 0. It waits where
-    /// the decoder's insert count is below.
+    /// The required insert count that the next field section waited for at its try (RFC 9204, section 2.2.1), or 0. It waits if the
+    /// decoder's insert count is below.
     pub fn waits_for(&self) -> usize
         ensures { result ≡ self.now.waits_for }
     {
         self.waits_for
     }
 
-    /// How often the field section that is next was tried, or else the last one; 0 before the first. No section is tried a third
-    /// time. A try does not count that ends for want of memory.
+    /// How often the field section that is next was tried, or else the last one; 0 before the first. No section is tried a third time. A
+    /// try that ends because an allocation fails does not count.
     pub fn tries(&self) -> u8
         ensures value { result ≡ self.now.tries }
         ensures bound { result ≤ 2 }
@@ -251,8 +251,8 @@ impl IncomingStream {
         self.tries
     }
 
-    /// The bytes that came and were not read. Its `tries` say how often the head of the frame under way was tried, or else that of the
-    /// last frame that was read: at most 17 times.
+    /// The bytes that came and were not read. Its `tries` say how often the type and length of the frame under way were tried, or else
+    /// those of the last frame that was read: at most 17 times.
     pub fn frames(&self) -> &FrameBuffer
         ensures { result.now.pieces ≡ self.now.unread }
     {
@@ -266,14 +266,14 @@ impl IncomingStream {
         self.ended
     }
 
-    /// Its sender cut it off.
+    /// Its sender reset it.
     pub fn was_reset(&self) -> bool
         ensures { result ≡ self.now.was_reset }
     {
         self.was_reset
     }
 
-    /// Its end was handed out.
+    /// Its end was returned.
     pub fn is_over(&self) -> bool
         ensures { result ≡ self.now.is_over }
     {

@@ -1,5 +1,5 @@
-//! Which rule of well-formed messages a field list breaks, and how much content follows it, where the endpoint asks for them (RFC 9114, sections
-//! 4.1.2 and 4.2 to 4.5).
+//! Which rule of well-formed messages a field list breaks, and how much content follows it, if the endpoint asks for these rules (RFC 9114,
+//! sections 4.1.2 and 4.2 to 4.5).
 ghost use Rattle.std.specs.Prelude.{◌≡◌, ◌≤◌, option_map, length, true, IfSome};
 ghost use Rattle.h3_header.specs.HeadRead.{head_of};
 ghost use Rattle.h3_connection.specs.StrictMessages.{broken_rule, malformation_by, violation_at, violation_of_head, content_of_head, content_behind, content_behind_large, content_at, large_content_at, response_of_head, response_behind, response_at, if_whole};
@@ -21,21 +21,21 @@ use h3_proto::stream::Side;
 pub(crate) struct StrictRead {
     /// The rule that the list breaks.
     pub(crate) broken: Option<Malformation>,
-    /// The content behind it.
+    /// The content after it.
     pub(crate) content: Content,
-    /// What is known behind it of the content of a response.
+    /// What is known after it of the content of a response.
     pub(crate) response: Option<Content>,
 }
 
-/// What a list is, where the walk tells it that the rules ask for, and what the rules make of it.
+/// What a list is, if the walk that the rules ask for finds that, and what the rules make of it.
 #[derive(Clone, Copy)]
 pub(crate) struct OneRead {
     pub(crate) list: Option<ListRead>,
     pub(crate) strict: StrictRead,
 }
 
-/// What a field list says at its place, in front of which such content was left, and this was known of the content of a response. Where a
-/// strict endpoint keeps it as a list, one walk tells what the list is too, and of one that is no head's a second what it says.
+/// What a field list says at its place. In front of it such content was left, and this was known of the content of a response. If a strict
+/// endpoint keeps it as a list, one walk also finds what the list is. If a field is malformed, a second walk finds what the list says.
 #[inline(always)]
 pub(crate) fn read_at(
     keeps_lists: bool,
@@ -60,7 +60,7 @@ pub(crate) fn read_at(
     }
 }
 
-// The same of a list of so few fields that a map has room for all their names, where messages are strict.
+// The same of a list of so few fields that a map has room for all their names, if messages are strict.
 fn read_once(
     side: Side,
     announced: &Announced,
@@ -148,7 +148,7 @@ fn survey_at(
     }
 }
 
-// What a head says: a client reads responses, and a server requests.
+// What a header section says: a client reads responses, and a server requests.
 #[inline(always)]
 fn read_head(
     side: Side,
@@ -181,7 +181,7 @@ fn read_head(
     }
 }
 
-// A rule as it is told of a message.
+// A broken rule as the malformation of a message.
 fn told(violation: Option<Violation>) -> Option<Malformation>
     ensures { result ≡ option_map malformation_by violation }
 {
@@ -191,7 +191,7 @@ fn told(violation: Option<Violation>) -> Option<Malformation>
     }
 }
 
-/// The content behind a section that is too large, of which only the last status is known. That of a response tells whether content may
+/// The content after a section that is too large, of which only the last status is known. That of a response tells whether content may
 /// follow.
 pub(crate) fn large_content_at(
     side: Side,
@@ -229,7 +229,7 @@ fn content_behind_large(
     }
 }
 
-/// The rule that is broken where a trailer may not come yet, and else this one (RFC 9114, section 4.1.2).
+/// The rule that is broken if a trailer section may not come yet, and else this one (RFC 9114, section 4.1.2).
 pub(crate) fn if_whole(content: Content, broken: Option<Malformation>) -> Option<Malformation>
     ensures { result ≡ if_whole content broken }
 {

@@ -17,8 +17,8 @@ use std::alloc::Global;
 use std::mem;
 
 impl IncomingStream {
-    /// The next bytes of the payload under way. Of one that is longer than the content may be none is handed out: the message is malformed (RFC
-    /// 9114, section 4.1.2).
+    /// The next bytes of the payload under way. Of one that is longer than the content may be, nothing is returned: the message is
+    /// malformed (RFC 9114, section 4.1.2).
     pub(super) fn pull_payload<O: Answer>(
         &mut self,
         alloc: Global,
@@ -83,7 +83,7 @@ impl IncomingStream {
         }
     }
 
-    /// The end is handed out, and no buffer is kept.
+    /// The end is returned, and no buffer is kept.
     pub(super) fn finish<O: Answer>(&mut self, alloc: Global, out: &mut O)
         ensures stream { self.new ≡ record self.old { unread = []; is_over = true } }
         ensures answer { O.told out.new ≡ pull.Item End }

@@ -93,7 +93,7 @@ impl IncomingStream {
         }
     }
 
-    // A frame that is no field section is longer than what the endpoint takes. What came is let go.
+    // A frame that is no field section is longer than what the endpoint takes. What came is freed.
     #[inline(never)]
     fn refuse_excess<O: Answer>(&mut self, alloc: Global, out: &mut O)
         ensures stream { self.new ≡ record self.old { unread = [] } }

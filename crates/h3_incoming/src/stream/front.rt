@@ -13,7 +13,7 @@ use h3_proto::stream::Side;
 use h3_wire::frame::{FrameBuffer, FrameProtocolError, FrameStreamError};
 use std::alloc::{AllocError, Global};
 
-/// What stands behind all frames that give nothing.
+/// What stands after all frames that give nothing.
 #[derive(Drop)]
 pub(super) enum Found {
     /// A frame: what it begins.
@@ -27,8 +27,8 @@ pub(super) enum Found {
     Excessive,
 }
 
-/// Reads up to the first frame that gives something, and takes it: unknown frames are passed (RFC 9114, section 9), and in a
-/// body those of DATA without a payload. One that says a length above the limit is told, and not taken.
+/// Reads up to the first frame that gives something, and takes it. Unknown frames are skipped (RFC 9114, section 9), and in a body DATA
+/// frames without a payload. One that says a length above the limit is reported, and not taken.
 #[inline(always)]
 #[tactic(auto, using(crate::proofs::FrontLaws::finds_on, crate::proofs::FrontLaws::within_on, crate::proofs::FrontLaws::passed_then, h3_wire::specs::PieceLaws::rest_same, h3_wire::specs::PieceLaws::rest_then))]
 pub(super) fn front(
@@ -54,7 +54,7 @@ pub(super) fn front(
     }
 }
 
-// Reads one frame. It answers nothing where the frame gives nothing.
+// Reads one frame. It returns `None` if the frame gives nothing.
 #[inline(always)]
 #[tactic(auto, using(crate::proofs::FrontLaws::finds_unfinished, crate::proofs::FrontLaws::finds_refused, crate::proofs::FrontLaws::finds_frame, crate::proofs::FrontLaws::within_unfinished, crate::proofs::FrontLaws::within_refused, crate::proofs::FrontLaws::within_frame, crate::proofs::FrontLaws::long_stays, crate::proofs::FrontLaws::section_stays, crate::proofs::FrontLaws::passes_empty, crate::proofs::FrontLaws::passes_known, h3_connection::specs::SkippingLaws::rest_shorter, h3_wire::specs::PieceLaws::ending_rest))]
 fn front_one(

@@ -11,30 +11,30 @@ use h3_wire::frame::FrameBuffer;
 use std::alloc::Global;
 
 impl IncomingStream {
-    /// Where its message is.
+    /// The place that its message is at.
     pub fn place(&self) -> Place
         ensures { result ≡ self.now.place }
     {
         self.place
     }
 
-    /// What a response to it may have as content, as its client awaits it. None: that is not known, since no head of a request was read, or
-    /// the endpoint asks for no strict messages.
+    /// What a response to it may have as content, as its client awaits it. None: that is not known, since no header section of a request
+    /// was read, or the endpoint asks for no strict messages.
     pub fn response(&self) -> Option<Content>
         ensures { result ≡ self.now.response }
     {
         self.response
     }
 
-    /// How much content of its message is left to come, where the endpoint asks for strict messages.
+    /// How much content of its message is left to come, if the endpoint asks for strict messages.
     pub fn content(&self) -> Content
         ensures { result ≡ self.now.content }
     {
         self.content
     }
 
-    /// Whether nothing is left of it: no bytes, no field section and no payload under way. It waits for nothing then. It is told of
-    /// streams alone whose end was handed out, with nothing behind it, or that were given up.
+    /// Whether nothing is left of it: no bytes, no field section and no payload under way. It waits for nothing then. It is true only of
+    /// streams whose end was returned, with nothing after it, or that were given up.
     pub fn is_drained(&self) -> bool
         ensures { result ≡ true → is_drained self.now ≡ true }
     {
@@ -64,7 +64,7 @@ impl IncomingStream {
         }
     }
 
-    /// The same, but cut off with this code. It takes no memory.
+    /// The same, but reset with this code. It takes no memory.
     pub fn like_reset(&self, alloc: Global, code: u64) -> IncomingStream
         requires { is_drained self.now ≡ true }
         ensures { result ≡ record self.now { fault = Some (Reset code) } }

@@ -17,11 +17,11 @@ use h3_qpack::Decoder;
 use std::alloc::Global;
 
 impl IncomingStream {
-    /// The next item of the message, or why there is none now: the fault for which the stream was given up, its end again, or what
-    /// its bytes and the decoder's table say. The answer, the stream after it, and what is written behind the replies to the
-    /// peer's encoder rest on this stream, the table and what was announced alone. `Fault::Memory` writes nothing and loses
-    /// nothing: whatever is delivered later, the stream's pulls answer the same. The answer takes the place of what `out` was, so that
-    /// it is moved nowhere. Of a head or trailer that is kept as a list that list is the one that came.
+    /// The next item of the message, or why there is none now. That is the fault for which the stream was given up, its end again, or what
+    /// its bytes and the decoder's table say. The answer, the stream after it, and what is appended to the replies to the peer's encoder
+    /// rest on this stream, the table and what was announced alone. `Fault::Memory` writes nothing and loses nothing: whatever is delivered
+    /// later, the stream's pulls answer the same. The answer takes the place of what `out` was, so that it is moved nowhere. If a header or
+    /// trailer section is kept as a list, that list is the one that came.
     pub fn pull_into<O: Answer>(
         &mut self,
         alloc: Global,
@@ -87,7 +87,7 @@ impl IncomingStream {
         }
     }
 
-    // Whether a field section is next. Where none is, the stream waits for nothing.
+    // Whether a field section is next. If none is, the stream waits for nothing.
     fn has_section(&self) -> bool
         ensures value { result ≡ is_some self.now.section }
         ensures none { result ≡ false → self.now.waits_for ≡ 0 }

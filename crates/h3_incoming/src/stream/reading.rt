@@ -14,10 +14,10 @@ use h3_wire::frame::FrameBuffer;
 use std::alloc::Global;
 
 impl IncomingStream {
-    /// Reads a piece of a body where it lies in bytes that came, and answers its place: what stands after it is what a delivery of the bytes
-    /// up to its end leaves and a pull that hands it out. Nothing is copied, and nothing of the bytes is kept. It is read where nothing of the
-    /// stream is kept, and the bytes go on with a payload of DATA or begin with the whole head of one and some of its payload, in a body whose
-    /// content may be as long. Otherwise the answer is `None`, and nothing has changed.
+    /// Reads a piece of a body where it lies in bytes that came, and returns its place. The stream is then as after a delivery of the bytes
+    /// up to the end of the piece, and a pull that returns it. Nothing is copied, and nothing of the bytes is kept. It is read if nothing
+    /// of the stream is kept, in a body whose content may be as long. The bytes have to go on with a payload of DATA, or begin with the
+    /// type and length of a DATA frame and some of its payload. Otherwise the answer is `None`, and nothing has changed.
     #[tactic(auto, using(crate::proofs::BodyPieces::payload_reads, crate::proofs::BodyPieces::begun_reads))]
     pub fn read_body(&mut self, alloc: Global, bytes: &[u8]) -> Option<BodyPlace>
         ensures place { result ≡ body_place self.old bytes.now }
@@ -61,7 +61,7 @@ impl IncomingStream {
         Some(place)
     }
 
-    // What came of a payload behind its head.
+    // What came of a payload after the type and length of its frame.
     fn begin_payload(&mut self, alloc: Global, bytes: &[u8]) -> Option<BodyPlace>
         requires clear { keeps_nothing self.old ≡ true }
         ensures place { result ≡ (if is_body self.old.place then place_behind self.old.content (length bytes.now) (data_at bytes.now) else None) }
@@ -82,7 +82,7 @@ impl IncomingStream {
         Some(place)
     }
 
-    // So much is left of a payload, and so much content behind it.
+    // So much is left of a payload, and so much content after it.
     fn go_on_with(&mut self, alloc: Global, left: usize, content: Content)
         requires clear { keeps_nothing self.old ≡ true }
         ensures { self.new ≡ record self.old { unread = []; body_left = left; content = content } }
@@ -93,7 +93,7 @@ impl IncomingStream {
     }
 }
 
-// So much of a payload of so many bytes as came, behind so many bytes.
+// So much of a payload of `size` bytes as came, after `offset` bytes.
 #[inline]
 fn piece_at(offset: usize, size: usize, came: usize) -> Option<BodyPlace>
     ensures { result ≡ piece_at offset size came }
@@ -107,7 +107,7 @@ fn piece_at(offset: usize, size: usize, came: usize) -> Option<BodyPlace>
     None
 }
 
-// The length of the DATA frame that the bytes begin with, and how many bytes its head has.
+// The length of the DATA frame that the bytes begin with, and how many bytes its type and length have.
 fn data_at(bytes: &[u8]) -> Option<(usize, usize)>
     ensures some { IfSome result (λ p. data_at bytes.now ≡ Some (p.0, drop p.1 bytes.now)) }
     ensures inside { IfSome result (λ p. p.1 ≤ length bytes.now) }

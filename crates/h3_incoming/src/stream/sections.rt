@@ -109,7 +109,7 @@ impl IncomingStream {
         }
     }
 
-    // The section was judged. What is said of it is written first, so that refused memory changes nothing.
+    // The section was judged. What is said of it is written first, so that a failed allocation changes nothing.
     fn answer_section<O: Answer>(
         &mut self,
         alloc: Global,
@@ -149,7 +149,7 @@ impl IncomingStream {
         }
     }
 
-    /// The message is malformed. The peer's encoder is told of it first, so that refused memory changes nothing.
+    /// The message is malformed. What the peer's encoder learns of it is written first, so that a failed allocation changes nothing.
     pub(super) fn refuse_message<O: Answer>(
         &mut self,
         alloc: Global,
