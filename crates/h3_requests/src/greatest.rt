@@ -1,4 +1,4 @@
-//! The greater of two numbers, where either may be missing.
+//! The greater of two numbers, of which either may be missing.
 ghost use Rattle.std.specs.Prelude.{◌≡◌};
 ghost use Rattle.h3_requests.specs.Greatest.{greater_of};
 

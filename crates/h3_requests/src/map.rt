@@ -44,7 +44,7 @@ impl StreamMap {
         }
     }
 
-    // The stream of that id, where it is there, but for the code of a reset.
+    // The stream of that id, if it is there, but for the code of a reset.
     pub(crate) fn get_alike(&self, id: StreamId) -> Option<&RequestStream>
         ensures { AreAlike (option_copied result) (kept_at (streams_in self.now) id) }
     {
@@ -65,7 +65,7 @@ impl StreamMap {
         }
     }
 
-    // One like the stream of that id, where it is over and not under way again.
+    // One like the stream of that id, if it is over and not under way again.
     pub(crate) fn get_over(&self, id: StreamId) -> Option<RequestStream>
         ensures value { result ≡ over_at self.now id }
         ensures over { IfSome (over_at self.now id) IsOver }
@@ -108,7 +108,7 @@ impl StreamMap {
         Refusal::NotOpen
     }
 
-    // The stream of that id, where it is under way, to be changed.
+    // The stream of that id, if it is under way, to be changed.
     pub(crate) fn get_mut(&mut self, id: StreamId) -> Option<&mut RequestStream>
         ensures* writes_back { sem 𝓛 (LendsStream self.entry id result) }
         ensures value { option_copied_mut result ≡ under_way_at self.old id }
@@ -117,8 +117,8 @@ impl StreamMap {
         self.under_way.get_mut(id.into_inner())
     }
 
-    // Puts a stream there on which nothing has happened, and answers what the one that was there waits for. An `Err` changes nothing: no
-    // stream was under way there, and memory was refused.
+    // Puts a stream there on which nothing has happened, and returns what the one that was there waits for. An `Err` changes nothing: no
+    // stream was under way there, and an allocation failed.
     pub(crate) fn open(&mut self, alloc: Global, id: StreamId) -> Result<usize, AllocError>
         ensures ok { OnOk result (Sets (streams_in self.old) (streams_in self.new) id fresh_request) }
         ensures before { IfOk result (λ count. count ≡ waits_at (kept_at (streams_in self.old) id)) }
@@ -137,7 +137,7 @@ impl StreamMap {
         Ok(0)
     }
 
-    // The same where none is under way. One that is over may be there.
+    // The same if none is under way. One that is over may be there.
     pub(crate) fn open_new(&mut self, alloc: Global, id: StreamId) -> Result<(), AllocError>
         requires { under_way_at self.old id ≡ None }
         ensures ok { OnOk result (Sets (streams_in self.old) (streams_in self.new) id fresh_request) }
@@ -155,7 +155,7 @@ impl StreamMap {
         Ok(())
     }
 
-    // Takes the stream out, where it is there, and answers what it waits for. It takes no memory.
+    // Takes the stream out, if it is there, and returns what it waits for. It takes no memory.
     pub(crate) fn remove(&mut self, id: StreamId) -> usize
         ensures takes_out { TakesOut (streams_in self.old) (streams_in self.new) id }
         ensures before { result ≡ waits_at (kept_at (streams_in self.old) id) }
@@ -169,8 +169,7 @@ impl StreamMap {
         }
     }
 
-    // The end of a stream that is over is taken, and this tells whether it waited. It takes no memory. Nothing changes where it did not
-    // wait.
+    // Takes the end of a stream that is over, and returns whether it waited. It takes no memory. Nothing changes if it did not wait.
     pub(crate) fn take_end(&mut self, id: StreamId) -> bool
         requires { under_way_at self.old id ≡ None }
         ensures told { result ≡ has_end (over_at self.old id) }
@@ -182,8 +181,8 @@ impl StreamMap {
         self.over.take_end(id)
     }
 
-    // The stream is under way from now on, where it is there, and this tells whether it is. An `Err` changes nothing: memory was
-    // refused.
+    // The stream is under way from now on, if it is there, and this returns whether it is there. An `Err` changes nothing: an allocation
+    // failed.
     pub(crate) fn take_up(&mut self, alloc: Global, id: StreamId) -> Result<bool, AllocError>
         ensures there { IfOk result (λ is_there. is_there ≡ is_some (kept_at (streams_in self.old) id)) }
         ensures same { streams_in self.new ≡ streams_in self.old }

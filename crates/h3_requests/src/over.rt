@@ -34,8 +34,8 @@ pub(crate) struct Way {
     has_code: bool,
 }
 
-/// The streams that are over, by their ids. Many are over in the same way: of each way one stream is kept, and of each stream the
-/// number of its way, and, where there were many codes of resets before, its code.
+/// The streams that are over, by their ids. Many are over in the same way. Of each way one stream is kept, and of each stream the number of
+/// its way and, if there were many codes of resets before, its code.
 #[derive(Drop)]
 pub(crate) struct OverStreams {
     marks: Marks,
@@ -99,7 +99,7 @@ impl OverStreams {
         let _ways = self.ways.len();
     }
 
-    /// The stream of that id, where it is among them, but for the code of a reset.
+    /// The stream of that id, if it is among them, but for the code of a reset.
     pub(crate) fn get_alike(&self, id: StreamId) -> Option<&RequestStream>
         ensures { AreAlike (option_copied result) (kept_at self.now id) }
     {
@@ -113,7 +113,7 @@ impl OverStreams {
         }
     }
 
-    /// One like the stream of that id, where it is among them. It takes no memory.
+    /// One like the stream of that id, if it is among them. It takes no memory.
     pub(crate) fn get(&self, id: StreamId) -> Option<RequestStream>
         ensures value { result ≡ kept_at self.now id }
         ensures over { IfSome (kept_at self.now id) IsOver }
@@ -141,8 +141,7 @@ impl OverStreams {
         self.marks.reserve(alloc, number)
     }
 
-    /// Puts a stream in that is over, and tells whether it did: not where no memory was taken for it, and not where there are too
-    /// many ways.
+    /// Puts a stream in that is over, and returns whether it did: not if no memory was taken for it, and not if there are too many ways.
     pub(crate) fn put(&mut self, id: StreamId, stream: &RequestStream) -> bool
         requires { IsOver stream.now }
         ensures put { result ≡ true → Sets self.old self.new id stream.now }
@@ -179,7 +178,7 @@ impl OverStreams {
         self.marks.set(number, way)
     }
 
-    /// The end of a stream is taken, and this tells whether it waited. It takes no memory. Nothing changes where it did not wait.
+    /// Takes the end of a stream, and returns whether it waited. It takes no memory. Nothing changes if it did not wait.
     pub(crate) fn take_end(&mut self, id: StreamId) -> bool
         ensures told { result ≡ has_end (kept_at self.old id) }
         ensures taken { result ≡ true → IfSome (kept_at self.old id) (λ r. Sets self.old self.new id (with_end_taken r)) }
@@ -201,7 +200,7 @@ impl OverStreams {
         self.marks.set(number, way + 1)
     }
 
-    /// Takes a stream out, where it is among them.
+    /// Takes a stream out, if it is among them.
     pub(crate) fn remove(&mut self, id: StreamId)
         ensures takes_out { TakesOut self.old self.new id }
         ensures over { IfSome (kept_at self.old id) IsOver }
@@ -210,7 +209,7 @@ impl OverStreams {
     }
 }
 
-// How many ways may be known where one more is to be, of streams that were reset with this code or were not.
+// How many ways may be known if one more is to be added, of streams that were reset with this code or were not.
 fn most_ways(code: Option<u64>) -> usize
     ensures { result ≤ 255 }
 {
@@ -231,7 +230,8 @@ fn like_way(way: &Way, alloc: Global, code: u64) -> RequestStream
     way.stream.like(alloc)
 }
 
-// The way in which a stream is over, each reset with a code of its own, or 0 where there are too many, or memory is refused for one more.
+// The way in which a stream is over, each reset with a code of its own. It is 0 if there are too many, or if an allocation fails for one
+// more.
 fn coded_way(ways: &mut Vec<Way>, stream: &RequestStream) -> u8
     requires over { IsOver stream.now }
     requires ways { (way : ℕ) → IfSome (way_at ways.old.items way) IsWay }
@@ -245,7 +245,8 @@ fn coded_way(ways: &mut Vec<Way>, stream: &RequestStream) -> u8
     way_of(ways, &alike, true, MOST_WAYS)
 }
 
-// The way in which a stream is over, each with a code of its own or not, or 0 where there are too many, or memory is refused for one more.
+// The way in which a stream is over, each with a code of its own or not. It is 0 if there are too many, or if an allocation fails for one
+// more.
 #[inline(always)]
 fn way_of(ways: &mut Vec<Way>, stream: &RequestStream, has_code: bool, most: usize) -> u8
     requires over { IsOver stream.now }
@@ -305,7 +306,7 @@ fn add_way(ways: &mut Vec<Way>, stream: &RequestStream, has_code: bool, most: us
     (count + 1) as u8
 }
 
-// A way more, and behind it the same way with the end taken: so a stream whose end is taken later goes on to that one with no memory.
+// Adds a way, and after it the same way with the end taken: so a stream whose end is taken later goes on to that one with no memory.
 fn add_both(ways: &mut Vec<Way>, stream: &RequestStream, has_code: bool, most: usize) -> u8
     requires over { IsOver stream.now }
     requires code { has_code ≡ true → stream.now.incoming.fault ≡ Some (Reset 0) }
@@ -333,7 +334,7 @@ fn add_both(ways: &mut Vec<Way>, stream: &RequestStream, has_code: bool, most: u
     count as u8 + 1
 }
 
-// The same among the ways that are known, or 0 where no other was over so.
+// The same among the ways that are known, or 0 if no other was over so.
 fn known_way(ways: &[Way], stream: &RequestStream, has_code: bool) -> u8
     requires over { IsOver stream.now }
     requires ways { (way : ℕ) → IfSome (way_at ways.now way) IsWay }

@@ -51,7 +51,7 @@ impl ReadyStreams {
         reserved.into_inner() == id.into_inner()
     }
 
-    // The room that was taken last goes where it is another stream's, so that no more than one has room in vain.
+    // The room that was taken last goes if it is another stream's, so that no more than one has room in vain.
     fn release_other(&mut self, id: StreamId)
         ensures same { (q : ℕ) → is_ready self.new q ≡ is_ready self.old q }
         ensures ends { self.new.ends ≡ self.old.ends }
@@ -65,7 +65,7 @@ impl ReadyStreams {
         self.bytes.release(reserved);
     }
 
-    /// Room for a stream on which a head goes out, for its bytes and for its end, where it has none. What is ready stays as it was.
+    /// Room for a stream on which a header section goes out, for its bytes and for its end, if it has none. What is ready stays as it was.
     pub(crate) fn reserve_both(&mut self, id: StreamId) -> Result<(), AllocError>
         ensures listed { OnOk result (is_listed self.new id ≡ true) }
         ensures placed { OnOk result (has_place self.new.ends id ≡ true) }
@@ -79,7 +79,7 @@ impl ReadyStreams {
         self.reserve_places(id)
     }
 
-    // The same where it may have none.
+    // The same, but it may have none.
     #[inline(never)]
     fn reserve_places(&mut self, id: StreamId) -> Result<(), AllocError>
         ensures listed { OnOk result (is_listed self.new id ≡ true) }

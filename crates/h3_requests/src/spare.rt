@@ -7,7 +7,7 @@ use crate::stream::RequestStream;
 use std::alloc::{AllocError, Global};
 use std::marker::Model;
 
-/// At most one block, with a stream in it on which nothing has happened: so a connection with one stream behind the other takes one block
+/// At most one block, with a stream in it on which nothing has happened: so a connection with one stream after the other takes one block
 /// for all of them.
 #[derive(Drop)]
 pub(crate) struct Spare {
@@ -42,7 +42,7 @@ impl Spare {
         }
     }
 
-    /// Drops a stream, and keeps its block where none is there. It takes no memory.
+    /// Drops a stream, and keeps its block if none is there. It takes no memory.
     pub(crate) fn keep(&mut self, alloc: Global, stream: BoxedStream) {
         if self.stream.is_some() {
             return;

@@ -79,14 +79,14 @@ impl RequestStream {
         self.incoming.ended() || self.incoming.was_reset()
     }
 
-    // Whether nothing more is handed out of it: its end was, or it was given up.
+    // Whether nothing more is returned of it: its end was, or it was given up.
     pub(crate) fn is_settled(&self) -> bool
         ensures { result ≡ (self.now.incoming.is_over || is_some self.now.incoming.fault) }
     {
         self.incoming.is_over() || self.incoming.fault().is_some()
     }
 
-    // Whether no call changes it any more: nothing more comes on it or is handed out of it, and nothing is left to be read or sent.
+    // Whether no call changes it any more: nothing more comes on it or is returned of it, and nothing is left to be read or sent.
     pub(crate) fn is_over(&self) -> bool
         ensures { result ≡ true → IsOver self.now }
     {
@@ -97,14 +97,14 @@ impl RequestStream {
             && self.outgoing.is_empty()
     }
 
-    // Whether its end was handed out, or it was given up, and sending has ended.
+    // Whether its end was returned, or it was given up, and sending has ended.
     fn is_done(&self) -> bool
         ensures { result ≡ is_done self.now }
     {
         self.is_settled() && self.outgoing.is_sent_off()
     }
 
-    // Whether it counts, where all streams do, or those alone that are not done.
+    // Whether it counts: all streams do, or, if `undone`, those alone that are not done.
     pub(crate) fn is_sought(&self, undone: bool) -> bool
         ensures { result ≡ is_sought undone (Some self.now) }
     {
@@ -155,7 +155,7 @@ impl RequestStream {
         }
     }
 
-    // The code with which its sender cut it off, where that is why it was given up.
+    // The code with which its sender reset it, if that is why it was given up.
     pub(crate) fn code_of_reset(&self) -> Option<u64>
         ensures { IfSome result (λ code. self.now.incoming.fault ≡ Some (Reset code)) }
     {

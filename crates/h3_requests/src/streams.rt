@@ -58,8 +58,8 @@ impl RequestStreams {
         }
     }
 
-    /// A stream on which nothing has happened is there under that id, in the place of one that was there. An `Err` changes
-    /// nothing: no stream was there, or one that is over (`IsOver`), and memory was refused.
+    /// A stream on which nothing has happened is there under that id, in the place of one that was there. An `Err` changes nothing: no
+    /// stream was there, or one that is over (`IsOver`), and an allocation failed.
     pub fn open(&mut self, alloc: Global, id: StreamId) -> Result<(), AllocError>
         ensures ok { OnOk result (Sets self.old self.new id fresh_request) }
         ensures over { OnErr result (IfSome (kept_at self.old id) IsOver) }
@@ -73,7 +73,7 @@ impl RequestStreams {
         Ok(())
     }
 
-    // The same where no stream is there: none waits on it then.
+    // The same if no stream is there: none waits on it then.
     fn open_new(&mut self, alloc: Global, id: StreamId) -> Result<(), AllocError>
         requires { kept_at self.old id ≡ None }
         ensures ok { OnOk result (Sets self.old self.new id fresh_request) }
@@ -87,7 +87,7 @@ impl RequestStreams {
         Ok(())
     }
 
-    /// Takes a stream out again, where it is there. It takes no memory.
+    /// Takes a stream out again, if it is there. It takes no memory.
     pub fn undo_open(&mut self, id: StreamId)
         ensures { TakesOut self.old self.new id }
     {

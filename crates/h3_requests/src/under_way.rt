@@ -67,7 +67,7 @@ impl StreamsUnderWay {
         self.others.get(id)
     }
 
-    /// The stream of this id, where it stands in the row: it is found with no search.
+    /// The stream of this id, if it stands in the row: it is found with no search.
     pub(crate) fn get_near(&self, id: u64) -> Option<&RequestStream>
         ensures { IfSome result (λ stream. kept_at self.now id ≡ Some stream.now) }
     {
@@ -106,7 +106,7 @@ impl StreamsUnderWay {
         }
     }
 
-    /// Puts a stream there on which nothing has happened, where none is. An `Err` changes nothing: memory was refused.
+    /// Puts a stream on which nothing has happened at an id that has none. An `Err` changes nothing: an allocation failed.
     pub(crate) fn open(&mut self, alloc: Global, id: u64) -> Result<(), AllocError>
         requires { kept_at self.old id ≡ None }
         ensures ok { OnOk result (Sets self.old self.new id fresh_request) }
@@ -118,7 +118,7 @@ impl StreamsUnderWay {
         self.insert(id, stream)
     }
 
-    /// Puts a stream there, where none is. An `Err` changes nothing: memory was refused.
+    /// Puts a stream at an id that has none. An `Err` changes nothing: an allocation failed.
     pub(crate) fn insert(&mut self, id: u64, stream: BoxedStream) -> Result<(), AllocError>
         requires { kept_at self.old id ≡ None }
         ensures ok { OnOk result (Sets self.old self.new id stream) }

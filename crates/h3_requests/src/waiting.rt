@@ -29,7 +29,7 @@ const WORDS: u64 = 1 << 54;
 /// memory.
 #[derive(Drop)]
 pub(crate) struct WaitingStreams {
-    // of each number the streams from 256 times that on, where one has a place or something waits on it
+    // of each number the streams from 256 times that on, if one has a place or something waits on it
     words: Words,
 }
 

@@ -71,7 +71,7 @@ impl Codes {
         }
     }
 
-    /// Sets the code of a stream. An `Err` changes nothing: it is no id of a request stream, or memory was refused.
+    /// Sets the code of a stream. An `Err` changes nothing: it is no id of a request stream, or an allocation failed.
     pub(crate) fn set(&mut self, alloc: Global, id: u64, code: u64) -> Result<(), AllocError>
         ensures set { OnOk result (IsOneMark id code (code_at self.old) (code_at self.new)) }
         ensures same { OnErr result (HaveSameMarks (code_at self.old) (code_at self.new)) }

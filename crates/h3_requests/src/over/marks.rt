@@ -16,7 +16,7 @@ const PAGE: u64 = 128;
 /// Marks by the ids of their streams. One that is 0 is not there.
 #[derive(Drop)]
 pub(crate) struct Marks {
-    // the page that came last, where one has come, and its number: so streams that follow one another are found with no search
+    // the page that came last, if one has come, and its number: so streams that follow one another are found with no search
     number: u64,
     last: Vec<u8>,
     // the other pages, each with the marks of all its streams
@@ -59,7 +59,7 @@ fn lengthen(page: &mut Vec<u8>, place: usize) -> Result<(), AllocError>
     fill(page, PAGE as usize)
 }
 
-// Makes a page so long, where it is shorter.
+// Makes a page so long, if it is shorter.
 #[inline(never)]
 fn fill(page: &mut Vec<u8>, len: usize) -> Result<(), AllocError>
     requires { length page.old.items < len }
@@ -79,7 +79,7 @@ fn mark_in(page: &[u8], place: usize) -> u8
     }
 }
 
-// Sets the mark at a place of a page, where it has that place, and tells whether it has.
+// Sets the mark at a place of a page, if it has that place, and returns whether it has.
 fn set_in(page: &mut [u8], place: usize, mark: u8) -> bool
     ensures set { result ≡ true → (place < length page.old) × (page.new ≡ slice_set page.old place mark) }
     ensures same { result ≡ false → page.new ≡ page.old }
@@ -172,7 +172,7 @@ impl Marks {
         Ok(())
     }
 
-    // The page that came last goes to the others. An `Err` changes nothing: memory was refused.
+    // The page that came last goes to the others. An `Err` changes nothing: an allocation failed.
     fn put_by(&mut self, alloc: Global) -> Result<(), AllocError>
         ensures same { (number : ℕ) → page_marks self.new number ≡ page_marks self.old number }
         ensures none { OnOk result (self.new.last.items ≡ []) }

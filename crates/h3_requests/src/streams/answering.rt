@@ -1,4 +1,4 @@
-//! How much content follows the head of a response.
+//! How much content follows the header section of a response.
 ghost use Rattle.std.specs.Prelude.{◌≡◌, List, None, IfSome};
 ghost use Rattle.h3_connection.specs.Calls.{Sets, AllSame};
 ghost use Rattle.h3_connection.specs.Sending.{content_of_response_to};
@@ -12,9 +12,9 @@ use h3_messages::{Content, ResponseSaid};
 use h3_proto::stream::StreamId;
 
 impl RequestStreams {
-    /// As much content is to be sent behind the head of a response that says so much as its client expects of it, unless sending on the stream
-    /// has ended. Where it is not known what was asked, no trailer comes behind a 2xx (RFC 9114, section 4.4). Nothing happens where the
-    /// stream is not there.
+    /// After the header section of a response that says so much, as much content is to be sent as its client expects of it, unless sending
+    /// on the stream has ended. If it is not known what was asked, no trailer section comes after a 2xx (RFC 9114, section 4.4). Nothing
+    /// happens if the stream is not there.
     pub fn expect_said(&mut self, id: StreamId, said: ResponseSaid)
         ensures there { (fields : List Field) → said ≡ response_said fields → IfSome (kept_at self.old id) (λ r.
             Sets self.old self.new id (record r { outgoing = is_to_have r.outgoing (content_of_response_to r.incoming.response fields) })) }
@@ -29,7 +29,7 @@ impl RequestStreams {
     }
 }
 
-// The content behind the head of a response that says so much, where this is known of what was asked.
+// The content after the header section of a response that says so much, if this is known of what was asked.
 fn content_behind(known: Option<Content>, said: ResponseSaid) -> Content
     ensures { (fields : List Field) → said ≡ response_said fields → result ≡ content_of_response_to known fields }
 {

@@ -1,4 +1,4 @@
-//! What is done on a request stream where it is allowed: the stream is looked up once, judged by what is stored of it, and changed.
+//! What is done on a request stream if it is allowed: the stream is looked up once, judged by what is stored of it, and changed.
 ghost use Rattle.std.specs.Prelude.{◌≡◌, ◌++◌, None, length, unwrap_or, OnOk, OnErr, IfOk, IfErr, IfSome};
 ghost use Rattle.h3_connection.specs.Answers.{call_refused};
 ghost use Rattle.h3_connection.specs.Calls.{Sets, AllSame};
@@ -20,8 +20,8 @@ use h3_proto::stream::StreamId;
 use std::alloc::Global;
 
 impl RequestStreams {
-    /// Room for the frame of a head, and for the stream's end, so that neither needs memory. Refused are, in this order, a stream that is not there, one
-    /// whose final head or end was sent, what `later` refuses, and want of memory.
+    /// Room for the frame of a header section, and for the stream's end, so that neither needs memory. Refused are, in this order, a stream
+    /// that is not there, one whose final header section or end was sent, what `later` refuses, and a failed allocation.
     pub fn reserve_head(
         &mut self,
         id: StreamId,
@@ -50,9 +50,10 @@ impl RequestStreams {
         Ok(SectionRoom::of(id, frame, &self.ready))
     }
 
-    /// Room for the frame of a trailer, so that sending it needs no memory. Refused are, in this order, a stream that is not there,
-    /// one whose final head was not sent, or whose trailer or end was, what `later` refuses, a trailer in front of which less content was
-    /// sent than the head said, or that would stand in a tunnel, and want of memory.
+    /// Room for the frame of a trailer section, so that sending it needs no memory. It refuses first a stream that is not there, then one
+    /// whose final header section was not sent, or whose trailer section or end was. Next is what `later` refuses. Then comes a trailer
+    /// section in front of which less content was sent than the header section said, or that would stand in a tunnel. The last is a failed
+    /// allocation.
     pub fn reserve_trailer(
         &mut self,
         id: StreamId,
@@ -84,9 +85,9 @@ impl RequestStreams {
         Ok(SectionRoom::of(id, frame, &self.ready))
     }
 
-    /// A body goes out as the payload of a DATA frame; an empty one writes nothing. Refused are, in this order, a stream that is not
-    /// there, one whose final head was not sent, or whose trailer or end was, more content than the head said, and want of memory. An
-    /// `Err` changes nothing, and hands the body back.
+    /// A body goes out as the payload of a DATA frame; an empty one writes nothing. It refuses first a stream that is not there, then one
+    /// whose final header section was not sent, or whose trailer section or end was. Next is more content than the header section said, and
+    /// last a failed allocation. An `Err` changes nothing, and returns the body.
     pub fn send_data(&mut self, id: StreamId, body: Bytes) -> Result<(), (Refusal, Bytes)>
         ensures ok { OnOk result (IfSome (kept_at self.old id) (λ r. Sets self.old self.new id (record r { outgoing = has_body r.outgoing body }))) }
         ensures taken { OnOk result (data_refused_at (kept_at self.old id) (length body) ≡ None) }
@@ -146,8 +147,8 @@ impl RequestStreams {
         Ok(())
     }
 
-    /// The message is whole. It needs no memory. Refused are, in this order, a stream that is not there, one whose final head was not
-    /// sent, or whose sending has ended, and one whose head said more content than was sent. An `Err` changes nothing.
+    /// The message is whole. It needs no memory. It refuses first a stream that is not there, then one whose final header section was not
+    /// sent, or whose sending has ended. The last is one whose header section said more content than was sent. An `Err` changes nothing.
     pub fn finish_stream(&mut self, id: StreamId) -> Result<(), Refusal>
         ensures ok { OnOk result (IfSome (kept_at self.old id) (λ r. Sets self.old self.new id (record r { outgoing = has_ended r.outgoing }))) }
         ensures rule { call_refused result ≡ end_refused_at (kept_at self.old id) }
@@ -192,8 +193,9 @@ impl RequestStreams {
         Ok(())
     }
 
-    /// Nothing more of it is wanted. It is given up, and the peer's encoder is told (RFC 9204, section 2.2.2.2). Refused are, in this
-    /// order, a stream that is not there, one whose end was handed out or that was given up, and want of memory. An `Err` changes nothing.
+    /// The application needs no more of it. It is given up, and the peer's encoder learns that (RFC 9204, section 2.2.2.2). Refused are, in
+    /// this order, a stream that is not there, one whose end was returned or that was given up, and a failed allocation. An `Err` changes
+    /// nothing.
     pub fn cancel_stream(
         &mut self,
         alloc: Global,

@@ -37,12 +37,12 @@ impl RequestStreams {
         self.blocked.above(inserted)
     }
 
-    /// The next item of a stream's message, or why there is none now. More streams than were announced that would wait are a fault
-    /// of the connection, and this stream waits no more then (RFC 9204, section 2.1.2). Room for what it may come to wait for is
-    /// asked for first, but not where the stream was given up or its end was handed out. `Fault::Memory` writes nothing and loses
-    /// nothing: whatever is delivered later, the stream's pulls answer the same. Nothing happens where the stream is not there: a
-    /// server's peer may still open it (`Pending`), a client's does not (`NoMessages`). The answer takes the
-    /// place of what `out` was. Of a head or trailer that is kept as a list that list is the one that came.
+    /// The next item of a stream's message, or why there is none now. More streams than were announced that would wait are a fault of the
+    /// connection, and this stream waits no more then (RFC 9204, section 2.1.2). Room for what it may come to wait for is asked for first,
+    /// but not if the stream was given up or its end was returned. `Fault::Memory` writes nothing and loses nothing: whatever is delivered
+    /// later, the stream's pulls answer the same. Nothing happens if the stream is not there: a server's peer may still open it
+    /// (`Pending`), a client's does not (`NoMessages`). The answer takes the place of what `out` was. If a header or trailer section is
+    /// kept as a list, that list is the one that came.
     pub fn pull_into<O: Answer>(
         &mut self,
         alloc: Global,
@@ -163,7 +163,7 @@ fn unopened<O: Answer>(side: Side, out: &mut O)
     }
 }
 
-/// Answers for a stream that was given up, or whose end was handed out, and says whether it is one.
+/// Answers for a stream that was given up, or whose end was returned, and says whether it is one.
 fn answer_settled<O: Answer>(stream: &IncomingStream, out: &mut O) -> bool
     ensures settled { result ≡ true → (is_memory (O.told out.new) ≡ false)
         × ((side : Side) (own : Announced) (id : ℕ) (r : DecoderState) → pull_stream side own id r stream.now ≡ just (O.told out.new) stream.now) }
@@ -181,7 +181,7 @@ fn answer_settled<O: Answer>(stream: &IncomingStream, out: &mut O) -> bool
     false
 }
 
-/// Whether memory was refused.
+/// Whether an allocation failed.
 fn is_memory<O: Answer>(answer: &O) -> bool
     ensures { result ≡ is_memory (O.told answer.now) }
 {

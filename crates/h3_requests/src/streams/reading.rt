@@ -13,9 +13,9 @@ use h3_proto::stream::StreamId;
 use std::alloc::Global;
 
 impl RequestStreams {
-    /// Reads a piece of a body where it lies in bytes that came on a stream, as `IncomingStream::read_body` does, with one look-up. `None`,
-    /// which changes nothing, also where more than `limit` streams wait for more insertions than these: the next pull is a fault then (RFC
-    /// 9204, section 2.1.2).
+    /// Reads a piece of a body where it lies in bytes that came on a stream, as `IncomingStream::read_body` does, with one look-up. It also
+    /// returns `None`, which changes nothing, if more than `limit` streams wait for more insertions than these: the next pull is a fault
+    /// then (RFC 9204, section 2.1.2).
     pub fn read_body(
         &mut self,
         alloc: Global,

@@ -18,8 +18,8 @@ use h3_proto::stream::{Side, StreamId};
 use std::alloc::{AllocError, Global};
 
 impl RequestStreams {
-    /// More bytes came. They are kept as they are, with no copy; those of a stream that was given up are thrown away. A stream that is
-    /// not there is opened. An `Err` changes nothing, and hands the bytes back: memory was refused.
+    /// More bytes came. They are kept as they are, with no copy but of small pieces. Those of a stream that was given up are thrown away. A
+    /// stream that is not there is opened. An `Err` changes nothing, and returns the bytes: an allocation failed.
     pub fn deliver(&mut self, alloc: Global, id: StreamId, bytes: Bytes) -> Result<(), Bytes>
         ensures ok { OnOk result (Receives self.old self.new id (λ i. kept i bytes)) }
         ensures back { IfErr result (λ b. b ≡ bytes) }
@@ -31,8 +31,8 @@ impl RequestStreams {
         stream.deliver(bytes)
     }
 
-    /// The same, but bytes are refused where the peer sends none: on a stream of a client that is not open (`NotOpen`), and behind an
-    /// end or a reset (`AfterEnd`). An `Err` changes nothing; `OutOfMemory` hands the bytes back.
+    /// The same, but bytes are refused that the peer does not send: on a stream of a client that is not open (`NotOpen`), and after an end
+    /// or a reset (`AfterEnd`). An `Err` changes nothing; `OutOfMemory` returns the bytes.
     pub fn deliver_next(
         &mut self,
         alloc: Global,
@@ -118,7 +118,7 @@ impl RequestStreams {
         }
     }
 
-    /// Its end came. A stream that is not there is opened. An `Err` changes nothing: memory was refused.
+    /// Its end came. A stream that is not there is opened. An `Err` changes nothing: an allocation failed.
     pub fn end(&mut self, alloc: Global, id: StreamId) -> Result<(), AllocError>
         ensures ok { OnOk result (Receives self.old self.new id with_end) }
         ensures err { OnErr result (AllSame self.old self.new) }
@@ -149,8 +149,8 @@ impl RequestStreams {
         }
     }
 
-    /// Its sender cut it off, with this code of an application. It is given up, unless it was before. The first time, the peer's
-    /// encoder is told (RFC 9204, section 2.2.2.2). A stream that is not there is opened. An `Err` changes nothing: memory was refused.
+    /// Its sender reset it, with this code of an application. It is given up, unless it was before. The first time, the peer's encoder
+    /// learns that (RFC 9204, section 2.2.2.2). A stream that is not there is opened. An `Err` changes nothing: an allocation failed.
     pub fn reset_incoming(
         &mut self,
         alloc: Global,
@@ -174,8 +174,8 @@ impl RequestStreams {
         }
     }
 
-    /// This content is awaited of a stream, until the head of its message comes, and so much is to be sent on it, unless its sending has
-    /// ended. Nothing happens where the stream is not there.
+    /// This content is awaited of a stream, until the header section of its message comes, and so much is to be sent on it, unless its
+    /// sending has ended. Nothing happens if the stream is not there.
     pub fn await_content(&mut self, id: StreamId, content: Content, sent: Content)
         ensures there { IfSome (kept_at self.old id) (λ r.
             Sets self.old self.new id (record r { incoming = awaiting r.incoming content; outgoing = is_to_have r.outgoing sent })) }
@@ -189,7 +189,7 @@ impl RequestStreams {
         stream.outgoing.expect(sent);
     }
 
-    // Opens the stream where it is not there, takes it up where it is over, and answers whether it was there.
+    // Opens the stream if it is not there, takes it up if it is over, and returns whether it was there.
     fn open_absent(&mut self, alloc: Global, id: StreamId) -> Result<bool, AllocError>
         ensures was_there { IfOk result (λ b. b ≡ is_some (kept_at self.old id)) }
         ensures ok { OnOk result (Sets self.old self.new id (opened_at self.old id)) }

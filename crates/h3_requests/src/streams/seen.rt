@@ -19,7 +19,7 @@ impl RequestStreams {
         self.streams.get_alike(id).is_some()
     }
 
-    /// What is sent on a stream, where it is there.
+    /// What is sent on a stream, if it is there.
     pub fn outgoing(&self, id: StreamId) -> Option<&OutgoingStream>
         ensures { option_copied result ≡ option_map (λ r. r.outgoing) (kept_at self.now id) }
     {
@@ -29,7 +29,7 @@ impl RequestStreams {
         }
     }
 
-    /// The bytes that came on a stream and were not read, where it is there.
+    /// The bytes that came on a stream and were not read, if it is there.
     pub fn frames(&self, id: StreamId) -> Option<&FrameBuffer>
         ensures { option_map (λ frames. frames.pieces) (option_copied result) ≡ option_map (λ r. r.incoming.unread) (kept_at self.now id) }
     {
@@ -39,8 +39,7 @@ impl RequestStreams {
         }
     }
 
-    /// How often the field section that is next on a stream was tried, else the last one: at most twice, and 0 where the stream is
-    /// not there.
+    /// How often the field section that is next on a stream was tried, else the last one: at most twice, and 0 if the stream is not there.
     pub fn tries(&self, id: StreamId) -> u8
         ensures value { result ≡ unwrap_or (option_map (λ r. r.incoming.tries) (kept_at self.now id)) 0 }
         ensures bound { result ≤ 2 }
@@ -51,7 +50,7 @@ impl RequestStreams {
         }
     }
 
-    /// Whether nothing more is handed out of a stream: its end was, or it was given up.
+    /// Whether nothing more is returned of a stream: its end was, or it was given up.
     pub fn is_settled(&self, id: StreamId) -> bool
         ensures { result ≡ is_settled_request (option_map (λ r. r.incoming) (kept_at self.now id)) }
     {
@@ -80,7 +79,7 @@ impl RequestStreams {
     }
 }
 
-// Whether it was given up, or its end was handed out.
+// Whether it was given up, or its end was returned.
 fn is_settled(stream: &IncomingStream) -> bool
     ensures { result ≡ is_settled_request (Some stream.now) }
 {

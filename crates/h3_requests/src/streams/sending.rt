@@ -16,7 +16,7 @@ use h3_proto::stream::StreamId;
 
 impl RequestStreams {
     /// The HEADERS frame of an encoded field section goes out, for which room was taken, and the message is at that place then. An `Err`
-    /// changes nothing, and hands the section back: memory was refused, or the stream is not there.
+    /// changes nothing, and returns the section: an allocation failed, or the stream is not there.
     pub fn send_section(
         &mut self,
         room: SectionRoom,
@@ -42,7 +42,7 @@ impl RequestStreams {
         Ok(())
     }
 
-    /// Takes the first bytes of what waits, at most all, and answers whether the stream is there. Nothing happens where it is not.
+    /// Takes the first bytes of what waits, at most all, and returns whether the stream is there. Nothing happens if it is not.
     pub fn advance(&mut self, id: StreamId, count: usize) -> bool
         ensures found { result ≡ is_some (kept_at self.old id) }
         ensures there { IfSome (kept_at self.old id) (λ r.
@@ -61,16 +61,16 @@ impl RequestStreams {
         true
     }
 
-    /// The first stream from this id on on which bytes wait, and none where bytes wait on none of them. It takes no memory, and looks
-    /// at no other stream.
+    /// The first stream from this id on on which bytes wait, and `None` if bytes wait on none of them. It takes no memory, and looks at no
+    /// other stream.
     pub fn next_waiting(&self, from: u64) -> Option<StreamId>
         ensures { IsLeast (λ id. has_bytes (kept_at self.now id)) from result }
     {
         self.ready.next(from)
     }
 
-    /// Takes the end of a stream, where it waits and no bytes wait ahead of it, and answers whether that is so. It takes no memory.
-    /// Nothing happens where it is not so.
+    /// Takes the end of a stream, if it waits and no bytes wait ahead of it, and returns whether that is so. It takes no memory. Nothing
+    /// happens if it is not so.
     pub fn take_end(&mut self, id: StreamId) -> bool
         ensures told { result ≡ gives_end (kept_at self.old id) }
         ensures taken { result ≡ true → IfSome (kept_at self.old id) (λ r. Sets self.old self.new id (with_end_taken r)) }
@@ -90,7 +90,7 @@ impl RequestStreams {
         true
     }
 
-    /// The first stream from this id on whose end waits, and none where no end waits from there on. It takes no memory, and looks at 64
+    /// The first stream from this id on whose end waits, and `None` if no end waits from there on. It takes no memory, and looks at 64
     /// streams at once, among those that may be finished or whose ends wait.
     pub fn next_end(&self, from: u64) -> Option<StreamId>
         ensures { IsLeast (λ id. has_end (kept_at self.now id)) from result }

@@ -8,8 +8,7 @@ use super::RequestStreams;
 use h3_proto::stream::StreamId;
 
 impl RequestStreams {
-    /// How many bytes came on a stream and are held, at most the greatest `usize`; 0 where the stream is not there. It takes no
-    /// memory.
+    /// How many bytes came on a stream and are held, at most the greatest `usize`; 0 if the stream is not there. It takes no memory.
     pub fn held(&self, id: StreamId) -> usize
         ensures { result ≡ counted (held_of_request (unwrap_or (option_map (λ r. r.incoming) (kept_at self.now id)) nothing_came)) }
     {

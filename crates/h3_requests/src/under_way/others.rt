@@ -88,7 +88,7 @@ impl Others {
         }
     }
 
-    /// Puts a stream there. An `Err` changes nothing: memory was refused.
+    /// Puts a stream there. An `Err` changes nothing: an allocation failed.
     #[inline(never)]
     pub(crate) fn put(&mut self, id: u64, stream: BoxedStream) -> Result<(), AllocError>
         ensures own { OnOk result (kept_at self.new.streams.entries id ≡ Some stream) }

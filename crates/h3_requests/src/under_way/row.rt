@@ -25,7 +25,7 @@ pub(crate) struct Place {
     stream: Option<BoxedStream>,
 }
 
-/// The streams in their places. The place of a stream is told by its id, so one that finds it taken has none.
+/// The streams in their places. The id of a stream says its place, so one that finds it taken has none.
 #[derive(Drop)]
 pub(crate) struct Row {
     // none before the first stream, and all of them from then on
@@ -50,7 +50,7 @@ impl Place {
         }
     }
 
-    // The stream of this id, where it stands there.
+    // The stream of this id, if it stands there.
     fn get(&self, id: u64) -> Option<&RequestStream>
         ensures { option_copied result ≡ in_place self.now id }
     {
@@ -93,7 +93,7 @@ impl Row {
         }
     }
 
-    /// The stream of this id, where it has a place.
+    /// The stream of this id, if it has a place.
     pub(crate) fn get(&self, id: u64) -> Option<&RequestStream>
         ensures { option_copied result ≡ held_at self.now id }
     {
@@ -196,7 +196,7 @@ impl Row {
         }
     }
 
-    /// Takes a stream out of its place, where it has one. It takes no memory.
+    /// Takes a stream out of its place, if it has one. It takes no memory.
     pub(crate) fn take(&mut self, id: u64) -> Option<BoxedStream>
         ensures value { result ≡ held_at self.old id }
         ensures taken { IsOneHeld id None self.old self.new }

@@ -6,17 +6,17 @@ ghost use Rattle.h3_requests.specs.Words.{comes_next, near_at, near_waiting, wit
 use super::word::Word;
 use std::alloc::{AllocError, Global};
 
-/// How many places a row has: so many words, of 64 streams each, stand in it where their numbers follow one another.
+/// How many places a row has: so many words, of 64 streams each, stand in it if their numbers follow one another.
 const PLACES: usize = 16;
 
-/// A place: the word in it, with its number. It is free where the word has no bit.
+/// A place: the word in it, with its number. It is free if the word has no bit.
 #[derive(Clone, Copy)]
 pub(crate) struct NearWord {
     pub(crate) number: u64,
     pub(crate) word: Word,
 }
 
-/// The words in their places. The place of a word is told by its number, so one that finds it taken has none.
+/// The words in their places. The number of a word says its place, so one that finds it taken has none.
 #[derive(Drop)]
 pub(crate) struct NearWords {
     // none before the first word, and all of them from then on
@@ -61,7 +61,7 @@ impl NearWords {
         }
     }
 
-    /// The word of this number, where it has a place.
+    /// The word of this number, if it has a place.
     pub(crate) fn get(&self, number: u64) -> Option<Word>
         ensures { result ≡ near_at self.now number }
     {

@@ -1,4 +1,4 @@
-//! The bits of 64 request streams, one behind the other.
+//! The bits of 64 request streams, one after the other.
 ghost use Rattle.std.specs.Prelude.{◌≡◌};
 ghost use Rattle.h3_requests.specs.Words.{is_empty};
 

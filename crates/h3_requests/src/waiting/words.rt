@@ -49,7 +49,7 @@ impl Words {
         }
     }
 
-    /// The word of a number, where it stands in the row. It is found with no search.
+    /// The word of a number, if it stands in the row. It is found with no search.
     #[inline(always)]
     pub(crate) fn near(&self, number: u64) -> Option<Word>
         ensures place { result ≡ near_at self.now.near number }
@@ -67,7 +67,7 @@ impl Words {
         self.near.set(number, word);
     }
 
-    /// Puts a word there. An `Err` changes nothing: memory was refused.
+    /// Puts a word there. An `Err` changes nothing: an allocation failed.
     #[inline(always)]
     pub(crate) fn put(&mut self, number: u64, word: Word) -> Result<(), AllocError>
         ensures ok { OnOk result (IsOneSet number word (word_at self.old) (word_at self.new)) }
@@ -156,7 +156,7 @@ fn get_far(far: &BTreeMap<u64, Word>, number: u64) -> Word
     }
 }
 
-// Changes a word in the map, where it is there. One without bits goes.
+// Changes a word in the map, if it is there. One without bits goes.
 #[inline(never)]
 fn set_far(far: &mut BTreeMap<u64, Word>, number: u64, word: Word)
     ensures own { IsSome (far_at far.old.entries number) → unwrap_or (far_at far.new.entries number) no_bits ≡ word }
