@@ -64,7 +64,7 @@ impl Blocked {
         self.passed = count;
     }
 
-    /// Makes room for one count. Where there is room for one, it takes no memory.
+    /// Makes room for one count. If there is room for one, it takes no memory.
     #[inline(always)]
     pub fn make_room(&mut self) -> Result<(), AllocError>
         requires { IsSound self.old }
@@ -79,7 +79,7 @@ impl Blocked {
         self.place_newest()
     }
 
-    // The same where there is none.
+    // The same if there is none.
     #[inline(never)]
     fn place_newest(&mut self) -> Result<(), AllocError>
         requires sound { IsSound self.old }
@@ -129,7 +129,7 @@ impl Blocked {
         }
     }
 
-    // The newest count is placed among the others. An `Err` changes nothing: memory was refused.
+    // The newest count is placed among the others. An `Err` changes nothing: an allocation failed.
     fn place(&mut self, count: usize) -> Result<(), AllocError>
         requires sound { IsSound self.old }
         requires few { self.old.total < 2 ^ 62 }
@@ -212,7 +212,7 @@ impl Blocked {
     }
 }
 
-// One stream more waits for this count. An `Err` changes nothing: memory was refused.
+// One stream more waits for this count. An `Err` changes nothing: an allocation failed.
 fn add_one(streams: &mut BTreeMap<usize, usize>, count: usize) -> Result<(), AllocError>
     requires { number_in streams.old count < 2 ^ 62 }
     ensures ok { OnOk result (IsOneNumber count (number_in streams.old count + 1) (number_in streams.old) (number_in streams.new)) }
