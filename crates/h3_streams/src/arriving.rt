@@ -40,7 +40,7 @@ fn push_fault(side: Side) -> Code
 }
 
 impl ConnectionStreams {
-    /// How many bytes of a session came on it and were not handed out.
+    /// How many bytes of a session came on it and were not returned.
     fn session_len(&self, id: StreamId) -> usize
         ensures { result ≡ length (concat (stream_of_peer self.now id).unread) }
     {
@@ -55,10 +55,10 @@ impl ConnectionStreams {
         self.session_len(id) < MOST_HELD && len < MOST_HELD
     }
 
-    /// Bytes came on a unidirectional stream of the peer, which is not closed. They tell its role, or are for it: what is for the
-    /// control, encoder and decoder stream is read, up to the first fault, and that is answered. A frame of the control stream that says a
-    /// length above the limit of the endpoint's choices is one, and so is an instruction of the encoder or decoder stream that is longer.
-    /// Where memory is refused, what was read stands, and the answer is what is still to be read.
+    /// Bytes came on a unidirectional stream of the peer, which is not closed. They tell its role, or are for it. What is for the control,
+    /// encoder and decoder stream is read, up to the first fault, and that is returned. A frame of the control stream that says a length
+    /// above the limit of the endpoint's choices is a fault. So is an instruction of the encoder or decoder stream that is longer. If an
+    /// allocation fails, what was read stands, and the `Err` has what is still to be read.
     pub fn bytes(
         &mut self,
         alloc: Global,
@@ -83,8 +83,8 @@ impl ConnectionStreams {
         }
     }
 
-    /// The end of a stream of the peer came. It answers the fault that this is, where the connection needs the stream. Where memory
-    /// is refused nothing has changed.
+    /// The end of a stream of the peer came. It returns the fault that this is, if the connection needs the stream. If an allocation fails,
+    /// nothing has changed.
     pub fn end(&mut self, alloc: Global, id: StreamId) -> Result<Option<Code>, AllocError>
         ensures ok { IfOk result (λ fault. (s : EndpointState) (e : EndpointHistory) → StandsFor (placed s self.old) e → Reads s fault self.new (end_at e id PeerUnidirectional)) }
         ensures err { OnErr result (KeepsAll self.old self.new) }
@@ -95,8 +95,8 @@ impl ConnectionStreams {
         Ok(closing_fault(is_critical))
     }
 
-    /// A stream of the peer was cut off, with this code. It answers the fault that this is, where the connection needs the stream.
-    /// Where memory is refused nothing has changed.
+    /// A stream of the peer was reset, with this code. It returns the fault that this is, if the connection needs the stream. If an
+    /// allocation fails, nothing has changed.
     pub fn reset(
         &mut self,
         alloc: Global,

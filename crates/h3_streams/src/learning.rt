@@ -14,7 +14,7 @@ use h3_unidirectional::control::PeerControl;
 use h3_unidirectional::encoding::Encoding;
 use std::alloc::{AllocError, Global};
 
-/// Where the settings came, the table that they allow is used from now on, and its capacity written on `out`.
+/// If the settings came, the table that they allow is used from now on, and its capacity written on `out`.
 #[tactic(auto, using(crate::proofs::Allowed::usable_small))]
 fn use_settings(peer: &PeerControl, encoding: &mut Encoding, out: &mut Vec<u8>)
     requires empty { encoding.old.encoder.table.inserted ≡ 0 }
@@ -30,9 +30,9 @@ fn use_settings(peer: &PeerControl, encoding: &mut Encoding, out: &mut Vec<u8>)
     put_capacity(capacity, out);
 }
 
-/// Reads the peer's control stream by these choices, while its settings have not come. As soon as they are read the table that they allow is
-/// used, and its capacity written on `out`: the room for that is taken before, so that no want of memory comes between. The fault is that of
-/// the reading. Where memory is refused a front of the frames was read.
+/// Reads the peer's control stream by these choices, while its settings have not come. As soon as they are read, the table that they allow
+/// is used, and its capacity written on `out`. The room for that is taken before, so that no failed allocation comes between. The fault is
+/// that of the reading. If an allocation fails, the frames were read up to some place.
 #[tactic(auto, using(crate::proofs::Allowed::nothing_read))]
 pub(crate) fn read_first(
     peer: &mut PeerControl,

@@ -1,18 +1,18 @@
-//! What is left of an arrival whose reading was refused memory.
+//! What is left of an arrival in whose reading an allocation failed.
 ghost use Rattle.std.specs.Prelude.{◌≡◌, [], None};
 
 use bytes::Bytes;
 use h3_proto::stream::StreamId;
 
-/// What is still to be read: these bytes on a stream of the peer, and then its decoder stream once more where that is named, since
-/// the settings came for which its bytes have waited. No bytes stand for those that the stream's reader holds.
+/// What is still to be read: these bytes on a stream of the peer, and then its decoder stream once more if that is named. Then the settings
+/// came for which its bytes have waited. No bytes stand for those that the stream's reader holds.
 #[derive(Drop)]
 pub struct Left {
     /// The stream.
     pub id: StreamId,
     /// What came on it and is not read.
     pub bytes: Bytes,
-    /// The peer's decoder stream, where it is read behind them.
+    /// The peer's decoder stream, if it is read after them.
     pub early: Option<StreamId>,
 }
 

@@ -1,5 +1,5 @@
-//! The unidirectional streams of one endpoint, taken together (RFC 9114, section 6.2; RFC 9204, section 4.2): those of the peer with
-//! their readers, both QPACK ends, and the own streams.
+//! The unidirectional streams of one endpoint, taken together (RFC 9114, section 6.2; RFC 9204, section 4.2): those of the peer with their
+//! readers, both QPACK ends, and the local streams.
 #![tactic(auto)]
 
 mod arriving;

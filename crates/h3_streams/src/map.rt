@@ -42,7 +42,7 @@ pub(crate) fn is_closed(streams: &BTreeMap<u64, UnidirectionalStream>, id: Strea
     }
 }
 
-/// How many bytes of a session came on it and were not handed out.
+/// How many bytes of a session came on it and were not returned.
 pub(crate) fn unread_len(streams: &BTreeMap<u64, UnidirectionalStream>, id: StreamId) -> usize
     ensures { result ≡ length (concat (peer_stream streams.now.entries id).unread) }
 {
@@ -72,7 +72,7 @@ pub(crate) fn pull(streams: &mut BTreeMap<u64, UnidirectionalStream>, id: Stream
     }
 }
 
-/// Puts a stream there of which nothing came, where there is none, and answers whether there was none. A refusal changes nothing.
+/// Puts a stream there of which nothing came, if there is none, and returns whether there was none. An `Err` changes nothing.
 fn open(
     streams: &mut BTreeMap<u64, UnidirectionalStream>,
     alloc: Global,
@@ -131,7 +131,7 @@ fn receive_there(
     stream.receive(bytes)
 }
 
-/// Takes the stream of this id out, where there is one.
+/// Takes the stream of this id out, if there is one.
 fn take_out(streams: &mut BTreeMap<u64, UnidirectionalStream>, id: StreamId)
     ensures here { kept_at streams.new.entries id ≡ None }
     ensures others { (q : ℕ) → q ≢ id → kept_at streams.new.entries q ≡ kept_at streams.old.entries q }
@@ -139,7 +139,7 @@ fn take_out(streams: &mut BTreeMap<u64, UnidirectionalStream>, id: StreamId)
     drop(streams.remove(&id.into_inner()));
 }
 
-/// Bytes come, and open the stream where it is not there. A refusal changes nothing, and hands the bytes back.
+/// Bytes come, and open the stream if it is not there. An `Err` changes nothing, and returns the bytes.
 pub(crate) fn receive(
     streams: &mut BTreeMap<u64, UnidirectionalStream>,
     alloc: Global,

@@ -39,7 +39,7 @@ impl Model for PeerStreams {
     ghost view = { λ p. plain_streams p.plain ++ p.kept.entries };
 }
 
-/// Bytes come on a stream that has no place yet: it gets one where they tell its role.
+/// Bytes come on a stream that has no place yet: it gets one if they tell its role.
 fn receive_elsewhere(
     plain: &mut PlainStreams,
     kept: &mut BTreeMap<u64, UnidirectionalStream>,
@@ -72,7 +72,7 @@ impl PeerStreams {
         }
     }
 
-    /// The stream of this id, where more than its role is kept of it. What is not answered is not settled.
+    /// The stream of this id, if more than its role is kept of it. What is not returned is not settled.
     pub fn get(&self, id: &u64) -> Option<&UnidirectionalStream>
         ensures some { IfSome result (λ stream. kept_at self.now id.now ≡ Some stream.now) }
         ensures none { IfNone result (is_settled_peer (kept_at self.now id.now) ≡ false) }
@@ -93,7 +93,7 @@ impl PeerStreams {
         }
     }
 
-    /// How many bytes of a session came on a stream and were not handed out.
+    /// How many bytes of a session came on a stream and were not returned.
     pub(crate) fn unread_len(&self, id: StreamId) -> usize
         ensures { result ≡ length (concat (peer_stream self.now id).unread) }
     {
@@ -145,7 +145,7 @@ impl PeerStreams {
         }
     }
 
-    /// Bytes come, and open the stream where it is not there. A refusal changes nothing, and hands the bytes back.
+    /// Bytes come, and open the stream if it is not there. An `Err` changes nothing, and returns the bytes.
     pub(crate) fn receive(
         &mut self,
         alloc: Global,

@@ -24,7 +24,7 @@ pub(crate) enum Place {
 }
 
 impl Place {
-    /// The role, where a stream is there.
+    /// The role, if a stream is there.
     fn role(self) -> Option<PlainRole>
         ensures some { IfSome result (λ role. (code : ℕ) → IsPlain role (stream_in self code)) }
         ensures none { IfNone result (self ≡ Free) }
@@ -78,15 +78,15 @@ impl Place {
     }
 }
 
-/// A stream that was reset, and the code. It is read by no call: an endpoint is what it was told.
+/// A stream that was reset, and the code. No call reads it: an endpoint is what it learned.
 #[derive(Clone, Copy)]
 struct ResetCode {
     id: u64,
     code: u64,
 }
 
-/// The streams whose ids have the two low bits of the first one have places by their numbers (RFC 9000, section 2.1), as long as not too many
-/// numbers are passed over.
+/// The streams whose ids have the two low bits of the first one have places by their numbers (RFC 9000, section 2.1), as long as not too
+/// many numbers are skipped.
 #[derive(Drop)]
 pub(crate) struct PlainStreams {
     first: u64,
@@ -136,7 +136,7 @@ impl PlainStreams {
         }
     }
 
-    /// The place of a stream's number, where it has one.
+    /// The place of a stream's number, if it has one.
     fn place(&self, id: u64) -> Option<usize>
         ensures some { IfSome result (λ n. (n ≡ id / 4) × HasPlace self.now id) }
         ensures none { IfNone result (kept_at (plain_streams self.now) id ≡ None) }
@@ -158,7 +158,7 @@ impl PlainStreams {
         }
     }
 
-    /// The role of a stream, where it is there.
+    /// The role of a stream, if it is there.
     pub(crate) fn role(&self, id: u64) -> Option<PlainRole>
         ensures some { IfSome result (λ role. IsPlain role (kept_at (plain_streams self.now) id)) }
         ensures none { IfNone result (kept_at (plain_streams self.now) id ≡ None) }
@@ -173,7 +173,7 @@ impl PlainStreams {
         self.get(id).is_closed()
     }
 
-    /// Puts a stream there that is told, where its number has a place. It takes no memory.
+    /// Puts a stream of this role there, if its number has a place. It takes no memory.
     fn put(&mut self, id: u64, role: PlainRole) -> bool
         ensures put { result ≡ true → Sets (plain_streams self.old) (plain_streams self.new) id (record untold { role = plain role }) }
         ensures none { result ≡ false → AllSame (plain_streams self.old) (plain_streams self.new) }
@@ -199,7 +199,7 @@ impl PlainStreams {
         self.open = self.open.saturating_sub(1);
     }
 
-    /// The reset of a stream came, which is there. Where memory is refused nothing changes.
+    /// The reset of a stream came, which is there. If an allocation fails, nothing changes.
     fn reset(&mut self, id: u64, code: u64) -> Result<(), AllocError>
         requires { IsSome (kept_at (plain_streams self.old) id) }
         ensures ok { OnOk result (Sets (plain_streams self.old) (plain_streams self.new) id (closed_by (peer_stream (plain_streams self.old) id) (Some code))) }
@@ -214,7 +214,7 @@ impl PlainStreams {
         Ok(())
     }
 
-    /// Where there is no place, those of the row shall be like this stream.
+    /// If there is no place, those of the row shall be like this stream.
     fn follow(&mut self, id: u64)
         ensures streams { AllSame (plain_streams self.old) (plain_streams self.new) }
         ensures rest { self.new ≡ record self.old { first = self.new.first } }
@@ -224,8 +224,8 @@ impl PlainStreams {
         }
     }
 
-    /// Makes a place for the number of a stream that comes, and room for the code of its reset, where both may be had. So many
-    /// other streams have no place. What is refused is asked for again when the next stream comes.
+    /// Makes a place for the number of a stream that comes, and room for the code of its reset, if both may be had. So many other streams
+    /// have no place. What is refused is asked for again when the next stream comes.
     fn make_room(&mut self, id: u64, others: usize)
         ensures same { AllSame (plain_streams self.old) (plain_streams self.new) }
         ensures short { length self.new.row.items ≤ max (length self.old.row.items) (64 * (self.old.count + others) + 64) }
@@ -246,7 +246,7 @@ impl PlainStreams {
         let _is_longer = lengthen(&mut self.row, place + 1).is_ok();
     }
 
-    /// The end of a stream came, which is there, or its reset with this code. Where memory is refused nothing changes.
+    /// The end of a stream came, which is there, or its reset with this code. If an allocation fails, nothing changes.
     pub(crate) fn close(&mut self, id: u64, code: Option<u64>) -> Result<(), AllocError>
         requires { IsSome (kept_at (plain_streams self.old) id) }
         ensures ok { OnOk result (Sets (plain_streams self.old) (plain_streams self.new) id (closed_by (peer_stream (plain_streams self.old) id) code)) }
@@ -259,8 +259,8 @@ impl PlainStreams {
         self.reset(id, code)
     }
 
-    /// The first bytes of a stream come. Where they tell its role, and its number has a place, it is put there, and the bytes behind its
-    /// type are handed on. Else nothing changes, and the bytes are handed back. So many other streams have no place.
+    /// The first bytes of a stream come. If they tell its role, and its number has a place, it is put there, and the bytes after its type
+    /// are passed on. Else nothing changes, and the bytes are returned. So many other streams have no place.
     pub(crate) fn begin(
         &mut self,
         id: u64,

@@ -14,7 +14,7 @@ use h3_unidirectional::decoding::Decoding;
 use h3_unidirectional::encoding::Encoding;
 use h3_unidirectional::waiting::WaitingBytes;
 
-/// How far a reading came that was refused memory.
+/// How far a reading came in which an allocation failed.
 #[derive(Drop)]
 pub(crate) enum Stop {
     /// The reader took none of the bytes.
@@ -57,7 +57,7 @@ pub(crate) fn hold(peer: &mut PeerControl, bytes: Bytes) -> Result<(), Bytes>
     }
 }
 
-/// Bytes of the peer's encoder stream (RFC 9204, section 4.3), of instructions up to `most`. Where something was inserted, the increment is
+/// Bytes of the peer's encoder stream (RFC 9204, section 4.3), of instructions up to `most`. If something was inserted, the increment is
 /// written on `out`.
 #[tactic(auto, using(crate::proofs::Heard::heard_all))]
 pub(crate) fn hear(

@@ -1,4 +1,4 @@
-//! Bytes for the connection's own streams of the peer: its control, encoder and decoder stream.
+//! Bytes for the streams of the peer that the connection itself reads: its control, encoder and decoder stream.
 ghost use Rattle.std.specs.Prelude.{◌≡◌, Some, IfOk, IfErr};
 ghost use Rattle.h3_proto.specs.declared.stream.Side.{Side};
 ghost use Rattle.h3_connection.specs.Delivering.{heard_as};
@@ -30,8 +30,8 @@ fn is_second(first: Option<StreamId>, id: StreamId) -> bool
 }
 
 impl ConnectionStreams {
-    /// Bytes for the encoder stream: of the first such stream, whose role was told before or is told now. A second one is a fault, and so is
-    /// an instruction that is longer than the limit of the endpoint's choices.
+    /// Bytes for the encoder stream: of the first such stream, whose role was known before or is known now. A second one is a fault, and so
+    /// is an instruction that is longer than the limit of the endpoint's choices.
     pub(crate) fn encoder_bytes(
         &mut self,
         choices: Choices,
@@ -83,8 +83,8 @@ impl ConnectionStreams {
         Err(stop.left(id))
     }
 
-    /// Bytes for the control stream: of the first such stream, whose role was told before or is told now. A second one is a fault, and so is
-    /// a frame that says a length above that limit.
+    /// Bytes for the control stream: of the first such stream, whose role was known before or is known now. A second one is a fault, and so
+    /// is a frame that says a length above that limit.
     pub(crate) fn control_bytes(
         &mut self,
         alloc: Global,
@@ -127,8 +127,8 @@ impl ConnectionStreams {
         Ok(fault)
     }
 
-    /// The same while the settings have not come. Where they come, the table that they allow is used at once, and what the peer's
-    /// decoder said before is read behind them.
+    /// The same while the settings have not come. If they come, the table that they allow is used at once, and what the peer's decoder said
+    /// before is read after them.
     fn first_frames(
         &mut self,
         alloc: Global,
@@ -159,7 +159,7 @@ impl ConnectionStreams {
         }
     }
 
-    /// The peer's decoder stream, where the settings came.
+    /// The peer's decoder stream, if the settings came.
     fn early_stream(&self) -> Option<StreamId>
         ensures { result ≡ early_of self.now.peer.settings self.now.decoder_on }
     {
@@ -169,7 +169,7 @@ impl ConnectionStreams {
         None
     }
 
-    /// Reads what the peer's decoder said before the settings came, where they came now.
+    /// Reads what the peer's decoder said before the settings came, if they came now.
     fn early_replies(&mut self, most: u64) -> Result<Option<Code>, Left>
         ensures ok { IfOk result (λ fault. ReadsEarly most self.old self.new fault) }
         ensures err { IfErr result (λ left. (side : Side) → StopsEarly most self.old self.new side (left_arrivals left)) }

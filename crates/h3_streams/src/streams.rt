@@ -21,7 +21,7 @@ use h3_wire::frame::FrameBuffer;
 use std::alloc::{AllocError, Global};
 use std::marker::Model;
 
-/// The peer's unidirectional streams with their readers, both QPACK ends, and the own streams.
+/// The peer's unidirectional streams with their readers, both QPACK ends, and the local streams.
 #[derive(Drop)]
 pub struct ConnectionStreams {
     /// The peer's streams of which anything came, by their ids.
@@ -34,11 +34,11 @@ pub struct ConnectionStreams {
     pub decoder_on: Option<StreamId>,
     /// What the peer's control stream said, and what of it is not read.
     pub peer: PeerControl,
-    /// The own decoder, with the peer's encoder stream.
+    /// The local decoder, with the peer's encoder stream.
     pub decoding: Decoding,
-    /// The own encoder, with the peer's decoder stream.
+    /// The local encoder, with the peer's decoder stream.
     pub encoding: Encoding,
-    /// What waits on the own control, encoder and decoder streams.
+    /// What waits on the local control, encoder and decoder streams.
     pub own: OwnStreams,
 }
 
@@ -114,8 +114,8 @@ impl ConnectionStreams {
         self.unidirectional.is_closed(id)
     }
 
-    /// The bytes of the peer's control stream that were not read, with the count of tries of the frame at their front. None where this
-    /// is not that stream.
+    /// The bytes of the peer's control stream that were not read, with the count of tries of the frame at their front. None if this is not
+    /// that stream.
     pub fn control_frames(&self, id: StreamId) -> Option<&FrameBuffer>
         ensures stream { is_some result ≡ Rattle.h3_connection.specs.Endpoint.is_read_as self.now.control_on id }
         ensures bytes { IfSome result (λ frames. concat frames.now.pieces ≡ self.now.peer.unread) }

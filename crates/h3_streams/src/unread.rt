@@ -8,7 +8,7 @@ ghost use Rattle.h3_streams.specs.Placed.{placed, stream_of_peer};
 use crate::streams::{ConnectionStreams, is_read_as};
 use h3_proto::stream::StreamId;
 
-/// How much a reader holds of a stream: all that it holds, where that is its stream.
+/// How much a reader holds of a stream: all that it holds, if that is its stream.
 fn held_by(reader: Option<StreamId>, id: StreamId, held: usize) -> usize
     ensures { result ≡ (if Rattle.h3_connection.specs.Endpoint.is_read_as reader id then held else 0) }
 {
