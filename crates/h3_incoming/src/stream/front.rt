@@ -92,7 +92,7 @@ fn front_one(
     }
 }
 
-// Takes the next frame, as `FrameBuffer::next_frame` does, and answers what it begins.
+// Takes the next frame, as `FrameBuffer::next_frame` does, and returns what it begins.
 #[inline(always)]
 fn next_begun(
     unread: &mut FrameBuffer,

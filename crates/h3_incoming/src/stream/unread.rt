@@ -9,8 +9,8 @@ use super::IncomingStream;
 use h3_connection::place::Place;
 
 impl IncomingStream {
-    /// How many bytes came and are held: those that were not read, none of an unknown frame that is under way, and those of the field
-    /// section that waits to be decoded; at most the greatest `usize`.
+    /// How many bytes came and are held, at most the greatest `usize`. These are those that were not read, none of an unknown frame that is
+    /// under way, and those of the field section that waits to be decoded.
     pub fn held(&self) -> usize
         ensures { result ≡ counted (held_of_request self.now) }
     {
