@@ -203,8 +203,8 @@ impl StreamMap {
         Ok(true)
     }
 
-    // A stream of which this tells that it is over takes a few bytes from now on, unless no memory was taken for that or there are
-    // too many ways in which streams are over.
+    // A stream of which `is_over` says that it is over takes a few bytes from now on. It does not if no memory was taken for that, or if
+    // there are too many ways in which streams are over.
     #[inline(always)]
     pub(crate) fn retire_if(&mut self, id: StreamId, is_over: bool)
         ensures { streams_in self.new ≡ streams_in self.old }

@@ -51,7 +51,7 @@ impl ReadyStreams {
         reserved.into_inner() == id.into_inner()
     }
 
-    // The room that was taken last goes if it is another stream's, so that no more than one has room in vain.
+    // The room that was taken last is released if it is another stream's, so that no more than one has room in vain.
     fn release_other(&mut self, id: StreamId)
         ensures same { (q : ℕ) → is_ready self.new q ≡ is_ready self.old q }
         ensures ends { self.new.ends ≡ self.old.ends }

@@ -97,7 +97,7 @@ impl RequestStream {
             && self.outgoing.is_empty()
     }
 
-    // Whether its end was returned, or it was given up, and sending has ended.
+    // Whether its end was returned or it was given up, and sending has ended.
     fn is_done(&self) -> bool
         ensures { result ≡ is_done self.now }
     {
@@ -173,7 +173,7 @@ impl RequestStream {
         self.incoming.unread() < MOST_HELD && len < MOST_HELD
     }
 
-    // More bytes came. More than memory can hold is refused as want of it. An `Err` changes nothing, and hands the bytes back.
+    // More bytes came. More than memory can hold is refused as out of memory. An `Err` changes nothing, and returns the bytes.
     pub(crate) fn deliver(&mut self, bytes: Bytes) -> Result<(), Bytes>
         ensures ok { OnOk result (self.new ≡ record self.old { incoming = kept self.old.incoming bytes }) }
         ensures back { IfErr result (λ b. b ≡ bytes) }

@@ -25,7 +25,7 @@ const WORD: u64 = 64;
 /// So many words have the bits of all request streams.
 const WORDS: u64 = 1 << 54;
 
-/// The streams on which something waits, by a bit each in words of 64, and those that have a place: one that has a place is put in with no
+/// The streams on which something waits, by a bit each in words of 64, and those that have a place. One that has a place is put in with no
 /// memory.
 #[derive(Drop)]
 pub(crate) struct WaitingStreams {

@@ -12,9 +12,9 @@ use h3_messages::{Content, ResponseSaid};
 use h3_proto::stream::StreamId;
 
 impl RequestStreams {
-    /// After the header section of a response that says so much, as much content is to be sent as its client expects of it, unless sending
-    /// on the stream has ended. If it is not known what was asked, no trailer section comes after a 2xx (RFC 9114, section 4.4). Nothing
-    /// happens if the stream is not there.
+    /// After the header section of a response that says so much, as much content is to be sent as its client expects, unless sending on the
+    /// stream has ended. If it is not known what was asked, no trailer section comes after a 2xx (RFC 9114, section 4.4). Nothing happens
+    /// if the stream is not there.
     pub fn expect_said(&mut self, id: StreamId, said: ResponseSaid)
         ensures there { (fields : List Field) → said ≡ response_said fields → IfSome (kept_at self.old id) (λ r.
             Sets self.old self.new id (record r { outgoing = is_to_have r.outgoing (content_of_response_to r.incoming.response fields) })) }

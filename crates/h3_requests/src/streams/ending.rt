@@ -14,8 +14,8 @@ impl RequestStreams {
         self.streams.greatest()
     }
 
-    /// The id of a stream on which something is left to be done. There is none if nothing is left on any: each was pulled to its end or
-    /// given up, all that was sent on it was taken, and so was its end. It looks at the streams under way alone.
+    /// The id of a stream on which something is left to be done. There is none if nothing is left on any. Then each was pulled to its end
+    /// or given up, all that was sent on it was taken, and so was its end. It looks at the streams under way alone.
     pub fn unfinished(&self) -> Option<u64>
         ensures { IsOneOf (λ id. is_unfinished (kept_at self.now id)) result }
     {

@@ -19,7 +19,7 @@ use std::alloc::{AllocError, Global};
 
 impl RequestStreams {
     /// More bytes came. They are kept as they are, with no copy but of small pieces. Those of a stream that was given up are thrown away. A
-    /// stream that is not there is opened. An `Err` changes nothing, and returns the bytes: an allocation failed.
+    /// stream that is not there is opened. An `Err` changes nothing, and returns the bytes: it is out of memory.
     pub fn deliver(&mut self, alloc: Global, id: StreamId, bytes: Bytes) -> Result<(), Bytes>
         ensures ok { OnOk result (Receives self.old self.new id (λ i. kept i bytes)) }
         ensures back { IfErr result (λ b. b ≡ bytes) }
@@ -31,8 +31,8 @@ impl RequestStreams {
         stream.deliver(bytes)
     }
 
-    /// The same, but bytes are refused that the peer does not send: on a stream of a client that is not open (`NotOpen`), and after an end
-    /// or a reset (`AfterEnd`). An `Err` changes nothing; `OutOfMemory` returns the bytes.
+    /// The same, but bytes are refused that the peer does not send. These are bytes on a stream of a client that is not open (`NotOpen`),
+    /// and bytes after an end or a reset (`AfterEnd`). An `Err` changes nothing; `OutOfMemory` returns the bytes.
     pub fn deliver_next(
         &mut self,
         alloc: Global,

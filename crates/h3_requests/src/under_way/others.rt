@@ -1,5 +1,5 @@
-//! The request streams that found their place in the row taken, in a map by their ids. Each look-up is a call of its own, so that one in the
-//! row is found with no search and no frame.
+//! The request streams that found their place in the row taken, in a map by their ids. Each look-up is a call of its own, so that one in
+//! the row is found with no search and no frame.
 ghost use Rattle.std.specs.Borrow.{sem};
 ghost use Rattle.std.specs.Option.{option_copied_mut};
 ghost use Rattle.std.specs.Prelude.{◌≡◌, ◌<◌, ◌^◌, [], None, Some, is_some, option_copied, IfSome, OnErr, OnOk};
