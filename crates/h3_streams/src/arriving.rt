@@ -57,8 +57,8 @@ impl ConnectionStreams {
 
     /// Bytes came on a unidirectional stream of the peer, which is not closed. They tell its role, or are for it. What is for the control,
     /// encoder and decoder stream is read, up to the first fault, and that is returned. A frame of the control stream that says a length
-    /// above the limit of the endpoint's choices is a fault. So is an instruction of the encoder or decoder stream that is longer. If an
-    /// allocation fails, what was read stands, and the `Err` has what is still to be read.
+    /// above the limit of the endpoint's choices is a fault. So is an instruction of the encoder or decoder stream that is longer. If the
+    /// call runs out of memory, what was read stands, and the `Err` has what is still to be read.
     pub fn bytes(
         &mut self,
         alloc: Global,

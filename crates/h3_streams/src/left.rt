@@ -1,4 +1,4 @@
-//! What is left of an arrival in whose reading an allocation failed.
+//! What is left of an arrival whose reading ran out of memory.
 ghost use Rattle.std.specs.Prelude.{◌≡◌, [], None};
 
 use bytes::Bytes;

@@ -91,7 +91,7 @@ fn open(
     Ok(true)
 }
 
-/// Its end came, or its reset with this code. It answers whether the connection needs the stream. A refusal changes nothing.
+/// Its end came, or its reset with this code. It returns whether the connection needs the stream. An `Err` changes nothing.
 pub(crate) fn close(
     streams: &mut BTreeMap<u64, UnidirectionalStream>,
     alloc: Global,

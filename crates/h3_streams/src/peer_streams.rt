@@ -123,8 +123,7 @@ impl PeerStreams {
         }
     }
 
-    /// The end of a stream came, or its reset with this code. It answers whether the connection needs the stream. A refusal changes
-    /// nothing.
+    /// The end of a stream came, or its reset with this code. It returns whether the connection needs the stream. An `Err` changes nothing.
     pub(crate) fn close(
         &mut self,
         alloc: Global,

@@ -85,8 +85,8 @@ struct ResetCode {
     code: u64,
 }
 
-/// The streams whose ids have the two low bits of the first one have places by their numbers (RFC 9000, section 2.1), as long as not too
-/// many numbers are skipped.
+/// The streams whose ids have the two low bits of the first one have places by their numbers (RFC 9000, section 2.1), unless too many
+/// numbers are skipped.
 #[derive(Drop)]
 pub(crate) struct PlainStreams {
     first: u64,

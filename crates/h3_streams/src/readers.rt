@@ -14,7 +14,7 @@ use h3_unidirectional::decoding::Decoding;
 use h3_unidirectional::encoding::Encoding;
 use h3_unidirectional::waiting::WaitingBytes;
 
-/// How far a reading came in which an allocation failed.
+/// How far a reading came that ran out of memory.
 #[derive(Drop)]
 pub(crate) enum Stop {
     /// The reader took none of the bytes.
@@ -43,7 +43,7 @@ fn has_room(peer: &PeerControl, len: usize) -> bool
     peer.unread_len() < MOST_HELD && len < MOST_HELD
 }
 
-/// The peer's control stream holds these bytes as well. An `Err` changes nothing, and hands the bytes back.
+/// The peer's control stream holds these bytes as well. An `Err` changes nothing, and returns the bytes.
 pub(crate) fn hold(peer: &mut PeerControl, bytes: Bytes) -> Result<(), Bytes>
     ensures ok { OnOk result (peer.new ≡ with_unread peer.old (peer.old.unread ++ bytes)) }
     ensures err { IfErr result (λ back. (back ≡ bytes) × (peer.new ≡ peer.old)) }
@@ -78,8 +78,8 @@ pub(crate) fn hear(
     }
 }
 
-/// Bytes of the peer's decoder stream (RFC 9204, section 4.4), of instructions up to `most`. Until its settings are known they are held: as many
-/// as the stream has credit for, which `unread` counts.
+/// Bytes of the peer's decoder stream (RFC 9204, section 4.4), of instructions up to `most`. Until its settings are known they are held: as
+/// many as the stream has credit for, which `unread` counts.
 pub(crate) fn listen(
     encoding: &mut Encoding,
     most: u64,

@@ -16,8 +16,8 @@ fn held_by(reader: Option<StreamId>, id: StreamId, held: usize) -> usize
 }
 
 impl ConnectionStreams {
-    /// How many bytes came on a unidirectional stream of the peer and are held: as its type or its session, or by the reader of the
-    /// control, encoder or decoder stream; at most the greatest `usize`. It takes no memory.
+    /// How many bytes came on a unidirectional stream of the peer and are held, at most the greatest `usize`. They are held as its type or
+    /// its session, or by the reader of the control, encoder or decoder stream. It takes no memory.
     #[tactic(auto, using(crate::proofs::Held::held_stands))]
     pub fn held(&self, id: StreamId) -> usize
         ensures { (s : EndpointState) (e : EndpointHistory) → StandsFor (placed s self.now) e → result ≡ counted (held_of_peer e id) }
