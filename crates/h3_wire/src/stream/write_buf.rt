@@ -58,7 +58,7 @@ impl<B: Buf> From<StreamType> for WriteBuf<B> {
 
     fn from(ty: StreamType) -> Self {
         let mut head = Head::new();
-        // There is room for each head.
+        // There is room for all that a `Head` gets here.
         let _written = write_type(ty, &mut head);
         WriteBuf::alone(head)
     }
