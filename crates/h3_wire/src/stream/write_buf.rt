@@ -18,9 +18,9 @@ use std::marker::Model;
 // A stream type, and the longest front of a frame: type, length and eight settings.
 const SIZE: usize = 152;
 
-/// A frame, a stream's header or both, as the bytes that are to be sent: what is written of them,
-/// which needs no memory, and then the payload that the frame carries, which is not copied. A
-/// contract sees both parts.
+/// A frame, a stream's header or both, as the bytes that are to be sent. They are what is written
+/// of them, which needs no memory, and then the payload that the frame carries, which is not
+/// copied. A contract sees both parts.
 #[derive(Drop)]
 pub struct WriteBuf<B: Buf> {
     head: Head<SIZE>,
