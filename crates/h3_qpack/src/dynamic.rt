@@ -110,7 +110,7 @@ impl DynamicTable {
         self.entries
     }
 
-    /// The allocator of which the table takes its memory.
+    /// The allocator from which the table takes its memory.
     pub(crate) fn alloc(&self) -> Global {
         self.alloc
     }
@@ -304,8 +304,8 @@ impl DynamicTable {
         self.entries.size()
     }
 
-    /// How many entries are evicted once the field is inserted, if it may be inserted. Then the entries to be evicted are known to be
-    /// received, no tracked section names them, and they are below `oldest`.
+    /// How many entries are evicted once the field is inserted, if it may be inserted. For that they have to be known to be received, named
+    /// by no tracked section, and below `oldest`.
     pub(crate) fn room_for(&self, field: &FieldRef<'_>, oldest: usize) -> Option<usize>
         ensures some { IfSome result (λ n. MayInsertInto self.now field.now oldest × (n ≡ evicted (with_entry self.now.table field.now)) × (evicted self.now.table ≤ n)) }
         ensures none { IfNone result (MayInsertInto self.now field.now oldest → ⊥) }
@@ -525,8 +525,8 @@ impl DynamicTable {
         self.canceled.is_below(stream) && !self.tracking.has(stream)
     }
 
-    /// Keeps that a cancellation of the stream was read, and releases all its tracked sections. If an allocation fails nothing changes;
-    /// none is needed if one was read before.
+    /// Keeps that a cancellation of the stream was read, and releases all its tracked sections. If an allocation fails nothing changes. No
+    /// memory is needed if one was read before.
     pub(crate) fn cancel(&mut self, stream: u64) -> Result<(), AllocError>
         ensures ok { OnOk result (self.new ≡ encoder_state_after self.old (CancelStream stream)) }
         ensures err { OnErr result ((self.new ≡ self.old) × (was_canceled_in self.old stream ≡ false)) }

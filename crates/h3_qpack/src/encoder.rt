@@ -292,8 +292,8 @@ impl Encoder {
 
     /// Appends an encoded field section to `block`, and the instructions for it to `encoder_buf`, and answers its required insert count
     /// (RFC 9204, sections 2.1 and 4.5). The sizes of the fields sum to less than 2^62. The section is tracked under its stream if it names
-    /// entries. On a stream whose cancellation was read it names none and inserts nothing, since nobody acknowledges it. Refused is only
-    /// memory: then `block` is as it was, and `encoder_buf` gained whole instructions, those of the insertions that were made.
+    /// entries. On a stream whose cancellation was read it names none and inserts nothing, since nobody acknowledges it. The one refusal is
+    /// out of memory: then `block` is as it was, and `encoder_buf` gained whole instructions, those of the insertions that were made.
     pub fn encode(
         &mut self,
         stream: u64,

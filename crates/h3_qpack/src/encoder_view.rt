@@ -210,8 +210,8 @@ impl<'a> DynamicTableEncoder<'a> {
         DynamicLookupResult::PostBase { index, absolute }
     }
 
-    /// Inserts a field if it may be inserted (RFC 9204, sections 2.1.1 and 2.1.2), and a line then names the new entry. For that the
-    /// section may be blocked at its decoder, and the entries to be evicted are known to be received and named by no section. If an
+    /// Inserts a field if it may be inserted (RFC 9204, sections 2.1.1 and 2.1.2), and a line then names the new entry. That needs a
+    /// section that may be blocked at its decoder, and entries to be evicted that are known to be received and named by no section. If an
     /// allocation fails nothing changes.
     pub fn insert(&mut self, field: &HeaderField) -> Result<DynamicInsertionResult, Error>
         ensures ok { IfOk result (AnswersInsertion self.old.table.now self.old.section field.now self.new.table.now self.new.section) }

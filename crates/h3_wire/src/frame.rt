@@ -261,7 +261,7 @@ impl<S: RecvStream> FrameStream<S> {
     }
 }
 
-// What a read of a payload answers, by what the source told and the bytes that were taken.
+// What a read of a payload answers, by what the source answered and the bytes that were taken.
 fn data_answer(
     received: Received,
     taken: Option<Bytes>,
