@@ -1,4 +1,4 @@
-//! The fields of a section's lines, in a block that is handed in: its memory serves again.
+//! The fields of a section's lines, in a block that the caller passes: its memory serves again.
 ghost use Rattle.std.specs.Prelude.{◌≡◌, ◌≤◌, ◌<◌, [], ◌∷◌, ◌++◌, List, length, true, false, Ok, IfOk, IfErr, OnOk, Some, None, MatchOption};
 ghost use Rattle.h3_field.specs.Field.{Field};
 ghost use Rattle.h3_field.specs.OntoAnswer.{AnswersField};
@@ -123,7 +123,7 @@ impl<'t> Lines<'t> {
         }
     }
 
-    /// The same where the name is told by its distance from the base on.
+    /// The same for a name that the line gives by its distance from the base on.
     fn has_put_post_base_named(&self, buf: &mut SliceCursor<'_>, block: &mut FieldBlock) -> bool
         requires some { 0 < length buf.old }
         requires own { begins 0 15 buf.old ≡ true }
@@ -157,7 +157,7 @@ impl<'t> Lines<'t> {
         self.put_other(buf, block)
     }
 
-    /// The same where the name is told by its distance from the base on.
+    /// The same for a name that the line gives by its distance from the base on.
     fn put_post_base_named(
         &self,
         buf: &mut SliceCursor<'_>,
@@ -242,7 +242,7 @@ impl<'t> Lines<'t> {
     }
 
     /// Reads the lines, to the end of `buf`, into an empty block. Their fields are kept as long as they sum to at most `max`. Once they
-    /// pass it they are let go, and all lines are read anew and counted. No memory is asked for before the first line is read or has a
+    /// pass it they are removed, and all lines are read again and counted. No memory is asked for before the first line is read or has a
     /// string.
     pub(crate) fn take_block(
         &self,

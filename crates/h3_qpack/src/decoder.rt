@@ -41,7 +41,7 @@ use std::marker::Model;
 pub struct Decoder {
     alloc: Global,
     entries: Entries,
-    // the greatest capacity that was announced; none where the table came with a capacity of its own
+    // the greatest capacity that was announced; none if the table came with a capacity of its own
     announced: Option<usize>,
 }
 
@@ -147,8 +147,8 @@ impl Decoder {
         }
     }
 
-    /// Decodes an encoded field section, to the end of `buf` (RFC 9204, section 4.5), as `decode_header`, into a list whose memory
-    /// serves again: the fields that it holds are let go first, and its room is kept, which is that of the longest section so far.
+    /// Decodes an encoded field section, to the end of `buf` (RFC 9204, section 4.5), as `decode_header`, into a list whose memory serves
+    /// again. The fields that it holds are removed first, and its room is kept, which is that of the longest section so far.
     ///
     /// `MissingRefs(n)`: the section needs n insertions, and not all were read; no line is read then. `OutOfMemory`: it may be tried
     /// again. Every other refusal is of a bad section. A refused read takes nothing, and leaves the list empty.
@@ -184,14 +184,12 @@ impl Decoder {
         }
     }
 
-    /// Decodes an encoded field section, to the end of `buf` (RFC 9204, section 4.5). It answers the fields where their
-    /// sizes sum to at most `max`. Else it answers the sum, and the value of the last field named `name`, and keeps no
-    /// field: what it holds at one time is at most the fields up to the limit, one line and one value, whose block may have
-    /// room for a name of at most `max` bytes.
+    /// Decodes an encoded field section, to the end of `buf` (RFC 9204, section 4.5). It answers the fields if their sizes sum to at most
+    /// `max`. Else it answers the sum, and the value of the last field named `name`, and keeps no field. What it holds at one time is at
+    /// most the fields up to the limit, one line and one value. The value's block may have room for a name of at most `max` bytes.
     ///
-    /// Where the section needs insertions that were not read, no line is read. One that is bad is refused even where its
-    /// fields before that pass the limit. A refused read takes nothing. No memory is asked for before the first line is read or has a
-    /// string.
+    /// If the section needs insertions that were not read, no line is read. A bad section is refused even if its fields before the bad line
+    /// pass the limit. A refused read takes nothing. No memory is asked for before the first line is read or has a string.
     pub fn decode_header_within(
         &self,
         buf: &mut SliceCursor<'_>,
@@ -218,9 +216,9 @@ impl Decoder {
         }
     }
 
-    /// Decodes an encoded field section, to the end of `buf`, as `decode_header_within`, into a block whose memory serves again: the
-    /// fields that it holds are let go first. Where the section's fields sum to more than `max` the block is left empty, and after a
-    /// refusal it holds anything.
+    /// Decodes an encoded field section, to the end of `buf`, as `decode_header_within`, into a block whose memory serves again: the fields
+    /// that it holds are removed first. If the section's fields sum to more than `max` the block is left empty, and after a refusal it
+    /// holds anything.
     pub fn decode_block_within(
         &self,
         buf: &mut SliceCursor<'_>,
@@ -250,7 +248,7 @@ impl Decoder {
     }
 
     /// Decodes an encoded field section, to the end of `buf`, as `decode_header_into`, into a block whose memory serves again: the fields
-    /// that it holds are let go first. A refused read takes nothing, and leaves the block empty.
+    /// that it holds are removed first. A refused read takes nothing, and leaves the block empty.
     pub fn decode_block(
         &self,
         buf: &mut SliceCursor<'_>,
@@ -441,9 +439,9 @@ impl Decoder {
         Ok(())
     }
 
-    /// Reads an encoder's instructions, and writes one increment where some of them inserted. It answers the insertions
-    /// so far. An instruction that is not whole, or is refused, is left unread; those before it stand, and the increment
-    /// counts them. What is left unread is an end of what was there.
+    /// Reads an encoder's instructions, and writes one increment if some of them inserted. It answers the insertions so far. An instruction
+    /// that is not whole, or is refused, is left unread; those before it stand, and the increment counts them. What is left unread is an
+    /// end of what was there.
     pub fn on_encoder_recv(
         &mut self,
         read: &mut SliceCursor<'_>,

@@ -31,8 +31,8 @@ use std::marker::Model;
 /// The most sections that may be blocked at a decoder.
 pub(crate) const MAX_BLOCKED: usize = 65535;
 
-/// The entries of a table, and what an encoder knows of its decoder: the greatest number of insertions known to be
-/// received, the sections that may be blocked there, and those that hold entries.
+/// The entries of a table, and what an encoder knows of its decoder. That is the greatest number of insertions known to be received, the
+/// sections that may be blocked there, and those that hold entries.
 #[derive(Drop)]
 pub struct DynamicTable {
     entries: Entries,
@@ -110,7 +110,7 @@ impl DynamicTable {
         self.entries
     }
 
-    /// Where the table takes its memory.
+    /// The allocator from which the table takes its memory.
     pub(crate) fn alloc(&self) -> Global {
         self.alloc
     }
@@ -177,7 +177,7 @@ impl DynamicTable {
         self.limit
     }
 
-    /// The entry of that number, where it is there.
+    /// The entry of that number, if it is there.
     pub(crate) fn get(&self, number: usize) -> Option<Entry<'_>>
         ensures value { result ≡ entry_at self.now.table number }
         ensures beyond { (n : ℕ) → 2 ^ 62 ≤ n → entry_at self.now.table n ≡ None }
@@ -223,7 +223,7 @@ impl DynamicTable {
         ensures value { result ≡ newest_in self.now.table (matches what field.now) above most }
         ensures within { IfSome result (λ n. (above < n) × (n ≤ most) × (n ≤ self.now.table.inserted)) }
     {
-        // where none may be named that is there, a chain is not gone along: it may have all entries of a name
+        // if none may be named that is there, no chain is followed: it may have all entries of a name
         if most <= above {
             return None;
         }
@@ -264,8 +264,8 @@ impl DynamicTable {
         Ok(())
     }
 
-    /// Takes what the decoder of a table without entries announced, a capacity and how many sections may be blocked there: the table
-    /// gets the lesser of that capacity and the most that it may have.
+    /// Takes what the decoder of a table without entries announced, a capacity and how many sections may be blocked there. The table gets
+    /// the lesser of that capacity and the most that it may have.
     pub(crate) fn use_announced(&mut self, announced: usize, limit: usize)
         requires empty { self.old.table.inserted ≡ 0 }
         requires small { announced < 2 ^ 30 }
@@ -278,7 +278,7 @@ impl DynamicTable {
         self.limit = limit;
     }
 
-    /// How many entries are evicted once the table has this capacity, where it may have it.
+    /// How many entries are evicted once the table has this capacity, if it may have it.
     pub(crate) fn evicted_with_capacity(&self, size: usize) -> Result<usize, Error>
         ensures ok { IfOk result (λ n. MayHaveCapacity self.now size × (n ≡ evicted (with_capacity self.now.table size)) × (evicted self.now.table ≤ n) × (n ≤ self.now.table.inserted)) }
         ensures err { IfErr result (IsCapacityRefusal self.now size) }
@@ -304,8 +304,8 @@ impl DynamicTable {
         self.entries.size()
     }
 
-    /// How many entries are evicted once the field is inserted, where it may be: the entries to be evicted are known to be
-    /// received, no tracked section names them, and they are below `oldest`.
+    /// How many entries are evicted once the field is inserted, if it may be inserted. For that they have to be known to be received, named
+    /// by no tracked section, and below `oldest`.
     pub(crate) fn room_for(&self, field: &FieldRef<'_>, oldest: usize) -> Option<usize>
         ensures some { IfSome result (λ n. MayInsertInto self.now field.now oldest × (n ≡ evicted (with_entry self.now.table field.now)) × (evicted self.now.table ≤ n)) }
         ensures none { IfNone result (MayInsertInto self.now field.now oldest → ⊥) }
@@ -343,8 +343,8 @@ impl DynamicTable {
         }
     }
 
-    /// Whether a field is worth an entry, where an entry of it drains or none does: an economical encoder inserts anew what drains, what is
-    /// the first of its name, what was among the last literals, and anything where nothing would drain.
+    /// Whether a field is worth an entry, if an entry of it drains or if none does. An economical encoder inserts again what drains. It
+    /// inserts what is the first of its name, what was among the last literals, and anything if nothing would drain.
     pub(crate) fn is_worth(&self, field: &FieldRef<'_>, drains: bool) -> bool
         ensures { result ≡ is_worth_in self.now drains field.now }
     {
@@ -363,7 +363,7 @@ impl DynamicTable {
         }
     }
 
-    /// Keeps the mark of a field that was written as a literal, where the encoder is economical.
+    /// Keeps the mark of a field that was written as a literal, if the encoder is economical.
     pub(crate) fn note(&mut self, field: &FieldRef<'_>)
         ensures { self.new ≡ noted self.old field.now }
     {
@@ -372,7 +372,7 @@ impl DynamicTable {
         }
     }
 
-    /// The same as `room_for` for a field that is inserted for later sections alone: the encoder is economical, its sections may never be
+    /// The same as `room_for` for a field that is inserted for later sections alone. The encoder is economical, its sections may never be
     /// blocked, the field is worth an entry, and no entry equals it but such as drain. It also answers up to which number none does.
     pub(crate) fn room_ahead(
         &self,
@@ -406,7 +406,7 @@ impl DynamicTable {
         self.blocking.raise(increment);
     }
 
-    /// Inserts a field that may be: the oldest entries, up to `after`, are evicted. Where memory is refused nothing changes.
+    /// Inserts a field that may be inserted: the oldest entries, up to `after`, are evicted. If an allocation fails nothing changes.
     pub(crate) fn insert(&mut self, field: &FieldRef<'_>, after: usize) -> Result<(), AllocError>
         requires after { after ≡ evicted (with_entry self.old.table field.now) }
         requires from { evicted self.old.table ≤ after }
@@ -434,7 +434,7 @@ impl DynamicTable {
         Ok(())
     }
 
-    /// Counts a section that was written, and tracks it where it names entries. Where memory is refused nothing changes.
+    /// Counts a section that was written, and tracks it if it names entries. If an allocation fails nothing changes.
     pub(crate) fn track(
         &mut self,
         stream: u64,
@@ -473,7 +473,7 @@ impl DynamicTable {
         self.economical = economical;
     }
 
-    /// Whether an increment is 0 or past what was inserted, where acknowledgments count.
+    /// Whether an increment is 0 or past what was inserted, if acknowledgments count.
     pub(crate) fn refuses_increment(&self, increment: u64) -> bool
         ensures { result ≡ refuses_increment self.now increment }
     {
@@ -491,8 +491,8 @@ impl DynamicTable {
         }
     }
 
-    /// Releases the oldest tracked section of a stream, and tells whether there was one. Where acknowledgments count, the insertions
-    /// that the section needs are known to be received then.
+    /// Releases the oldest tracked section of a stream, and tells whether there was one. If acknowledgments count, the insertions that the
+    /// section needs are known to be received then.
     pub(crate) fn acknowledge(&mut self, stream: u64) -> bool
         ensures found { result ≡ list_any (is_of stream) self.old.tracked }
         ensures after { result ≡ true → self.new ≡ encoder_state_after self.old (Acknowledge stream) }
@@ -525,8 +525,8 @@ impl DynamicTable {
         self.canceled.is_below(stream) && !self.tracking.has(stream)
     }
 
-    /// Keeps that a cancellation of the stream was read, and releases all its tracked sections. Where memory is refused nothing
-    /// changes; none is needed where one was read before.
+    /// Keeps that a cancellation of the stream was read, and releases all its tracked sections. If an allocation fails nothing changes. No
+    /// memory is needed if one was read before.
     pub(crate) fn cancel(&mut self, stream: u64) -> Result<(), AllocError>
         ensures ok { OnOk result (self.new ≡ encoder_state_after self.old (CancelStream stream)) }
         ensures err { OnErr result ((self.new ≡ self.old) × (was_canceled_in self.old stream ≡ false)) }

@@ -63,8 +63,8 @@ impl Encoder {
         Encoder { table, lines }
     }
 
-    /// From now on an acknowledgment of a section tells of the insertions that the section needs (RFC 9204, section 2.1.4), and an
-    /// increment that is 0 or past what was inserted is refused (RFC 9204, section 4.4.3); or neither. Off at first.
+    /// From now on an acknowledgment of a section tells of the insertions that the section needs (RFC 9204, section 2.1.4), or does not. If
+    /// it does, an increment that is 0 or past what was inserted is refused (RFC 9204, section 4.4.3), and else it is not. Off at first.
     pub fn count_acknowledgments(&mut self, counted: bool)
         ensures { (s : EncoderHistory) → self.old ≡ encoder_state s → self.new ≡ encoder_state (record s { counts_acknowledgments = counted }) }
     {
@@ -72,10 +72,10 @@ impl Encoder {
     }
 
     /// From now on the encoder is economical with its table, or is not. An economical encoder names no entry of the oldest eighth of its
-    /// table, and inserts such a field anew (RFC 9204, section 2.1.1.1). Else it inserts a field with which nothing would drain, the first
-    /// of its name, and one whose value seems to be among the last 32 that were written as literals. Where the decoder lets no section
-    /// wait (a limit of 0), it inserts such a field behind its literal line, and names the entry once the insertion is known to be
-    /// received (section 2.1.2); one that is not economical never inserts there. Off at first.
+    /// table, and inserts such a field again (RFC 9204, section 2.1.1.1). Else it inserts a field with which nothing would drain, and the
+    /// first of its name. It also inserts one whose value seems to be among the last 32 that were written as literals. If the decoder lets
+    /// no section wait (a limit of 0), it inserts such a field after its literal line. It names the entry once the insertion is known to be
+    /// received (section 2.1.2). An encoder that is not economical never inserts there. Off at first.
     pub fn economize(&mut self, economical: bool)
         ensures { (s : EncoderHistory) → self.old ≡ encoder_state s → self.new ≡ encoder_state (record s { economical = economical }) }
     {
@@ -83,7 +83,7 @@ impl Encoder {
     }
 
     /// From now on at most so many of the streams are kept whose cancellation is read, or all, as at first; those that were kept are
-    /// forgotten. Where there is one too many the least goes. From then on each stream up to it counts as canceled that has no tracked
+    /// forgotten. If there is one too many the least goes. From then on each stream up to it counts as canceled that has no tracked
     /// section: its sections name no entry, which costs their compression alone.
     pub fn keep_canceled(&mut self, most: Option<usize>)
         ensures { (s : EncoderHistory) → self.old ≡ encoder_state s → self.new ≡ encoder_state (record s { canceled = none_canceled most }) }
@@ -141,7 +141,7 @@ impl Encoder {
     }
 
     /// Whether the stream counts as canceled (RFC 9204, section 4.4.2): what is written on it names no entry. Each stream does whose
-    /// cancellation was read, and where at most so many are kept (`keep_canceled`) also one below them that has no tracked section.
+    /// cancellation was read, and if at most so many are kept (`keep_canceled`) also one below them that has no tracked section.
     pub fn is_canceled(&self, stream: u64) -> bool
         ensures value { result ≡ was_canceled_in self.now stream }
         ensures history { (s : EncoderHistory) → self.now ≡ encoder_state s → result ≡ was_canceled s stream }
@@ -149,10 +149,10 @@ impl Encoder {
         self.table.is_canceled(stream)
     }
 
-    /// Lets an encoder that has inserted nothing use a table, where its decoder announced this capacity, at most 2^30 - 1, and that up
-    /// to `blocked` sections, at most 65535, may be blocked there. The table gets the lesser of that capacity and the most that it may
-    /// have (`limit_table`; what a table costs stands at `h3_table::entries::MAX_CAPACITY`), and the instruction for it is appended
-    /// (RFC 9204, section 4.3.1). What was written and read before stands. A refusal changes nothing.
+    /// Lets an encoder that has inserted nothing use a table. Its decoder announced this capacity, at most 2^30 - 1, and that up to
+    /// `blocked` sections, at most 65535, may be blocked there. The table gets the lesser of that capacity and the most that it may have
+    /// (`limit_table`; what a table costs stands at `h3_table::entries::MAX_CAPACITY`). The instruction for it is appended (RFC 9204,
+    /// section 4.3.1). What was written and read before stands. A refusal changes nothing.
     pub fn use_table(
         &mut self,
         announced: usize,
@@ -179,7 +179,7 @@ impl Encoder {
         Ok(())
     }
 
-    /// The same where the instruction for the capacity is written by the caller. It takes no memory.
+    /// The same if the caller writes the instruction for the capacity. It takes no memory.
     pub fn allow_table(&mut self, announced: usize, blocked: usize)
         requires empty { self.old.table.inserted ≡ 0 }
         requires small { announced < 2 ^ 30 }
@@ -211,8 +211,8 @@ impl Encoder {
         }
     }
 
-    /// Reads the cancellation at the front: its stream is kept, and all its tracked sections are released. Where there is no memory to
-    /// keep the stream, the instruction is left unread and nothing is released.
+    /// Reads the cancellation at the front: its stream is kept, and all its tracked sections are released. If there is no memory to keep
+    /// the stream, the instruction is left unread and nothing is released.
     fn take_cancellation(&mut self, buf: &mut SliceCursor<'_>) -> Result<bool, EncoderError>
         requires some { 0 < length buf.old }
         requires own { begins 64 127 buf.old ≡ true }
@@ -266,10 +266,10 @@ impl Encoder {
         }
     }
 
-    /// Reads a decoder's instructions: the whole ones at the front, up to the first that is refused. One that is not
-    /// whole, or is refused, is left unread; those before it stand. Refused are an integer out of range, an acknowledgment of a
-    /// stream without a tracked section, where acknowledgments count an increment that is 0 or past what was inserted, and for want
-    /// of memory the first cancellation of a stream. What is left unread is an end of what was there.
+    /// Reads a decoder's instructions: the whole ones at the front, up to the first that is refused. One that is not whole, or is refused,
+    /// is left unread; those before it stand. Refused are an integer out of range and an acknowledgment of a stream without a tracked
+    /// section. If acknowledgments count, an increment that is 0 or past what was inserted is refused. If an allocation fails, the first
+    /// cancellation of a stream is refused. What is left unread is an end of what was there.
     pub fn on_decoder_recv(&mut self, read: &mut SliceCursor<'_>) -> Result<(), EncoderError>
         ensures read_before { HasReadDecoderInstructions self.old self.new read.old read.new }
         ensures rest { read.new ≡ drop (length read.old - length read.new) read.old }
@@ -290,11 +290,10 @@ impl Encoder {
         Ok(())
     }
 
-    /// Appends an encoded field section to `block`, and the instructions for it to `encoder_buf`, and answers its required
-    /// insert count (RFC 9204, sections 2.1 and 4.5). The sizes of the fields sum to less than 2^62. The section is tracked
-    /// under its stream where it names entries. On a stream whose cancellation was read it names none and inserts nothing, since
-    /// nobody acknowledges it. Refused is only memory: then `block` is as it was, and `encoder_buf` gained whole instructions,
-    /// those of the insertions that were made.
+    /// Appends an encoded field section to `block`, and the instructions for it to `encoder_buf`, and answers its required insert count
+    /// (RFC 9204, sections 2.1 and 4.5). The sizes of the fields sum to less than 2^62. The section is tracked under its stream if it names
+    /// entries. On a stream whose cancellation was read it names none and inserts nothing, since nobody acknowledges it. The one refusal is
+    /// out of memory: then `block` is as it was, and `encoder_buf` gained whole instructions, those of the insertions that were made.
     pub fn encode(
         &mut self,
         stream: u64,
@@ -355,8 +354,8 @@ impl Encoder {
         Ok(section.newest)
     }
 
-    /// Takes back the newest section of a stream, where `count` is its required insert count, as if it had not been
-    /// written: for a section that is not sent after all. Its insertions stay, and so do the marks of its literals.
+    /// Takes back the newest section of a stream, as if it had not been written: for a section that is not sent after all. `count` is its
+    /// required insert count. Its insertions stay, and so do the marks of its literals.
     pub fn withdraw(&mut self, stream: u64, count: usize)
         ensures { (s : EncoderHistory) → self.old ≡ encoder_state s → self.new ≡ encoder_state (withdrawn s stream count) }
     {
@@ -364,8 +363,8 @@ impl Encoder {
     }
 }
 
-/// Sets the capacity of a table, as the one that its decoder announced, and appends the instruction for it (RFC 9204, section 4.3.1). A refusal changes nothing; memory is
-/// asked for last, where the table may have the capacity.
+/// Sets the capacity of a table, as the one that its decoder announced, and appends the instruction for it (RFC 9204, section 4.3.1). A
+/// refusal changes nothing; memory is asked for last, if the table may have the capacity.
 pub fn set_dynamic_table_size(
     table: &mut DynamicTable,
     out: &mut Vec<u8>,

@@ -100,7 +100,7 @@ fn insertion_of(
     DynamicInsertionResult::Inserted { postbase, absolute }
 }
 
-/// Ends a section, and answers its required insert count. It is tracked where it names entries.
+/// Ends a section, and answers its required insert count. It is tracked if it names entries.
 fn end(table: &mut DynamicTable, stream: u64, section: &Section) -> Result<usize, Error>
     requires { IsOver table.old.table section.now }
     ensures ok { IfOk result (λ count. (count ≡ section.now.newest) × (table.new ≡ committed table.old stream section.now)) }
@@ -210,9 +210,9 @@ impl<'a> DynamicTableEncoder<'a> {
         DynamicLookupResult::PostBase { index, absolute }
     }
 
-    /// Inserts a field where it may be: the section may be blocked at its decoder, and the entries to be evicted are known to be
-    /// received and named by no section (RFC 9204, sections 2.1.1 and 2.1.2). A line then names the new entry. Where memory
-    /// is refused nothing changes.
+    /// Inserts a field if it may be inserted (RFC 9204, sections 2.1.1 and 2.1.2), and a line then names the new entry. That needs a
+    /// section that may be blocked at its decoder, and entries to be evicted that are known to be received and named by no section. If an
+    /// allocation fails nothing changes.
     pub fn insert(&mut self, field: &HeaderField) -> Result<DynamicInsertionResult, Error>
         ensures ok { IfOk result (AnswersInsertion self.old.table.now self.old.section field.now self.new.table.now self.new.section) }
         ensures err { IfErr result (λ e. (e ≡ OutOfMemory) × (self.new.table.now ≡ self.old.table.now) × (self.new.section ≡ self.old.section)) }
@@ -236,8 +236,8 @@ impl<'a> DynamicTableEncoder<'a> {
         Ok(answer)
     }
 
-    /// Ends the section, and answers its required insert count. Where it names entries it is tracked under its stream, until
-    /// it is acknowledged or the stream is canceled (RFC 9204, section 2.1.1). Where memory is refused it is not tracked.
+    /// Ends the section, and answers its required insert count. If it names entries it is tracked under its stream, until it is
+    /// acknowledged or the stream is canceled (RFC 9204, section 2.1.1). If an allocation fails it is not tracked.
     pub fn commit(self) -> Result<usize, Error>
         ensures ok { IfOk result (λ count. (count ≡ self.entry.section.newest) × (self.exit.0.now ≡ committed self.entry.table.now self.entry.stream self.entry.section)) }
         ensures err { IfErr result (λ e. (e ≡ OutOfMemory) × (self.exit.0.now ≡ self.entry.table.now)) }

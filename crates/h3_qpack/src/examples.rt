@@ -37,7 +37,7 @@ pub fn older_entry()
     ensures { encoded_section older_known (x_a_of (codes "3") ∷ []) ≡ 2 ∷ 1 ∷ 65 ∷ 129 ∷ 103 ∷ [] }
 {}
 
-/// A decoder's table: a smaller capacity evicts entries for good, and what is evicted, too large or above the announced
+/// A decoder's table: entries that a smaller capacity evicts do not come back, and what is evicted, too large or above the announced
 /// capacity is refused.
 #[tactic(auto, unfolding(h3_field::specs::StaticTable::static_table, h3_field::specs::StaticTable::static_field, h3_field::specs::StaticTable::static_name, h3_huffman::specs::Huffman::huffman, h3_huffman::specs::Huffman::octets, h3_huffman::specs::Huffman::code_word, h3_huffman::specs::Huffman::bits))]
 pub fn decoder()
@@ -74,8 +74,8 @@ pub fn cancellations()
     ensures other { encoded_section (writing_on canceled_first 4) (with_header x_a) ≡ 2 ∷ 128 ∷ 217 ∷ 16 ∷ [] }
 {}
 
-/// Where one canceled stream is kept, the least of two is let go. Up to it each stream counts as canceled, unless a section of it is tracked.
-/// One that is canceled again is not kept again.
+/// If one canceled stream is kept, the least of two is forgotten. Up to it each stream counts as canceled, unless a section of it is
+/// tracked. One that is canceled again is not kept again.
 #[tactic(auto, unfolding(h3_field::specs::StaticTable::static_table, h3_field::specs::StaticTable::static_field, h3_field::specs::StaticTable::static_name, h3_huffman::specs::Huffman::huffman, h3_huffman::specs::Huffman::octets, h3_huffman::specs::Huffman::code_word, h3_huffman::specs::Huffman::bits))]
 pub fn kept_cancellations()
     ensures kept { one_kept.canceled ≡ record { kept = 8 ∷ []; most = Some 1; below = 5 } }
@@ -90,7 +90,7 @@ pub fn kept_cancellations()
     ensures sections { encoded_section (writing_on one_kept 1) (with_header x_a) ≡ 0 ∷ 0 ∷ 217 ∷ 43 ∷ 242 ∷ 176 ∷ 255 ∷ 129 ∷ 15 ∷ [] }
 {}
 
-/// A decoder acknowledges a section and leaves the increment out. Where acknowledgments count, the next section with the same field is an
+/// A decoder acknowledges a section and leaves the increment out. If acknowledgments count, the next section with the same field is an
 /// indexed line and need not wait; else it has a literal, since no further section may wait.
 #[tactic(auto, unfolding(h3_field::specs::StaticTable::static_table, h3_field::specs::StaticTable::static_field, h3_field::specs::StaticTable::static_name, h3_huffman::specs::Huffman::huffman, h3_huffman::specs::Huffman::octets, h3_huffman::specs::Huffman::code_word, h3_huffman::specs::Huffman::bits))]
 pub fn no_increments()
@@ -108,7 +108,7 @@ pub fn oldest_acknowledged()
     ensures uncounted { (encoder_after (two_on_a_stream false) (Acknowledge 0)).known_received ≡ 0 }
 {}
 
-/// Where acknowledgments count, an increment that is 0 or past what was inserted is refused. Else each is taken.
+/// If acknowledgments count, an increment that is 0 or past what was inserted is refused. Else each is taken.
 #[tactic(auto, unfolding(h3_field::specs::StaticTable::static_table, h3_field::specs::StaticTable::static_field, h3_field::specs::StaticTable::static_name, h3_huffman::specs::Huffman::huffman, h3_huffman::specs::Huffman::octets, h3_huffman::specs::Huffman::code_word, h3_huffman::specs::Huffman::bits))]
 pub fn increments()
     ensures none { is_refused (one_waits true) (Increment 0) ≡ true }
@@ -131,9 +131,9 @@ pub fn capped_tables()
     ensures none { instructions_for (capped 0 4096) (with_header x_a) ≡ [] }
 {}
 
-/// No section may wait. An economical encoder writes a literal and inserts the field behind it, once; it names the entry when it is known
-/// to be received. For the first field of a name an entry goes, and for another value of a name none does. An encoder that is not
-/// economical never inserts there.
+/// No section may wait. An economical encoder writes a literal and inserts the field after it, once; it names the entry when it is known to
+/// be received. For the first field of a name an entry goes, and for another value of a name none does. An encoder that is not economical
+/// never inserts there.
 #[tactic(auto, unfolding(h3_field::specs::StaticTable::static_table, h3_field::specs::StaticTable::static_field, h3_field::specs::StaticTable::static_name, h3_huffman::specs::Huffman::huffman, h3_huffman::specs::Huffman::octets, h3_huffman::specs::Huffman::code_word, h3_huffman::specs::Huffman::bits))]
 pub fn economical_tables()
     ensures first { encoded_section (no_waiting 64) (with_header x_a) ≡ 0 ∷ 0 ∷ 217 ∷ 43 ∷ 242 ∷ 176 ∷ 255 ∷ 129 ∷ 15 ∷ [] }
@@ -146,7 +146,7 @@ pub fn economical_tables()
     ensures other { instructions_for (fresh 64 0) (with_header x_a) ≡ [] }
 {}
 
-/// An economical encoder names no entry that drains: it inserts such a field anew as a copy, and names what lasts. Another value of a name
+/// An economical encoder names no entry that drains: it inserts such a field again as a copy, and names what lasts. Another value of a name
 /// that is there is inserted only when it comes a second time. An encoder that is not economical names what is there.
 #[tactic(auto, unfolding(h3_field::specs::StaticTable::static_table, h3_field::specs::StaticTable::static_field, h3_field::specs::StaticTable::static_name, h3_huffman::specs::Huffman::huffman, h3_huffman::specs::Huffman::octets, h3_huffman::specs::Huffman::code_word, h3_huffman::specs::Huffman::bits))]
 pub fn draining_tables()

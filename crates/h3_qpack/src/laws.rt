@@ -60,16 +60,16 @@ pub fn encoders_without_insertions_use_no_table()
     ensures still { (s : EncoderHistory) (stream : ℕ) (fields : List Field) → HasNoTable s → s.inserted ≡ [] → (sent_section s stream fields).inserted ≡ [] }
 {}
 
-/// An encoder that is not economical and has inserted nothing names no entry and inserts nothing where no section may be blocked, whatever
-/// its capacity (RFC 9204, section 2.1.2).
+/// An encoder that is not economical and has inserted nothing names no entry and inserts nothing if no section may be blocked, whatever its
+/// capacity (RFC 9204, section 2.1.2).
 pub fn plain_encoders_of_limit_zero_use_no_table()
     ensures bytes { (s : EncoderHistory) (stream : ℕ) (fields : List Field) → s.limit ≡ 0 → s.economical ≡ false → s.inserted ≡ [] → encoded_section (writing_on s stream) fields ≡ section_bytes fields }
     ensures inserts { (s : EncoderHistory) (stream : ℕ) (fields : List Field) → s.limit ≡ 0 → s.economical ≡ false → s.inserted ≡ [] → instructions_for (writing_on s stream) fields ≡ [] }
     ensures still { (s : EncoderHistory) (stream : ℕ) (fields : List Field) → s.limit ≡ 0 → s.economical ≡ false → s.inserted ≡ [] → (sent_section s stream fields).inserted ≡ [] }
 {}
 
-/// An encoder that is not economical goes by its table alone: it names the newest equal entry that it may, inserts whatever there is room
-/// for where one more section may be blocked, inserts nothing ahead, and leaves no mark.
+/// An encoder that is not economical goes by its table alone. It names the newest equal entry that it may, and inserts whatever there is
+/// room for if one more section may be blocked. It inserts nothing ahead, and leaves no mark.
 pub fn plain_encoders_go_by_their_table()
     ensures names { (s : EncoderHistory) (d : Draft) (f : Field) → s.economical ≡ false → found s d f ≡ held s d f }
     ensures inserts { (s : EncoderHistory) (d : Draft) (f : Field) → s.economical ≡ false → is_insertable s d f ≡ (nat_lt (blocks_out s) s.limit && finds_room s d f) }
@@ -89,7 +89,7 @@ pub fn cancellations_are_kept()
         ((encoder_after s i).canceled.most ≡ Some most) × (length (encoder_after s i).canceled.kept ≤ most) }
 {}
 
-/// Where all are kept, a stream counts as canceled only once its cancellation was read.
+/// If all are kept, a stream counts as canceled only once its cancellation was read.
 pub fn all_cancellations_are_kept()
     ensures canceled { (s : EncoderHistory) (stream other : ℕ) → KeepsAll s.canceled → was_canceled (encoder_after s (CancelStream stream)) other ≡ ((stream == other) || was_canceled s other) }
     ensures acknowledged { (s : EncoderHistory) (stream other : ℕ) → KeepsAll s.canceled → was_canceled (encoder_after s (Acknowledge stream)) other ≡ was_canceled s other }
@@ -109,8 +109,8 @@ pub fn every_session_is_sound()
     ensures { (counts : Bool) (most announced limit : ℕ) (events : List SessionEvent) (s : Session) → SessionRun (beginning counts most announced limit) events s → IsSound s }
 {}
 
-/// Over every schedule, an acknowledgment that is read tells of no insertion that no increment told of before: what is known to be
-/// received is the same whether acknowledgments count or not, and so is each section that is written then.
+/// Over every schedule, an acknowledgment that is read tells of no insertion that no increment told of before. What is known to be received
+/// is the same whether acknowledgments count or not, and so is each section that is written then.
 pub fn acknowledgments_tell_nothing_new()
     ensures known { (counts : Bool) (most announced limit : ℕ) (events : List SessionEvent) (s : Session) (stream : ℕ) (rest : List DecoderInstruction) → SessionRun (beginning counts most announced limit) events s →
         s.decoder_instructions ≡ Acknowledge stream ∷ rest → (encoder_after s.encoder (Acknowledge stream)).known_received ≡ s.encoder.known_received }
@@ -128,9 +128,9 @@ pub fn every_section_decodes()
         IsRequiredCount s.encoder.announced s.received (count_of b % (2 * most_entries s.encoder.announced) + 1) (count_of b) }
 {}
 
-/// Over every schedule, the encoding of a section means the section's fields to a decoder that has read its insertions, and
-/// before that it is missing exactly so many: never bad. The decoder announced the capacity that the encoder goes by, or any other
-/// while the encoder has inserted nothing, as before the peer's settings came.
+/// Over every schedule, the encoding of a section means the section's fields to a decoder that has read its insertions. Before that it is
+/// missing exactly so many, and is never bad. The decoder announced the capacity that the encoder goes by, or any other while the encoder
+/// has inserted nothing, as before the peer's settings came.
 pub fn every_encoding_means_its_fields()
     ensures means { (counts : Bool) (most announced limit : ℕ) (events : List SessionEvent) (s : Session) (b : UndecodedSection) → SessionRun (beginning counts most announced limit) events s →
         oldest b.stream s.sections ≡ Some b → is_canceled s b.stream ≡ false → count_of b ≤ s.received → IsWritten s b →
@@ -155,7 +155,7 @@ pub fn written_instructions_are_accepted()
         × HasInsertions announced capacity (take (k - length (opening capacity)) inserted) r }
 {}
 
-/// A section that is withdrawn as soon as it was written leaves what one leaves that was cut off: its insertions and its marks. Of the
+/// A section that is withdrawn as soon as it was written leaves what one leaves that ended early: its insertions and its marks. Of the
 /// required insert counts that an encoder keeps, a section that was sent adds its own, and no decoder instruction takes one away.
 pub fn sections_leave_their_counts()
     ensures withdrawn { (s : EncoderHistory) (stream : ℕ) (fields : List Field) →
@@ -165,26 +165,26 @@ pub fn sections_leave_their_counts()
     ensures read { (s : EncoderHistory) (i : DecoderInstruction) → (encoder_after s i).required_insert_counts ≡ s.required_insert_counts }
 {}
 
-/// The encoding of a list of fields is no longer than four times the list's size, the sum of names, values and 32 for each field (RFC 9114,
-/// section 4.2.2), whatever its encoder did before, and that of an empty list takes two bytes. Every string is written in the Huffman code,
-/// whose words have up to thirty bits: so the encoding may be longer than the list's size.
+/// The encoding of a list of fields is no longer than four times the list's size, whatever its encoder did before. That size is the sum of
+/// names, values and 32 for each field (RFC 9114, section 4.2.2). The encoding of an empty list takes two bytes. Every string is written in
+/// the Huffman code, whose words have up to thirty bits: so the encoding may be longer than the list's size.
 pub fn encoded_sections_are_short()
     ensures short { (s : EncoderHistory) (fields : List Field) → length (encoded_section s fields) ≤ most_encoded fields }
     ensures empty { (s : EncoderHistory) → length (encoded_section s []) ≡ 2 }
 {}
 
-/// An instruction of an encoder that a decoder takes is written in at most ten bytes, or in four times the capacity that the decoder announced:
-/// the strings of an entry that fits it are written in the Huffman code. An instruction of a decoder is one number, of at most ten bytes (RFC
-/// 9204, section 4.1.1).
+/// An instruction of an encoder that a decoder takes is written in at most ten bytes, or in four times the capacity that the decoder
+/// announced. The strings of an entry that fits it are written in the Huffman code. An instruction of a decoder is one number, of at most
+/// ten bytes (RFC 9204, section 4.1.1).
 pub fn instructions_are_short()
     ensures taken { (announced : ℕ) (instructions : List EncoderInstruction) (r : DecoderState) → decoder_after_all (Some (announcing announced)) instructions ≡ Some r →
         AllByRecursion (λ i. length (encoder_bytes i) ≤ most_instruction announced) instructions }
     ensures replies { (i : DecoderInstruction) → length (decoder_bytes i) ≤ 10 }
 {}
 
-/// Every run in bytes is a session, and answers what is expected of it: each decode exactly the fields that were encoded, or
-/// the count that was answered then, which is above the insertions read; and nothing is refused but for want of memory. Where
-/// the bytes of the first n insertions were read, n insertions were.
+/// Every run in bytes is a session, and answers what is expected of it. Each decode answers exactly the fields that were encoded, or the
+/// count that was answered then, which is above the insertions read. Nothing is refused unless an allocation fails. If the bytes of the
+/// first n insertions were read, n insertions were.
 pub fn every_run_answers_as_expected()
     ensures { (capacity limit : ℕ) (events : List RunEvent) (answers : List SessionAnswer) (end : ExchangeHistory) → capacity < 2 ^ 30 → Exchange (start capacity limit) events answers end →
         (s : Session) × Expected (beginning false (2 ^ 30 - 1) capacity limit) events answers s
@@ -245,8 +245,8 @@ pub fn decoder_bytes_are_their_value()
     ensures cuts { (s : EncoderHistory) (bytes more : List ℕ) → listen s (bytes ++ more) ≡ listened_then (listen s bytes) more }
 {}
 
-/// The instructions that an encoder writes for a section of bytes can be written: their indexes and strings are small enough for
-/// integers of 62 bits (RFC 9204, section 4.1.1), and each is shorter than memory.
+/// The instructions that an encoder writes for a section of bytes can be written. Their indexes and strings are small enough for integers
+/// of 62 bits (RFC 9204, section 4.1.1), and each is shorter than memory.
 pub fn instructions_can_be_written()
     ensures { (s : EncoderHistory) (stream : ℕ) (fields : List Field) → length s.inserted < 2 ^ 62 → AllByRecursion IsFieldOfBytes fields → section_size fields < 2 ^ 56 →
         AllByRecursion IsWrittenInstruction (instructions_for (writing_on s stream) fields) }

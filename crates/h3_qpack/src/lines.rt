@@ -1,4 +1,4 @@
-//! The field lines of a section, read over a table (RFC 9204, section 4.5).
+//! The field lines of a section, read against a table (RFC 9204, section 4.5).
 ghost use Rattle.std.specs.Prelude.{◌≡◌, ◌+◌, ◌-◌, ◌^◌, ◌<◌, ◌≤◌, true, length, min, bytes_eq, IfSome, IfNone, IfOk, Some, None, MatchResult};
 ghost use Rattle.h3_field.specs.Field.{Field, field_size};
 ghost use Rattle.h3_field.specs.Shapes.{begins};
@@ -32,7 +32,8 @@ pub(crate) enum Source<'t> {
     Own(HeaderField),
     /// An entry.
     Entry(Entry<'t>),
-    /// A value under the name of an entry. Its block has room for the name, where that is not static and the value is not empty.
+    /// A value under the name of an entry. Its block has room for the name, if that is not static, is not longer than `longest_name`, and
+    /// the value is not empty.
     Named(Entry<'t>, Vec<u8>),
 }
 
@@ -147,7 +148,7 @@ pub(crate) fn post_base(
 ) -> Result<Entry<'_>, DecoderError>
     ensures { MatchResult result (λ f. entry_at entries.now (base + index + 1) ≡ Some f) (λ e. (entry_at entries.now (base + index + 1) ≡ None) × (e ≡ InvalidIndex (PostbaseIndex index))) }
 {
-    // beyond all numbers of entries, where the sum might not fit
+    // beyond all numbers of entries, if the sum might not fit
     let number = if base < MOST_INSERTIONS && index < MOST_INSERTIONS {
         base + index + 1
     } else {
@@ -170,9 +171,9 @@ fn name_room(found: Result<Entry<'_>, DecoderError>, most: usize) -> usize {
     }
 }
 
-/// How many bytes the name that the line or instruction at the front refers to takes in the block of its field: none where the name is
-/// static, where it has more than `most` bytes or its entry is not there, or where its index is not whole. The index lies below the bit T, in `size`
-/// bits. It is read ahead of the value, so that the value's block gets this room: no clause depends on it.
+/// How many bytes the name to which the line or instruction at the front refers takes in the block of its field. It takes none if it is
+/// static, if it has more than `most` bytes or its entry is not there, or if its index is not whole. The index lies below the bit T, in
+/// `size` bits. It is read ahead of the value, so that the value's block gets this room: no clause depends on it.
 pub(crate) fn relative_name_room(
     entries: &Entries,
     base: usize,
@@ -214,7 +215,7 @@ pub(crate) struct Lines<'t> {
     alloc: Global,
     entries: &'t Entries,
     base: usize,
-    // a longer name of an entry gets no room behind a value, since its field would pass the limit
+    // a longer name of an entry gets no room after a value, since its field would pass the limit
     longest_name: usize,
 }
 
@@ -294,8 +295,8 @@ impl<'t> Lines<'t> {
         }
     }
 
-    /// The field of a line with a literal value and the name of an entry, where it takes no memory. None: it may take some, or the line
-    /// is refused. Then nothing is taken.
+    /// The field of a line with a literal value and the name of an entry, if it takes no memory. None: it may take some, or the line is
+    /// refused. Then nothing is taken.
     fn take_short_named(&self, buf: &mut SliceCursor<'_>) -> Option<HeaderField>
         requires some { 0 < length buf.old }
         requires own { begins 64 127 buf.old ≡ true }
@@ -314,7 +315,7 @@ impl<'t> Lines<'t> {
         Some(field)
     }
 
-    /// The field of the name of an entry and a value, where it takes no memory.
+    /// The field of the name of an entry and a value, if it takes no memory.
     fn short_field(&self, name: NameRef, value: &[u8]) -> Option<HeaderField>
         ensures { IfSome result (λ f. field_at self.now.table self.now.base (short_named_line value.now name) ≡ Some f) }
     {
@@ -367,8 +368,8 @@ impl<'t> Lines<'t> {
         }
     }
 
-    /// The field of a line with a literal value and the name of an entry, by its distance from the base on, where it takes no memory. None:
-    /// it may take some, or the line is refused. Then nothing is taken.
+    /// The field of a line with a literal value and the name of an entry, by its distance from the base on, if it takes no memory. None: it
+    /// may take some, or the line is refused. Then nothing is taken.
     fn take_short_post_base_named(&self, buf: &mut SliceCursor<'_>) -> Option<HeaderField>
         requires some { 0 < length buf.old }
         requires own { begins 0 15 buf.old ≡ true }

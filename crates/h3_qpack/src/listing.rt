@@ -1,4 +1,4 @@
-//! The fields of a section's lines, in a list that is handed in: its memory serves again.
+//! The fields of a section's lines, in a list that the caller passes: its memory serves again.
 ghost use Rattle.std.specs.Prelude.{◌≡◌, ◌≤◌, [], ◌∷◌, ◌++◌, IfOk, OnOk, IfErr, Some, None, MatchOption, vec_capacity};
 ghost use Rattle.h3_field.specs.declared.decoder_error.DecoderError.TheVariants.{OutOfMemory};
 ghost use Rattle.h3_qpack.specs.DecodedSection.{fields_in};
@@ -9,7 +9,7 @@ use crate::lines::Lines;
 use h3_field::{DecoderError, HeaderField, SliceCursor};
 use std::alloc::AllocError;
 
-/// What is told of a decoded field section whose fields are in the caller's list.
+/// What the caller learns of a decoded field section whose fields are in its list.
 #[derive(Copy, Clone)]
 pub struct SectionSummary {
     /// Whether the required insert count was above 0: then the section has to be acknowledged.
@@ -22,7 +22,7 @@ pub struct SectionSummary {
 /// that fit 1,032 bytes, up to which an allocator of the C library keeps blocks at hand.
 const FIRST_ROOM: usize = 18;
 
-/// Adds a field behind which so many bytes are left: each may be a field. A list that has the room is not given more.
+/// Adds a field after which so many bytes are left: each may be a field. A list that has the room is not given more.
 fn keep(fields: &mut Vec<HeaderField>, field: HeaderField, left: usize) -> Result<(), AllocError>
     ensures ok { OnOk result (fields.new.items ≡ fields.old.items ++ field ∷ []) }
     ensures room { vec_capacity fields.old ≤ vec_capacity fields.new }

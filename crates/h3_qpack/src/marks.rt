@@ -10,8 +10,8 @@ const MARKS: usize = 32;
 /// How many bytes at the end of a value its mark goes by.
 const MARKED_BYTES: usize = 16;
 
-/// The mark of a value: of its length and its last bytes, so that a long value costs no more. Four bytes are taken at a time: one of them waits for the
-/// others then in an addition alone.
+/// The mark of a value: of its length and its last bytes, so that a long value costs no more. Four bytes are taken at a time: one of them
+/// waits for the others then in an addition alone.
 fn value_mark(value: &[u8]) -> u32
     ensures { result ≡ value_mark value.now }
 {
@@ -30,7 +30,7 @@ fn value_mark(value: &[u8]) -> u32
     mark as u32
 }
 
-/// A mark behind four bytes more.
+/// A mark after four bytes more.
 fn behind_four(mark: u64, four: &[u8; 4]) -> u64
     requires { mark < 2 ^ 32 }
     ensures mark { result ≡ fold (λ mark byte. (31 * mark + byte) % 2 ^ 32) mark four.now }
@@ -41,8 +41,8 @@ fn behind_four(mark: u64, four: &[u8; 4]) -> u64
     (923521 * mark + 961 * first + second) % 4294967296
 }
 
-/// The marks of the last values, each in front of the next older one, and the last in front of the first. A contract sees them as a list of 32
-/// numbers, the newest first.
+/// The marks of the last values, each in front of the next older one, and the last in front of the first. A contract sees them as a list of
+/// 32 numbers, the newest first.
 #[derive(Drop)]
 pub(crate) struct Marks {
     marks: [u32; MARKS],

@@ -13,7 +13,7 @@ pub const CAPACITY_LEN: usize = 6;
 /// The most bytes that an increment takes.
 pub const INCREMENT_LEN: usize = 10;
 
-/// Appends the instruction for a capacity, where there is room for it.
+/// Appends the instruction for a capacity to a buffer that has room for it.
 pub fn put_capacity(capacity: u64, out: &mut Vec<u8>)
     requires small { capacity < 2 ^ 30 }
     requires room { vec_len out.old + 6 ≤ vec_capacity out.old }

@@ -38,15 +38,15 @@ impl Choice {
     }
 }
 
-/// A section under way: how many insertions there were before it, whether it may be blocked at the decoder, which entries drain, and the
-/// oldest and the newest entry that its lines name so far. Where they name none, these are the greatest number and 0.
+/// A section under way: how many insertions there were before it, whether it may be blocked at the decoder, which entries drain, and which
+/// entries its lines name so far. Of these it keeps the oldest and the newest. If the lines name none, they are the greatest number and 0.
 #[derive(Clone, Copy)]
 pub(crate) struct Section {
     /// How many insertions there were before it.
     pub base: usize,
     /// Whether it may be blocked at the decoder.
     pub may_block: bool,
-    /// Its lines name no entry up to this number, 0 where the encoder is not economical.
+    /// Its lines name no entry up to this number, 0 if the encoder is not economical.
     pub draining: usize,
     /// The oldest entry that it names.
     pub oldest: usize,

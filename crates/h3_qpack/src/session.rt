@@ -24,7 +24,7 @@ pub enum SessionEvent {
     EncoderBytes(usize),
     /// So many more bytes of the decoder's come to the encoder.
     DecoderBytes(usize),
-    /// The oldest section of that stream that is not decoded yet is decoded, and acknowledged where it names entries.
+    /// The oldest section of that stream that is not decoded yet is decoded, and acknowledged if it names entries.
     Decode(u64),
     /// That stream is given up: none of its sections is decoded any more.
     Cancel(u64),

@@ -49,7 +49,7 @@ impl<'a> DynamicTableDecoder<'a> {
     pub fn get_postbase(&self, index: usize) -> Result<HeaderField, Error>
         ensures { AnswersEntry (entry_at self.now.table (self.now.base + index + 1)) (BadPostbaseIndex index) result }
     {
-        // beyond all numbers of entries, where the sum might not fit
+        // beyond all numbers of entries, if the sum might not fit
         let number = if self.base < MOST_INSERTIONS && index < MOST_INSERTIONS {
             self.base + index + 1
         } else {

@@ -20,7 +20,7 @@ pub enum DecodedWithin {
     TooLarge(LargeSection),
 }
 
-/// What is told of a field section whose fields sum to more than a limit.
+/// What the caller learns of a field section whose fields sum to more than a limit.
 #[derive(Drop)]
 pub struct LargeSection {
     /// The sum of the sizes of all its fields, which stops at the greatest number.
@@ -84,7 +84,7 @@ impl<'t> Lines<'t> {
         Ok(count)
     }
 
-    /// What is told of lines whose fields sum to more than the limit.
+    /// What the caller learns of lines whose fields sum to more than the limit.
     pub(crate) fn take_large(
         &self,
         buf: &mut SliceCursor<'_>,
@@ -105,9 +105,8 @@ impl<'t> Lines<'t> {
         }
     }
 
-    /// Reads the lines, to the end of `buf`. Their fields are kept as long as they sum to at most `max`. Once they pass
-    /// it they are let go, and all lines are read anew and counted. No memory is asked for before the first line is read or has a
-    /// string.
+    /// Reads the lines, to the end of `buf`. Their fields are kept as long as they sum to at most `max`. Once they pass it they are freed,
+    /// and all lines are read again and counted. No memory is asked for before the first line is read or has a string.
     pub(crate) fn take_within(
         &self,
         buf: &mut SliceCursor<'_>,

@@ -194,8 +194,8 @@ fn put_chosen(
     Ok(())
 }
 
-/// Inserts a field for later sections, where an economical encoder may, and appends the instruction for it: no line names the entry.
-/// A refusal changes nothing.
+/// Inserts a field for later sections, if an economical encoder may, and appends the instruction for it: no line names the entry. A refusal
+/// changes nothing.
 fn put_ahead(
     table: &mut DynamicTable,
     section: &Section,
@@ -216,7 +216,7 @@ fn put_ahead(
     put_entry(table, searched, field, after, encoder_buf)
 }
 
-/// Writes a field: its line, and the instruction where it is inserted. A refusal inserts nothing, and may leave a line.
+/// Writes a field: its line, and the instruction if it is inserted. A refusal inserts nothing, and may leave a line.
 fn put_field(
     table: &mut DynamicTable,
     section: &mut Section,
@@ -245,7 +245,7 @@ fn put_field(
     Ok(())
 }
 
-/// Writes the fields of a section, one behind the other. A refusal leaves whole instructions, those of the insertions made.
+/// Writes the fields of a section, one after the other. A refusal leaves whole instructions, those of the insertions made.
 pub(crate) fn put_fields(
     table: &mut DynamicTable,
     section: &mut Section,

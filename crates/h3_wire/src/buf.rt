@@ -24,7 +24,7 @@ pub use pieces::{Cursor, Piece};
 /// their bytes, and how many more pieces fit. A list of `Bytes` can let small ones share a block (`keep`).
 #[derive(Drop)]
 pub struct BufList<T: Buf> {
-    // the first piece, where it came to an empty list: it takes no memory but its own
+    // the first piece, if it came to an empty list: it takes no memory but its own
     front: Option<T>,
     behind: Queue<T>,
 }
@@ -65,7 +65,7 @@ impl<T: Buf> BufList<T> {
         Cursor::new(&self.front, self.behind.elements(), self.count())
     }
 
-    /// Adds a piece at the end. An empty one keeps nothing. An `Err` hands the piece back.
+    /// Adds a piece at the end. An empty one keeps nothing. An `Err` returns the piece.
     pub fn push(&mut self, piece: T) -> Result<(), AllocFailed<T>>
     where
         T: Drop,
@@ -82,7 +82,7 @@ impl<T: Buf> BufList<T> {
         Ok(())
     }
 
-    /// Makes room for one more piece, which `push_reserved` then takes. An `Err` comes only where
+    /// Makes room for one more piece, which `push_reserved` then takes. An `Err` comes only if
     /// there was none, and changes nothing.
     pub fn reserve(&mut self) -> Result<(), AllocError>
         ensures pieces { self.new.pieces ≡ self.old.pieces }
@@ -97,7 +97,7 @@ impl<T: Buf> BufList<T> {
         Ok(())
     }
 
-    /// Adds a piece at the end, where there is room. An empty one keeps nothing. It cannot be
+    /// Adds a piece at the end, for which there is room. An empty one keeps nothing. It cannot be
     /// refused.
     pub fn push_reserved(&mut self, piece: T)
     where
@@ -215,7 +215,7 @@ impl<T: Buf + Drop> Buf for BufList<T> {
 }
 
 impl<T: Buf + Drop> BufList<T> {
-    // Passes up to `cnt` bytes, and answers how many: all of them, where the first piece has so many.
+    // Passes up to `cnt` bytes, and answers how many: all of them, if the first piece has so many.
     pub(crate) fn advance_first(&mut self, cnt: usize) -> usize
         requires { (0 < cnt) × (cnt ≤ length (concat self.old.pieces)) }
         ensures count { (0 < result) × (result ≤ cnt) }
@@ -239,8 +239,8 @@ impl<T: Buf + Drop> BufList<T> {
 }
 
 impl BufList<Bytes> {
-    /// `push`, where small pieces share a block, so that a peer that sends a byte at a time is kept in little room. Where one piece ends and
-    /// the next begins is kept.
+    /// `push` that lets small pieces share a block, so that a peer that sends a byte at a time is kept in little room. It keeps the places
+    /// at which one piece ends and the next begins.
     pub fn keep(&mut self, piece: Bytes) -> Result<(), AllocFailed<Bytes>>
         requires fits { length (concat self.old.pieces) + length piece < 2 ^ 64 }
         ensures pieces { OnOk result (self.new.pieces ≡ with_piece self.old.pieces piece) }
@@ -255,7 +255,7 @@ impl BufList<Bytes> {
         Ok(())
     }
 
-    /// `push_reserved`, where small pieces share a block, as `keep` does it.
+    /// `push_reserved` that lets small pieces share a block, as `keep` does it.
     pub fn keep_reserved(&mut self, piece: Bytes)
         requires room { 0 < self.old.room }
         requires fits { length (concat self.old.pieces) + length piece < 2 ^ 64 }
@@ -279,7 +279,7 @@ impl BufList<Bytes> {
         self.put_small(piece);
     }
 
-    // `put`, where small pieces share a block.
+    // `put` that lets small pieces share a block.
     #[inline]
     fn put_small(&mut self, piece: Bytes)
         requires some { 0 < length piece }
@@ -306,7 +306,7 @@ impl BufList<Bytes> {
         }
     }
 
-    /// Takes a variable-length integer (RFC 9000, section 16) from the front, where one is whole.
+    /// Takes a variable-length integer (RFC 9000, section 16) from the front, if one is whole.
     /// Otherwise nothing changes.
     #[tactic(auto, using(crate::specs::PieceLaws::rest_same))]
     pub fn take_var(&mut self) -> Option<u64>

@@ -56,7 +56,7 @@ impl<S> Model for FrameStream<S> {
     ghost invariant = { λ s. Expects s.decoder (concat s.stream.pieces) × (is_open s.payload ≡ true → s.decoder.expected ≡ None) };
 }
 
-// The payload that is under way behind a frame.
+// The payload that is under way after a frame.
 fn payload_of(frame: &Frame<PayloadLen>) -> PayloadLeft
     ensures { result ≡ payload_behind frame.now }
 {
@@ -130,8 +130,8 @@ impl<S: RecvStream> FrameStream<S> {
         self.stream.recv_id()
     }
 
-    /// The next frame, of DATA its head. The source is asked before the buffer, so that a reset comes before a frame that
-    /// was read.
+    /// The next frame, of DATA its type and length. The source is asked before the buffer, so that a reset comes before a frame that was
+    /// read.
     pub fn poll_next(&mut self) -> Poll<Result<Option<Frame<PayloadLen>>, FrameStreamError>>
         requires closed { is_open self.old.payload ≡ false }
         requires few { length (left S.rest self.old) < 2 ^ 62 }
@@ -165,7 +165,7 @@ impl<S: RecvStream> FrameStream<S> {
         }
     }
 
-    // Asks the source once, and takes a frame where one is whole. `None` where more bytes came that end no frame.
+    // Asks the source once, and takes a frame if one is whole. `None` if more bytes came that end no frame.
     fn read_frame(&mut self) -> Option<Poll<Result<Option<Frame<PayloadLen>>, FrameStreamError>>>
         requires closed { is_open self.old.payload ≡ false }
         requires few { length (left S.rest self.old) < 2 ^ 62 }
@@ -200,9 +200,8 @@ impl<S: RecvStream> FrameStream<S> {
         }
     }
 
-    /// The next bytes of the payload under way, and `None` at its end. Where no payload is under way the answer is `None`,
-    /// and nothing changes. The source is asked before the buffer. At a known end the last piece of a payload that is cut
-    /// short is refused, and stays.
+    /// The next bytes of the payload under way, and `None` at its end. If no payload is under way the answer is `None`, and nothing
+    /// changes. The source is asked before the buffer. At a known end the last piece of a payload that ends early is refused, and stays.
     pub fn poll_data(&mut self) -> Poll<Result<Option<Bytes>, FrameStreamError>>
         requires { length (left S.rest self.old) < 2 ^ 62 }
         ensures reads { (more : List ℕ) → ReadsData S.rest result self.old self.new more }
@@ -244,7 +243,7 @@ impl<S: RecvStream> FrameStream<S> {
         }
     }
 
-    // Asks the source, unless the end was told.
+    // Asks the source, unless its end is known.
     fn ask(&mut self) -> Result<Received, FrameStreamError>
         requires { length (left S.rest self.old) < 2 ^ 62 }
         ensures all { left S.rest self.new ≡ left S.rest self.old }
@@ -262,7 +261,7 @@ impl<S: RecvStream> FrameStream<S> {
     }
 }
 
-// What a read of a payload answers, by what the source told and the bytes that were taken.
+// What a read of a payload answers, by what the source answered and the bytes that were taken.
 fn data_answer(
     received: Received,
     taken: Option<Bytes>,

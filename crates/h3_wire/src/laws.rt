@@ -18,8 +18,8 @@ use crate::proto::frame::Frame;
 use crate::quic::RecvStream;
 use bytes::Buf;
 
-/// A frame that was written is read as it was, whatever follows it: of DATA the head, with the
-/// payload behind it. A frame without a meaning is skipped where its type is a reserved one.
+/// A frame that was written is read as it was, whatever follows it: of DATA its type and length,
+/// with the payload after them. A frame without a meaning is skipped if its type is a reserved one.
 pub fn written_is_read<B: Buf>(frame: &Frame<B>)
     requires length { HasLength B.unread frame.now }
     requires reserved { IsReserved frame.now }
@@ -35,8 +35,8 @@ pub fn cuts_do_not_matter()
     ensures { (payload : PayloadLeft) (bytes more : List ℕ) → reads payload (bytes ++ more) ≡ then_more (reads payload bytes) more }
 {}
 
-/// Less than a frame that was written is the unfinished front of a frame: of DATA less than its
-/// head, since a DATA frame is handed out with its head alone.
+/// Less than a frame that was written is the unfinished front of a frame. Of DATA it is less than
+/// its type and length, since a DATA frame is delivered with these alone.
 pub fn less_than_a_frame_is_unfinished<B: Buf>(frame: &Frame<B>)
     requires length { HasLength B.unread frame.now }
     requires reserved { IsReserved frame.now }
@@ -52,8 +52,8 @@ pub fn refused_stays_refused()
 {}
 
 /// What a stream of frames, a stream whose type is read, or a buffered stream answers and leaves
-/// rests on its own buffer and source alone: where the source has one answer, so has each call, but
-/// for want of memory.
+/// rests on its buffer and source alone. If the source has one answer, so has each call, unless an
+/// allocation fails.
 pub fn answers_rest_on_buffer_and_source<S: RecvStream>()
     ensures frame { IsFunction S.answers → OneAnswer (Rounds S.answers) }
     ensures piece { IsFunction S.answers → OneAnswer (ReadsOnce S.answers) }

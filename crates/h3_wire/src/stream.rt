@@ -112,7 +112,7 @@ impl<S> BufRecvStream<S> {
         self.buf.take_first_chunk()
     }
 
-    // Takes the number at the front of what was read, where it is whole.
+    // Takes the number at the front of what was read, if it is whole.
     fn take_number(&mut self) -> Option<u64>
         ensures takes { TakesNumber result (concat self.old.pieces) (concat self.new.pieces) }
         ensures below { IfSome result (λ n. n < 2 ^ 62) }
@@ -131,7 +131,7 @@ impl<S> BufRecvStream<S> {
     }
 
     /// The bytes that were read and not yet taken, and the source. `is_eos` tells whether its end
-    /// was told.
+    /// is known.
     pub fn into_parts(self) -> (BufList<Bytes>, S)
         ensures pieces { result.0.pieces ≡ self.pieces }
         ensures source { result.1 ≡ self.source }
@@ -139,7 +139,7 @@ impl<S> BufRecvStream<S> {
         (self.buf, self.stream)
     }
 
-    /// Whether the end was told.
+    /// Whether the source's end is known.
     pub fn is_eos(&self) -> bool
         ensures { result ≡ self.now.is_eos }
     {
@@ -178,7 +178,7 @@ impl<S: RecvStream> BufRecvStream<S> {
         }
     }
 
-    // Reads more, unless the end was told.
+    // Reads more, unless the source's end is known.
     pub(crate) fn receive(&mut self) -> Result<Received, FrameStreamError>
         requires { length (concat self.old.pieces ++ coming self.old.is_eos (S.rest self.old.source)) < 2 ^ 62 }
         ensures all { concat self.new.pieces ++ coming self.new.is_eos (S.rest self.new.source) ≡ concat self.old.pieces ++ coming self.old.is_eos (S.rest self.old.source) }
@@ -232,7 +232,7 @@ fn as_stream_error(e: StreamErrorIncoming) -> FrameStreamError
     }
 }
 
-/// What was read comes first, a piece a call. After the end that was told nothing comes.
+/// What was read comes first, a piece a call. After it nothing comes once the source's end is known.
 impl<S: RecvStream> RecvStream for BufRecvStream<S> {
     ghost rest = { left_behind S.rest };
 

@@ -4,10 +4,10 @@ ghost use Rattle.std.specs.Prelude.{◌≡◌, IfOk};
 use bytes::{Bytes, BytesMut};
 use std::alloc::{AllocError, Global};
 
-/// A block that has room for more of them, where there is one.
+/// A block that has room for more of them, if there is one.
 pub(super) type Block = Option<Box<BytesMut>>;
 
-/// A copy of a piece, behind the last one of the block; or in a new block of so much room, where there is none, or it is full.
+/// A copy of a piece, after the last one of the block; or in a new block of so much room, if there is none, or it is full.
 pub(super) fn copied(
     block: &mut Block,
     alloc: Global,

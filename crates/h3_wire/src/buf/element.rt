@@ -1,4 +1,4 @@
-//! What a list of pieces holds one behind the other.
+//! What a list of pieces holds one after the other.
 ghost use Rattle.std.specs.Prelude.{◌≡◌, ◌<◌, ◌≤◌, ◌++◌, [], ◌∷◌, true, false, length, drop, nat_le, Some, IsNone, IfOk, IfSome, OnErr};
 ghost use Rattle.h3_wire.specs.Elements.{all_of, cuts};
 ghost use Rattle.h3_wire.specs.Pieces.{chunk_of, first_bytes, first_size, without};
@@ -60,7 +60,7 @@ impl Element<Bytes> {
         }
     }
 
-    // Takes the first piece, where others are behind it.
+    // Takes the first piece, if others follow it.
     #[inline]
     pub(crate) fn take_one(&mut self) -> Option<Bytes>
         ensures some { IfSome result (λ p. cuts (λ b. b) self.old ≡ p ∷ cuts (λ b. b) self.new) }
@@ -107,7 +107,7 @@ impl Element<Bytes> {
         }
     }
 
-    // Adds a piece of one byte, where it is such pieces, and answers whether it did.
+    // Adds a piece of one byte, if it is such pieces, and answers whether it did.
     pub(crate) fn push_single(&mut self, byte: u8) -> bool
         ensures taken { result ≡ true → cuts (λ b. b) self.new ≡ cuts (λ b. b) self.old ++ (byte ∷ []) ∷ [] }
         ensures bytes { result ≡ true → all_of (λ b. b) self.new ≡ all_of (λ b. b) self.old ++ byte ∷ [] }

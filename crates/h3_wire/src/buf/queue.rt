@@ -13,7 +13,7 @@ use std::alloc::{AllocError, Global};
 use std::collections::VecDeque;
 use std::marker::Model;
 
-// A piece of at most so many bytes is put into a block with others, where this many elements wait before it.
+// A piece of at most so many bytes is put into a block with others, if this many elements wait before it.
 const SMALL: usize = 32;
 
 const MANY: usize = 8;
@@ -26,7 +26,7 @@ const LARGEST_BLOCK: usize = 4096;
 // A list of so many elements takes much memory.
 const LONG: usize = 1024;
 
-// Room for more elements is let go where none is left.
+// Room for more elements is freed when none is left.
 const KEPT: usize = 64;
 
 /// Pieces, none of them empty. A contract sees the pieces as byte lists, and how many more fit.
@@ -34,7 +34,7 @@ const KEPT: usize = 64;
 pub(super) struct Queue<T: Buf> {
     bufs: VecDeque<Element<T>>,
     len: usize,
-    // where small pieces are copied to; none behind the last element
+    // the block that small pieces are copied to; none after the last element
     block: Block,
 }
 
@@ -66,7 +66,7 @@ impl<T: Buf> Queue<T> {
         }
     }
 
-    /// What it holds, one behind the other.
+    /// What it holds, one after the other.
     pub(super) fn elements(&self) -> &VecDeque<Element<T>>
         ensures pieces { self.now.pieces ≡ all_cuts T.unread result.now.items }
         ensures filled { All (λ e. 0 < length (all_of T.unread e)) result.now.items }
@@ -108,7 +108,7 @@ impl<T: Buf> Queue<T> {
         }
     }
 
-    /// Makes room for one more piece. An `Err` comes only where there was none, and changes nothing.
+    /// Makes room for one more piece. An `Err` comes only if there was none, and changes nothing.
     #[inline(never)]
     pub(super) fn reserve(&mut self) -> Result<(), AllocError>
         ensures pieces { self.new.pieces ≡ self.old.pieces }
@@ -147,7 +147,7 @@ impl<T: Buf> Queue<T> {
     }
 }
 
-// For how many elements more room is made, where so many fill it: as many at first, and a quarter of many.
+// For how many elements more room is made, if so many fill it: as many at first, and a quarter of many.
 fn more_room(count: usize) -> usize
     ensures { 0 < result }
 {
@@ -159,7 +159,7 @@ fn more_room(count: usize) -> usize
 }
 
 impl<T: Buf + Drop> Queue<T> {
-    // Passes up to `cnt` bytes of the first element, and answers how many: all of them, where the first piece has so many.
+    // Passes up to `cnt` bytes of the first element, and answers how many: all of them, if the first piece has so many.
     #[inline(never)]
     pub(super) fn advance_first(&mut self, cnt: usize) -> usize
         requires { (0 < cnt) × (cnt ≤ length (concat self.old.pieces)) }
@@ -183,7 +183,7 @@ impl<T: Buf + Drop> Queue<T> {
         there
     }
 
-    // Where no element is left, no memory is kept beyond room for a few.
+    // If no element is left, no memory is kept beyond room for a few.
     #[inline]
     fn let_go(&mut self)
         ensures { self.new.pieces ≡ self.old.pieces }
@@ -199,7 +199,7 @@ impl<T: Buf + Drop> Queue<T> {
 }
 
 impl Queue<Bytes> {
-    /// Adds a piece at the end, where there is room. Small ones share a block.
+    /// Adds a piece at the end, for which there is room. Small ones share a block.
     #[inline(never)]
     pub(super) fn add(&mut self, piece: Bytes)
         requires some { 0 < length piece }
@@ -214,7 +214,7 @@ impl Queue<Bytes> {
         self.append(Element::Whole(piece));
     }
 
-    // Adds a small piece where it takes less room than as it came, and answers whether it did. Memory may be refused for that.
+    // Adds a small piece if it takes less room than as it came, and answers whether it did. An allocation for that may fail.
     #[inline]
     fn push_small(&mut self, piece: &[u8]) -> bool
         requires some { 0 < length piece.now }
@@ -274,7 +274,7 @@ impl Queue<Bytes> {
         true
     }
 
-    // Adds a piece of one byte to the last element, where that is such pieces and has room.
+    // Adds a piece of one byte to the last element, if that is such pieces and has room.
     fn push_behind(&mut self, byte: u8) -> bool
         requires fits { length (concat self.old.pieces) + 1 < 2 ^ 64 }
         ensures taken { result ≡ true → self.new.pieces ≡ self.old.pieces ++ (byte ∷ []) ∷ [] }

@@ -17,8 +17,8 @@ use h3_coding::varint::VarInt;
 use std::alloc::{AllocError, Global};
 use std::marker::Model;
 
-/// The bytes of a stream of frames that came and were not read, and how far the frame at their front was read. Both stand in one
-/// value, and no call parts them: so no head is tried again that is known to be unfinished, and none more than 17 times.
+/// The bytes of a stream of frames that came and were not read, and how far the frame at their front was read. Both stand in one value, and
+/// no call parts them. So no frame is tried again that is known to be unfinished, and none more than 17 times.
 #[derive(Drop)]
 pub struct FrameBuffer {
     unread: FrameBytes,
@@ -48,8 +48,8 @@ impl FrameBuffer {
         }
     }
 
-    /// More bytes came. They are kept as they are, with no copy but of small pieces, unless they belong to an unknown frame under way and are
-    /// its last so far: then they are let go. An `Err` changes nothing, and hands them back: memory was refused.
+    /// More bytes came. They are kept as they are, with no copy but of small pieces. If they belong to an unknown frame under way and are
+    /// its last so far, they are freed instead. An `Err` changes nothing, and returns them: an allocation failed.
     #[tactic(auto, using(crate::proofs::Pushing::expects_pushed))]
     pub fn push(&mut self, bytes: Bytes) -> Result<(), Bytes>
         requires fits { length (concat self.old.pieces) + length bytes < 2 ^ 64 }
@@ -61,9 +61,9 @@ impl FrameBuffer {
         self.unread.push(bytes)
     }
 
-    /// Takes the next known frame, of DATA the head alone, and the unknown ones before it. Without a whole frame, and at an error,
-    /// only unknown frames are taken, and the bytes of an unknown one under way are let go. Fewer bytes than the frame at the front is
-    /// known to need are not tried.
+    /// Takes the next known frame, of DATA its type and length alone, and the unknown ones before it. Without a whole frame, and at an
+    /// error, only unknown frames are taken, and the bytes of an unknown one under way are freed. Fewer bytes than the frame at the front
+    /// is known to need are not tried.
     pub fn next_frame(
         &mut self,
         alloc: Global,
@@ -80,9 +80,9 @@ impl FrameBuffer {
         Ok(None)
     }
 
-    /// `next_frame`, where its answer needs no `Frame`, which has room for the largest: it takes the head of a DATA frame or a HEADERS frame that
-    /// lies in the first piece, or fewer bytes are there than the next try needs. Otherwise the answer is `None`, which changes nothing, and
-    /// `next_frame` is to be asked.
+    /// `next_frame`, if its answer needs no `Frame`, which has room for the largest. It takes the type and length of a DATA frame or a
+    /// whole HEADERS frame from the first piece, or fewer bytes are there than the next try needs. Otherwise the answer is `None`, which
+    /// changes nothing, and `next_frame` is to be asked.
     #[inline(always)]
     pub fn next_first(&mut self) -> Option<Option<First>>
         ensures gives { IfSome result (λ o. Gives (Ok (framed o)) (concat self.old.pieces) (concat self.new.pieces)) }
@@ -98,7 +98,7 @@ impl FrameBuffer {
     }
 
     // Whether a frame begins at the front: none is under way there, or the unknown one that was is whole, and is passed. (A function of its
-    // own: the frame is read at one place, where it is to lie.)
+    // own: the frame is read at one place, in which it is to lie.)
     #[inline]
     fn is_at_frame(&mut self) -> bool
         ensures same { self.old.passing ≡ 0 → (result ≡ true) × (self.new ≡ self.old) }
@@ -111,7 +111,7 @@ impl FrameBuffer {
         self.pass_unknown()
     }
 
-    // An unknown frame is under way, of which some bytes were let go. Where it is whole it is passed.
+    // An unknown frame is under way, of which some bytes were freed. If it is whole it is passed.
     fn pass_unknown(&mut self) -> bool
         requires under_way { 0 < self.old.passing }
         ensures waits { result ≡ false → IsStillUnderWay self.old self.new }
@@ -131,7 +131,7 @@ impl FrameBuffer {
         true
     }
 
-    // The same where none is.
+    // The same if none is under way.
     fn decode(&mut self, alloc: Global) -> Result<Option<Frame<PayloadLen>>, FrameStreamError>
         requires none { self.old.passing ≡ 0 }
         ensures gives { Gives result (concat self.old.pieces) (concat self.new.pieces) }
@@ -147,8 +147,8 @@ impl FrameBuffer {
         decoded
     }
 
-    /// Where the front is an unknown frame under way, its bytes are let go, as far as they came, and from then on as they come. It is to
-    /// be called where a frame may begin. All that a contract sees of the bytes stays.
+    /// If the front is an unknown frame under way, its bytes are freed, as far as they came, and from then on as they come. It is to be
+    /// called when a frame may begin there. All that a contract sees of the bytes stays.
     pub fn spare(&mut self)
         ensures pieces { self.new.pieces ≡ self.old.pieces }
         ensures decoder { self.new.decoder ≡ self.old.decoder }
@@ -157,16 +157,16 @@ impl FrameBuffer {
         self.unread.spare();
     }
 
-    /// Whether there is a limit and the first frame that is no whole unknown one says a length above it, where it is one whose payload is kept
-    /// until it is whole (RFC 9114, section 10.5). The payload need not be there. Nothing is taken. 2^62 - 1 or more: no limit.
+    /// Whether there is a limit, and the first frame that is no whole unknown one says a length above it (RFC 9114, section 10.5). It has
+    /// to be one whose payload is kept until it is whole. The payload need not be there. Nothing is taken. 2^62 - 1 or more: no limit.
     pub fn is_excessive(&self, most: u64) -> bool
         ensures { result ≡ is_excessive most (known (concat self.now.pieces)) }
     {
         most < VarInt::MAX.into_inner() && self.unread.is_excessive(most)
     }
 
-    /// Whether the first frame that is no whole unknown one is HEADERS (RFC 9114, section 7.2.2), as far as its type came. Nothing is taken.
-    /// It stays apart, so that a reader that finds no frame too long is as short as it was.
+    /// Whether the first frame that is no whole unknown one is HEADERS (RFC 9114, section 7.2.2), as far as its type came. Nothing is
+    /// taken. It stays apart, so that a reader that finds no frame too long is as short as it was.
     #[inline(never)]
     pub fn begins_section(&self) -> bool
         ensures { result ≡ begins_section (known (concat self.now.pieces)) }
@@ -174,7 +174,8 @@ impl FrameBuffer {
         self.unread.begins_section()
     }
 
-    /// The first piece's first bytes, `max` or all of it, where no head is under way. Nothing is copied. An `Err` changes nothing.
+    /// The first piece's first bytes, `max` or all of it, when no frame is under way at the front. Nothing is copied. An `Err` changes
+    /// nothing.
     pub fn take_chunk(&mut self, max: usize) -> Result<Option<Bytes>, AllocError>
         requires between { AreBetween self.old }
         ensures ok { IfOk result (λ o. (o, self.new.pieces) ≡ chunk_of max self.old.pieces) }
@@ -185,7 +186,7 @@ impl FrameBuffer {
         self.unread.take_chunk(max)
     }
 
-    /// The first piece, where no head is under way.
+    /// The first piece, when no frame is under way at the front.
     pub fn take_first_chunk(&mut self) -> Option<Bytes>
         requires between { AreBetween self.old }
         ensures pieces { (result, self.new.pieces) ≡ first_of self.old.pieces }
@@ -195,7 +196,7 @@ impl FrameBuffer {
         self.unread.take_first_chunk()
     }
 
-    /// Whether no byte is unread, and there is no memory for any: then there is nothing to let go of.
+    /// Whether no byte is unread, and there is no memory for any: then there is nothing to free.
     pub fn is_bare(&self) -> bool
         ensures { result ≡ true → self.now.pieces ≡ [] }
     {
@@ -209,7 +210,7 @@ impl FrameBuffer {
         self.unread.len()
     }
 
-    /// How many of them are held: none while an unknown frame is under way at the front. It is to be asked where a frame may begin.
+    /// How many of them are held: none while an unknown frame is under way at the front. It is to be asked when a frame may begin there.
     pub fn held(&self) -> usize
         ensures { result ≡ held_length (concat self.now.pieces) }
     {
@@ -219,8 +220,8 @@ impl FrameBuffer {
         self.unread.len()
     }
 
-    /// How often the head of the frame under way was tried, or else that of the last frame that was taken, an unknown one too: at
-    /// most 17 times, and 0 before the first. A try does not count that ends for want of memory or at a frame that is refused.
+    /// How often the frame under way was tried, or else the last frame that was taken, an unknown one too: at most 17 times, and 0 before
+    /// the first. A try does not count that ends because an allocation fails, or at a frame that is refused.
     pub fn tries(&self) -> u8
         ensures value { result ≡ self.now.decoder.tries }
         ensures bound { result ≤ 17 }

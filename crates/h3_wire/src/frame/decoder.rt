@@ -58,7 +58,7 @@ pub(crate) enum Tried {
 /// A frame that was taken from the first piece: no `Frame`, which has room for the largest.
 #[derive(Drop)]
 pub enum First {
-    /// The head of a DATA frame, whose payload has so many bytes.
+    /// The type and length of a DATA frame, whose payload has so many bytes.
     Data(usize),
     /// The field section of a HEADERS frame.
     Headers(Bytes),
@@ -77,8 +77,8 @@ impl First {
 
 impl FrameDecoder {
     /// How often the frame under way was tried, or else the last one that was taken, an unknown one
-    /// too: at most 17 times, and 0 before the first. A try does not count that ends for want of
-    /// memory or at a frame that is refused.
+    /// too: at most 17 times, and 0 before the first. A try does not count that ends because an
+    /// allocation fails, or at a frame that is refused.
     pub fn tries(&self) -> u8
         ensures value { result ≡ self.now.tries }
         ensures bound { result ≤ 17 }
@@ -105,11 +105,11 @@ impl FrameDecoder {
         self.expected = expected;
     }
 
-    /// Takes the next known frame, of DATA the head alone, and the unknown ones before it. Without
-    /// a whole frame, and at an error, only unknown frames are taken. Where a call answered no
-    /// frame, the next one must find the bytes that it left, and may find more behind them. After
-    /// want of memory the call can be made again; a frame that was refused stays at the front and
-    /// is refused again.
+    /// Takes the next known frame, of DATA its type and length alone, and the unknown ones before
+    /// it. Without a whole frame, and at an error, only unknown frames are taken. If a call
+    /// answered no frame, the next one must find the bytes that it left, and may find more after
+    /// them. After an allocation failed the call can be made again; a frame that was refused stays
+    /// at the front and is refused again.
     pub fn decode(
         &mut self,
         alloc: Global,
@@ -129,7 +129,7 @@ impl FrameDecoder {
         }
     }
 
-    // The same, where it takes a frame from the first piece, or fewer bytes are there than the next try needs. Otherwise `None`, which changes
+    // The same, if it takes a frame from the first piece, or fewer bytes are there than the next try needs. Otherwise `None`, which changes
     // nothing.
     #[inline(always)]
     pub(super) fn decode_first(&mut self, src: &mut BufList<Bytes>) -> Option<Option<First>>
@@ -149,7 +149,7 @@ impl FrameDecoder {
         Some(Some(first))
     }
 
-    // The same wherever the frame lies, and behind unknown ones. It stays apart, so that a frame in the first piece is read without making
+    // The same wherever the frame lies, and after unknown ones. It stays apart, so that a frame in the first piece is read without making
     // room for the largest.
     #[inline(never)]
     fn decode_front(
@@ -198,8 +198,8 @@ fn try_frame(alloc: Global, src: &mut BufList<Bytes>) -> Tried
     decode_frame(alloc, src)
 }
 
-// Takes the head of a DATA frame that lies in the first piece, or a HEADERS frame that does, whose field section is cut from the piece.
-// `None` takes nothing.
+// Takes the type and length of a DATA frame, if they lie in the first piece, or a HEADERS frame that lies in it. The field section of that
+// one is cut from the piece. `None` takes nothing.
 fn take_first(src: &mut BufList<Bytes>) -> Option<First>
     ensures some { IfSome result (λ f. frame_at (concat src.old.pieces) ≡ Whole (first_frame f) (concat src.new.pieces)) }
     ensures whole { IfSome result (λ f. has_head (concat src.old.pieces) ≡ true) }
@@ -224,7 +224,7 @@ fn take_first(src: &mut BufList<Bytes>) -> Option<First>
 }
 
 // Cuts the field section of a HEADERS frame from the first piece, in which it lies. `None` takes
-// nothing: memory was refused.
+// nothing: an allocation failed.
 fn cut_section(src: &mut BufList<Bytes>, head: usize, size: usize) -> Option<Bytes>
     requires is { IsHeadersFrame (concat src.old.pieces) head size }
     requires inside { head + size ≤ first_size src.old.pieces }

@@ -30,7 +30,7 @@ pub(super) fn is_excessive(src: &BufList<Bytes>, most: u64) -> bool
     is_excessive_behind(src, 0, most)
 }
 
-/// The same behind so many bytes, wherever the heads lie. It stays apart, so that a look at one piece makes no room for a cursor.
+/// The same after so many bytes, wherever types and lengths lie. It stays apart, so that a look at one piece makes no room for a cursor.
 #[inline(never)]
 pub(super) fn is_excessive_behind(src: &BufList<Bytes>, passed: usize, most: u64) -> bool
     requires limit { is_limit most ≡ true }
@@ -43,7 +43,7 @@ pub(super) fn is_excessive_behind(src: &BufList<Bytes>, passed: usize, most: u64
     }
 }
 
-/// Whether the first frame behind so many bytes that is no whole unknown one is HEADERS, as far as its type came. Nothing is taken.
+/// Whether the first frame after so many bytes that is no whole unknown one is HEADERS, as far as its type came. Nothing is taken.
 pub(super) fn begins_section(src: &BufList<Bytes>, passed: usize) -> bool
     requires there { passed ≤ length (concat src.now.pieces) }
     ensures { result ≡ begins_section (known (drop passed (concat src.now.pieces))) }
@@ -54,7 +54,7 @@ pub(super) fn begins_section(src: &BufList<Bytes>, passed: usize) -> bool
     }
 }
 
-// What the head of that frame says, as far as it came: its type, and its length or 0.
+// What that frame says, as far as it came: its type, and its length or 0.
 fn first_head(src: &BufList<Bytes>, passed: usize) -> Option<(u64, u64)>
     requires there { passed ≤ length (concat src.now.pieces) }
     ensures { result ≡ head_said (varint_at (known (drop passed (concat src.now.pieces)))) }
@@ -68,7 +68,7 @@ fn first_head(src: &BufList<Bytes>, passed: usize) -> Option<(u64, u64)>
     }
 }
 
-// What the head under the cursor says. That of a frame that is unknown and whole says nothing, and the frame is passed.
+// What the frame under the cursor says, as far as its type and length came. A frame that is unknown and whole says nothing, and is passed.
 fn look(cursor: &mut Cursor<'_, Bytes>) -> Option<Option<(u64, u64)>>
     ensures some { IfSome result (λ h. h ≡ head_said (varint_at (known (left_at cursor.old)))) }
     ensures same { IsNone result → known (left_at cursor.new) ≡ known (left_at cursor.old) }
@@ -98,7 +98,7 @@ fn is_kept_whole(kind: u64) -> bool
     (1 <= kind && kind <= 9) || kind == 13
 }
 
-// The types whose payload is handed out as it comes: DATA, and a stream of WebTransport.
+// The types whose payload is delivered as it comes: DATA, and a stream of WebTransport.
 fn is_handed_out(kind: u64) -> bool
     ensures { result ≡ ((kind == 0) || (kind == 0x41)) }
 {

@@ -1,11 +1,11 @@
-//! Pieces that were let go: no memory has them, and contracts name them.
+//! Pieces that were freed: no memory has them, and contracts name them.
 ghost use Rattle.std.specs.Prelude.{◌≡◌, ℕ, List, [], ◌∷◌, ◌++◌};
 ghost use Rattle.std.specs.Borrow.{ftrue};
 
 use bytes::Bytes;
 use std::marker::Model;
 
-/// The pieces in front of a buffer that were let go, in order. It takes no memory.
+/// The freed pieces in front of a buffer, in order. It takes no memory.
 #[derive(Drop)]
 pub(super) struct LetGo {
     pub(super) ghost pieces: { List (List ℕ) },

@@ -1,7 +1,7 @@
 //! What is left of a payload.
 
-/// What is left of the payload under way: so many bytes (none where no payload is), or all to the
-/// stream's end.
+/// What is left of the payload under way: so many bytes (0 if no payload is under way), or all to
+/// the stream's end.
 #[derive(Clone, Copy, Debug, PartialEq, Eq)]
 pub enum PayloadLeft {
     /// So many bytes.

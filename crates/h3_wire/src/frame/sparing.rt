@@ -19,8 +19,8 @@ use h3_coding::coding::BufExt;
 use std::alloc::{AllocError, Global};
 use std::marker::Model;
 
-/// Pieces of bytes. Where an unknown frame is under way at their front, it lets go of them as they come (RFC 9114, section 9). A contract
-/// sees all of them.
+/// Pieces of bytes. If an unknown frame is under way at their front, it frees them as they come (RFC 9114, section 9). A contract sees all
+/// of them.
 #[derive(Drop)]
 pub(super) struct FrameBytes {
     kept: BufList<Bytes>,
@@ -58,7 +58,7 @@ impl FrameBytes {
         }
     }
 
-    /// More bytes came. Where they belong to the unknown frame under way, and that goes on behind them, they are let go.
+    /// More bytes came. If they belong to the unknown frame under way, and that goes on after them, they are freed.
     pub(super) fn push(&mut self, bytes: Bytes) -> Result<(), Bytes>
         requires fits { length (concat self.old.pieces) + length bytes < 2 ^ 64 }
         ensures ok { OnOk result (self.new ≡ record self.old { pieces = with_piece self.old.pieces bytes }) }
@@ -79,7 +79,7 @@ impl FrameBytes {
         }
     }
 
-    /// Where the front is an unknown frame under way, its bytes are let go. A frame has to begin there.
+    /// If the front is an unknown frame under way, its bytes are freed. A frame has to begin there.
     pub(super) fn spare(&mut self)
         ensures pieces { self.new.pieces ≡ self.old.pieces }
         ensures spared { is_under_way (concat self.new.pieces) ≡ true → 0 < self.new.passing }
@@ -98,7 +98,7 @@ impl FrameBytes {
         }
     }
 
-    /// How many bytes the unknown frame under way has, head and payload, where some of it were let go; else 0.
+    /// How many bytes the unknown frame under way has, its type and length among them, if some of them were freed; else 0.
     pub(super) fn passing(&self) -> usize
         ensures value { result ≡ self.now.passing }
         ensures unknown { 0 < result → unknown_size (concat self.now.pieces) ≡ Some result }
@@ -120,7 +120,7 @@ impl FrameBytes {
         self.passing = 0;
     }
 
-    /// `FrameDecoder::decode`, where no unknown frame is under way.
+    /// `FrameDecoder::decode`, when no unknown frame is under way.
     pub(super) fn decode(
         &mut self,
         alloc: Global,
@@ -138,7 +138,7 @@ impl FrameBytes {
         decoder.decode(alloc, &mut self.kept)
     }
 
-    /// `FrameDecoder::decode_first`, where no unknown frame is under way.
+    /// `FrameDecoder::decode_first`, when no unknown frame is under way.
     #[inline(always)]
     pub(super) fn decode_first(&mut self, decoder: &mut FrameDecoder) -> Option<Option<First>>
         requires none { self.old.passing ≡ 0 }
@@ -154,7 +154,7 @@ impl FrameBytes {
         decoder.decode_first(&mut self.kept)
     }
 
-    /// `BufList::take_chunk`, where no unknown frame is under way.
+    /// `BufList::take_chunk`, when no unknown frame is under way.
     pub(super) fn take_chunk(&mut self, max: usize) -> Result<Option<Bytes>, AllocError>
         requires none { self.old.passing ≡ 0 }
         ensures ok { IfOk result (λ o. (o, self.new.pieces) ≡ chunk_of max self.old.pieces) }
@@ -164,7 +164,7 @@ impl FrameBytes {
         self.kept.take_chunk(max)
     }
 
-    /// `BufList::take_first_chunk`, where no unknown frame is under way.
+    /// `BufList::take_first_chunk`, when no unknown frame is under way.
     pub(super) fn take_first_chunk(&mut self) -> Option<Bytes>
         requires none { self.old.passing ≡ 0 }
         ensures pieces { (result, self.new.pieces) ≡ first_of self.old.pieces }
@@ -223,7 +223,7 @@ impl FrameBytes {
     }
 }
 
-// Lets go of what is kept, where the unknown frame under way goes on behind it.
+// Frees what is kept, if the unknown frame under way goes on after it.
 fn release(kept: &mut BufList<Bytes>, let_go: &mut LetGo, gone: &mut usize, passing: usize)
     requires front { AreLetGo passing gone.old let_go.old.pieces }
     requires fits { gone.old + length (concat kept.old.pieces) < 2 ^ 64 }
@@ -239,7 +239,7 @@ fn release(kept: &mut BufList<Bytes>, let_go: &mut LetGo, gone: &mut usize, pass
     let_all_go(kept, let_go);
 }
 
-// Lets go of all pieces.
+// Frees all pieces.
 fn let_all_go(kept: &mut BufList<Bytes>, let_go: &mut LetGo)
     ensures pieces { let_go.new.pieces ≡ let_go.old.pieces ++ kept.old.pieces }
     ensures none { kept.new.pieces ≡ [] }
@@ -259,7 +259,7 @@ fn is_longer(len: usize, size: Option<usize>) -> bool
     }
 }
 
-// How many bytes the frame at the front has, where its head is whole and its type is unknown.
+// How many bytes the frame at the front has, if its type and length are whole and its type is unknown.
 fn unknown_size(pieces: &BufList<Bytes>) -> Option<usize>
     ensures { result ≡ unknown_size (concat pieces.now.pieces) }
 {
@@ -271,7 +271,7 @@ fn unknown_size(pieces: &BufList<Bytes>) -> Option<usize>
     unknown_size_anywhere(pieces)
 }
 
-// The same, wherever the head lies. It stays apart, so that a known type is told without a cursor.
+// The same, wherever type and length lie. It stays apart, so that a known type is found without a cursor.
 #[tactic(auto, unfolding(crate::specs::UnknownSize::unknown_size))]
 #[inline(never)]
 fn unknown_size_anywhere(pieces: &BufList<Bytes>) -> Option<usize>

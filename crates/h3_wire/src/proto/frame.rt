@@ -91,7 +91,7 @@ impl Encode for FrameType {
     }
 }
 
-/// How many bytes of payload follow the head of a DATA frame.
+/// How many bytes of payload follow the type and length of a DATA frame.
 #[derive(Clone, Copy, Debug, PartialEq, Eq)]
 pub struct PayloadLen(pub usize);
 
@@ -155,7 +155,7 @@ pub enum Frame<B> {
     Goaway(VarInt),
     /// The greatest id that a push may have (RFC 9114, section 7.2.7).
     MaxPushId(PushId),
-    /// The head of a WebTransport stream, which lasts to the stream's end.
+    /// The beginning of a WebTransport stream, which lasts to the stream's end.
     WebTransportStream(SessionId),
     /// A frame that has no meaning. It is written and never read.
     Grease(FrameType),

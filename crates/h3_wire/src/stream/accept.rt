@@ -32,7 +32,7 @@ pub enum PollTypeError {
     OutOfMemory,
 }
 
-/// A one-way stream by its type, with every byte behind the type and its id.
+/// A one-way stream by its type, with every byte after the type and its id.
 #[derive(Drop)]
 pub enum AcceptedRecvStream<S> {
     /// A control stream.
@@ -49,7 +49,7 @@ pub enum AcceptedRecvStream<S> {
     Unknown(BufRecvStream<S>),
 }
 
-/// A peer's one-way stream, whose type and the id behind it (of types 1 and 0x54) are to be read.
+/// A peer's one-way stream, whose type and the id after it (of types 1 and 0x54) are to be read.
 #[derive(Drop)]
 pub struct AcceptRecvStream<S> {
     stream: BufRecvStream<S>,
@@ -95,7 +95,7 @@ impl<S> AcceptRecvStream<S> {
         self.stream.source_mut()
     }
 
-    /// Whether the type was read, and the id where there is one.
+    /// Whether the type was read, and the id if there is one.
     pub fn is_resolved(&self) -> bool
         ensures { result ≡ resolved self.now.kind self.now.id }
     {
@@ -105,7 +105,7 @@ impl<S> AcceptRecvStream<S> {
         }
     }
 
-    /// The stream by its type. No byte behind type and id is lost.
+    /// The stream by its type. No byte after type and id is lost.
     pub fn into_stream(self) -> AcceptedRecvStream<S>
         requires { resolved self.kind self.id ≡ true }
         ensures { Accepts result self }
@@ -185,7 +185,7 @@ impl<S> AcceptRecvStream<S> {
         true
     }
 
-    // Takes the id where the type, which was read, has one.
+    // Takes the id if the type, which was read, has one.
     #[tactic(auto, using(crate::specs::PieceLaws::rest_same))]
     fn take_id(&mut self) -> bool
         requires { IsSome self.old.kind }
@@ -226,7 +226,7 @@ impl<S: RecvStream> AcceptRecvStream<S> {
         self.stream.recv_id()
     }
 
-    /// Reads the type, and the id of types 1 and 0x54. The source is asked only where what was read
+    /// Reads the type, and the id of types 1 and 0x54. The source is asked only if what was read
     /// does not suffice.
     pub fn poll_type(&mut self) -> Poll<Result<(), PollTypeError>>
         requires { length (all_left S.rest self.old) < 2 ^ 62 }
@@ -274,7 +274,7 @@ impl<S: RecvStream> AcceptRecvStream<S> {
 }
 
 impl<S: RecvStream> AcceptRecvStream<S> {
-    // Asks the source, unless the end was told.
+    // Asks the source, unless its end is known.
     fn ask(&mut self) -> Result<Received, FrameStreamError>
         requires { length (all_left S.rest self.old) < 2 ^ 62 }
         ensures all { all_left S.rest self.new ≡ all_left S.rest self.old }
@@ -291,7 +291,7 @@ impl<S: RecvStream> AcceptRecvStream<S> {
     }
 }
 
-// An error of the source as it is told here.
+// An error of the source as a `PollTypeError`.
 fn as_type_error(e: StreamErrorIncoming) -> PollTypeError
     ensures { result ≡ type_error e }
 {

@@ -23,7 +23,7 @@ pub enum UniStreamHeader {
     Decoder,
 }
 
-/// What a stream in both directions begins with, where it carries no message.
+/// What a stream in both directions begins with, if it carries no message.
 #[derive(Clone, Copy, Drop)]
 pub enum BidiStreamHeader {
     /// A WebTransport stream of a session.

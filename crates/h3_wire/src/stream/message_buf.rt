@@ -13,9 +13,9 @@ use std::marker::Model;
 // A type and a length.
 const SIZE: usize = 16;
 
-/// A DATA or HEADERS frame as the bytes that are to be sent: its head, which needs no memory, and
-/// then its payload, which is not copied. A queue of them is small: where `WriteBuf` has room for
-/// eight settings, this has room for a type and a length. A contract sees both parts.
+/// A DATA or HEADERS frame as the bytes that are to be sent: its type and length, which need no
+/// memory, and then its payload, which is not copied. A queue of them is small: `WriteBuf` has room
+/// for eight settings, and this for a type and a length. A contract sees both parts.
 #[derive(Drop)]
 pub struct MessageBuf<B: Buf> {
     head: Head<SIZE>,
@@ -63,7 +63,7 @@ impl<B: Buf> MessageBuf<B> {
         ensures payload { result.payload ≡ B.unread payload }
     {
         let mut head = Head::new();
-        // There is room for each head.
+        // There is room for each type and length.
         let _written = write_head(kind, payload.remaining() as u64, &mut head);
         MessageBuf {
             head,
@@ -74,8 +74,7 @@ impl<B: Buf> MessageBuf<B> {
 }
 
 impl<B: Piece> MessageBuf<B> {
-    /// What is to be sent first: the rest of the head while there is some, and then all that is left
-    /// of the payload.
+    /// What is to be sent first: the rest of type and length while there is some, and then all that is left of the payload.
     pub fn first_part(&self) -> &[u8]
         ensures { result.now ≡ first_part self.now }
     {
@@ -85,7 +84,7 @@ impl<B: Piece> MessageBuf<B> {
         self.payload.bytes()
     }
 
-    /// What is left of the payload, which is sent behind the head.
+    /// What is left of the payload, which is sent after type and length.
     pub fn payload(&self) -> &[u8]
         ensures { result.now ≡ self.now.payload }
     {
@@ -93,7 +92,7 @@ impl<B: Piece> MessageBuf<B> {
         payload.bytes()
     }
 
-    /// What is left of the head.
+    /// What is left of type and length.
     pub fn head(&self) -> &[u8]
         ensures { result.now ≡ self.now.head }
     {
@@ -102,8 +101,8 @@ impl<B: Piece> MessageBuf<B> {
     }
 }
 
-/// A chunk is the rest of the head while there is some, and then bytes of the payload, as the
-/// payload's own `chunk` lends them.
+/// A chunk is the rest of type and length while there is some, and then bytes of the payload, as
+/// the payload's own `chunk` lends them.
 impl<B: Buf> Buf for MessageBuf<B> {
     ghost unread = { all_of };
 

@@ -18,9 +18,9 @@ use std::marker::Model;
 // A stream type, and the longest front of a frame: type, length and eight settings.
 const SIZE: usize = 152;
 
-/// A frame, a stream's header or both, as the bytes that are to be sent: what is written of them,
-/// which needs no memory, and then the payload that the frame carries, which is not copied. A
-/// contract sees both parts.
+/// A frame, a stream's header or both, as the bytes that are to be sent. They are what is written
+/// of them, which needs no memory, and then the payload that the frame carries, which is not
+/// copied. A contract sees both parts.
 #[derive(Drop)]
 pub struct WriteBuf<B: Buf> {
     head: Head<SIZE>,
@@ -58,7 +58,7 @@ impl<B: Buf> From<StreamType> for WriteBuf<B> {
 
     fn from(ty: StreamType) -> Self {
         let mut head = Head::new();
-        // There is room for each head.
+        // There is room for all that a `Head` gets here.
         let _written = write_type(ty, &mut head);
         WriteBuf::alone(head)
     }

@@ -13,14 +13,14 @@ use h3_coding::varint::VarInt;
 use std::alloc::Global;
 
 impl Frame<PayloadLen> {
-    /// The most bytes that the head of a frame with one number for its payload, or with none, and
-    /// a stream type before it have, and more.
+    /// The most bytes, and more, that a stream type and a frame's type and length after it have,
+    /// with one number for the frame's payload or with none.
     pub const MAX_ENCODED_SIZE: usize = VarInt::MAX_SIZE * 7;
 
-    /// Takes a frame from the front, of DATA the head alone. An unknown frame is taken too, and is
-    /// an `Err`. Any other `Err` leaves the buffer with a front of its bytes taken. `Incomplete`
-    /// comes before every other error. Only the payload of HEADERS and the field section of
-    /// PUSH_PROMISE want memory.
+    /// Takes a frame from the front, of DATA its type and length alone. An unknown frame is taken
+    /// too, and is an `Err`. Any other `Err` leaves the buffer with a front of its bytes taken.
+    /// `Incomplete` comes before every other error. Only the payload of HEADERS and the field
+    /// section of PUSH_PROMISE need memory.
     pub fn decode<B: Buf>(alloc: Global, buf: &mut B) -> Result<Self, FrameError>
         ensures decodes { Decodes result (frame_at (B.unread buf.old)) (B.unread buf.new) }
         ensures front { OnErr result (TakesFront (B.unread buf.old) (B.unread buf.new)) }

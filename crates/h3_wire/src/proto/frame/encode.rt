@@ -11,9 +11,9 @@ use h3_coding::coding::{BufMutExt, Encode, WriteRefused};
 use h3_coding::varint::VarInt;
 
 impl<B: Buf> Frame<B> {
-    /// Appends the frame, of DATA and HEADERS the head alone, whose payload is left to the caller.
-    /// The payload, which of PUSH_PROMISE has the id too, must be shorter than 2^62 bytes. An `Err`
-    /// leaves a beginning of what is written.
+    /// Appends the frame. Of DATA and HEADERS it appends type and length alone, and leaves the
+    /// payload to the caller. The payload, which of PUSH_PROMISE has the id too, must be shorter
+    /// than 2^62 bytes. An `Err` leaves a beginning of what is written.
     pub fn encode<W: BufMut>(&self, out: &mut W) -> Result<(), WriteRefused>
         requires { HasLength B.unread self.now }
         ensures ok { OnOk result (W.written out.new ≡ W.written out.old ++ written_of B.unread self.now) }

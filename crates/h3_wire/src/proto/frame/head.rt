@@ -1,11 +1,11 @@
-//! The head of a frame (RFC 9114, section 7.1) whose bytes lie together.
+//! The type and length of a frame (RFC 9114, section 7.1), if their bytes lie together.
 ghost use Rattle.std.specs.Prelude.{◌≡◌, ◌^◌, ◌<◌, ◌≤◌, length, drop, IfSome, Some};
 ghost use Rattle.h3_coding.specs.Varint.{varint_at};
 ghost use Rattle.h3_wire.specs.Frames.{BeginsWithHead};
 
 use h3_coding::coding::BufExt;
 
-/// A type and the number behind it: a length, or of a WebTransport stream a session id.
+/// A type and the number after it: a length, or of a WebTransport stream a session id.
 #[derive(Clone, Copy)]
 pub(crate) struct FrameHead {
     pub(crate) kind: u64,
@@ -15,7 +15,7 @@ pub(crate) struct FrameHead {
 }
 
 impl FrameHead {
-    /// The head that lies whole at the front of the bytes.
+    /// The type and the number that lie whole at the front of the bytes.
     #[inline(always)]
     pub(crate) fn at_front(bytes: &[u8]) -> Option<FrameHead>
         ensures begins { IfSome result (λ h. BeginsWithHead h.kind h.number bytes.now (drop h.size bytes.now)) }
