@@ -33,7 +33,7 @@ pub enum NewError {
     /// The limit on what is unfinished is below four times what is announced (the greatest size of a field section, or the table's capacity),
     /// or below 256 bytes, or no greatest size is announced.
     UnfinishedLimit,
-    /// Memory was refused.
+    /// An allocation failed.
     OutOfMemory,
 }
 
