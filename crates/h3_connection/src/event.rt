@@ -99,8 +99,8 @@ pub enum Malformation {
     Status,
     /// A field that is not for trailers (RFC 9110, section 6.5.1).
     TrailerField,
-    /// A HEADERS frame is longer than the endpoint's limit on what is unfinished (RFC 9114, section 10.5). Only an endpoint with that limit tells
-    /// it, whether its messages are strict or not.
+    /// A HEADERS frame is longer than the endpoint's limit on what is unfinished (RFC 9114, section 10.5). Only an endpoint with that limit
+    /// reports it, whether its messages are strict or not.
     TooLong,
 }
 

@@ -46,8 +46,7 @@ impl InsertWithNameRef {
         InsertWithNameRef::Dynamic { index, value }
     }
 
-    /// Takes the instruction from the front, or answers `None` where it is not whole. Then, and on a refusal, nothing is
-    /// taken.
+    /// Takes the instruction from the front, or answers `None` if it is not whole. Then, and on a refusal, nothing is taken.
     pub fn decode(
         alloc: Global,
         buf: &mut SliceCursor<'_>,
@@ -59,8 +58,8 @@ impl InsertWithNameRef {
         InsertWithNameRef::decode_with_room(alloc, buf, 0)
     }
 
-    /// Takes the instruction from the front as `decode` does, into a block that has room for `spare` bytes behind the value, so that the
-    /// name of the entry can be put there with no second block (`HeaderField::with_copied_name`). An empty value has no block.
+    /// Takes the instruction from the front as `decode` does, into a block that has room for `spare` bytes after the value. So the name of
+    /// the entry can be put there with no second block (`HeaderField::with_copied_name`). An empty value has no block.
     #[tactic(auto, using(crate::specs::EndLaws::none_dropped))]
     pub fn decode_with_room(
         alloc: Global,
@@ -155,8 +154,7 @@ impl InsertWithoutNameRef {
         InsertWithoutNameRef { name, value }
     }
 
-    /// Takes the instruction from the front, or answers `None` where it is not whole. Then, and on a refusal, nothing is
-    /// taken.
+    /// Takes the instruction from the front, or answers `None` if it is not whole. Then, and on a refusal, nothing is taken.
     #[tactic(auto, using(crate::specs::EndLaws::none_dropped))]
     pub fn decode(
         alloc: Global,
