@@ -9,7 +9,7 @@ use crate::words::Words;
 use std::alloc::{AllocError, Global};
 use std::marker::Model;
 
-/// A set of streams by words of 64 bits, where 64 request streams, one behind the other, share a word.
+/// A set of streams by words of 64 bits: 64 request streams, one after the other, share a word.
 #[derive(Drop)]
 pub struct StreamSet {
     words: Words,
@@ -70,7 +70,7 @@ impl StreamSet {
         (self.words.get(word_of(stream)) >> place_of(stream)) & 1 == 1
     }
 
-    /// Puts a stream into the set. Where memory is refused nothing changes; none is needed where a stream of the same word is there.
+    /// Puts a stream into the set. If an allocation fails, nothing changes. No memory is needed if a stream of the same word is there.
     pub fn insert(&mut self, stream: u64) -> Result<(), AllocError>
         ensures ok { OnOk result (self.new ≡ insert_key nat_cmp self.old stream) }
         ensures err { OnErr result ((self.new ≡ self.old) × (list_any (λ other. other == stream) self.old ≡ false)) }
