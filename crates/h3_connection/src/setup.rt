@@ -30,8 +30,8 @@ pub enum NewError {
     BlockedLimit,
     /// A setting cannot be announced.
     Settings(SettingsError),
-    /// The limit on what is unfinished is below four times what is announced (the greatest size of a field section, or the table's
-    /// capacity), or below 256 bytes, or no greatest size is announced.
+    /// The limit on what is unfinished is below four times what is announced: the greatest size of a field section, or the table's
+    /// capacity. Or it is below 256 bytes, or no greatest size is announced.
     UnfinishedLimit,
     /// An allocation failed.
     OutOfMemory,

@@ -182,8 +182,8 @@ fn keep(fields: &mut Vec<HeaderField>, field: HeaderField, left: usize) -> Resul
     Ok(())
 }
 
-/// Reads the prefix and the lines of a section, to the end of `buf`, and adds their fields to an empty list, as long as they sum to at
-/// most `max_size`. Answers their sum. A refused read takes nothing, and may leave fields in the list.
+/// Reads the prefix and the lines of a section, to the end of `buf`. It adds their fields to an empty list, as long as they sum to at most
+/// `max_size`. Answers their sum. A refused read takes nothing, and may leave fields in the list.
 fn list_section(
     alloc: Global,
     buf: &mut SliceCursor<'_>,

@@ -18,8 +18,9 @@ use std::marker::Model;
 pub const MOST_INSERTIONS: usize = 1 << 62;
 
 /// The greatest capacity of a table, in bytes: 2^30 - 1. Of fields without bytes a table of it has 33,554,431 entries, with a record of
-/// about 50 bytes and, at an encoder, three numbers of 8 bytes for each, in rings that have room for up to twice as many; of long fields
-/// it has 1 GiB of bytes, in a block of at most a quarter more. A search walks the entries of one slot of 256.
+/// about 50 bytes for each. At an encoder there are also three numbers of 8 bytes for each. Records and numbers lie in rings that have room
+/// for up to twice as many. Of long fields it has 1 GiB of bytes, in a block of at most a quarter more. A search walks the entries of one
+/// slot of 256.
 pub const MAX_CAPACITY: usize = (1 << 30) - 1;
 
 /// The size of a field in a table, stopping at the greatest number (RFC 9204, section 3.2.1).

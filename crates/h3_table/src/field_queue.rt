@@ -248,8 +248,8 @@ impl FieldQueue {
         }
     }
 
-    /// Takes memory for a record more, and for so many bytes more beside those that are kept: a new block, if the one that is there has no
-    /// room for them. The fields stay.
+    /// Takes memory for a record more, and for so many bytes more beside those that are kept. For these it is a new block, if the one that
+    /// is there has no room for them. The fields stay.
     pub(crate) fn reserve(
         &mut self,
         kept: usize,

@@ -96,7 +96,7 @@ impl PlacedSection {
 }
 
 /// At most one section of each stream, and of the streams with one place one at most. Streams near one another have places of their own. If
-/// a place is not free and there are less than two for each section, they are made twice as many.
+/// a place is not free and there are less than two for each section, the places are made twice as many.
 #[derive(Drop)]
 pub(crate) struct Places {
     alloc: Global,
@@ -162,7 +162,7 @@ impl Places {
         }
     }
 
-    /// Puts a section at the place of its stream, and tells whether that was free.
+    /// Puts a section at the place of its stream, and answers whether that was free.
     fn put_at_once(&mut self, section: PlacedSection) -> bool
         ensures put { result ≡ true → HasOneMore section self.old.sections self.new.sections }
         ensures taken { result ≡ false → self.new ≡ self.old }
@@ -181,7 +181,7 @@ impl Places {
         true
     }
 
-    /// Puts a section at the place of its stream, and tells whether that was free or could be made so. There are so many sections then.
+    /// Puts a section at the place of its stream, and answers whether that was free or could be made so. There are so many sections then.
     pub(crate) fn put(&mut self, count: usize, section: TrackedSection) -> Result<bool, AllocError>
         ensures put { IfOk result (λ done. done ≡ true → HasOneMore section self.old.sections self.new.sections) }
         ensures taken { IfOk result (λ done. done ≡ false → HaveSame self.old.sections self.new.sections) }

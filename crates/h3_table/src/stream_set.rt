@@ -29,8 +29,8 @@ impl Model for StreamSet {
     ghost invariant = { IsSmall };
 }
 
-/// The number of the word in which a stream has its bit: a number of its kind (request, push and so on, by the last two bits) for each
-/// 64 streams of that kind.
+/// The number of the word in which a stream has its bit. Each 64 streams of one kind (request, push and so on, by the last two bits) have a
+/// number of that kind.
 fn word_of(stream: u64) -> u64
     ensures { result ≡ word_of stream }
 {

@@ -93,7 +93,7 @@ impl Words {
         }
     }
 
-    /// Adds bits to a word that is there, and tells whether it is.
+    /// Adds bits to a word that is there, and answers whether it is.
     pub(crate) fn add(&mut self, number: u64, bits: u64) -> bool
         ensures added { result ≡ true → IsOneWord number (bit_or (word_at self.old number) bits) (word_at self.old) (word_at self.new) }
         ensures not_there { result ≡ false → word_at self.old number ≡ 0 }

@@ -58,8 +58,8 @@ impl Indexed {
     }
 }
 
-/// A line that is a dynamic entry, by its distance from the base on: the indexed field line with post-base index,
-/// `| 0 | 0 | 0 | 1 | index (4+) |` (RFC 9204, section 4.5.3).
+/// A line that is a dynamic entry, by its distance from the base on (RFC 9204, section 4.5.3). It is the indexed field line with post-base
+/// index, `| 0 | 0 | 0 | 1 | index (4+) |`.
 #[derive(Copy, Clone, PartialEq, Eq, Debug)]
 pub struct IndexedWithPostBase(pub usize);
 

@@ -36,8 +36,8 @@ pub enum NameRef {
     Dynamic(usize),
 }
 
-/// A line with the name of a static entry, or of a dynamic one by its distance below the base: the literal field line with
-/// name reference, `| 0 | 1 | N | T | name index (4+) | H | value length (7+) | value |` (RFC 9204, section 4.5.4).
+/// A line with the name of a static entry, or of a dynamic one by its distance below the base (RFC 9204, section 4.5.4). It is the literal
+/// field line with name reference, `| 0 | 1 | N | T | name index (4+) | H | value length (7+) | value |`.
 #[derive(PartialEq, Debug, Drop)]
 pub enum LiteralWithNameRef {
     Static { index: usize, value: Vec<u8> },
@@ -184,8 +184,8 @@ impl LiteralWithNameRef {
     }
 }
 
-/// A line with the name of a dynamic entry, by its distance from the base on: the literal field line with post-base name
-/// reference, `| 0 | 0 | 0 | 0 | N | name index (3+) | H | value length (7+) | value |` (RFC 9204, section 4.5.5).
+/// A line with the name of a dynamic entry, by its distance from the base on (RFC 9204, section 4.5.5). It is the literal field line with
+/// post-base name reference, `| 0 | 0 | 0 | 0 | N | name index (3+) | H | value length (7+) | value |`.
 #[derive(PartialEq, Debug, Drop)]
 pub struct LiteralWithPostBaseNameRef {
     pub index: usize,

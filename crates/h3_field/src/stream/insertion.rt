@@ -22,8 +22,8 @@ use crate::shapes::{
 use crate::{prefix_int, prefix_string};
 use std::alloc::Global;
 
-/// An insertion with the name of a static entry, or of a dynamic one by its distance from the newest: insert with name
-/// reference, `| 1 | T | name index (6+) | H | value length (7+) | value |` (RFC 9204, section 4.3.2).
+/// An insertion with the name of a static entry, or of a dynamic one by its distance from the newest (RFC 9204, section 4.3.2). It is
+/// insert with name reference, `| 1 | T | name index (6+) | H | value length (7+) | value |`.
 #[derive(PartialEq, Debug, Drop)]
 pub enum InsertWithNameRef {
     Static { index: usize, value: Vec<u8> },
