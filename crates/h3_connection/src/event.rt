@@ -12,7 +12,7 @@ use h3_proto::stream::{Side, StreamId};
 use h3_proto::webtransport::SessionId;
 use std::fmt;
 
-/// Why a call was refused. It then changed nothing, but for `Connection` where the call found the fault, and `Kept`.
+/// Why a call was refused. It then changed nothing, except for `Kept`, and for `Connection` if the call found the fault.
 #[derive(Clone, Copy, Debug, PartialEq, Eq)]
 pub enum Refusal {
     /// The connection was closed by this fault.
@@ -23,7 +23,7 @@ pub enum Refusal {
     NotReceiving,
     /// The stream's end or reset came before.
     AfterEnd,
-    /// It was stored, and memory was refused in reading.
+    /// It was stored, and an allocation failed in reading.
     Kept,
     /// Only a client opens request streams.
     NotClient,
@@ -35,7 +35,7 @@ pub enum Refusal {
     NotOpen,
     /// It may not come at this place of its message.
     OutOfOrder,
-    /// A client sends heads of requests, a server those of responses.
+    /// A client sends the header sections of requests, a server those of responses.
     WrongSide,
     /// A trailer has no pseudo-header field.
     PseudoInTrailer,
@@ -51,28 +51,28 @@ pub enum Refusal {
     NotRequestId,
     /// An earlier GOAWAY had this lower id.
     Raised(u64),
-    /// Memory was refused.
+    /// An allocation failed.
     OutOfMemory,
 }
 
-/// Why a message is none (RFC 9114, section 4.1.2). Each endpoint tells the first six, in the order in which it judges. What stands behind is
-/// told where the setup asks for strict messages: the rules of `h3_messages::Violation`, behind those six; and the last one where it limits
-/// what is unfinished.
+/// Why a message is malformed (RFC 9114, section 4.1.2). Each endpoint reports the first six, in the order in which it judges. After those
+/// six come the rules of `h3_messages::Violation`, which are reported if the setup asks for strict messages. The last one is reported if
+/// the setup limits what is unfinished.
 #[derive(Clone, Copy, Debug, PartialEq, Eq)]
 pub enum Malformation {
     /// A field's name is empty, not in lower case, or unknown with a `:` (RFC 9114, sections 4.2 and 4.3).
     Name,
-    /// A value has a character that may not stand there. Where messages are strict also: white space stands around it.
+    /// A value has a character that may not stand there. If messages are strict, also: there is white space before or after it.
     Value,
     /// There are more different names than a `HeaderMap` holds (24,576).
     TooMany,
-    /// It is a head of the other kind: without `:method` in a request, without `:status` in a response.
+    /// It is a header section of the other kind: without `:method` in a request, without `:status` in a response.
     WrongSide,
     /// A trailer has a pseudo-header field (RFC 9114, section 4.3).
     PseudoInTrailer,
-    /// The stream ended before the final head (RFC 9114, section 4.1).
+    /// The stream ended before the final header section (RFC 9114, section 4.1).
     NoHead,
-    /// A pseudo-header field stands behind a regular field (RFC 9114, section 4.3).
+    /// A pseudo-header field comes after a regular field (RFC 9114, section 4.3).
     PseudoOrder,
     /// A pseudo-header field is not of this side (RFC 9114, section 4.3).
     WrongPseudo,
@@ -82,7 +82,7 @@ pub enum Malformation {
     ConnectionField,
     /// `content-length` is no number, comes twice, or may not come with this status (RFC 9110, section 8.6).
     ContentLength,
-    /// `:protocol` without CONNECT, or where extended CONNECT was not announced (RFC 8441, section 4; RFC 9220, section 3).
+    /// `:protocol` without CONNECT, or when extended CONNECT was not announced (RFC 8441, section 4; RFC 9220, section 3).
     Protocol,
     /// CONNECT without `:authority`, or plain CONNECT with `:scheme` or `:path` (RFC 9114, section 4.4).
     Connect,
@@ -99,15 +99,15 @@ pub enum Malformation {
     Status,
     /// A field that is not for trailers (RFC 9110, section 6.5.1).
     TrailerField,
-    /// A HEADERS frame is longer than the endpoint's limit on what is unfinished (RFC 9114, section 10.5). Only an endpoint with that limit tells
-    /// it, whether its messages are strict or not.
+    /// A HEADERS frame is longer than the endpoint's limit on what is unfinished (RFC 9114, section 10.5). Only an endpoint with that limit
+    /// reports it, whether its messages are strict or not.
     TooLong,
 }
 
 impl Malformation {
     /// The code to end its stream with, in both directions: H3_MESSAGE_ERROR (RFC 9114, section 4.1.2). At a server a request that ended
-    /// before its head is H3_REQUEST_INCOMPLETE (section 4.1), and a field section that is too long is H3_EXCESSIVE_LOAD (section 10.5).
-    /// `side` is the side that reads the message.
+    /// before its header section is H3_REQUEST_INCOMPLETE (section 4.1). A field section that is too long is H3_EXCESSIVE_LOAD (section
+    /// 10.5). `side` is the side that reads the message.
     pub fn code(self, side: Side) -> Code
         ensures { result ≡ malformation_code self side }
     {
@@ -189,24 +189,24 @@ impl Malformation {
     }
 }
 
-/// What a pull hands out.
+/// What a pull returns.
 #[derive(Debug, Drop)]
 pub enum Item {
-    /// A head with a status from 100 to 199, which is not the last one.
+    /// A header section with a status from 100 to 199, which is not the last one.
     Interim(Header),
-    /// The head of a request, or the final head of a response.
+    /// The header section of a request, or the final one of a response.
     Head(Header),
     /// The next piece of the content, as the pieces came that were delivered.
     Body(Bytes),
-    /// The trailer, behind which nothing but the end comes.
+    /// The trailer, after which nothing but the end comes.
     Trailer(Header),
-    /// In the place of a head or trailer whose size is above the own section size: that size.
+    /// In the place of a header section or trailer whose size is above the local limit on sections: that size.
     TooLarge(u64),
     /// The stream is one of this WebTransport session, and no message.
     Session(SessionId),
     /// The next piece of such a stream, as it came.
     Raw(Bytes),
-    /// The stream has ended, and all of it was handed out.
+    /// The stream has ended, and all of it was delivered.
     End,
 }
 
@@ -215,20 +215,20 @@ pub enum Item {
 pub enum StreamFault {
     /// Its message is malformed (RFC 9114, section 4.1.2).
     Malformed(Malformation),
-    /// Its sender cut it off, with this code of an application.
+    /// Its sender reset it, with this application error code.
     Reset(u64),
     /// This side gave it up.
     Canceled,
 }
 
-/// Why there is nothing to hand out.
+/// Why there is nothing to return.
 #[derive(Clone, Copy, Debug, PartialEq, Eq)]
 pub enum Fault {
     /// The fault of the connection, by the code to close it with.
     Connection(Code),
     /// The stream gives no more; others go on.
     Stream(StreamFault),
-    /// Memory was refused. Nothing is lost.
+    /// An allocation failed. Nothing is lost.
     Memory,
 }
 
@@ -260,7 +260,7 @@ pub enum Pull {
     Item(Item),
     /// The next item isn't there yet.
     Pending,
-    /// The next head or trailer needs so many insertions.
+    /// The next header section or trailer needs so many insertions.
     Waiting(usize),
     /// There is none, for this fault.
     Fault(Fault),
@@ -275,7 +275,7 @@ pub enum DeliverError {
     Refused(Refusal),
     /// Nothing was delivered. The bytes come back.
     OutOfMemory(Bytes),
-    /// It was stored, and memory was refused in reading.
+    /// It was stored, and an allocation failed in reading.
     Kept,
 }
 
@@ -293,8 +293,8 @@ pub struct PeerLimits {
 /// The sizes of both dynamic tables (RFC 9204, section 3.2.1).
 #[derive(Clone, Copy, Debug, PartialEq, Eq)]
 pub struct TableSizes {
-    /// That of the own encoder's table, in bytes.
+    /// That of the local encoder's table, in bytes.
     pub sending: usize,
-    /// That of the own decoder's table, in bytes.
+    /// That of the local decoder's table, in bytes.
     pub receiving: usize,
 }

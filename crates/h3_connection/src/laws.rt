@@ -7,10 +7,11 @@ ghost use Rattle.h3_connection.specs.Endpoint.Kind.{Request};
 ghost use Rattle.h3_connection.specs.CallLists.{Call, called, endpoint_after};
 ghost use Rattle.h3_connection.specs.Isolation.{IsIsolated, IsIsolatedUpToFault, IsIsolatedInFront, Before, GoesOn, FindsNoFault, Sight, IsSight, view, sight_after, answers_seen, fold_seen, first_sight, view_of, answers_to_view, before_first_fault, view_before_fault, answers_before_fault, encoders_in};
 
-/// What a request stream's calls are answered is a fold over its view: its own calls, and the deliveries to the peer's unidirectional
-/// streams whose bytes begin with the type of an encoder stream. No other stream counts, up to the first connection fault. Before that
-/// fault its answers, and what is left of it and of the decoder's table, are a fold over what it sees (`answers`, `left`), whatever comes
-/// behind. So two lists of calls with equal views of a stream are answered alike on it up to the first connection fault in either.
+/// The answers to a request stream's calls are a fold over its view. The view has its own calls, and the deliveries to the peer's
+/// unidirectional streams whose bytes begin with the type of an encoder stream. No other stream counts, up to the first connection fault.
+/// Before that fault its answers, and what is left of it and of the decoder's table, are a fold over what it sees (`answers`, `left`),
+/// whatever comes after. So two lists of calls with equal views of a stream are answered alike on it up to the first connection fault in
+/// either.
 pub fn each_stream_is_isolated()
     ensures fold { (encoders : ℕ → Bool) (id : ℕ) (e : EndpointHistory) (s : Sight) (calls : List Call) → Before encoders id e s → GoesOn encoders e calls →
         answers_seen encoders id e calls ≡ fold_seen e.side e.announced id s (view encoders id e calls) }
@@ -33,7 +34,7 @@ ghost use Rattle.h3_connection.specs.Delivering.{deliver, deliver_end, deliver_r
 ghost use Rattle.h3_connection.specs.Keeping.{arrives, pulls};
 ghost use Rattle.h3_connection.specs.Sending.{pull};
 
-/// Where nothing is kept, what comes and what is pulled are the plain calls.
+/// If nothing is kept, what comes and what is pulled are the plain calls.
 pub fn nothing_kept_is_plain()
     ensures bytes { (e : EndpointHistory) (id : ℕ) (bytes : List ℕ) → e.kept ≡ [] → arrives e (BytesCame id bytes) ≡ deliver e id bytes }
     ensures end { (e : EndpointHistory) (id : ℕ) → e.kept ≡ [] → arrives e (EndCame id) ≡ deliver_end e id }
@@ -64,8 +65,8 @@ ghost use Rattle.h3_connection.specs.Shown.{block_tries, waiting_heads};
 ghost use Rattle.h3_connection.specs.State.{EndpointState};
 
 /// No section is tried more than twice, and no more streams wait than the endpoint announced, whatever comes. This also holds of what is
-/// left where memory was refused: behind a delivery that was kept, a pull that lost nothing, and a head or trailer that was cut off.
-/// Every other refusal for want of memory changes nothing.
+/// left when an allocation failed: after a delivery that was kept, and after a pull that lost nothing. It holds too after a header section
+/// or trailer whose sending ended early. Any other call that is refused as out of memory changes nothing.
 pub fn tries_and_waiting_streams_are_bounded()
     ensures calls { (side : Side) (own : Announced) (calls : List Call) → IsBounded (endpoint_after (new_endpoint side own) calls) }
     ensures call { (e : EndpointHistory) (c : Call) → IsBounded e → IsBounded (called e c).1 }
@@ -89,8 +90,8 @@ ghost use Rattle.h3_connection.specs.ReceivingContracts.{Receives, PullsNext};
 ghost use Rattle.h3_connection.specs.EndsWaiting.{TakesEnd};
 ghost use Rattle.h3_connection.specs.SendingContracts.{Opens, SendsHead, SendsBody, SendsTrailer, Finishes, Resets, GoesAway, Cancels, Advances};
 
-/// An endpoint stands for a history with these bounds from its making on: each call's contract alone says that it leaves one, whether it
-/// was answered, refused, or refused memory.
+/// An endpoint stands for a history with these bounds from its making on. Each call's contract alone says that it leaves one, whether the
+/// call was answered, was refused, or ran out of memory.
 pub fn endpoints_stay_bounded()
     ensures made { (side : Side) (announced : Announced) (s : EndpointState) → MakesEnd side (Ok announced) s → StandsBounded s }
     ensures received { (old new : EndpointState) (a : Arrival) (result : Result Unit DeliverError) → Receives old new a result → StandsBounded old → StandsBounded new }
@@ -112,8 +113,8 @@ ghost use Rattle.h3_connection.specs.HandedOut.{RequestIsOver, SessionIsOver, En
 ghost use Rattle.std.specs.Prelude.{◌∷◌};
 ghost use Rattle.h3_connection.specs.CallLists.Call.{PullStream};
 
-/// Once the end of a stream was handed out, every later pull of it answers the end, up to a connection fault: in every list of calls of a new
-/// endpoint, of a request stream and of a session on a unidirectional stream.
+/// Once the end of a stream was delivered, every later pull of it answers the end, up to a connection fault. This holds in every list of
+/// calls of a new endpoint, of a request stream and of a session on a unidirectional stream.
 pub fn the_end_stays()
     ensures begins { (e : EndpointHistory) (id : ℕ) → (pull e id).0 ≡ answer.Item item.End → EndsSoundly e id → RequestIsOver (pull e id).1 id }
     ensures stays { (e : EndpointHistory) (calls : List Call) (id : ℕ) → IsBounded e → e.closed ≡ None → RequestIsOver e id → FindsNoFault e calls →
@@ -132,8 +133,9 @@ ghost use Rattle.h3_connection.specs.CallLists.{answers};
 ghost use Rattle.h3_connection.specs.Isolation.{brought_on};
 ghost use Rattle.h3_connection.specs.UnknownStreams.{IsUnread, without_stream, answers_without};
 
-/// Bytes of a unidirectional stream of unknown type change nothing but what is known of that stream. Over whole lists of calls all others are
-/// answered as without those of this stream, whatever comes on it, its end or its reset, and also where the connection has a fault.
+/// Bytes of a unidirectional stream of unknown type change nothing but what is known of that stream. Over whole lists of calls all others
+/// are answered as without those of this stream. This holds whatever comes on it, be it its end or its reset, and also if the connection
+/// has a fault.
 pub fn unknown_streams_change_nothing_else()
     ensures bytes { (e : EndpointHistory) (id : ℕ) (bytes rest : List ℕ) → e.closed ≡ None → kind_of e.side id ≡ PeerUnidirectional → delivery_refusal e id ≡ None →
         role_after (unidirectional_at e id).role bytes ≡ (Ignored, rest) →
@@ -151,8 +153,8 @@ ghost use Rattle.h3_connection.specs.Pulling.{left_with, pull_stream};
 ghost use Rattle.h3_connection.specs.StreamSets.{stream_at};
 ghost use Rattle.h3_connection.specs.UnknownFrames.{BeginsUnknown, MayBeginFrame, ReadsControl};
 
-/// Whole frames of unknown types (RFC 9114, section 9) give nothing, wherever a frame may begin: a pull of a request stream answers what it
-/// answers without them and leaves the same, and so does a delivery on the peer's control stream, also one of nothing else.
+/// Whole frames of unknown types (RFC 9114, section 9) give nothing, wherever a frame may begin. A pull of a request stream answers what it
+/// answers without them and leaves the same. So does a delivery on the peer's control stream, also one of nothing else.
 pub fn unknown_frames_give_nothing()
     ensures stream { (side : Side) (own : Announced) (id : ℕ) (r : DecoderState) (i : Incoming) (rest : List ℕ) → MayBeginFrame i → BeginsUnknown (concat i.unread) rest →
         pull_stream side own id r i ≡ pull_stream side own id r (left_with i rest) }
@@ -166,9 +168,9 @@ pub fn unknown_frames_give_nothing()
 ghost use Rattle.std.specs.Prelude.{◌++◌, None};
 ghost use Rattle.h3_connection.specs.DeliveryCuts.{SameAnswers, LeftAs, role_with, IsNoSession, deliver_cut};
 
-/// However the bytes of a unidirectional stream of the peer are cut, they are answered alike and leave the same, but that an increment
-/// may be written in two, whose sum it is. A fault that is found in the first bytes is found in all of them; on the control stream where
-/// the settings came before, or no bytes of the decoder stream wait for them. Sessions are left out: they wait in pieces.
+/// However the bytes of a unidirectional stream of the peer are cut, they are answered alike and leave the same. But an increment may be
+/// written in two, whose sum it is. A fault that is found in the first bytes is found in all of them, if the settings came before or no
+/// bytes of the decoder stream wait for them. Sessions are left out: they wait in pieces.
 pub fn cut_deliveries_are_answered_alike()
     ensures taken { (e : EndpointHistory) (id : ℕ) (first second : List ℕ) → kind_of e.side id ≡ PeerUnidirectional → (deliver e id first).0 ≡ None → IsNoSession (role_with e id (first ++ second)) →
         SameAnswers (LeftAs (role_with e id (first ++ second)) e.own.replies) (deliver e id (first ++ second)) (deliver_cut e id first second) }
@@ -180,10 +182,10 @@ ghost use Rattle.h3_connection.specs.Delivering.{incoming_at};
 ghost use Rattle.h3_connection.specs.PullCuts.{HaveBytes, DifferInCuts, DifferInOneStream, PullsAlike};
 ghost use Rattle.h3_connection.specs.JoinedPulls.{joined_pulls, JoinedAlike};
 
-/// However what waits on a request stream was cut into pieces, a pull answers the same and leaves what differs only in cuts, but for a
-/// piece of a body or of a session, which is a front of the other or begins with it. Pulled until something else comes, these have the
-/// same bytes in all, and the same comes behind them. Bytes that come in one delivery or in two are answered alike and leave endpoints of
-/// which nothing else differs, so that no other stream sees it.
+/// However what waits on a request stream was cut into pieces, a pull answers the same and leaves what differs only in cuts. Only a piece
+/// of a body or of a session may differ: one is a front of the other. Pulled until something else comes, these have the same bytes in all,
+/// and the same comes after them. Bytes that come in one delivery or in two are answered alike. They leave endpoints of which nothing else
+/// differs, so that no other stream sees it.
 pub fn cut_pulls_are_answered_alike()
     ensures delivered { (e : EndpointHistory) (id : ℕ) (first second : List ℕ) → kind_of e.side id ≡ Request → HaveBytes (incoming_at e id).unread →
         SameAnswers (DifferInOneStream id) (deliver e id (first ++ second)) (deliver_cut e id first second) }
@@ -193,10 +195,10 @@ pub fn cut_pulls_are_answered_alike()
 
 ghost use Rattle.h3_connection.specs.CallCuts.{Part, first_calls, second_calls, DifferInCutsAlone, AreCuts, AllAnsweredAlike};
 
-/// Two lists of calls that differ only in where the bytes of streams are cut into deliveries, with pulls that end at the same bytes, are
-/// answered alike, up to a connection fault, which both find in the same part: the same refusals, the same items, and pieces of a body or of
-/// a session that have the same bytes in all. What is left differs in cuts alone: in the pieces that wait, and in how insertions are
-/// acknowledged by increments (RFC 9204, section 4.4.3). So it is of any stream, sessions included.
+/// Two lists of calls that differ only in how the bytes of streams are cut into deliveries, with pulls that end at the same bytes, are
+/// answered alike. Both get the same refusals, the same items, and pieces of a body or of a session that have the same bytes in all. This
+/// holds up to a connection fault, which both find in the same part. What is left differs in cuts alone: in the pieces that wait, and in
+/// how insertions are acknowledged by increments (RFC 9204, section 4.4.3). So it is of any stream, sessions included.
 pub fn cut_calls_are_answered_alike()
     ensures calls { (side : Side) (own : Announced) (parts : List Part) → AreCuts (new_endpoint side own) (new_endpoint side own) parts → AllAnsweredAlike (new_endpoint side own) (new_endpoint side own) parts }
     ensures behind { (e f : EndpointHistory) (parts : List Part) → DifferInCutsAlone e f → e.closed ≡ None → AreCuts e f parts → AllAnsweredAlike e f parts }
@@ -208,18 +210,18 @@ pub fn cut_calls_are_answered_alike()
 
 ghost use Rattle.h3_connection.specs.StrictPulls.{PullsWellFormed};
 
-/// Where an endpoint asks for strict messages, each head and trailer that a pull hands out was read from a field list, as it came, that breaks no
-/// rule of well-formed messages (RFC 9114, sections 4.1.2 and 4.2 to 4.5).
+/// If an endpoint asks for strict messages, each header section and trailer that a pull returns was read from a field list that is
+/// well-formed. This is the list as it came, and it breaks no rule of well-formed messages (RFC 9114, sections 4.1.2 and 4.2 to 4.5).
 pub fn strict_endpoints_hand_out_no_broken_list()
     ensures { PullsWellFormed }
 {}
 
 ghost use Rattle.h3_connection.specs.CountedContent.{CountsContent, HeadsHaveTheirContent};
 
-/// Of a message whose head says how long its content is, no more is handed out than that, however it comes and is pulled; and its end, and a
-/// trailer, are handed out behind exactly as much (RFC 9114, section 4.1.2). Behind a head that a strict endpoint hands out stands the content that
-/// its field list says: for a server that of a request, and for a client that of a response to what was asked. Behind that of a request the server
-/// also knows what its response may have.
+/// If a message's header section says how long its content is, no more than that is delivered, however it comes and is pulled. Its end, and
+/// a trailer, are delivered after exactly as much (RFC 9114, section 4.1.2). After a header section that it delivers, a strict endpoint
+/// expects the content that its field list says. This is for a server that of a request, and for a client that of a response to what was
+/// asked. After that of a request the server also knows what its response may have.
 pub fn content_is_as_long_as_was_said()
     ensures counts { CountsContent }
     ensures heads { HeadsHaveTheirContent }
@@ -227,8 +229,8 @@ pub fn content_is_as_long_as_was_said()
 
 ghost use Rattle.h3_connection.specs.NoContent.{HandsOutNoContent, RemembersHead};
 
-/// A response to HEAD has no content, whatever its `content-length` says (RFC 9110, section 9.3.2; RFC 9114, section 4.1.2). Where a strict client
-/// sends a request of HEAD, its receiver awaits none; and of one that awaits none no byte is handed out, however it comes and is pulled.
+/// A response to HEAD has no content, whatever its `content-length` says (RFC 9110, section 9.3.2; RFC 9114, section 4.1.2). If a strict
+/// client sends a request of HEAD, its receiver awaits none. Of one that awaits none no byte is delivered, however it comes and is pulled.
 pub fn a_response_to_head_has_no_content()
     ensures asked { RemembersHead }
     ensures none { HandsOutNoContent }
@@ -236,9 +238,9 @@ pub fn a_response_to_head_has_no_content()
 
 ghost use Rattle.h3_connection.specs.StrictSends.{SendsWellFormedHeads, SendsWellFormedTrailers};
 
-/// What an endpoint that asks for strict messages sends, a peer that asks for them takes: a head and a trailer that go out break no rule of
-/// well-formed messages (RFC 9114, sections 4.1.2 and 4.2 to 4.5) as the peer judges their lists, whatever it announced, so long as it announced
-/// extended CONNECT where the settings that came of it say so.
+/// What an endpoint that asks for strict messages sends, a peer that asks for them takes. A header section and a trailer that go out break
+/// no rule of well-formed messages (RFC 9114, sections 4.1.2 and 4.2 to 4.5) as the peer judges their lists. This holds whatever the peer
+/// announced, so long as it announced extended CONNECT if the settings that came of it say so.
 pub fn strict_endpoints_send_no_broken_list()
     ensures heads { SendsWellFormedHeads }
     ensures trailers { SendsWellFormedTrailers }
@@ -246,9 +248,10 @@ pub fn strict_endpoints_send_no_broken_list()
 
 ghost use Rattle.h3_connection.specs.SentContent.{HeadsSayTheirContent, PeersExpectAsMuch, SendsAsMuchAsSaid};
 
-/// What a strict endpoint sends of content is as long as its head said (RFC 9114, section 4.1.2): no more is sent, and the end, and a trailer, go
-/// out behind exactly as much. Behind a head that it sends, as much is to be sent as a strict peer expects there: of a response, where the server
-/// handed out the head of its request before. Where it did not, no length is held against what it sends, and no trailer goes out behind 2xx.
+/// The content that a strict endpoint sends is as long as its header section said (RFC 9114, section 4.1.2). No more is sent, and the end,
+/// and a trailer, go out after exactly as much. After a header section that it sends, as much is to be sent as a strict peer expects there.
+/// Of a response this holds if the server delivered the header section of its request before. If it did not, no length is held against what
+/// it sends, and no trailer goes out after 2xx.
 pub fn strict_endpoints_send_as_much_content_as_was_said()
     ensures heads { HeadsSayTheirContent }
     ensures peers { PeersExpectAsMuch }
@@ -263,8 +266,9 @@ ghost use Rattle.h3_qpack.specs.InstructionSizes.{most_instruction};
 ghost use Rattle.h3_connection.specs.Announcing.{announced_by, section_of};
 ghost use Rattle.h3_connection.specs.declared.setup.Limits.{Limits};
 
-/// A limit on what is unfinished takes whatever a peer may send that keeps to what is announced: an encoding of a list of the greatest size
-/// (`section`), an instruction for the whole table (`instruction`), and what has 256 bytes (`other`), as each SETTINGS frame of this library.
+/// A limit on what is unfinished takes whatever a peer may send that keeps to what is announced. This is an encoding of a list of the
+/// greatest size (`section`), or an instruction for the whole table (`instruction`). It is also what has 256 bytes (`other`), as each
+/// SETTINGS frame of this library.
 pub fn a_limit_takes_what_is_announced()
     ensures section { (settings : Result (List (ℕ × ℕ)) SettingsError) (limits : Limits) (choices : Choices) (a : Announced) → announced_by settings limits choices ≡ Ok a →
         is_limit a.choices.unfinished_limit ≡ true → 4 * section_of a ≤ a.choices.unfinished_limit }

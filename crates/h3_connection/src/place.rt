@@ -1,24 +1,24 @@
-//! Where a message is (RFC 9114, section 4.1), at its receiver and at its sender.
+//! How far a message has come (RFC 9114, section 4.1), at its receiver and at its sender.
 
-/// Where the message that is received is.
+/// How far the message that is received has come.
 #[derive(Clone, Copy, Debug, PartialEq, Eq)]
 pub enum Place {
-    /// No head, or interim ones alone.
+    /// No header section came, or only those of interim responses.
     BeforeHead,
-    /// Behind the final head: content and a trailer may come.
+    /// After the final header section: content and a trailer may come.
     InBody,
-    /// Behind the trailer.
+    /// After the trailer.
     AfterTrailer,
-    /// It is no message, and all bytes are handed out as they are.
+    /// It is no message, and all bytes are delivered as they are.
     InSession,
 }
 
-/// Where the message that is sent is.
+/// How far the message that is sent has come.
 #[derive(Clone, Copy, Debug, PartialEq, Eq)]
 pub enum SendPlace {
-    /// No head, or interim ones alone.
+    /// No header section was sent, or only those of interim responses.
     NothingSent,
-    /// The final head was sent.
+    /// The final header section was sent.
     HeadSent,
     /// The trailer was sent.
     TrailerSent,

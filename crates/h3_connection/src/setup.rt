@@ -30,10 +30,10 @@ pub enum NewError {
     BlockedLimit,
     /// A setting cannot be announced.
     Settings(SettingsError),
-    /// The limit on what is unfinished is below four times what is announced (the greatest size of a field section, or the table's capacity),
-    /// or below 256 bytes, or no greatest size is announced.
+    /// The limit on what is unfinished is below four times what is announced: the greatest size of a field section, or the table's
+    /// capacity. Or it is below 256 bytes, or no greatest size is announced.
     UnfinishedLimit,
-    /// Memory was refused.
+    /// An allocation failed.
     OutOfMemory,
 }
 
@@ -45,7 +45,7 @@ pub struct Announced {
     pub settings: Settings,
     /// The limits of its decoder, which are among the settings.
     pub limits: Limits,
-    /// What it chooses for itself, which the peer is not told.
+    /// What it chooses for itself, which the peer does not learn.
     pub choices: Choices,
 }
 

@@ -74,8 +74,8 @@ fn refusal_of_named(buf: &SliceCursor<'_>, e: ParseError) -> DecoderError
     }
 }
 
-/// The field of a line with a literal value and the name of a static entry, where it takes no memory. None: it may take some, or the line
-/// is refused. Then nothing is taken.
+/// The field of a line with a literal value and the name of a static entry, if it takes no memory. None: it may take some, or the line is
+/// refused. Then nothing is taken.
 fn take_short_named(buf: &mut SliceCursor<'_>) -> Option<HeaderField>
     requires some { 0 < length buf.old }
     requires own { begins 64 127 buf.old ≡ true }
@@ -153,7 +153,7 @@ fn take_long_literal(alloc: Global, buf: &mut SliceCursor<'_>) -> Result<HeaderF
     }
 }
 
-/// The field of the line at the front, where it names no dynamic entry.
+/// The field of the line at the front, if it names no dynamic entry.
 fn take_field(alloc: Global, buf: &mut SliceCursor<'_>) -> Result<HeaderField, DecoderError>
     requires { 0 < length buf.old }
     ensures { AnswersField buf.old buf.new result }
@@ -170,7 +170,7 @@ fn take_field(alloc: Global, buf: &mut SliceCursor<'_>) -> Result<HeaderField, D
 /// that fit 1,032 bytes, up to which an allocator of the C library keeps blocks at hand.
 const FIRST_ROOM: usize = 18;
 
-/// Adds a field behind which so many bytes are left: each may be a field. A list that has the room is not given more.
+/// Adds a field after which so many bytes are left: each may be a field. A list that has the room is not given more.
 fn keep(fields: &mut Vec<HeaderField>, field: HeaderField, left: usize) -> Result<(), AllocError>
     ensures ok { OnOk result (fields.new.items ≡ fields.old.items ++ field ∷ []) }
     ensures room { vec_capacity fields.old ≤ vec_capacity fields.new }
@@ -182,8 +182,8 @@ fn keep(fields: &mut Vec<HeaderField>, field: HeaderField, left: usize) -> Resul
     Ok(())
 }
 
-/// Reads the prefix and the lines of a section, to the end of `buf`, and adds their fields to an empty list, as long as they sum to at
-/// most `max_size`. Answers their sum. A refused read takes nothing, and may leave fields in the list.
+/// Reads the prefix and the lines of a section, to the end of `buf`. It adds their fields to an empty list, as long as they sum to at most
+/// `max_size`. Answers their sum. A refused read takes nothing, and may leave fields in the list.
 fn list_section(
     alloc: Global,
     buf: &mut SliceCursor<'_>,
@@ -220,9 +220,9 @@ fn list_section(
     Ok(mem_size)
 }
 
-/// Decodes a field section that names no dynamic entry, to the end of `buf`. It stops at the first field that makes the
-/// sum of the sizes pass `max_size`. A refused read takes nothing. Want of memory is told only where the first line is a
-/// field. A caller of many sections may keep one list for them all: `decode_stateless_into`.
+/// Decodes a field section that names no dynamic entry, to the end of `buf`. It stops at the first field that makes the sum of the sizes
+/// pass `max_size`. A refused read takes nothing. `OutOfMemory` is returned only if the first line is a field. A caller of many sections
+/// may keep one list for them all: `decode_stateless_into`.
 pub fn decode_stateless(
     alloc: Global,
     buf: &mut SliceCursor<'_>,
@@ -248,11 +248,11 @@ pub fn decode_stateless(
 }
 
 /// Decodes a field section that names no dynamic entry, to the end of `buf` (RFC 9204, section 4.5), as `decode_stateless`, into a list
-/// whose memory serves again: the fields that it holds are let go first, and its room is kept, which is that of the longest section so
-/// far. It answers the sum of the sizes of the fields, in bytes, which stops at the greatest number (RFC 9204, section 3.2.1).
+/// whose memory serves again. The fields that it holds are freed first. Its room is kept, which is that of the longest section so far. It
+/// answers the sum of the sizes of the fields, in bytes, which stops at the greatest number (RFC 9204, section 3.2.1).
 ///
-/// `HeaderTooLong(sum)`: the first fields sum to that, more than `max_size`; no line behind them is read. `MissingRefs`: a line names a
-/// dynamic entry. `OutOfMemory`: it may be tried again; it is told only where the first line is a field. Every other refusal is of a bad
+/// `HeaderTooLong(sum)`: the first fields sum to that, more than `max_size`; no line after them is read. `MissingRefs`: a line names a
+/// dynamic entry. `OutOfMemory`: it may be tried again; it is returned only if the first line is a field. Every other refusal is of a bad
 /// section. A refused read takes nothing, and leaves the list empty.
 pub fn decode_stateless_into(
     alloc: Global,

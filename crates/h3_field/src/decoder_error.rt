@@ -19,7 +19,7 @@ pub enum DecoderError {
     InvalidStaticIndex(static_::Error),
     /// A first byte, or an encoded required insert count.
     UnknownPrefix(u64),
-    /// The required insert count, or 0 where a dynamic entry is named without a table.
+    /// The required insert count, or 0 if a dynamic entry is named without a table.
     MissingRefs(usize),
     BadBaseIndex,
     UnexpectedEnd,

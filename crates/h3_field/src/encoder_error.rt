@@ -15,7 +15,7 @@ pub enum EncoderError {
     Insertion(dynamic::Error),
     InvalidString(prefix_string::Error),
     InvalidInteger(prefix_int::Error),
-    /// The first byte, or 0 where a prefix was refused.
+    /// The first byte, or 0 if a prefix was refused.
     UnknownDecoderInstruction(u64),
     OutOfMemory,
 }

@@ -59,8 +59,8 @@ pub fn instructions()
     ensures indexed { line (217 ∷ []) ≡ Whole (Indexed true 25) [] }
 {}
 
-/// What instructions wait for that are not whole: a capacity, an insertion whose name lacks a byte, the length of its value, four bytes
-/// of a value, a group of an acknowledgment; and one that is whole.
+/// What an unfinished instruction waits for: a group of a capacity or of an acknowledgment, a byte of a name, the length of a value, four
+/// bytes of a value. One instruction is whole.
 pub fn waits()
     ensures none { encoder_wait [] ≡ Bytes 1 }
     ensures capacity { encoder_wait (63 ∷ []) ≡ Integer }

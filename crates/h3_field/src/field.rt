@@ -34,7 +34,7 @@ pub struct HeaderField {
 // A short field takes no more room than the longest form does.
 const _: () = prove!(size_of::<HeaderField>() == 56);
 
-/// Where the bytes of a field's name and value lie.
+/// How the bytes of a field's name and value are stored.
 #[derive(Drop)]
 pub(crate) enum Form {
     Static(&'static [u8], &'static [u8]),
@@ -104,7 +104,7 @@ impl HeaderField {
         }
     }
 
-    /// A copy of the name in front of the value, in the value's block. It takes memory only where that block has no room for the name.
+    /// A copy of the name in front of the value, in the value's block. It takes memory only if that block has no room for the name.
     pub fn with_copied_name(name: &[u8], value: Vec<u8>) -> Result<HeaderField, AllocError>
         ensures ok { IfOk result (λ f. f ≡ record { name = name.now; value = value.items }) }
         ensures err { OnErr result (vec_capacity value < vec_len value + length name.now) }
@@ -117,7 +117,7 @@ impl HeaderField {
         Ok(HeaderField::from_block(block, name.len()))
     }
 
-    /// A field in one block: the first bytes, as many as the length, are the name, and those behind them the value.
+    /// A field in one block: the first bytes, as many as the length, are the name, and those after them the value.
     pub fn from_block(bytes: Vec<u8>, name_length: usize) -> HeaderField
         requires { name_length ≤ length bytes.items }
         ensures { result ≡ record { name = take name_length bytes.items; value = drop name_length bytes.items } }
@@ -127,7 +127,7 @@ impl HeaderField {
         }
     }
 
-    /// A static name and a copy of a value. It takes no memory where the value has at most 36 bytes.
+    /// A static name and a copy of a value. It takes no memory if the value has at most 36 bytes.
     pub fn with_copied_value(
         alloc: Global,
         name: &'static [u8],
@@ -174,7 +174,7 @@ impl HeaderField {
         }
     }
 
-    /// A field of copies: a short one takes no memory, and any other lies in one block. It takes no memory where both are empty.
+    /// A field of copies: a short one takes no memory, and any other lies in one block. It takes no memory if both are empty.
     pub fn copied(alloc: Global, name: &[u8], value: &[u8]) -> Result<HeaderField, AllocError>
         ensures ok { IfOk result (λ f. f ≡ record { name = name.now; value = value.now }) }
         ensures err { OnErr result (0 < length name.now + length value.now) }
@@ -288,7 +288,7 @@ impl HeaderField {
         }
     }
 
-    /// The bytes of name and value and 32 more, or the greatest number where the sum passes it (RFC 9204, section 3.2.1).
+    /// The bytes of name and value and 32 more, or the greatest number if the sum passes it (RFC 9204, section 3.2.1).
     pub fn mem_size(&self) -> usize
         ensures { result ≡ min (2 ^ 64 - 1) (field_size self.now) }
     {
@@ -333,7 +333,7 @@ impl HeaderField {
     }
 }
 
-/// A copy. It takes no memory where there is nothing to copy.
+/// A copy. It takes no memory if there is nothing to copy.
 fn copy_of(alloc: Global, bytes: &[u8]) -> Result<CowSlice<'static, u8>, AllocError>
     ensures ok { IfOk result (λ copy. cow_slice_items copy ≡ bytes.now) }
     ensures err { OnErr result (0 < length bytes.now) }
@@ -363,8 +363,8 @@ fn split(
     Ok((CowSlice::Owned(bytes), CowSlice::Owned(value)))
 }
 
-/// The size of a field section that is not compressed, or the greatest number where it passes that: the bytes of each name and value,
-/// and 32 more for each field (RFC 9114, section 4.2.2).
+/// The size of a field section that is not compressed (RFC 9114, section 4.2.2): the bytes of each name and value, and 32 more for each
+/// field. If the sum passes the greatest number, it is that number.
 pub fn section_size(fields: &[HeaderField]) -> u64
     ensures { result ≡ min (2 ^ 64 - 1) (section_size fields.now) }
 {

@@ -17,7 +17,7 @@ const MOST_BYTES: usize = 65536;
 /// Nor are so many fields, with three numbers for each.
 const MOST_PLACES: usize = 2730;
 
-/// Where the bytes of a field lie in its block: the name from `start` to `middle`, and the value from there to `end`.
+/// The place of the bytes of a field in its block: the name from `start` to `middle`, and the value from there to `end`.
 #[derive(Copy, Clone)]
 pub(crate) struct FieldPlace {
     pub(crate) start: usize,
@@ -25,8 +25,8 @@ pub(crate) struct FieldPlace {
     pub(crate) end: usize,
 }
 
-/// Fields in two blocks of memory that serve again for the next list: one has the bytes of all names and values, end to end, and one
-/// where each of them ends. A contract sees the list.
+/// Fields in two blocks of memory that serve again for the next list. One has the bytes of all names and values, end to end, and the other
+/// has the ends of each of them. A contract sees the list.
 #[derive(Drop)]
 pub struct FieldBlock {
     bytes: Vec<u8>,
@@ -199,7 +199,7 @@ fn put_two(bytes: &mut Vec<u8>, name: &[u8], value: &[u8]) -> Result<FieldPlace,
     Ok(FieldPlace { start, middle, end })
 }
 
-/// Why the string of a payload is refused, where there is no memory for what stands before it.
+/// Why the string of a payload is refused, if there is no memory for what stands before it.
 fn refusal_of(value: &Payload<'_>) -> prefix_string::Error
     ensures { IsRefusedString value.now result }
 {

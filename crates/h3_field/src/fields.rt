@@ -61,7 +61,7 @@ impl<'a> FieldRef<'a> {
         are_bytes(self.value);
     }
 
-    /// The bytes of name and value and 32 more, or the greatest number where the sum passes it (RFC 9204, section 3.2.1).
+    /// The bytes of name and value and 32 more, or the greatest number if the sum passes it (RFC 9204, section 3.2.1).
     pub fn mem_size(&self) -> usize
         ensures { result ≡ min (2 ^ 64 - 1) (field_size self.now) }
     {

@@ -59,8 +59,8 @@ pub fn one_answer()
     ensures { (limit : ℕ) (bytes : List ℕ) (a b : Answer) → AnswersSection limit bytes a → AnswersSection limit bytes b → a ≡ b }
 {}
 
-/// What a reader answers to a written section: the fields and the sum of their sizes where that is within the limit, else
-/// the sum at the first field that passes it.
+/// What a reader answers to a written section: the fields and the sum of their sizes if that is within the limit. Otherwise it is the sum
+/// at the first field that passes it.
 pub fn section_reads_back()
     ensures answer { (limit : ℕ) (fields : List Field) (answer : Answer) → AllByRecursion IsFieldOfBytes fields → section_size fields < 2 ^ 62 → length (section_bytes fields) < 2 ^ 63 → AnswersSection limit (section_bytes fields) answer → answer ≡ answer_from limit 0 [] fields }
     ensures within { (limit : ℕ) (fields : List Field) → section_size fields < 2 ^ 62 → section_size fields ≤ limit → answer_from limit 0 [] fields ≡ Fields fields (section_size fields) }
@@ -101,8 +101,8 @@ pub fn payloads_are_their_value()
     ensures refused { (p : Payload) → string_of p ≡ None → StandsForNone p }
 {}
 
-/// What a form of a line says is a value: the line, or none where a string of it is refused. A form that may be refused for
-/// want of memory says a line.
+/// What a form of a line says is a value: the line, or none if a string of it is refused. A form that may be refused because an allocation
+/// fails says a line.
 pub fn lines_are_their_value()
     ensures some { (form : LineForm) (l : FieldLine) → SaysLine form l → line_of form ≡ Some l }
     ensures only { (form : LineForm) (l : FieldLine) → line_of form ≡ Some l → SaysLine form l }
@@ -111,8 +111,8 @@ pub fn lines_are_their_value()
     ensures memory { (form : LineForm) → LineTakesMemory form → is_some (line_of form) ≡ true }
 {}
 
-/// What a form of an encoder instruction says is a value: the instruction, or none where a string of it is refused. A form
-/// that may be refused for want of memory says an instruction.
+/// What a form of an encoder instruction says is a value: the instruction, or none if a string of it is refused. A form that may be refused
+/// because an allocation fails says an instruction.
 pub fn instructions_are_their_value()
     ensures some { (form : InstructionForm) (i : EncoderInstruction) → Says form i → instruction_of form ≡ Some i }
     ensures only { (form : InstructionForm) (i : EncoderInstruction) → instruction_of form ≡ Some i → Says form i }

@@ -2,7 +2,7 @@
 ghost use Rattle.std.specs.Prelude.{◌≡◌};
 ghost use Rattle.h3_field.specs.FieldForm.{part_bytes};
 
-/// A name or a value, as a field lends it: static bytes need no copy where the field goes.
+/// A name or a value, as a field lends it: static bytes need no copy when the field goes.
 #[derive(Clone, Copy)]
 pub enum Part<'a> {
     /// Bytes that stay as long as the program runs.

@@ -49,7 +49,7 @@ fn greatest(size: u8) -> u64
     (1 << size) - 1
 }
 
-/// The sum with one group more, where it is in range.
+/// The sum with one group more, if it is in range.
 fn add_group(limit: u64, sum: u64, place: usize, group: u64) -> Option<u64>
     requires within { sum < limit }
     requires near { limit ≤ sum + 2 ^ 63 }
@@ -137,7 +137,7 @@ pub(crate) fn two_bytes(size: u8, flags: u8, value: u64) -> Option<(u8, u8)>
 /// The most bytes that an integer takes.
 const LONGEST: usize = 10;
 
-/// Appends a first byte of all ones, and the groups of the rest, where there is room for them.
+/// Appends a first byte of all ones, and the groups of the rest. `buf` needs room for them.
 fn put_groups(first: u8, rest: u64, buf: &mut Vec<u8>)
     requires rest { rest < 2 ^ 63 }
     requires room { vec_len buf.old + length (first ∷ groups 9 rest) ≤ vec_capacity buf.old }
@@ -152,7 +152,7 @@ fn put_groups(first: u8, rest: u64, buf: &mut Vec<u8>)
     buf.push_reserved(left as u8);
 }
 
-/// Appends the shortest encoding of `value` in the low `size` bits of a byte below `flags`, where there is room for it.
+/// Appends the shortest encoding of `value` in the low `size` bits of a byte below `flags`. `buf` needs room for it.
 pub fn put(size: u8, flags: u8, value: u64, buf: &mut Vec<u8>)
     requires least { 1 ≤ size }
     requires most { size ≤ 8 }
@@ -187,7 +187,7 @@ pub fn encode(size: u8, flags: u8, value: u64, buf: &mut Vec<u8>) -> Result<(), 
     encode_any(size, flags, value, buf)
 }
 
-/// The same where more than one byte is written, or where there may be no room for it.
+/// The same if more than one byte is written, or if there may be no room for it.
 #[inline(never)]
 fn encode_any(size: u8, flags: u8, value: u64, buf: &mut Vec<u8>) -> Result<(), AllocError>
     requires least { 1 ≤ size }

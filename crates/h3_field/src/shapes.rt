@@ -19,7 +19,7 @@ use crate::prefix_int;
 use crate::prefix_string::{self, Payload, ShortString, take_payload};
 use std::alloc::Global;
 
-/// The first byte, where there is one and it is not from `low` to `high`.
+/// The first byte, if there is one and it is not from `low` to `high`.
 pub(crate) fn other_first(buf: &SliceCursor<'_>, low: u8, high: u8) -> Option<u8>
     ensures { MatchOption result (begins low high buf.now ≡ true) (λ first. (begins low high buf.now ≡ false) × (first ≡ slice_index buf.now 0)) }
 {
@@ -34,7 +34,7 @@ pub(crate) fn other_first(buf: &SliceCursor<'_>, low: u8, high: u8) -> Option<u8
     None
 }
 
-/// An integer, the flags above it, and the string behind it.
+/// An integer, the flags above it, and the string after it.
 #[derive(Drop)]
 pub(crate) struct IndexAndString {
     pub(crate) flags: u8,
@@ -144,14 +144,14 @@ pub(crate) fn take_short_field(size: u8, buf: &mut SliceCursor<'_>) -> Option<He
     Some(field)
 }
 
-/// Two strings, one behind the other.
+/// Two strings, one after the other.
 #[derive(Drop)]
 pub(crate) struct TwoStrings {
     pub(crate) name: Vec<u8>,
     pub(crate) value: Vec<u8>,
 }
 
-/// The error of two strings, where the first is one for which there is no memory.
+/// The error of two strings, if the first is one for which there is no memory.
 fn refusal_before(second: &Payload<'_>) -> ParseError
     ensures { result ≡ (if is_some (string_of second.now) then parse_error.OutOfMemory else parse_error.String string_error.HuffmanDecoding) }
 {
@@ -161,7 +161,7 @@ fn refusal_before(second: &Payload<'_>) -> ParseError
     ParseError::String(prefix_string::Error::HuffmanDecoding)
 }
 
-/// The strings of two payloads. Where one is no string, this is the answer, whether there is memory or not.
+/// The strings of two payloads. If one is no string, this is the answer, whether there is memory or not.
 fn both_strings(
     alloc: Global,
     first: &Payload<'_>,
@@ -210,7 +210,7 @@ pub(crate) fn take_two_strings(
     }
 }
 
-/// Appends an integer and a string behind it. A refusal appends nothing.
+/// Appends an integer and a string after it. A refusal appends nothing.
 pub(crate) fn put_index_and_string(
     size: u8,
     flags: u8,

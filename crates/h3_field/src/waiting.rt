@@ -8,7 +8,7 @@ use crate::prefix_int::{Error, decode};
 /// What an instruction that is not whole waits for.
 #[derive(Copy, Clone, PartialEq, Eq, Debug)]
 pub enum Wait {
-    /// Nothing: it is whole, or bad, and stays so whatever comes behind it.
+    /// Nothing: it is whole, or bad, and stays so whatever comes after it.
     Nothing,
     /// The end of an integer, which groups of no worth do not bring (RFC 7541, section 5.1).
     Integer,
@@ -16,7 +16,7 @@ pub enum Wait {
     Bytes(usize),
 }
 
-/// Whether these are groups of an integer that are worth nothing, behind each of which another one has to come.
+/// Whether these are groups of an integer that are worth nothing, after each of which another one has to come.
 fn are_empty_groups(bytes: &[u8]) -> bool
     ensures { result ≡ are_empty_groups bytes.now }
 {
@@ -35,7 +35,7 @@ impl Wait {
         }
     }
 
-    /// What it waits for behind these bytes. None: they may have brought it, so they have to be looked at.
+    /// What it waits for after these bytes. None: they may have brought it, so they have to be looked at.
     fn behind(self, bytes: &[u8]) -> Option<Wait>
         ensures { result ≡ behind self bytes.now }
     {
@@ -53,7 +53,7 @@ impl Wait {
     }
 }
 
-/// Takes the integer at the front. Where it is not whole or bad it answers what there is to wait for.
+/// Takes the integer at the front. If it is bad or not whole, it answers what there is to wait for.
 fn take_integer(size: u8, buf: &mut SliceCursor<'_>) -> Result<usize, Wait>
     requires least { 1 ≤ size }
     requires most { size ≤ 8 }
@@ -128,7 +128,7 @@ fn literal_name_wait(bytes: &[u8]) -> Wait
     }
 }
 
-/// What the encoder instruction at the front waits for (RFC 9204, section 4.3): the first byte, where there is none.
+/// What the encoder instruction at the front waits for (RFC 9204, section 4.3): the first byte, if there is none.
 pub fn encoder_wait(bytes: &[u8]) -> Wait
     ensures { result ≡ encoder_wait bytes.now }
 {
@@ -159,8 +159,8 @@ pub fn decoder_wait(bytes: &[u8]) -> Wait
     }
 }
 
-/// What the encoder instruction at the front of `unread` waits for, where `came` came behind bytes of which it was `before`. While
-/// that goes on no other byte is looked at.
+/// What the encoder instruction at the front of `unread` waits for, if `came` came after bytes of which it was `before`. While that goes on
+/// no other byte is looked at.
 pub fn encoder_wait_behind(before: Wait, came: &[u8], unread: &[u8]) -> Wait
     ensures { (front : List ℕ) → before ≡ encoder_wait front → unread.now ≡ front ++ came.now → result ≡ encoder_wait unread.now }
 {

@@ -1,4 +1,4 @@
-//! Sections that are sent and neither acknowledged nor canceled, where often there is one alone.
+//! Sections that are sent and neither acknowledged nor canceled, of which there often is one alone.
 ghost use Rattle.std.specs.Prelude.{◌≡◌, ◌<◌, ◌^◌, [], length, OnErr, OnOk};
 ghost use Rattle.std.specs.List.{list_any};
 ghost use Rattle.h3_table.specs.Tracking.{is_of};
@@ -15,7 +15,7 @@ use std::marker::Model;
 #[derive(Drop)]
 pub struct TrackedSections {
     only: Option<TrackedSection>,
-    // all sections, where no one stands alone
+    // all sections, if no one stands alone
     others: Sections,
 }
 
@@ -42,7 +42,7 @@ impl TrackedSections {
         }
     }
 
-    /// A section was sent on its stream. Where memory is refused nothing changes.
+    /// A section was sent on its stream. If an allocation fails, nothing changes.
     pub fn add(&mut self, section: TrackedSection) -> Result<(), AllocError>
         ensures ok { OnOk result (self.new ≡ put_last (λ t. t.stream) section self.old) }
         ensures few { OnOk result (length self.new < 2 ^ 64) }

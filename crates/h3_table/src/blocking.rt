@@ -10,7 +10,7 @@ use std::marker::Model;
 #[derive(Drop)]
 pub struct BlockingCounts {
     known_received: usize,
-    // of each insertion behind those, how many sections have it as their required insert count
+    // of each insertion after those, how many sections have it as their required insert count
     waiting: VecDeque<usize>,
     // how many sections that is in all
     total: usize,
@@ -42,7 +42,7 @@ fn drop_counts(waiting: &mut VecDeque<usize>, count: usize, total: usize) -> usi
     left
 }
 
-/// There is a number at the place: those behind the last are 0.
+/// There is a number at the place: those after the last are 0.
 fn reach(waiting: &mut VecDeque<usize>, place: usize) -> Result<(), AllocError>
     requires { place < 2 ^ 64 - 1 }
     ensures ok { OnOk result (place < length waiting.new.items) }
@@ -94,7 +94,7 @@ impl BlockingCounts {
         self.known_received = known;
     }
 
-    /// A section of that required insert count was written. Where memory is refused nothing changes.
+    /// A section of that required insert count was written. If an allocation fails, nothing changes.
     pub fn add(&mut self, count: usize) -> Result<(), AllocError>
         ensures ok { OnOk result (self.new ≡ with_count self.old count) }
         ensures undone { OnOk result (without_count self.new count ≡ self.old) }

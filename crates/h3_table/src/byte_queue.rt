@@ -1,12 +1,12 @@
-//! Bytes that are put in at one end and taken out at the other, and lie in one row.
+//! Bytes that are put in at one end and taken out at the other, and lie in one buffer.
 ghost use Rattle.std.specs.Prelude.{◌≡◌, ◌<◌, ◌≤◌, ◌+◌, ◌-◌, ◌/◌, ◌^◌, ◌++◌, [], length, drop, IfOk, IfSome, IfNone};
 ghost use Rattle.std.specs.Vec.{vec_capacity};
 
 use std::alloc::{AllocError, Global};
 use std::marker::Model;
 
-/// The bytes that are there stand behind those that were taken out. Where no room is left behind them they are moved to a new
-/// block, which has room for a quarter more than is kept and a bit, so a byte is moved four times or less in the mean.
+/// The bytes that are there stand after those that were taken out. If no room is left after them, they are moved to a new block. It has
+/// room for a quarter more than is kept and a bit, so a byte is moved four times or less in the mean.
 #[derive(Drop)]
 pub(crate) struct ByteQueue {
     bytes: Vec<u8>,
@@ -48,7 +48,7 @@ impl ByteQueue {
         &self.bytes[self.start..]
     }
 
-    /// A new block for what is kept of the bytes and so many more, where there is no room for these behind the bytes.
+    /// A new block for what is kept of the bytes and so many more, if there is no room for these after the bytes.
     pub(crate) fn block_for(&self, kept: usize, count: usize) -> Result<Option<Vec<u8>>, AllocError>
         requires kept { kept < 2 ^ 32 }
         requires more { count < 2 ^ 32 }
@@ -64,7 +64,7 @@ impl ByteQueue {
         Ok(Some(block))
     }
 
-    /// Moves the bytes to a new block, where there is one, which has room for them.
+    /// Moves the bytes to a new block, if there is one, which has room for them.
     pub(crate) fn move_to(&mut self, block: Option<Vec<u8>>)
         requires empty { IfSome block (λ b. b.items ≡ []) }
         requires fits { IfSome block (λ b. length self.old.bytes ≤ vec_capacity b) }

@@ -7,16 +7,16 @@ use std::alloc::{AllocError, Global};
 use std::collections::BTreeSet;
 use std::marker::Model;
 
-/// Streams of which a cancellation was read. Where at most so many are kept, the least is let go for a further one, and from then on each
-/// stream up to it counts as canceled unless a section of it is tracked.
+/// Streams of which a cancellation was read. If at most so many are kept, the least is dropped for a further one. From then on each stream
+/// up to it counts as canceled unless a section of it is tracked.
 #[derive(Drop)]
 pub struct CanceledStreams {
-    // where all are kept
+    // if all are kept
     all: StreamSet,
-    // where at most so many are
+    // if at most so many are
     last: BTreeSet<u64>,
     most: Option<usize>,
-    // above each stream that was let go
+    // above each stream that was dropped
     below: u128,
 }
 
@@ -52,14 +52,14 @@ impl CanceledStreams {
         }
     }
 
-    /// Whether the stream is below the number that is above each stream that was let go.
+    /// Whether the stream is below the number that is above each stream that was dropped.
     pub fn is_below(&self, stream: u64) -> bool
         ensures { result ≡ nat_lt stream self.now.below }
     {
         u128::from(stream) < self.below
     }
 
-    /// Lets the least stream go, where at most so many are kept.
+    /// Drops the least stream, when at most so many are kept.
     fn let_least_go(&mut self)
         requires { IsSome self.old.most }
         ensures { self.new ≡ without_least self.old self.old.kept }
@@ -69,7 +69,7 @@ impl CanceledStreams {
         }
     }
 
-    /// A cancellation of the stream was read. Where memory is refused nothing changes; none is needed for a stream that is kept or is
+    /// A cancellation of the stream was read. If an allocation fails, nothing changes. No memory is needed for a stream that is kept or is
     /// below the number.
     pub fn insert(&mut self, stream: u64) -> Result<(), AllocError>
         ensures ok { OnOk result (self.new ≡ with_canceled self.old stream) }

@@ -1,4 +1,4 @@
-//! The entries of a dynamic table (RFC 9204, section 3.2): present ones end to end in one row of bytes, each with its number.
+//! The entries of a dynamic table (RFC 9204, section 3.2): present ones end to end in one buffer, each with its number.
 ghost use Rattle.std.specs.Prelude.{◌≡◌, ℕ, ◌+◌, ◌-◌, ◌*◌, ◌^◌, ◌<◌, ◌≤◌, length, map, min, Some, None, IfSome, IfNone, OnErr, OnOk};
 ghost use Rattle.h3_field.specs.Field.{Field, field_size, section_size};
 ghost use Rattle.h3_table.specs.Table.{table};
@@ -18,8 +18,9 @@ use std::marker::Model;
 pub const MOST_INSERTIONS: usize = 1 << 62;
 
 /// The greatest capacity of a table, in bytes: 2^30 - 1. Of fields without bytes a table of it has 33,554,431 entries, with a record of
-/// about 50 bytes and, at an encoder, three numbers of 8 bytes for each, in rings that have room for up to twice as many; of long fields
-/// it has 1 GiB of bytes, in a block of at most a quarter more. A search walks the entries of one slot of 256.
+/// about 50 bytes for each. At an encoder there are also three numbers of 8 bytes for each. Records and numbers lie in rings that have room
+/// for up to twice as many. Of long fields it has 1 GiB of bytes, in a block of at most a quarter more. A search walks the entries of one
+/// slot of 256.
 pub const MAX_CAPACITY: usize = (1 << 30) - 1;
 
 /// The size of a field in a table, stopping at the greatest number (RFC 9204, section 3.2.1).
@@ -157,7 +158,7 @@ impl Entries {
         self.fields.byte_count()
     }
 
-    /// The entry of that number, where it is there.
+    /// The entry of that number, if it is there.
     pub fn get(&self, number: usize) -> Option<Entry<'_>>
         ensures value { result ≡ entry_at self.now number }
         ensures beyond { (n : ℕ) → 2 ^ 62 ≤ n → entry_at self.now n ≡ None }
@@ -247,7 +248,7 @@ impl Entries {
         self.capacity = capacity;
     }
 
-    /// Inserts a field for which there is room: the oldest entries are evicted. Where memory is refused nothing changes.
+    /// Inserts a field for which there is room: the oldest entries are evicted. If an allocation fails, nothing changes.
     pub fn insert(&mut self, field: HeaderField) -> Result<(), AllocError>
         requires few { self.old.inserted + 1 < 2 ^ 62 }
         requires fits { field_size field ≤ self.old.capacity }
@@ -284,8 +285,8 @@ impl Entries {
         }
     }
 
-    /// Inserts an entry of a name, which may be static, and a value. Room is taken before the first entry is evicted, for what is
-    /// left then and for this one: a new block has at most a quarter more than the sizes of the entries that are there, this one's bytes, and 128.
+    /// Inserts an entry of a name, which may be static, and a value. Room is taken before the first entry is evicted, for what is left then
+    /// and for this one. A new block has at most a quarter more than the sizes of the entries that are there, this one's bytes, and 128.
     fn put(
         &mut self,
         name: &[u8],

@@ -12,14 +12,14 @@ use std::alloc::{AllocError, Global};
 use std::collections::VecDeque;
 use std::marker::Model;
 
-/// Where the bytes of a field lie.
+/// The place of the bytes of a field.
 #[derive(Clone, Copy)]
 pub(crate) struct Record {
     // how many bytes were ever put in before its name
     place: u128,
     name_len: usize,
     value_len: usize,
-    // the name, where it is static
+    // the name, if it is static
     static_name: Option<&'static [u8]>,
 }
 
@@ -67,7 +67,7 @@ impl<'t> Entry<'t> {
             .saturating_add(32)
     }
 
-    /// How many bytes of its name a field of the entry's name and another value owns: none where the name is static.
+    /// How many bytes of its name a field of the entry's name and another value owns: none if the name is static.
     pub fn owned_name_len(&self) -> usize
         ensures { result ≤ length self.now.name }
     {
@@ -78,7 +78,7 @@ impl<'t> Entry<'t> {
     }
 
     /// A field of the entry's name and another value. A static name is not copied, and any other is copied in front of the value, in the
-    /// value's block: memory is taken only where that block has no room for it (`owned_name_len`).
+    /// value's block. Memory is taken only if that block has no room for it (`owned_name_len`).
     pub fn with_value(&self, value: Vec<u8>) -> Result<HeaderField, AllocError>
         ensures ok { IfOk result (λ f. f ≡ record { name = self.now.name; value = value.items }) }
         ensures err { OnErr result (vec_capacity value < vec_len value + length self.now.name) }
@@ -99,7 +99,7 @@ impl<'t> Entry<'t> {
         HeaderField::short(self.name, value)
     }
 
-    /// A copy, with at most one allocation: of the value where the name is static, and of both in one block else. A short copy takes none.
+    /// A copy, with at most one allocation: of the value if the name is static, else of both in one block. A short copy takes none.
     pub fn copy(&self, alloc: Global) -> Result<HeaderField, AllocError>
         ensures { IfOk result (λ f. f ≡ self.now) }
     {
@@ -163,7 +163,7 @@ impl<'a> FieldSlices<'a> {
     }
 }
 
-/// The fields, the oldest first. A record of each says where its bytes lie.
+/// The fields, the oldest first. A record of each has the place of its bytes.
 #[derive(Drop)]
 pub(crate) struct FieldQueue {
     records: VecDeque<Record>,
@@ -184,7 +184,7 @@ impl Model for FieldQueue {
     ghost invariant = { IsFieldQueue };
 }
 
-/// Takes memory for a record more, where there is none: for twice as many then, or for four.
+/// Takes memory for a record more, if there is none: for twice as many then, or for four.
 fn reserve_record(records: &mut VecDeque<Record>) -> Result<(), AllocError>
     ensures items { records.new.items ≡ records.old.items }
     ensures len { deque_len records.new ≡ deque_len records.old }
@@ -248,8 +248,8 @@ impl FieldQueue {
         }
     }
 
-    /// Takes memory for a record more, and for so many bytes more beside those that are kept: a new block, where the one that is
-    /// there has no room for them. The fields stay.
+    /// Takes memory for a record more, and for so many bytes more beside those that are kept. For these it is a new block, if the one that
+    /// is there has no room for them. The fields stay.
     pub(crate) fn reserve(
         &mut self,
         kept: usize,
@@ -271,7 +271,8 @@ impl FieldQueue {
         self.bytes.block_for(kept, count)
     }
 
-    /// Puts a field in as the newest one, for which there is memory: in the block that is given, or where none is, in the one that is there.
+    /// Puts a field in as the newest one, for which there is memory: in the block that is given, or if none is given, in the one that is
+    /// there.
     pub(crate) fn push(
         &mut self,
         name: &[u8],

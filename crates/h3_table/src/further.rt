@@ -1,4 +1,5 @@
-//! Sections that are sent and neither acknowledged nor canceled, and have no place of their own: each stream has its own in the order of sending.
+//! Sections that are sent and neither acknowledged nor canceled, and have no place of their own. Each stream has its own in the order of
+//! sending.
 ghost use Rattle.std.specs.Prelude.{◌≡◌, ◌<◌, ◌++◌, ◌∷◌, List, [], length, false, None, Some, IfSome, IfNone, OnErr, OnOk};
 ghost use Rattle.std.specs.List.{list_any};
 ghost use Rattle.h3_table.specs.Tracking.{is_of};
@@ -51,7 +52,7 @@ impl EntriesInOrder {
         Ok(())
     }
 
-    /// Takes the first away, where others follow it.
+    /// Takes the first away, if others follow it.
     fn take_first(&mut self) -> Option<NamedEntries>
         ensures some { IfSome result (λ n. self.old ≡ n ∷ self.new) }
         ensures none { IfNone result ((length self.old ≡ 1) × (self.new ≡ self.old)) }
@@ -64,7 +65,7 @@ impl EntriesInOrder {
         Some(first)
     }
 
-    /// Takes the last away, where others stand in front of it.
+    /// Takes the last away, if others stand in front of it.
     fn take_last(&mut self) -> Option<NamedEntries>
         ensures some { IfSome result (λ n. self.old ≡ self.new ++ n ∷ []) }
         ensures none { IfNone result ((length self.old ≡ 1) × (self.new ≡ self.old)) }
@@ -200,7 +201,7 @@ impl FurtherSections {
         true
     }
 
-    /// A section was sent on its stream. Where memory is refused nothing changes.
+    /// A section was sent on its stream. If an allocation fails, nothing changes.
     pub(crate) fn add(&mut self, section: TrackedSection) -> Result<(), AllocError>
         ensures ok { OnOk result (HasOneMore section self.old self.new) }
         ensures err { OnErr result (self.new ≡ self.old) }

@@ -100,7 +100,7 @@ impl Index {
         drop_front(&mut self.links, count);
     }
 
-    /// The number of the newest entry of a slot. Where none is there it is that of one that is evicted, or 0.
+    /// The number of the newest entry of a slot. If none is there, it is that of one that is evicted, or 0.
     pub fn newest(&self, slot: usize) -> usize
         ensures { result ≡ slice_index_or self.now.heads.items slot 0 }
     {

@@ -18,7 +18,8 @@ const KEPT_PLACES: usize = 1024;
 /// Streams of requests are four apart (RFC 9000, section 2.1).
 const STREAM_STEP: u64 = 4;
 
-/// A section in twelve bytes, so that five of them share a line of memory. Entries are numbered from 1, so one that names entry 0 is none.
+/// A section in twelve bytes, so that five of them share a line of memory. Entries are numbered from 1, so one that names entry 0 is no
+/// section.
 #[derive(Clone, Copy)]
 struct PlacedSection {
     // the stream's number among request streams
@@ -41,7 +42,7 @@ impl Model for PlacedSection {
     ghost inverse_ok = { λ s h. placed_section_is_back s };
 }
 
-/// What stands where no section does.
+/// What stands at a place that has no section.
 const NOTHING: PlacedSection = PlacedSection {
     index: 0,
     oldest: 0,
@@ -49,7 +50,7 @@ const NOTHING: PlacedSection = PlacedSection {
 };
 
 impl PlacedSection {
-    /// The section, where it fits: its stream is of the kind of requests, and no number needs more than 32 bits.
+    /// The section, if it fits: its stream is of the kind of requests, and no number needs more than 32 bits.
     fn of(section: TrackedSection) -> Option<PlacedSection>
         ensures { IfSome result (λ slot. slot ≡ section) }
     {
@@ -94,12 +95,12 @@ impl PlacedSection {
     }
 }
 
-/// At most one section of each stream, and of the streams with one place one at most. Streams near one another have places of their
-/// own: where a place is not free and there are less than two for each section, they are made twice as many.
+/// At most one section of each stream, and of the streams with one place one at most. Streams near one another have places of their own. If
+/// a place is not free and there are less than two for each section, the places are made twice as many.
 #[derive(Drop)]
 pub(crate) struct Places {
     alloc: Global,
-    // one that names no entry, or stands where its stream has no place, is none
+    // one that names no entry, or is not at the place of its stream, is no section
     slots: Vec<PlacedSection>,
 }
 
@@ -133,8 +134,8 @@ impl Places {
         }
     }
 
-    /// Makes the places twice as many, where so many sections would take more than half of them. What then stands at two places counts
-    /// at one of them.
+    /// Makes the places twice as many, if so many sections would take more than half of them. What then stands at two places counts at one
+    /// of them.
     fn make_room(&mut self, count: usize) -> Result<(), AllocError>
         ensures same { HaveSame self.old.sections self.new.sections }
         ensures few { self.new.places ≤ max self.old.places (4 * count + 16) }
@@ -149,7 +150,7 @@ impl Places {
         self.slots.extend_from_within(..)
     }
 
-    /// Gives the memory of many places back, where there is no section.
+    /// Gives the memory of many places back, when there is no section.
     pub(crate) fn give_back(&mut self)
         requires { self.old.sections ≡ [] }
         ensures none { self.new.sections ≡ [] }
@@ -161,7 +162,7 @@ impl Places {
         }
     }
 
-    /// Puts a section at the place of its stream, and tells whether that was free.
+    /// Puts a section at the place of its stream, and answers whether that was free.
     fn put_at_once(&mut self, section: PlacedSection) -> bool
         ensures put { result ≡ true → HasOneMore section self.old.sections self.new.sections }
         ensures taken { result ≡ false → self.new ≡ self.old }
@@ -180,7 +181,7 @@ impl Places {
         true
     }
 
-    /// Puts a section at the place of its stream, and tells whether that was free or could be made so. There are so many sections then.
+    /// Puts a section at the place of its stream, and answers whether that was free or could be made so. There are so many sections then.
     pub(crate) fn put(&mut self, count: usize, section: TrackedSection) -> Result<bool, AllocError>
         ensures put { IfOk result (λ done. done ≡ true → HasOneMore section self.old.sections self.new.sections) }
         ensures taken { IfOk result (λ done. done ≡ false → HaveSame self.old.sections self.new.sections) }

@@ -35,7 +35,7 @@ impl Model for Sections {
     ghost invariant = { IsCounted };
 }
 
-/// Adds a section behind those of its stream. There are so many sections then, and at most so many times four places, and 16.
+/// Adds a section after those of its stream. There are so many sections then, and at most so many times four places, and 16.
 fn add(
     places: &mut Places,
     further: &mut FurtherSections,
@@ -59,7 +59,7 @@ fn add(
     further.add(section)
 }
 
-/// Gives memory back, where so many sections are none.
+/// Gives memory back, if there are no sections by that count.
 fn give_back(places: &mut Places, count: usize)
     requires { count ≡ 0 → places.old.sections ≡ [] }
     ensures same { places.new.sections ≡ places.old.sections }
@@ -120,7 +120,7 @@ impl Sections {
         self.count
     }
 
-    /// A section was sent on its stream. Where memory is refused nothing changes.
+    /// A section was sent on its stream. If an allocation fails, nothing changes.
     pub fn add(&mut self, section: TrackedSection) -> Result<(), AllocError>
         ensures ok { OnOk result (self.new ≡ put_last (λ t. t.stream) section self.old) }
         ensures few { OnOk result (length self.new < 2 ^ 64) }

@@ -9,7 +9,7 @@ use crate::words::Words;
 use std::alloc::{AllocError, Global};
 use std::marker::Model;
 
-/// A set of streams by words of 64 bits, where 64 request streams, one behind the other, share a word.
+/// A set of streams by words of 64 bits: 64 request streams, one after the other, share a word.
 #[derive(Drop)]
 pub struct StreamSet {
     words: Words,
@@ -29,8 +29,8 @@ impl Model for StreamSet {
     ghost invariant = { IsSmall };
 }
 
-/// The number of the word in which a stream has its bit: a number of its kind (request, push and so on, by the last two bits) for each
-/// 64 streams of that kind.
+/// The number of the word in which a stream has its bit. Each 64 streams of one kind (request, push and so on, by the last two bits) have a
+/// number of that kind.
 fn word_of(stream: u64) -> u64
     ensures { result ≡ word_of stream }
 {
@@ -70,7 +70,7 @@ impl StreamSet {
         (self.words.get(word_of(stream)) >> place_of(stream)) & 1 == 1
     }
 
-    /// Puts a stream into the set. Where memory is refused nothing changes; none is needed where a stream of the same word is there.
+    /// Puts a stream into the set. If an allocation fails, nothing changes. No memory is needed if a stream of the same word is there.
     pub fn insert(&mut self, stream: u64) -> Result<(), AllocError>
         ensures ok { OnOk result (self.new ≡ insert_key nat_cmp self.old stream) }
         ensures err { OnErr result ((self.new ≡ self.old) × (list_any (λ other. other == stream) self.old ≡ false)) }

@@ -1,4 +1,4 @@
-//! Words of 64 bits by their numbers. Where many numbers are small their words lie in a row, and are found with no search.
+//! Words of 64 bits by their numbers. If many numbers are small, their words lie in a row, and are found with no search.
 ghost use Rattle.std.specs.Prelude.{◌≡◌, ◌<◌, ◌≤◌, ◌+◌, ◌*◌, ℕ, true, false, length, max, bit_or, OnErr, OnOk};
 ghost use Rattle.std.specs.Vec.{vec_len, vec_capacity};
 ghost use Rattle.h3_table.specs.Words.{row_word, further_word, word_at, HaveSameWords, IsOneWord};
@@ -52,7 +52,7 @@ fn take_further(further: &mut BTreeMap<u64, u64>, number: u64) -> u64
     }
 }
 
-/// Takes memory for a place more in the row, where it has none: twice as many then, or `ROW_GROWTH`.
+/// Takes memory for a place more in the row, if it has none: twice as many then, or `ROW_GROWTH`.
 fn reserve(row: &mut Vec<u64>) -> Result<(), AllocError>
     ensures same { row.new.items ≡ row.old.items }
     ensures ok { OnOk result (vec_len row.new < vec_capacity row.new) }
@@ -93,7 +93,7 @@ impl Words {
         }
     }
 
-    /// Adds bits to a word that is there, and tells whether it is.
+    /// Adds bits to a word that is there, and answers whether it is.
     pub(crate) fn add(&mut self, number: u64, bits: u64) -> bool
         ensures added { result ≡ true → IsOneWord number (bit_or (word_at self.old number) bits) (word_at self.old) (word_at self.new) }
         ensures not_there { result ≡ false → word_at self.old number ≡ 0 }
@@ -114,7 +114,7 @@ impl Words {
         false
     }
 
-    /// Makes the row longer by one word, where it has less than so many. The word is taken from the further ones.
+    /// Makes the row longer by one word, if it has less than so many. The word is taken from the further ones.
     fn lengthen(&mut self, most: usize)
         ensures words { HaveSameWords (word_at self.old) (word_at self.new) }
         ensures short { most ≤ 4 * self.old.count + 16 → IsShort self.old → IsShort self.new }
@@ -135,7 +135,7 @@ impl Words {
         self.row.push_reserved(word);
     }
 
-    /// Makes the row longer, where that may give the number's word a place in it, or one that stands among the further ones.
+    /// Makes the row longer, if that may give the number's word a place in it, or one that stands among the further ones.
     fn make_room(&mut self, number: u64)
         ensures words { HaveSameWords (word_at self.old) (word_at self.new) }
         ensures short { IsShort self.old → IsShort self.new }
@@ -180,7 +180,7 @@ impl Words {
         Ok(())
     }
 
-    /// Puts a word in that is not there. Where memory is refused no word changes.
+    /// Puts a word in that is not there. If an allocation fails, no word changes.
     pub(crate) fn insert(&mut self, number: u64, word: u64) -> Result<(), AllocError>
         requires not_there { word_at self.old number ≡ 0 }
         requires some { 0 < word }

@@ -14,8 +14,8 @@ use crate::prefix_int;
 use crate::shapes::other_first;
 use std::alloc::AllocError;
 
-/// A line that is an entry of the static table, or a dynamic one by its distance below the base: the indexed field line,
-/// `| 1 | T | index (6+) |`, where T is 1 for the static table (RFC 9204, section 4.5.2).
+/// A line that is an entry of the static table, or a dynamic one by its distance below the base (RFC 9204, section 4.5.2). It is the
+/// indexed field line, `| 1 | T | index (6+) |`: T is 1 for the static table.
 #[derive(Copy, Clone, PartialEq, Eq, Debug)]
 pub enum Indexed {
     Static(usize),
@@ -58,8 +58,8 @@ impl Indexed {
     }
 }
 
-/// A line that is a dynamic entry, by its distance from the base on: the indexed field line with post-base index,
-/// `| 0 | 0 | 0 | 1 | index (4+) |` (RFC 9204, section 4.5.3).
+/// A line that is a dynamic entry, by its distance from the base on (RFC 9204, section 4.5.3). It is the indexed field line with post-base
+/// index, `| 0 | 0 | 0 | 1 | index (4+) |`.
 #[derive(Copy, Clone, PartialEq, Eq, Debug)]
 pub struct IndexedWithPostBase(pub usize);
 

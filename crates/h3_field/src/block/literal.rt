@@ -36,8 +36,8 @@ pub enum NameRef {
     Dynamic(usize),
 }
 
-/// A line with the name of a static entry, or of a dynamic one by its distance below the base: the literal field line with
-/// name reference, `| 0 | 1 | N | T | name index (4+) | H | value length (7+) | value |` (RFC 9204, section 4.5.4).
+/// A line with the name of a static entry, or of a dynamic one by its distance below the base (RFC 9204, section 4.5.4). It is the literal
+/// field line with name reference, `| 0 | 1 | N | T | name index (4+) | H | value length (7+) | value |`.
 #[derive(PartialEq, Debug, Drop)]
 pub enum LiteralWithNameRef {
     Static { index: usize, value: Vec<u8> },
@@ -53,8 +53,8 @@ impl LiteralWithNameRef {
         LiteralWithNameRef::Static { index, value }
     }
 
-    /// The line with the name of a dynamic entry, by its relative index, 0 for the one right below the base (RFC 9204, section 3.2.5), and the
-    /// value.
+    /// The line with the name of a dynamic entry, by its relative index, and the value. Index 0 is for the one right below the base (RFC
+    /// 9204, section 3.2.5).
     pub fn new_dynamic(index: usize, value: Vec<u8>) -> LiteralWithNameRef
         ensures { result ≡ named_ref.Dynamic index value }
     {
@@ -73,8 +73,8 @@ impl LiteralWithNameRef {
         LiteralWithNameRef::decode_with_room(alloc, buf, 0)
     }
 
-    /// Takes the line from the front as `decode` does, into a block that has room for `spare` bytes behind the value, so that the name of
-    /// the entry can be put there with no second block (`HeaderField::with_copied_name`). An empty value has no block.
+    /// Takes the line from the front as `decode` does, into a block that has room for `spare` bytes after the value. So the name of the
+    /// entry can be put there with no second block (`HeaderField::with_copied_name`). An empty value has no block.
     #[tactic(auto, using(crate::specs::EndLaws::none_dropped))]
     pub fn decode_with_room(
         alloc: Global,
@@ -103,7 +103,7 @@ impl LiteralWithNameRef {
         }
     }
 
-    /// Takes the head of the line from the front: the name that it refers to. The string of its value is left, for
+    /// Takes the first part of the line from the front: the name that it refers to. The string of its value is left, for
     /// `FieldBlock::push_value_read`. A refused read takes nothing.
     pub fn decode_index(buf: &mut SliceCursor<'_>) -> Result<NameRef, ParseError>
         ensures answer { AnswersIndex name_ref_of (integer 4 buf.old) buf.old buf.new result }
@@ -184,8 +184,8 @@ impl LiteralWithNameRef {
     }
 }
 
-/// A line with the name of a dynamic entry, by its distance from the base on: the literal field line with post-base name
-/// reference, `| 0 | 0 | 0 | 0 | N | name index (3+) | H | value length (7+) | value |` (RFC 9204, section 4.5.5).
+/// A line with the name of a dynamic entry, by its distance from the base on (RFC 9204, section 4.5.5). It is the literal field line with
+/// post-base name reference, `| 0 | 0 | 0 | 0 | N | name index (3+) | H | value length (7+) | value |`.
 #[derive(PartialEq, Debug, Drop)]
 pub struct LiteralWithPostBaseNameRef {
     pub index: usize,
@@ -193,7 +193,8 @@ pub struct LiteralWithPostBaseNameRef {
 }
 
 impl LiteralWithPostBaseNameRef {
-    /// The line with the name of a dynamic entry, by its post-base index, 0 for the one at the base (RFC 9204, section 3.2.6), and the value.
+    /// The line with the name of a dynamic entry, by its post-base index, and the value. Index 0 is for the one at the base (RFC 9204,
+    /// section 3.2.6).
     pub fn new(index: usize, value: Vec<u8>) -> LiteralWithPostBaseNameRef
         ensures { result ≡ record { index = index; value = value } }
     {
@@ -212,8 +213,8 @@ impl LiteralWithPostBaseNameRef {
         LiteralWithPostBaseNameRef::decode_with_room(alloc, buf, 0)
     }
 
-    /// Takes the line from the front as `decode` does, into a block that has room for `spare` bytes behind the value, so that the name of
-    /// the entry can be put there with no second block (`HeaderField::with_copied_name`). An empty value has no block.
+    /// Takes the line from the front as `decode` does, into a block that has room for `spare` bytes after the value. So the name of the
+    /// entry can be put there with no second block (`HeaderField::with_copied_name`). An empty value has no block.
     #[tactic(auto, using(crate::specs::EndLaws::none_dropped))]
     pub fn decode_with_room(
         alloc: Global,
@@ -237,7 +238,7 @@ impl LiteralWithPostBaseNameRef {
         }
     }
 
-    /// Takes the head of the line from the front: the post-base index of its name. The string of its value is left, for
+    /// Takes the first part of the line from the front: the post-base index of its name. The string of its value is left, for
     /// `FieldBlock::push_value_read`. A refused read takes nothing.
     pub fn decode_index(buf: &mut SliceCursor<'_>) -> Result<usize, ParseError>
         ensures answer { AnswersIndex (λ head. head.1) (integer 3 buf.old) buf.old buf.new result }

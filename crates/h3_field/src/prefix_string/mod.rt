@@ -1,5 +1,4 @@
-//! String literals (RFC 9204, section 4.1.2; RFC 7541, section 5.2): as they stand or Huffman coded, behind
-//! their length.
+//! String literals (RFC 9204, section 4.1.2; RFC 7541, section 5.2): as they stand or Huffman coded, after their length.
 ghost use Rattle.std.specs.Prelude.{◌≡◌, ◌+◌, ◌*◌, ◌-◌, ◌^◌, ◌<◌, ◌≤◌, ◌++◌, OnOk, OnErr, IfSome, Result, length, take, Some};
 ghost use Rattle.h3_field.specs.Ends.{IsEndOf};
 ghost use Rattle.h3_field.specs.ErrorTexts.{string_text};
@@ -101,7 +100,7 @@ impl From<string_encode::Error> for Error {
     }
 }
 
-/// Takes a string from the front. The flags above its `size` bits are let go. A refused read takes nothing.
+/// Takes a string from the front. The flags above its `size` bits are ignored. A refused read takes nothing.
 pub fn decode(alloc: Global, size: u8, buf: &mut SliceCursor<'_>) -> Result<Vec<u8>, Error>
     requires least { 2 ≤ size }
     requires most { size ≤ 8 }
@@ -180,14 +179,14 @@ fn write_value(value: &[u8], out: &mut [u8]) -> Option<usize>
     Some(len + 1)
 }
 
-/// Appends a short string with no flags. It is encoded where it stays. A refusal may leave a part of it.
+/// Appends a short string with no flags. It is encoded in its final place. A refusal may leave a part of it.
 fn put_value(value: &[u8], buf: &mut Vec<u8>) -> Result<(), AllocError>
     requires short { length value.now ≤ 63 }
     ensures ok { OnOk result (buf.new.items ≡ buf.old.items ++ string_literal 8 0 value.now) }
     ensures err { OnErr result (take (length buf.old.items) buf.new.items ≡ buf.old.items) }
 {
     let start = buf.len();
-    // the length, at most four bytes of code for each, and what the encoder writes behind its last bits
+    // the length, at most four bytes of code for each, and what the encoder writes after its last bits
     buf.resize(start.saturating_add(4 * value.len() + 5), 0)?;
     let Some(count) = write_value(value, &mut buf[start..]) else {
         buf.truncate(start);
@@ -218,7 +217,8 @@ fn write_name(size: u8, flags: u8, value: &[u8], out: &mut [u8]) -> Option<usize
     Some(len + 2)
 }
 
-/// Appends a short string, of which the length most often takes two bytes. It is encoded where it stays. A refusal may leave a part of it.
+/// Appends a short string, of which the length most often takes two bytes. It is encoded in its final place. A refusal may leave a part of
+/// it.
 fn put_name(size: u8, flags: u8, value: &[u8], buf: &mut Vec<u8>) -> Result<(), AllocError>
     requires least { 2 ≤ size }
     requires most { size ≤ 8 }
@@ -228,7 +228,7 @@ fn put_name(size: u8, flags: u8, value: &[u8], buf: &mut Vec<u8>) -> Result<(), 
     ensures err { OnErr result (take (length buf.old.items) buf.new.items ≡ buf.old.items) }
 {
     let start = buf.len();
-    // the length, at most four bytes of code for each, and what the encoder writes behind its last bits
+    // the length, at most four bytes of code for each, and what the encoder writes after its last bits
     buf.resize(start.saturating_add(4 * value.len() + 6), 0)?;
     let Some(count) = write_name(size, flags, value, &mut buf[start..]) else {
         buf.truncate(start);

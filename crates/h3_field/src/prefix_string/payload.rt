@@ -29,8 +29,7 @@ impl<'a> Model for Payload<'a> {
     ghost view = { λ p. record { is_huffman = p.is_huffman; bytes = p.bytes.now } };
 }
 
-/// Takes a string from the front, not yet decoded: the flags above the bit H, and its payload. Nothing is taken
-/// where there is none.
+/// Takes a string from the front, not yet decoded: the flags above the bit H, and its payload. Nothing is taken if there is none.
 pub(crate) fn take_payload<'a>(
     size: u8,
     buf: &mut SliceCursor<'a>,

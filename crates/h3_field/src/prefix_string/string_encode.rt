@@ -5,7 +5,7 @@ ghost use Rattle.h3_huffman.specs.Huffman.{huffman};
 use std::alloc::Global;
 use std::fmt;
 
-/// Want of memory, which is all that an encoder refuses for.
+/// Out of memory, which is all that an encoder refuses for.
 #[derive(Copy, Clone, PartialEq, Eq, Debug)]
 pub struct Error;
 

@@ -83,7 +83,7 @@ fn field_slot_at(hash: usize) -> usize
     slot as usize
 }
 
-/// Where a name begins.
+/// The place at which a name begins.
 fn name_start_at(index: usize) -> usize
     requires { index < 100 }
     ensures { result ≡ name_start index }
@@ -92,7 +92,7 @@ fn name_start_at(index: usize) -> usize
     start as usize
 }
 
-/// Where a value begins.
+/// The place at which a value begins.
 fn value_start_at(index: usize) -> usize
     requires { index < 100 }
     ensures { result ≡ value_start index }

@@ -1,6 +1,6 @@
-//! The entries of the static table (RFC 9204, appendix A), and where each is found. `scripts/tables.py` writes them.
+//! The entries of the static table (RFC 9204, appendix A), and where each is found. `scripts/gate/tables.py` writes them.
 
-/// The names of the entries, one behind the other.
+/// The names of the entries, one after the other.
 pub(crate) static NAMES: [u8; 1294] = *b"\
     :authority:pathagecontent-dispositioncontent-lengthcookiedateetagif-modified-sinceif-none-matchlast-\
     modifiedlinklocationrefererset-cookie:method:method:method:method:method:method:method:scheme:scheme\
@@ -16,7 +16,7 @@ pub(crate) static NAMES: [u8; 1294] = *b"\
     -svcauthorizationcontent-security-policyearly-dataexpect-ctforwardedif-rangeoriginpurposeservertimin\
     g-allow-originupgrade-insecure-requestsuser-agentx-forwarded-forx-frame-optionsx-frame-options";
 
-/// Where each name begins, and where the last one ends.
+/// The place at which each name begins, and the end of the last one.
 pub(crate) static NAME_STARTS: [u16; 100] = [
     0, 10, 15, 18, 37, 51, 57, 61, 65, 82, 95, 108, 112, 120, 127, 137, 144, 151, 158, 165, 172,
     179, 186, 193, 200, 207, 214, 221, 228, 235, 241, 247, 262, 275, 303, 331, 358, 371, 384, 397,
@@ -26,7 +26,7 @@ pub(crate) static NAME_STARTS: [u16; 100] = [
     1214, 1239, 1249, 1264, 1279, 1294,
 ];
 
-/// The values of the entries, one behind the other.
+/// The values of the entries, one after the other.
 pub(crate) static VALUES: [u8; 732] = *b"\
     /00CONNECTDELETEGETHEADOPTIONSPOSTPUThttphttps103200304404503*/*application/dns-messagegzip, deflate\
     , brbytescache-controlcontent-type*max-age=0max-age=2592000max-age=604800no-cacheno-storepublic, max\
@@ -37,7 +37,7 @@ pub(crate) static VALUES: [u8; 732] = *b"\
     , optionsoptionscontent-lengthcontent-typegetpostclearscript-src 'none'; object-src 'none'; base-uri \
     'none'1prefetch*1denysameorigin";
 
-/// Where each value begins, and where the last one ends.
+/// The place at which each value begins, and the end of the last one.
 pub(crate) static VALUE_STARTS: [u16; 100] = [
     0, 0, 1, 2, 2, 3, 3, 3, 3, 3, 3, 3, 3, 3, 3, 3, 10, 16, 19, 23, 30, 34, 37, 41, 46, 49, 52, 55,
     58, 61, 64, 87, 104, 109, 122, 134, 135, 144, 159, 173, 181, 189, 213, 215, 219, 242, 264, 280,

@@ -22,8 +22,8 @@ use crate::shapes::{
 use crate::{prefix_int, prefix_string};
 use std::alloc::Global;
 
-/// An insertion with the name of a static entry, or of a dynamic one by its distance from the newest: insert with name
-/// reference, `| 1 | T | name index (6+) | H | value length (7+) | value |` (RFC 9204, section 4.3.2).
+/// An insertion with the name of a static entry, or of a dynamic one by its distance from the newest (RFC 9204, section 4.3.2). It is
+/// insert with name reference, `| 1 | T | name index (6+) | H | value length (7+) | value |`.
 #[derive(PartialEq, Debug, Drop)]
 pub enum InsertWithNameRef {
     Static { index: usize, value: Vec<u8> },
@@ -46,8 +46,7 @@ impl InsertWithNameRef {
         InsertWithNameRef::Dynamic { index, value }
     }
 
-    /// Takes the instruction from the front, or answers `None` where it is not whole. Then, and on a refusal, nothing is
-    /// taken.
+    /// Takes the instruction from the front, or answers `None` if it is not whole. Then, and on a refusal, nothing is taken.
     pub fn decode(
         alloc: Global,
         buf: &mut SliceCursor<'_>,
@@ -59,8 +58,8 @@ impl InsertWithNameRef {
         InsertWithNameRef::decode_with_room(alloc, buf, 0)
     }
 
-    /// Takes the instruction from the front as `decode` does, into a block that has room for `spare` bytes behind the value, so that the
-    /// name of the entry can be put there with no second block (`HeaderField::with_copied_name`). An empty value has no block.
+    /// Takes the instruction from the front as `decode` does, into a block that has room for `spare` bytes after the value. So the name of
+    /// the entry can be put there with no second block (`HeaderField::with_copied_name`). An empty value has no block.
     #[tactic(auto, using(crate::specs::EndLaws::none_dropped))]
     pub fn decode_with_room(
         alloc: Global,
@@ -155,8 +154,7 @@ impl InsertWithoutNameRef {
         InsertWithoutNameRef { name, value }
     }
 
-    /// Takes the instruction from the front, or answers `None` where it is not whole. Then, and on a refusal, nothing is
-    /// taken.
+    /// Takes the instruction from the front, or answers `None` if it is not whole. Then, and on a refusal, nothing is taken.
     #[tactic(auto, using(crate::specs::EndLaws::none_dropped))]
     pub fn decode(
         alloc: Global,

@@ -13,14 +13,13 @@ use crate::prefix_int;
 use crate::shapes::other_first;
 use std::alloc::AllocError;
 
-/// So many insertions were read since the last one was told: insert count increment, `| 0 | 0 | increment (6+) |` (RFC 9204,
+/// So many insertions were read since the last one that was reported: insert count increment, `| 0 | 0 | increment (6+) |` (RFC 9204,
 /// section 4.4.3).
 #[derive(Copy, Clone, PartialEq, Eq, Debug)]
 pub struct InsertCountIncrement(pub u64);
 
 impl InsertCountIncrement {
-    /// Takes the instruction from the front, or answers `None` where it is not whole. Then, and on a refusal, nothing is
-    /// taken.
+    /// Takes the instruction from the front, or answers `None` if it is not whole. Then, and on a refusal, nothing is taken.
     #[tactic(auto, using(crate::specs::EndLaws::none_dropped))]
     pub fn decode(buf: &mut SliceCursor<'_>) -> Result<Option<InsertCountIncrement>, ParseError>
         ensures own { begins 0 63 buf.old ≡ true → AnswersReply count_increment (increment buf.old) buf.old buf.new result }
@@ -53,8 +52,7 @@ impl InsertCountIncrement {
 pub struct HeaderAck(pub u64);
 
 impl HeaderAck {
-    /// Takes the instruction from the front, or answers `None` where it is not whole. Then, and on a refusal, nothing is
-    /// taken.
+    /// Takes the instruction from the front, or answers `None` if it is not whole. Then, and on a refusal, nothing is taken.
     #[tactic(auto, using(crate::specs::EndLaws::none_dropped))]
     pub fn decode(buf: &mut SliceCursor<'_>) -> Result<Option<HeaderAck>, ParseError>
         ensures own { begins 128 255 buf.old ≡ true → AnswersReply section_acknowledgment (acknowledgment buf.old) buf.old buf.new result }
@@ -87,8 +85,7 @@ impl HeaderAck {
 pub struct StreamCancel(pub u64);
 
 impl StreamCancel {
-    /// Takes the instruction from the front, or answers `None` where it is not whole. Then, and on a refusal, nothing is
-    /// taken.
+    /// Takes the instruction from the front, or answers `None` if it is not whole. Then, and on a refusal, nothing is taken.
     #[tactic(auto, using(crate::specs::EndLaws::none_dropped))]
     pub fn decode(buf: &mut SliceCursor<'_>) -> Result<Option<StreamCancel>, ParseError>
         ensures own { begins 64 127 buf.old ≡ true → AnswersReply stream_cancellation (cancellation buf.old) buf.old buf.new result }

@@ -14,14 +14,13 @@ use crate::prefix_int;
 use crate::shapes::other_first;
 use std::alloc::AllocError;
 
-/// An insertion of a present entry anew, by its distance from the newest: duplicate, `| 0 | 0 | 0 | index (5+) |` (RFC 9204,
-/// section 4.3.4).
+/// An insertion of a present entry again, by its distance from the newest: duplicate, `| 0 | 0 | 0 | index (5+) |` (RFC 9204, section
+/// 4.3.4).
 #[derive(Copy, Clone, PartialEq, Eq, Debug)]
 pub struct Duplicate(pub usize);
 
 impl Duplicate {
-    /// Takes the instruction from the front, or answers `None` where it is not whole. Then, and on a refusal, nothing is
-    /// taken.
+    /// Takes the instruction from the front, or answers `None` if it is not whole. Then, and on a refusal, nothing is taken.
     #[tactic(auto, using(crate::specs::EndLaws::none_dropped))]
     pub fn decode(buf: &mut SliceCursor<'_>) -> Result<Option<Duplicate>, ParseError>
         ensures own { begins 0 31 buf.old ≡ true → AnswersInstruction duplication AtInteger (repeat buf.old) buf.old buf.new result }
@@ -54,8 +53,7 @@ impl Duplicate {
 pub struct DynamicTableSizeUpdate(pub usize);
 
 impl DynamicTableSizeUpdate {
-    /// Takes the instruction from the front, or answers `None` where it is not whole. Then, and on a refusal, nothing is
-    /// taken.
+    /// Takes the instruction from the front, or answers `None` if it is not whole. Then, and on a refusal, nothing is taken.
     #[tactic(auto, using(crate::specs::EndLaws::none_dropped))]
     pub fn decode(buf: &mut SliceCursor<'_>) -> Result<Option<DynamicTableSizeUpdate>, ParseError>
         ensures own { begins 32 63 buf.old ≡ true → AnswersInstruction capacity_setting AtInteger (capacity buf.old) buf.old buf.new result }
