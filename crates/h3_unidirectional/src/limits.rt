@@ -18,7 +18,7 @@ fn is_limit(most: u64) -> bool
     most < VarInt::MAX.into_inner()
 }
 
-/// How many ids are kept, where the choices limit them.
+/// How many ids are kept, if the choices limit them.
 pub(crate) fn most_kept(choices: Choices) -> Option<usize>
     ensures { result ≡ most_kept choices }
 {
