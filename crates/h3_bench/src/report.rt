@@ -3,7 +3,7 @@
 /// Why a work was given up.
 #[derive(Copy, Clone, PartialEq, Eq, Debug)]
 pub(crate) enum Failure {
-    /// What was handed in is not of its format.
+    /// The input is not of its format.
     Input,
     /// The output does not fit.
     Room,
