@@ -17,7 +17,7 @@ pub enum CaseError {
     Refused,
 }
 
-/// What a case answers, as it is put together. What is refused or cannot be read is kept, and told at the end in place of the text: so
+/// What a case answers, as it is put together. What is refused or cannot be read is kept, and told at the end in place of the text. So
 /// no function that puts a part has an exit of its own. A word that cannot be read counts as 0, or as no byte.
 #[derive(Drop)]
 pub struct Told {
