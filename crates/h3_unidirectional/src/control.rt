@@ -165,7 +165,7 @@ impl PeerControl {
         &self.unread
     }
 
-    /// More of the stream, which is kept until it is read. An `Err` changes nothing, and hands the bytes back.
+    /// More of the stream, which is kept until it is read. An `Err` changes nothing, and returns the bytes.
     pub fn push(&mut self, bytes: Bytes) -> Result<(), Bytes>
         requires { length self.old.unread + length bytes < 2 ^ 64 }
         ensures ok { OnOk result (self.new ≡ with_unread self.old (self.old.unread ++ bytes)) }

@@ -26,8 +26,8 @@ use h3_qpack::{Encoder, EncoderError, SliceCursor};
 use std::alloc::{AllocError, Global};
 use std::marker::Model;
 
-/// The local encoder, and the bytes of the peer's decoder stream that are not read: all of them before the peer's settings came,
-/// and less than an instruction after that, unless an allocation failed.
+/// The local encoder, and the bytes of the peer's decoder stream that are not read. These are all of them before the peer's settings
+/// came, and less than an instruction after that, unless an allocation failed.
 #[derive(Drop)]
 pub struct Encoding {
     encoder: Encoder,
@@ -50,8 +50,8 @@ impl Model for Encoding {
 }
 
 impl Encoding {
-    /// An encoder that may not use a table yet. Whether acknowledgments tell of insertions (RFC 9204, section 2.1.4), the most that its
-    /// table may have, whether it is economical with it, and how many canceled streams it keeps, is chosen here.
+    /// An encoder that may not use a table yet. The choices say whether acknowledgments tell of insertions (RFC 9204, section 2.1.4), and
+    /// the most that its table may have. They also say whether it is economical with it, and how many canceled streams it keeps.
     pub fn new(alloc: Global, choices: Choices) -> Encoding
         ensures { result ≡ record { encoder = encoder_state (chosen_encoder choices); unread = [] } }
     {

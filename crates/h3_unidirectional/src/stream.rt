@@ -280,7 +280,7 @@ impl UnidirectionalStream {
     }
 
     /// Bytes come: they tell the role, or are for it. What a session got is stored as it is, with no copy but of small pieces. An `Err`
-    /// changes nothing, and hands the bytes back. What tells a role stands in front of the bytes that are for it.
+    /// changes nothing, and returns the bytes. What tells a role stands in front of the bytes that are for it.
     #[tactic(auto, using(crate::proofs::Heads::tells_first))]
     pub fn receive(&mut self, bytes: Bytes) -> Result<Received, Bytes>
         requires { length (concat self.old.unread) + length bytes < 2 ^ 64 }
