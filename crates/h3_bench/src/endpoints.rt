@@ -319,7 +319,7 @@ fn with_messages(
     connections(rounds, &exchanges)
 }
 
-/// What an end sends, as C hands it in.
+/// What an end sends, as C passes it.
 #[derive(Copy, Clone)]
 struct Given<'a> {
     sections: &'a [u8],
@@ -338,8 +338,8 @@ fn with_given(
     with_messages(alloc, rounds, shape, &requests, &responses)
 }
 
-/// Connections, in each of which so many times so many requests are sent at once, and answered. The report is of one connection: the fields that came
-/// out at both ends, the bytes of bodies, and the ends of streams.
+/// Connections, in each of which so many times so many requests are sent at once, and answered. The report is of one connection: the
+/// fields that came out at both ends, the bytes of bodies, and the ends of streams.
 #[unsafe(no_mangle)]
 pub extern "C" fn h3_bench_endpoints(
     alloc: Global,

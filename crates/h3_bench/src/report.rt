@@ -41,7 +41,7 @@ impl Report {
     }
 }
 
-/// Hands a report out. 0 says that it is there; other numbers say why there is none.
+/// Returns a report in `report`. 0 says that it is there; other numbers say why there is none.
 pub(crate) fn answer(done: Result<Report, Failure>, report: &mut Report) -> u32 {
     match done {
         Ok(found) => {

@@ -1,8 +1,8 @@
 //! Sessions with a dynamic table: one end, driven by what the other wrote.
 //!
 //! Each end is given steps: a count, and for each step its kind. At a sender kind 0 is followed by a stream and the number
-//! of a list, at a receiver by a stream and a section; kind 1 at both by what the other end wrote beside its sections. The
-//! lists of a sender stand before its steps.
+//! of a list, at a receiver by a stream and a section. Kind 1 is followed at both by what the other end wrote beside its
+//! sections. The lists of a sender stand before its steps.
 
 use crate::ends::{Receiver, Sender};
 use crate::input::{FieldList, take_lists, take_number, take_string};
@@ -342,8 +342,8 @@ fn decode(
     Ok(report)
 }
 
-/// Runs a session of an encoder `rounds` times, and once more to return what it writes for each step: a section, and
-/// the instructions to be read before it (both empty if it hears).
+/// Runs a session of an encoder `rounds` times, and once more to return what it writes for each step. That is a section,
+/// and the instructions to be read before it (both empty if it hears).
 #[unsafe(no_mangle)]
 pub extern "C" fn h3_bench_session_encode(
     alloc: Global,
