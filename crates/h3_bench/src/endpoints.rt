@@ -23,13 +23,13 @@ struct Shape {
     under_way: usize,
 }
 
-/// The fields of a head.
+/// The fields of a header section.
 #[derive(Drop)]
 struct Head {
     fields: Vec<HeaderField>,
 }
 
-/// The heads of sections.
+/// The header section of each encoded section.
 fn heads(alloc: Global, bytes: &[u8]) -> Result<Vec<Head>, Failure> {
     let sections = input::strings(alloc, bytes)?;
     let mut heads = Vec::new(alloc);
@@ -42,7 +42,7 @@ fn heads(alloc: Global, bytes: &[u8]) -> Result<Vec<Head>, Failure> {
     Ok(heads)
 }
 
-/// What an end sends on each stream: one of its heads, in turn, and the body.
+/// What an end sends on each stream: one of its header sections, in turn, and the body.
 #[derive(Drop)]
 struct Messages {
     heads: Vec<Head>,
@@ -199,7 +199,8 @@ impl Exchanges<'_> {
         Ok(())
     }
 
-    /// Requests are carried, read and answered. What waits on the own streams is carried first, since heads may need it.
+    /// Requests are carried, read and answered. What waits on the control, encoder and decoder streams is carried first, since header
+    /// sections may need it.
     fn exchange(
         &self,
         client: &mut Endpoint,
@@ -217,7 +218,7 @@ impl Exchanges<'_> {
         self.carry_own(client, server)
     }
 
-    /// Carries what waits on the own streams of both: control, encoder and decoder stream.
+    /// Carries what waits on the local streams of both: control, encoder and decoder stream.
     fn carry_own(&self, client: &mut Endpoint, server: &mut Endpoint) -> Result<(), Failure> {
         for number in [2, 6, 10] {
             self.carry(client, server, StreamId::from(VarInt::from_u32(number)))?;
@@ -318,7 +319,7 @@ fn with_messages(
     connections(rounds, &exchanges)
 }
 
-/// What an end sends, as C hands it in.
+/// What an end sends, as C passes it.
 #[derive(Copy, Clone)]
 struct Given<'a> {
     sections: &'a [u8],
@@ -337,8 +338,8 @@ fn with_given(
     with_messages(alloc, rounds, shape, &requests, &responses)
 }
 
-/// Connections, in each of which so many times so many requests are sent at once, and answered. The report is of one connection: the fields that came
-/// out at both ends, the bytes of bodies, and the ends of streams.
+/// Connections, in each of which so many times so many requests are sent at once, and answered. The report is of one connection: the
+/// fields that came out at both ends, the bytes of bodies, and the ends of streams.
 #[unsafe(no_mangle)]
 pub extern "C" fn h3_bench_endpoints(
     alloc: Global,

@@ -13,7 +13,7 @@ use h3_qpack::{
 };
 use std::alloc::Global;
 
-/// Keeps the last `left` bytes. Where these are all of them nothing is moved, or bytes that come one by one would be moved at each.
+/// Keeps the last `left` bytes. If these are all of them, nothing is moved: else bytes that come one by one would be moved at each.
 fn keep_last(bytes: &mut Vec<u8>, left: usize) {
     let taken = bytes.len().saturating_sub(left);
     if taken == 0 {
@@ -168,7 +168,7 @@ impl Receiver {
         }
     }
 
-    /// Decodes a section, and appends the acknowledgment where it names entries. Its fields are lent up to the next section. None:
+    /// Decodes a section, and appends the acknowledgment if it names entries. Its fields are lent up to the next section. None:
     /// it waits for instructions.
     pub(crate) fn decode(
         &mut self,
@@ -188,7 +188,7 @@ impl Receiver {
         }
     }
 
-    /// What is told of a section whose fields are kept up to `max` bytes: how many were kept, and the size of all.
+    /// What the decoder says of a section whose fields are kept up to `max` bytes: how many were kept, and the size of all.
     pub(crate) fn weigh(&self, section: &[u8], max: u64) -> Result<Report, Failure> {
         let mut section = SliceCursor::new(section);
         match self.decoder.decode_header_within(&mut section, max, &[]) {

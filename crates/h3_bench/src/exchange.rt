@@ -171,7 +171,7 @@ fn send_lists(
     Ok(stream)
 }
 
-/// All passes over the lists. Their batches stand in `packed` then.
+/// All passes through the lists. Their batches stand in `packed` then.
 fn send_passes(
     passes: usize,
     lists: &[FieldList],
@@ -232,7 +232,7 @@ fn run(
     run_rounds(alloc, rounds, shape, &lists, &mut packed, out)
 }
 
-/// Runs a session `rounds` times, and once more to hand out its batches: for each the count of its sections, each of
+/// Runs a session `rounds` times, and once more to return its batches: for each the count of its sections, each of
 /// them, the instructions and the replies. Reports how many fields came out, and how many bytes sections and
 /// instructions had.
 #[unsafe(no_mangle)]

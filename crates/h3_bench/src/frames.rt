@@ -25,7 +25,7 @@ impl Model for Reader {
 
     ghost view = { λ r. r.decoder };
 
-    // where a payload is under way, no frame is tried
+    // while a payload is under way, no frame is tried
     ghost invariant = { λ r. Expects r.decoder (concat r.unread.pieces) × (0 < r.left → r.decoder.expected ≡ None) };
 }
 
@@ -65,7 +65,7 @@ impl Reader {
         }
     }
 
-    /// Takes the next frame, of DATA the head alone, or bytes of its payload. False: more has to come.
+    /// Takes the next frame, of DATA the type and length alone, or bytes of its payload. False: more has to come.
     fn take(&mut self, alloc: Global, report: &mut Report) -> Result<bool, Failure> {
         if self.left > 0 {
             return self.take_payload(report);

@@ -22,7 +22,7 @@ fn header_of(alloc: Global, section: &[u8]) -> Result<Header, Failure> {
     }
 }
 
-/// Makes the header of a section, and lets it go. Returns the count of its fields.
+/// Makes the header of a section, and frees it. Returns the count of its fields.
 fn read_one(alloc: Global, section: &[u8]) -> Result<usize, Failure> {
     match header_of(alloc, section) {
         Ok(header) => {
@@ -54,7 +54,7 @@ fn decode_all(alloc: Global, sections: &[&[u8]]) -> Result<Report, Failure> {
     Ok(report)
 }
 
-/// Lists the fields of each header, and lets them go.
+/// Lists the fields of each header, and frees the list.
 fn list_all(alloc: Global, headers: &[Header]) -> Result<Report, Failure> {
     let mut report = Report::new();
     for header in headers {

@@ -6,7 +6,7 @@ use h3_huffman::decode::decode_into;
 use h3_huffman::encode::encode_front;
 use std::alloc::Global;
 
-/// Writes the payload of each string behind the one before it.
+/// Writes the payload of each string after the one before it.
 fn encode_all(strings: &[&[u8]], out: &mut [u8]) -> Result<usize, Failure> {
     let mut written = 0;
     for string in strings {
@@ -21,7 +21,7 @@ fn encode_all(strings: &[&[u8]], out: &mut [u8]) -> Result<usize, Failure> {
     Ok(written)
 }
 
-/// Writes the string of each payload behind the one before it.
+/// Writes the string of each payload after the one before it.
 fn decode_all(payloads: &[&[u8]], out: &mut [u8]) -> Result<usize, Failure> {
     let mut written = 0;
     for payload in payloads {

@@ -1,5 +1,5 @@
-//! How strings and lists are handed in. Numbers have four bytes, the low one first. Strings are a count, and then each
-//! string behind its length. Lists are a count, and for each list the count of its fields, and the name and the value
+//! How strings and lists are passed. Numbers have four bytes, the low one first. Strings are a count, and then each
+//! string after its length. Lists are a count, and for each list the count of its fields, and the name and the value
 //! of each field as strings.
 ghost use Rattle.std.specs.Prelude.{◌≡◌, ◌<◌, ◌^◌};
 ghost use Rattle.h3_field.specs.Field.{section_size};
@@ -105,7 +105,7 @@ fn take_list(alloc: Global, input: &mut SliceCursor<'_>) -> Result<FieldList, Fa
     Ok(FieldList { fields })
 }
 
-/// Lists behind their count.
+/// Lists after their count.
 pub(crate) fn take_lists(
     alloc: Global,
     input: &mut SliceCursor<'_>,

@@ -1,4 +1,4 @@
-//! Heads of requests, judged by the rules of well-formed messages that a strict endpoint asks.
+//! Header sections of requests, judged by the rules of well-formed messages that a strict endpoint asks.
 
 use crate::header::fields_of;
 use crate::input;
@@ -30,7 +30,7 @@ fn lists_of(alloc: Global, bytes: &[u8]) -> Result<Vec<Vec<HeaderField>>, Failur
     Ok(lists)
 }
 
-/// Judges each list as the head of a request. The fields of those that break no rule are counted.
+/// Judges each list as the header section of a request. The fields of those that break no rule are counted.
 fn judge_all(lists: &[Vec<HeaderField>]) -> Report {
     let mut report = Report::new();
     for fields in lists {
@@ -50,7 +50,7 @@ fn judge(alloc: Global, rounds: u64, bytes: &[u8]) -> Result<Report, Failure> {
     Ok(report)
 }
 
-/// Judges the fields of the sections as heads of requests, `rounds` times.
+/// Judges the fields of the sections as header sections of requests, `rounds` times.
 #[unsafe(no_mangle)]
 pub extern "C" fn h3_bench_request_judge(
     alloc: Global,

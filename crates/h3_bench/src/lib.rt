@@ -1,4 +1,4 @@
-//! What `bench/` measures, for C: each export does one kind of work a number of times over what it is handed.
+//! What `bench/` measures, for C: each export does one kind of work a number of times over what the caller passes.
 //!
 //! Contracts here promise safety only. What the work gives is what the called crates prove; the driver compares
 //! the counts and the bytes.

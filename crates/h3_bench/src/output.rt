@@ -1,4 +1,4 @@
-//! How strings and lists are handed out: as they are handed in.
+//! How strings and lists are returned: in the format in which they are passed.
 
 use crate::report::Failure;
 use h3_field::Fields;

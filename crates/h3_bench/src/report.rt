@@ -3,7 +3,7 @@
 /// Why a work was given up.
 #[derive(Copy, Clone, PartialEq, Eq, Debug)]
 pub(crate) enum Failure {
-    /// What was handed in is not of its format.
+    /// The input is not of its format.
     Input,
     /// The output does not fit.
     Room,
@@ -41,7 +41,7 @@ impl Report {
     }
 }
 
-/// Hands a report out. 0 says that it is there; other numbers say why there is none.
+/// Returns a report in `report`. 0 says that it is there; other numbers say why there is none.
 pub(crate) fn answer(done: Result<Report, Failure>, report: &mut Report) -> u32 {
     match done {
         Ok(found) => {

@@ -136,7 +136,7 @@ fn decode(alloc: Global, rounds: u64, bytes: &[u8], out: &mut [u8]) -> Result<Re
     decode_rounds(alloc, rounds, &sections, &mut fields, &mut packed, out)
 }
 
-/// Encodes the lists `rounds` times, and once more to hand their sections out as strings.
+/// Encodes the lists `rounds` times, and once more to return their sections as strings.
 #[unsafe(no_mangle)]
 pub extern "C" fn h3_bench_section_encode(
     alloc: Global,
@@ -149,7 +149,7 @@ pub extern "C" fn h3_bench_section_encode(
     answer(done, report)
 }
 
-/// Decodes the sections `rounds` times, and once more to hand their lists out.
+/// Decodes the sections `rounds` times, and once more to return their lists.
 #[unsafe(no_mangle)]
 pub extern "C" fn h3_bench_section_decode(
     alloc: Global,

@@ -1,8 +1,8 @@
 //! Sessions with a dynamic table: one end, driven by what the other wrote.
 //!
-//! Each end is handed steps: a count, and for each step its kind. At a sender kind 0 is followed by a stream and the number
-//! of a list, at a receiver by a stream and a section; kind 1 at both by what the other end wrote beside its sections. The
-//! lists of a sender stand before its steps.
+//! Each end is given steps: a count, and for each step its kind. At a sender kind 0 is followed by a stream and the number
+//! of a list, at a receiver by a stream and a section. Kind 1 is followed at both by what the other end wrote beside its
+//! sections. The lists of a sender stand before its steps.
 
 use crate::ends::{Receiver, Sender};
 use crate::input::{FieldList, take_lists, take_number, take_string};
@@ -158,7 +158,7 @@ fn send_all(
     }
 }
 
-/// A step of a decoder; the fields where it decoded a section. It appends what it writes.
+/// A step of a decoder; the fields if it decoded a section. It appends what it writes.
 fn receive<'r>(
     receiver: &'r mut Receiver,
     step: &Step<'_, &[u8]>,
@@ -182,7 +182,7 @@ fn count_block(fields: &Fields<'_>, report: &mut Report) {
     }
 }
 
-/// A step of a decoder whose fields are counted, and whose replies are let go.
+/// A step of a decoder whose fields are counted, and whose replies are dropped.
 fn receive_one(
     receiver: &mut Receiver,
     step: &Step<'_, &[u8]>,
@@ -225,7 +225,7 @@ fn receive_all(
     }
 }
 
-/// Packs 1 and a list where a section was decoded, else 0.
+/// Packs 1 and a list if a section was decoded, else 0.
 fn put_decoded(packed: &mut Vec<u8>, decoded: Option<&FieldBlock>) -> Result<(), Failure> {
     match decoded {
         Some(block) => {
@@ -264,7 +264,7 @@ fn receive_steps_into(
     Ok(())
 }
 
-/// Packs what a decoder gives and writes in a session, for each step: 1 and a list where it decoded a section, else 0;
+/// Packs what a decoder gives and writes in a session, for each step: 1 and a list if it decoded a section, else 0;
 /// and what it wrote.
 fn put_received(
     alloc: Global,
@@ -342,8 +342,8 @@ fn decode(
     Ok(report)
 }
 
-/// Runs a session of an encoder `rounds` times, and once more to hand out what it writes for each step: a section, and
-/// the instructions to be read before it (both empty where it hears).
+/// Runs a session of an encoder `rounds` times, and once more to return what it writes for each step. That is a section,
+/// and the instructions to be read before it (both empty if it hears).
 #[unsafe(no_mangle)]
 pub extern "C" fn h3_bench_session_encode(
     alloc: Global,
@@ -358,8 +358,8 @@ pub extern "C" fn h3_bench_session_encode(
     answer(done, report)
 }
 
-/// Runs a session of a decoder `rounds` times, and once more to hand out for each step 1 and a list where a section was
-/// decoded, else 0 (it waits, where the step is a section), and what the decoder wrote.
+/// Runs a session of a decoder `rounds` times, and once more to return what it gives and writes for each step. It gives
+/// 1 and a list if a section was decoded, else 0 (it waits, if the step is a section).
 #[unsafe(no_mangle)]
 pub extern "C" fn h3_bench_session_decode(
     alloc: Global,

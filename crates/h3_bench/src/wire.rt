@@ -6,7 +6,7 @@ use bytes::Buf;
 use h3_wire::proto::frame::Frame;
 use h3_wire::stream::{MessageBuf, WriteBuf};
 
-/// Sends a DATA frame: its head, and then its payload, both as they are lent.
+/// Sends a DATA frame: its type and length, and then its payload, both as they are lent.
 fn send_data(body: &[u8], report: &mut Report) {
     let mut out = WriteBuf::from(Frame::Data(body));
     let head = out.chunk();
@@ -20,7 +20,7 @@ fn send_data(body: &[u8], report: &mut Report) {
     report.add(1, of_head.wrapping_add(of_payload));
 }
 
-/// Sends a DATA frame in the small form that an endpoint keeps: its head, and then its payload, as `send_data` does.
+/// Sends a DATA frame in the small form that an endpoint keeps: its type and length, and then its payload, as `send_data` does.
 fn send_message(body: &[u8], report: &mut Report)
     requires { length body.now < 2 ^ 62 }
 {
@@ -36,7 +36,7 @@ fn send_message(body: &[u8], report: &mut Report)
     report.add(1, of_head.wrapping_add(of_payload));
 }
 
-/// A front of the payload, of another length for each of 1,024 places, so that no head is known beforehand.
+/// A front of the payload, of another length for each of 1,024 places, so that no frame's type and length are known beforehand.
 fn front_at(place: usize, body: &[u8]) -> &[u8]
     ensures { length result.now ≤ length body.now }
 {
@@ -67,7 +67,7 @@ fn send_messages(rounds: u64, count: usize, body: &[u8]) -> Report
     report
 }
 
-/// The same, where the payload has an encoding (RFC 9000, section 16).
+/// The same, if the payload's length has an encoding (RFC 9000, section 16).
 fn try_messages(rounds: u64, count: usize, body: &[u8]) -> Result<Report, Failure> {
     if body.len() >= 1 << 62 {
         return Err(Failure::Input);

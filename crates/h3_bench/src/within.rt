@@ -47,7 +47,8 @@ fn weigh(
     }
 }
 
-/// Reads a section whose fields are kept up to `max` bytes, `rounds` times, at a decoder that announced this capacity and read these instructions.
+/// Reads a section whose fields are kept up to `max` bytes, `rounds` times, at a decoder that announced this capacity and read these
+/// instructions.
 #[unsafe(no_mangle)]
 pub extern "C" fn h3_bench_section_within(
     alloc: Global,

@@ -25,7 +25,7 @@ pub fn answer(told: &mut Told, endpoint: &mut Option<Endpoint>, words: &[&str]) 
     }
 }
 
-/// Makes a call of the endpoint, where there is one, or makes a new one.
+/// Makes a call of the endpoint, if there is one, or makes a new one.
 fn perform(told: &mut Told, endpoint: &mut Option<Endpoint>, call: Call) {
     match call {
         Call::New(side, config, limits) => begin(told, endpoint, (side, config), limits),
@@ -116,7 +116,7 @@ fn send_trailers(told: &mut Told, endpoint: &mut Endpoint, id: StreamId, fields:
     done(told, of_list(tried));
 }
 
-/// Why a list is not sent, as it is told of a header.
+/// Why a list is not sent, as the same refusal that a header has.
 fn of_list(tried: Result<(), FieldsError>) -> Result<(), Refusal> {
     match tried {
         Ok(()) => Ok(()),
@@ -130,8 +130,8 @@ fn advance(told: &mut Told, endpoint: &mut Endpoint, id: StreamId, count: usize)
     told.say("ok");
 }
 
-/// Delivers bytes. Those that come back for want of memory are delivered once more, and where they were taken and not read no
-/// bytes are, so that they are read.
+/// Delivers bytes. Those that come back because an allocation failed are delivered once more. If they were taken and not read, an
+/// empty piece is delivered, so that they are read.
 pub fn deliver(endpoint: &mut Endpoint, id: StreamId, bytes: Bytes) -> Result<(), DeliverError> {
     match endpoint.deliver(id, bytes) {
         Err(DeliverError::OutOfMemory(bytes)) => endpoint.deliver(id, bytes),
@@ -140,7 +140,7 @@ pub fn deliver(endpoint: &mut Endpoint, id: StreamId, bytes: Bytes) -> Result<()
     }
 }
 
-/// Delivers an end, a second time where memory was refused.
+/// Delivers an end, a second time if an allocation failed.
 pub fn deliver_end(endpoint: &mut Endpoint, id: StreamId) -> Result<(), DeliverError> {
     match endpoint.deliver_end(id) {
         Err(DeliverError::OutOfMemory(_)) => endpoint.deliver_end(id),
@@ -148,7 +148,7 @@ pub fn deliver_end(endpoint: &mut Endpoint, id: StreamId) -> Result<(), DeliverE
     }
 }
 
-/// Delivers a reset, a second time where memory was refused.
+/// Delivers a reset, a second time if an allocation failed.
 pub fn deliver_reset(endpoint: &mut Endpoint, id: StreamId, code: u64) -> Result<(), DeliverError> {
     match endpoint.deliver_reset(id, code) {
         Err(DeliverError::OutOfMemory(_)) => endpoint.deliver_reset(id, code),
@@ -156,7 +156,7 @@ pub fn deliver_reset(endpoint: &mut Endpoint, id: StreamId, code: u64) -> Result
     }
 }
 
-/// Pulls, a second time where memory was refused.
+/// Pulls, a second time if an allocation failed.
 fn pull(endpoint: &mut Endpoint, id: StreamId) -> Pull {
     match endpoint.pull(id) {
         Pull::Fault(Fault::Memory) => endpoint.pull(id),
@@ -164,7 +164,7 @@ fn pull(endpoint: &mut Endpoint, id: StreamId) -> Pull {
     }
 }
 
-/// Pulls a list, a second time where memory was refused.
+/// Pulls a list, a second time if an allocation failed.
 fn pull_fields(endpoint: &mut Endpoint, id: StreamId) -> FieldsPull {
     match endpoint.pull_fields(id) {
         FieldsPull::Fault(Fault::Memory) => endpoint.pull_fields(id),
@@ -172,7 +172,7 @@ fn pull_fields(endpoint: &mut Endpoint, id: StreamId) -> FieldsPull {
     }
 }
 
-/// Cancels, a second time where memory was refused.
+/// Cancels, a second time if an allocation failed.
 fn cancel(endpoint: &mut Endpoint, id: StreamId) -> Result<(), Refusal> {
     match endpoint.cancel(id) {
         Err(Refusal::OutOfMemory) => endpoint.cancel(id),
@@ -212,7 +212,7 @@ pub fn delivered(told: &mut Told, tried: Result<(), DeliverError>) {
     }
 }
 
-/// Why a delivery is not taken, or not read, where it is not.
+/// Why a delivery is not taken, or not read; `None` if it is taken and read.
 pub fn why(tried: &Result<(), DeliverError>) -> Option<Refusal> {
     match tried {
         Ok(()) => None,
@@ -242,7 +242,7 @@ fn lends(told: &mut Told, endpoint: &Endpoint, id: StreamId) {
     told.digits(endpoint.outgoing(id));
 }
 
-/// Whether anything can be sent on a stream, and whether that was finished or cut off.
+/// Whether anything can be sent on a stream, and whether that was finished or reset.
 fn sends(endpoint: &Endpoint, id: StreamId) -> &'static str {
     if !endpoint.has_outgoing(id) {
         return "no stream";

@@ -45,7 +45,7 @@ fn item(told: &mut Told, item: Item) {
     line(told, Answer::Pulled(Pull::Item(item)));
 }
 
-/// The line of an answer, which is let go by one call: at the end of a scope its parts would be dropped one by one.
+/// The line of an answer, which one call frees: at the end of a scope its parts would be dropped one by one.
 pub fn line(told: &mut Told, answer: Answer) {
     let text = answer_text(told.alloc(), &answer);
     drop(answer);
@@ -64,7 +64,7 @@ fn plain(told: &mut Told, command: &str) {
     }
 }
 
-/// A pull that hands out nothing, or the end.
+/// A pull that delivers nothing, or the end.
 fn pause(told: &mut Told, command: &str) {
     match command {
         "pending" => line(told, Answer::Pulled(Pull::Pending)),
@@ -84,7 +84,7 @@ fn fault(told: &mut Told, fault: Fault) {
     line(told, Answer::Pulled(Pull::Fault(fault)));
 }
 
-/// A head with the field x-b, an interim head, and a trailer.
+/// A header section with the field x-b, an interim header section, and a trailer.
 fn section(told: &mut Told, command: &str) {
     let fields = HeaderMap::new(told.alloc());
     match command {
@@ -149,7 +149,7 @@ fn of_refusal(told: &mut Told, command: &str, number: u64) {
     }
 }
 
-/// The tables of 38 and of no bytes, without a peer's limits where these are 0.
+/// The tables of 38 and of no bytes, without a peer's limits if `capacity` is 0.
 fn shown(told: &mut Told, command: &str, capacity: u64, waiting: u64) {
     if command != "shown" {
         return told.unreadable();

@@ -14,7 +14,7 @@ pub enum Call {
     New(Side, Config, Limits),
     Open,
     Head(StreamId, Header),
-    /// A head as a list of fields.
+    /// A header section as a list of fields.
     Fields(StreamId, Vec<HeaderField>),
     Body(StreamId, Bytes),
     Trailer(StreamId, Header),
@@ -35,7 +35,7 @@ pub enum Call {
     /// The first piece of what waits.
     Lends(StreamId),
     Advance(StreamId, usize),
-    /// Whether anything can be sent on a stream, and whether that was finished or cut off.
+    /// Whether anything can be sent on a stream, and whether that was finished or reset.
     Sends(StreamId),
     Tries(StreamId),
     Show,

@@ -13,11 +13,11 @@ use std::fmt;
 pub enum CaseError {
     /// There is no such case, or it is given something else.
     Unreadable,
-    /// Something was refused that only wants memory.
+    /// Something was refused that only needs memory.
     Refused,
 }
 
-/// What a case answers, as it is put together. What is refused or cannot be read is kept, and told at the end in place of the text: so
+/// What a case answers, as it is put together. What is refused or cannot be read is kept, and told at the end in place of the text. So
 /// no function that puts a part has an exit of its own. A word that cannot be read counts as 0, or as no byte.
 #[derive(Drop)]
 pub struct Told {
@@ -77,7 +77,7 @@ impl Told {
         self.fail(CaseError::Refused);
     }
 
-    /// What was done, where it is refused only for want of memory.
+    /// What was done by a call that is refused only if it is out of memory.
     pub fn done<T: Drop, E: Drop>(&mut self, done: Result<T, E>) {
         if done.is_err() {
             self.refused();
@@ -85,7 +85,7 @@ impl Told {
     }
 }
 
-/// The parts of an answer. Values are handed over: the drop of a type parameter is one call.
+/// The parts of an answer. Values are passed and not lent: the drop of a type parameter is one call.
 impl Told {
     pub fn say(&mut self, text: &str) {
         if self.text.push_str(text).is_err() {
@@ -111,19 +111,19 @@ impl Told {
         self.put(made);
     }
 
-    /// A blank, and a value behind it.
+    /// A blank, and a value after it.
     pub fn then_debug<T: fmt::Debug + Drop>(&mut self, value: T) {
         self.say(" ");
         self.debug(value);
     }
 
-    /// A blank, and a value behind it.
+    /// A blank, and a value after it.
     pub fn then_show<T: fmt::Display + Drop>(&mut self, value: T) {
         self.say(" ");
         self.show(value);
     }
 
-    /// The hex digits of bytes, or a `-` where there are none.
+    /// The hex digits of bytes, or a `-` if there are none.
     pub fn digits(&mut self, bytes: &[u8]) {
         if bytes.is_empty() {
             return self.say("-");
@@ -147,7 +147,7 @@ impl Told {
         self.say(str::from_utf8(field.value()).unwrap_or("?"));
     }
 
-    /// What was read, and the bytes behind it.
+    /// What was read, and the bytes after it.
     pub fn with_rest<T: fmt::Debug + Drop>(&mut self, read: T, rest: &[u8]) {
         self.debug(read);
         self.say(" rest ");
@@ -235,13 +235,13 @@ impl Told {
         found
     }
 
-    /// Those bytes, behind others.
+    /// Those bytes, after others.
     pub fn append(&mut self, found: &mut Vec<u8>, word: &str) {
         let done = percent_decode(word.as_bytes()).append_to(found);
         self.done(done);
     }
 
-    /// What stands before and behind a `=`.
+    /// What stands before and after a `=`.
     pub fn pair<'a>(&mut self, word: &'a str) -> (&'a str, &'a str) {
         match word.split_once('=') {
             Some(parts) => parts,

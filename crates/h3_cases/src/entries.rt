@@ -15,7 +15,7 @@ pub fn answer(told: &mut Told, command: &str, words: &[&str]) {
     }
 }
 
-/// A static entry, where a name is found, or the name of an entry with the value `a`.
+/// A static entry, the place at which a name is found, or the name of an entry with the value `a`.
 fn of_word(told: &mut Told, command: &str, word: &str) {
     match command {
         "static" => {

@@ -17,7 +17,7 @@ pub struct Feed<'a> {
     pub alloc: Global,
 }
 
-/// What comes behind the bytes.
+/// What comes after the bytes.
 #[derive(Clone, Copy)]
 pub enum Last {
     End,

@@ -26,7 +26,7 @@ pub fn answer(told: &mut Told, command: &str, words: &[&str]) {
     }
 }
 
-/// The frame at the front, or the first two and the bytes behind them; or what is written of a frame with these bytes.
+/// The frame at the front, or the first two and the bytes after them; or what is written of a frame with these bytes.
 fn read(told: &mut Told, command: &str, bytes: &[u8]) {
     let mut from = bytes;
     match command {
@@ -43,7 +43,7 @@ fn read(told: &mut Told, command: &str, bytes: &[u8]) {
     }
 }
 
-/// The text of the frame at the front, or of why it is none.
+/// The text of the frame at the front, or of why there is no frame.
 fn next(told: &mut Told, from: &mut &[u8]) {
     match Frame::<PayloadLen>::decode(told.alloc(), from) {
         Ok(frame) => told.debug(frame),
@@ -112,7 +112,7 @@ fn written(told: &mut Told, frame: Frame<Bytes>) {
     drop(frame);
 }
 
-/// What is written of a DATA or a HEADERS frame with this payload: its head, and the payload that the frame lends.
+/// What is written of a DATA or a HEADERS frame with this payload: its type and length, and the payload that the frame lends.
 fn with_payload(told: &mut Told, command: &str, bytes: &[u8]) {
     match Bytes::copy_from_slice(told.alloc(), bytes) {
         Ok(payload) => both_parts(told, of_payload(command, payload)),

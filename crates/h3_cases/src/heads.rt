@@ -117,7 +117,7 @@ fn status(told: &mut Told, header: Header) {
     }
 }
 
-/// A request of a method, a URI, a protocol or `-`, and a host where there is one more word.
+/// A request of a method, a URI, a protocol or `-`, and a host if there is one more word.
 fn request(told: &mut Told, words: &[&str]) {
     match words {
         [method, uri, protocol, hosts @ ..] => {

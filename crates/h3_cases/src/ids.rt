@@ -140,7 +140,7 @@ pub fn stream_id(told: &mut Told, number: u64) -> StreamId {
     }
 }
 
-/// The head of a WebTransport stream of a session, and a stream's id behind it.
+/// The type and the session ID of a WebTransport stream, and a stream's id after them.
 fn write(told: &mut Told, session: SessionId, stream: StreamId) {
     let mut out = BytesMut::new(told.alloc());
     told.done(out.write(StreamType::WEBTRANSPORT_UNI));

@@ -111,7 +111,7 @@ fn put_empty(told: &mut Told, kind: &str, index: usize, out: &mut Vec<u8>)
     }
 }
 
-/// An insertion of a value, behind an index or a name.
+/// An insertion: an index or a name, and a value after it.
 fn write(told: &mut Told, kind: &str, first: &str, value: &[u8])
     requires { length value.now ≤ 1000 }
 {

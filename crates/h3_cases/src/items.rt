@@ -1,4 +1,4 @@
-//! The lines of what is handed out: bytes that are no letters are written as escapes, so that no two items have one line.
+//! The lines of what a pull delivers: bytes that are no letters are written as escapes, so that no two items have one line.
 use crate::case::Told;
 use h3_connection::event::{Item, Pull};
 use h3_field::HeaderField;
@@ -69,7 +69,7 @@ fn tell_list_item(told: &mut Told, item: &FieldsItem) {
     }
 }
 
-/// The name, and the fields behind it. A value of more than 100 bytes that are all the same is one of them, and their count.
+/// The name, and the fields after it. A value of more than 100 bytes that are all the same is one of them, and their count.
 fn tell_list(told: &mut Told, name: &str, fields: &[HeaderField]) {
     told.say(name);
     for field in fields {
@@ -114,7 +114,7 @@ fn tell_item(told: &mut Told, item: &Item) {
     }
 }
 
-/// The name, and the fields behind it.
+/// The name, and the fields after it.
 fn section(told: &mut Told, name: &str, section: &Header) {
     told.say(name);
     match section.fields(told.alloc()) {

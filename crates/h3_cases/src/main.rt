@@ -102,7 +102,7 @@ fn unreadable(ends: &Ends, line: &str) -> &'static str {
     }
 }
 
-/// What a line answers. Behind a line `config` each is one of a script, else a call or a case.
+/// What a line answers. After a line `config` each is one of a script, else a call or a case.
 fn of_line(told: &mut Told, ends: &mut Ends, line: &str) {
     if let Some(choices) = line.strip_prefix("config ") {
         ends.is_script = true;
@@ -114,7 +114,7 @@ fn of_line(told: &mut Told, ends: &mut Ends, line: &str) {
     of_group_line(told, &mut ends.one, line);
 }
 
-/// What a call or a case answers: its group, and what stands behind that.
+/// What a call or a case answers: its group, and what stands after that.
 fn of_group_line(told: &mut Told, endpoint: &mut Option<Endpoint>, line: &str) {
     let Some((group, rest)) = line.split_once(' ') else {
         return told.unreadable();

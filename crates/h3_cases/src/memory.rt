@@ -1,5 +1,5 @@
-//! Reading where memory may be refused: `rt try --fail-alloc N` over one of these lines refuses the Nth allocation. A
-//! call that was refused for memory took nothing, and is made again.
+//! Reading when allocations may fail: `rt try --fail-alloc N` over one of these lines refuses the Nth allocation. A
+//! call that was out of memory took nothing, and is made again.
 ghost use Rattle.std.specs.Prelude.{◌≡◌, ◌<◌, ◌≤◌, ◌^◌, length, false};
 ghost use Rattle.h3_wire.specs.Streams.{left, is_open};
 
@@ -137,7 +137,7 @@ fn copied(alloc: Global, bytes: &[u8]) -> Result<Bytes, AllocError> {
     }
 }
 
-/// A frame in one piece: whether it was read, and how often it was tried. Where memory is refused no try is counted.
+/// A frame in one piece: whether it was read, and how often it was tried. If an allocation fails, no try is counted.
 pub fn tries(told: &mut Told, bytes: &[u8]) {
     match copied(told.alloc(), bytes) {
         Ok(piece) => of_piece(told, piece),

@@ -18,7 +18,7 @@ pub fn call(told: &mut Told, words: &[&str]) -> Call {
     }
 }
 
-/// The call of this command, with the words behind that.
+/// The call of this command, with the words after that.
 pub fn named(told: &mut Told, command: &str, words: &[&str]) -> Call {
     match words {
         [] => plain(told, command),
@@ -92,7 +92,7 @@ fn on_stream(told: &mut Told, command: &str, id: StreamId, words: &[&str]) -> Ca
     }
 }
 
-/// A call on a stream with one word behind its id.
+/// A call on a stream with one word after its id.
 fn with_word(told: &mut Told, command: &str, id: StreamId, word: &str) -> Call {
     match command {
         "body" => Call::Body(id, told.payload(word)),
@@ -128,7 +128,7 @@ fn ending(told: &mut Told, command: &str, id: StreamId) -> Call {
     }
 }
 
-/// The head or trailer of fields, each a word `name=value`.
+/// The header section or trailer of fields, each a word `name=value`.
 fn section(told: &mut Told, words: &[&str]) -> Header {
     let fields = fields(told, words);
     match Header::try_from(told.alloc(), fields) {

@@ -10,7 +10,7 @@ use h3_world::event::Event;
 
 const MOST: u64 = 1 << 48;
 
-/// A line behind a setup, a line between a setup and an event, or a script of at most so many bytes. Any byte may be an escape,
+/// A line after a setup, a line between a setup and an event, or a script of at most so many bytes. Any byte may be an escape,
 /// as `%20`.
 pub fn answer(told: &mut Told, command: &str, rest: &str) {
     match command {

@@ -1,4 +1,4 @@
-//! What is sent: frames with a payload, heads of streams, messages, and pieces of bytes.
+//! What is sent: frames with a payload, stream headers, messages, and pieces of bytes.
 ghost use Rattle.std.specs.Prelude.{◌≤◌, length};
 
 use crate::case::Told;
@@ -40,7 +40,7 @@ fn of_bytes(told: &mut Told, command: &str, bytes: &[u8], more: &[&str])
     }
 }
 
-/// A message of one frame, or a frame behind something else.
+/// A message of one frame, or a frame after something else.
 fn of_payload(told: &mut Told, command: &str, payload: Bytes, more: &[&str])
     requires { length payload ≤ 1000 }
 {
@@ -51,7 +51,7 @@ fn of_payload(told: &mut Told, command: &str, payload: Bytes, more: &[&str])
     }
 }
 
-/// The head of a stream.
+/// The header of a stream.
 fn head(told: &mut Told, command: &str) {
     let session = SessionId::from_varint(VarInt::from_u32(5));
     match command {
@@ -78,7 +78,7 @@ fn first(told: &mut Told, sent: WriteBuf<Bytes>) {
     drop(sent);
 }
 
-/// The promise of push 134, or a DATA frame behind the type of an encoder stream.
+/// The promise of push 134, or a DATA frame after the type of an encoder stream.
 fn frame(told: &mut Told, command: &str, payload: Bytes, more: &[&str]) {
     match command {
         "promise" => {

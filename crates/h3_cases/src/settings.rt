@@ -123,7 +123,7 @@ fn decode(told: &mut Told, frame: &[u8], ids: &[&str]) {
     }
 }
 
-/// The setting 1 of the first two bytes, and the bytes behind them.
+/// The setting 1 of the first two bytes, and the bytes after them.
 fn front(told: &mut Told, bytes: &[u8]) {
     if bytes.len() < 2 {
         return told.unreadable();

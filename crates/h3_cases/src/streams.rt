@@ -43,7 +43,7 @@ fn of_word(told: &mut Told, command: &str, word: &str) {
     }
 }
 
-/// What comes behind the bytes.
+/// What comes after the bytes.
 fn ending(told: &mut Told, word: &str) -> Last {
     match word {
         "end" => Last::End,
@@ -207,7 +207,7 @@ fn poll<S: RecvStream>(told: &mut Told, stream: &mut FrameStream<S>, call: &str)
     told.say(")");
 }
 
-/// The stream by its type, and how many bytes behind it were read, or why its type is not known.
+/// The stream by its type, and how many bytes after it were read, or why its type is not known.
 fn accept(told: &mut Told, feed: Feed<'_>)
     requires { length feed.bytes.now < 2 ^ 62 }
 {
@@ -307,7 +307,7 @@ fn parts(told: &mut Told, stream: BufRecvStream<Feed<'_>>) {
     drop(list);
 }
 
-/// The head of a frame, and so many times the bytes 0 to 9 behind it.
+/// The type and length of a frame, and so many times the bytes 0 to 9 after them.
 fn long_frame(told: &mut Told, head: &[u8], tens: usize) -> Vec<u8> {
     let mut bytes = Vec::new(told.alloc());
     told.done(bytes.extend_from_slice(head));
@@ -373,7 +373,7 @@ fn long_body(told: &mut Told) {
     body_of(told, feed);
 }
 
-/// What stands behind the frame's head of five bytes, where there are 1,000,000 of them.
+/// What stands after the frame's type and length, which are five bytes; `None` unless it is 1,000,000 bytes.
 fn body_behind_its_head(frame: &[u8]) -> Option<&[u8]> {
     if frame.len() != 1_000_005 {
         return None;

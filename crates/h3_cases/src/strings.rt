@@ -75,7 +75,7 @@ fn unhuffman(told: &mut Told, items: DecodeIter) {
     }
 }
 
-/// A string with a length of five bits behind the flag 1.
+/// A string with a length of five bits after the flag 1.
 fn write(told: &mut Told, value: &[u8])
     requires { length value.now ≤ 1000 }
 {
@@ -100,14 +100,14 @@ fn read(told: &mut Told, command: &str, bytes: &[u8]) {
     }
 }
 
-/// The integer 1337 in five bits, behind the flags 2.
+/// The integer 1337 in five bits, after the flags 2.
 fn integer(told: &mut Told) {
     let mut out = Vec::new(told.alloc());
     told.done(prefix_int::encode(5, 2, 1337, &mut out));
     told.digits(&out);
 }
 
-/// A window of 4 bits behind 13 bits, and the one from the same bit to the end of the byte.
+/// A window of 4 bits after 13 bits, and the one from the same bit to the end of the byte.
 fn window(told: &mut Told) {
     let mut window = BitWindow::new();
     window.forwards(13);

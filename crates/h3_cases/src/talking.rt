@@ -32,7 +32,7 @@ enum Going {
     All,
 }
 
-/// The first line of a script, behind its command: the choices of the client, a `/`, and those of the server. New endpoints take the place
+/// The first line of a script, after its command: the choices of the client, a `/`, and those of the server. New endpoints take the place
 /// of those before.
 pub fn config(
     told: &mut Told,
@@ -95,7 +95,7 @@ fn talk(told: &mut Told, client: &mut Endpoint, server: &mut Endpoint, text: &st
     }
 }
 
-/// A command that `h3_script` does not have, with a side and what stands behind that.
+/// A command that `h3_script` does not have, with a side and what stands after that.
 fn of_words(
     told: &mut Told,
     client: &mut Endpoint,
@@ -258,7 +258,7 @@ fn all(told: &mut Told, writer: &mut Endpoint, reader: &mut Endpoint, id: Stream
     }
 }
 
-/// The reset or the end of a stream of which nothing waits, where it has one.
+/// The reset or the end of a stream of which nothing waits, if it has one.
 fn ending(told: &mut Told, writer: &Endpoint, reader: &mut Endpoint, id: StreamId) {
     if writer.is_reset(id) {
         return reset(told, writer, reader, id);

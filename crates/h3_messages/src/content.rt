@@ -6,7 +6,7 @@ use crate::fields::value_of;
 use crate::text::{byte_at, is_same, length_of};
 use h3_field::HeaderField;
 
-/// How much content is left to come behind a head.
+/// How much content is left to come after a header section.
 #[derive(Clone, Copy, Debug, PartialEq, Eq)]
 pub enum Content {
     /// As much as comes: no `content-length` says it.
@@ -48,15 +48,15 @@ impl Asked {
 }
 
 impl Content {
-    /// What a client awaits in front of the head of the response to a request of these fields. It is all that the client's stream
-    /// remembers of that: `NoContent` behind HEAD, `Tunnel` behind CONNECT, and else `Unsaid`.
+    /// What a client awaits before the header section of the response to a request of these fields. It is all that the client's stream
+    /// remembers of that: `NoContent` after HEAD, `Tunnel` after CONNECT, and else `Unsaid`.
     pub fn awaited_by(fields: &[HeaderField]) -> Content
         ensures { result ≡ awaited_by fields.now }
     {
         Content::behind_asking(Asked::by(value_of(b":method", fields)))
     }
 
-    // What is awaited behind a request that asks this.
+    // What is awaited after a request that asks this.
     pub(crate) fn behind_asking(request: Asked) -> Content
         ensures { result ≡ awaited request }
     {
@@ -67,7 +67,7 @@ impl Content {
         }
     }
 
-    // What the request asked behind which this is awaited.
+    // What the request asked after which this is awaited.
     pub(crate) fn asked(self) -> Asked
         ensures { result ≡ asked_for self }
     {
@@ -78,7 +78,7 @@ impl Content {
         }
     }
 
-    /// The content behind the head of a response, in front of which this was awaited. An interim one leaves it as it is.
+    /// The content after the header section of a response, before which this was awaited. An interim one leaves it as it is.
     pub fn behind_response(self, fields: &[HeaderField]) -> Content
         ensures { result ≡ content_behind_response self fields.now }
     {
@@ -94,7 +94,7 @@ impl Content {
         behind_status(self, status, b"")
     }
 
-    /// The content behind the head of a request: a tunnel's for CONNECT, else as much as `content-length` says.
+    /// The content after the header section of a request: a tunnel's for CONNECT, else as much as `content-length` says.
     pub fn of_request(fields: &[HeaderField]) -> Content
         ensures { result ≡ content_of_request fields.now }
     {
@@ -104,7 +104,7 @@ impl Content {
         said(value_of(b"content-length", fields))
     }
 
-    /// The content behind the head of a final response to a request of this method.
+    /// The content after the header section of a final response to a request of this method.
     pub fn of_response(asked: Asked, fields: &[HeaderField]) -> Content
         ensures { result ≡ content_of_response asked fields.now }
     {
@@ -113,7 +113,7 @@ impl Content {
         content_expected(asked, status, size)
     }
 
-    /// What is left behind DATA of so many bytes (RFC 9114, 4.1.2).
+    /// What is left after DATA of so many bytes (RFC 9114, 4.1.2).
     pub fn left_behind(self, size: u64) -> Content
         ensures { result ≡ left_behind self size }
     {
@@ -157,7 +157,7 @@ impl Content {
         }
     }
 
-    /// Whether a trailer may come: behind a tunnel's beginning none may (RFC 9114, 4.4).
+    /// Whether a trailer may come: after a tunnel's beginning none may (RFC 9114, 4.4).
     pub fn takes_trailer(self) -> bool
         ensures { result ≡ takes_trailer self }
     {
@@ -175,7 +175,7 @@ pub fn is_interim_status(status: &[u8]) -> bool
     status.len() == 3 && status.iter().all(|byte| byte.is_ascii_digit()) && status[0] == b'1'
 }
 
-// What is expected behind a head of this status and this `content-length`, where this was awaited.
+// What is expected after a header section of this status and this `content-length`, if this was awaited.
 pub(crate) fn behind_status(content: Content, status: &[u8], size: &[u8]) -> Content
     ensures { result ≡ content_behind_status content status.now size.now }
 {
@@ -185,7 +185,7 @@ pub(crate) fn behind_status(content: Content, status: &[u8], size: &[u8]) -> Con
     content_expected(content.asked(), status, size)
 }
 
-// What this `content-length` says, where it is a length.
+// What this `content-length` says, if it is a length.
 pub(crate) fn said(text: &[u8]) -> Content
     ensures { result ≡ said text.now }
 {

@@ -1,4 +1,4 @@
-//! What the head of a message says, by one walk over its list: the rule that it breaks, and how much content follows it.
+//! What the header section of a message says, by one walk over its list: the rule that it breaks, and how much content follows it.
 ghost use Rattle.std.specs.Prelude.{◌≡◌};
 ghost use Rattle.h3_messages.specs.Content.{awaited_by, content_behind_response, content_of_request};
 ghost use Rattle.h3_messages.specs.ResponseSaid.{response_said};
@@ -14,36 +14,36 @@ use crate::survey::Survey;
 use crate::violation::Violation;
 use h3_field::Fields;
 
-/// What the head of a request says.
+/// What the header section of a request says.
 #[derive(Clone, Copy, Debug, PartialEq, Eq)]
 pub struct RequestRead {
     /// The first rule that it breaks, as `request_violation` tells it.
     pub violation: Option<Violation>,
-    /// The content behind it, as `Content::of_request` tells it.
+    /// The content after it, as `Content::of_request` tells it.
     pub content: Content,
-    /// What its client awaits in front of the head of the response, as `Content::awaited_by` tells it.
+    /// What its client awaits before the header section of the response, as `Content::awaited_by` tells it.
     pub awaited: Content,
 }
 
-/// What the head of a response says.
+/// What the header section of a response says.
 #[derive(Clone, Copy, Debug, PartialEq, Eq)]
 pub struct ResponseRead {
     /// The first rule that it breaks, as `response_violation` tells it.
     pub violation: Option<Violation>,
-    /// The content behind it, as `Content::behind_response` tells it.
+    /// The content after it, as `Content::behind_response` tells it.
     pub content: Content,
 }
 
-/// What the head of a response says, whatever was awaited in front of it.
+/// What the header section of a response says, whatever was awaited before it.
 #[derive(Clone, Copy, Debug, PartialEq, Eq)]
 pub struct AnyResponseRead {
     /// The first rule that it breaks, as `response_violation` tells it.
     pub violation: Option<Violation>,
-    /// What it says of the content behind it.
+    /// What it says of the content after it.
     pub said: ResponseSaid,
 }
 
-/// What the head of a request says. The choice is whether its server announced extended CONNECT.
+/// What the header section of a request says. The choice is whether its server announced extended CONNECT.
 pub fn read_request(fields: &Fields<'_>, extended_connect: bool) -> RequestRead
     ensures violation { result.violation ≡ violation_of_request extended_connect fields.now }
     ensures content { result.content ≡ content_of_request fields.now }
@@ -67,7 +67,7 @@ pub fn request_by(survey: &Survey, extended_connect: bool) -> RequestRead
     }
 }
 
-/// What the head of a response says, in front of which this was awaited.
+/// What the header section of a response says, before which this was awaited.
 pub fn read_response(awaited: Content, fields: &Fields<'_>) -> ResponseRead
     ensures violation { result.violation ≡ violation_of_response fields.now }
     ensures content { result.content ≡ content_behind_response awaited fields.now }
@@ -88,7 +88,7 @@ pub fn response_by(awaited: Content, survey: &Survey) -> ResponseRead
     }
 }
 
-/// What the head of a response says, where it is not known yet what was awaited.
+/// What the header section of a response says, if it is not known yet what was awaited.
 pub fn read_any_response(fields: &Fields<'_>) -> AnyResponseRead
     ensures violation { result.violation ≡ violation_of_response fields.now }
     ensures said { result.said ≡ response_said fields.now }
@@ -109,7 +109,7 @@ pub fn any_response_by(survey: &Survey) -> AnyResponseRead
     }
 }
 
-// The content behind the head of a request.
+// The content after the header section of a request.
 fn content_of_request(survey: &Survey) -> Content
     ensures { result ≡ content_of_request survey.now.fields.now }
 {
@@ -126,7 +126,7 @@ fn awaited_by(survey: &Survey) -> Content
     Content::behind_asking(Asked::by(survey.value_of(Known::Method)))
 }
 
-// The content behind the head of a response.
+// The content after the header section of a response.
 fn content_behind_response(awaited: Content, survey: &Survey) -> Content
     ensures { result ≡ content_behind_response awaited survey.now.fields.now }
 {
@@ -134,7 +134,7 @@ fn content_behind_response(awaited: Content, survey: &Survey) -> Content
     behind_status(awaited, status, survey.value_of(Known::ContentLength))
 }
 
-// What the head of a response says of it.
+// What the header section of a response says of it.
 fn response_said(survey: &Survey) -> ResponseSaid
     ensures { result ≡ response_said survey.now.fields.now }
 {

@@ -76,7 +76,7 @@ impl Known {
         }
     }
 
-    /// Where a table has what is known of it.
+    /// The place at which a table has what is known of it.
     pub(crate) fn place(self) -> usize
         ensures place { result ≡ place self }
         ensures within { result < 14 }
@@ -127,7 +127,7 @@ fn regular_of_ten(name: &[u8]) -> Option<Known>
     }
 }
 
-// The name, where it is this text.
+// The name, if it is this text.
 fn if_same(name: &[u8], text: &[u8], known: Known) -> Option<Known>
     ensures { result ≡ (if bytes_eq name.now text.now then Some known else None) }
 {

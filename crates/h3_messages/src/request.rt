@@ -1,4 +1,4 @@
-//! Which rule the head of a request breaks (RFC 9114, 4.2, 4.3, 4.3.1 and 4.4; RFC 9220, 3).
+//! Which rule the header section of a request breaks (RFC 9114, 4.2, 4.3, 4.3.1 and 4.4; RFC 9220, 3).
 ghost use Rattle.std.specs.Prelude.{◌≡◌};
 ghost use Rattle.h3_messages.specs.Messages.{is_connect, is_plain_connect, needs_authority, misses_pseudo, is_protocol_wrong, is_connect_wrong, is_scheme_wrong, misses_authority, is_target_wrong, is_authority_wrong, is_path_right, is_path_wrong, violation_of_request};
 
@@ -12,7 +12,7 @@ use crate::text::{byte_at, has_byte, is_same, is_word};
 use crate::violation::Violation;
 use h3_field::{Fields, HeaderField};
 
-/// The first rule that the head of a request breaks, or none. The choice is whether its server announced extended CONNECT.
+/// The first rule that the header section of a request breaks, or none. The choice is whether its server announced extended CONNECT.
 pub fn request_violation(fields: &[HeaderField], extended_connect: bool) -> Option<Violation>
     ensures { result ≡ violation_of_request extended_connect fields.now }
 {

@@ -11,7 +11,7 @@ use crate::text::{byte_at, is_same, says_more_than_none};
 use crate::violation::Violation;
 use h3_field::{Fields, HeaderField};
 
-/// The first rule that the head of a response breaks, interim or final, or none.
+/// The first rule that the header section of a response breaks, interim or final, or none.
 pub fn response_violation(fields: &[HeaderField]) -> Option<Violation>
     ensures { result ≡ violation_of_response fields.now }
 {

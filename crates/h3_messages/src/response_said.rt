@@ -1,4 +1,5 @@
-//! What the head of a response says of the content behind it, whatever its request asked (RFC 9114, 4.1.2; RFC 9110, 6.4.1, 8.6 and 9.3.6).
+//! What the header section of a response says of the content after it, whatever its request asked (RFC 9114, 4.1.2; RFC 9110, 6.4.1,
+//! 8.6 and 9.3.6).
 ghost use Rattle.std.specs.Prelude.{◌≡◌, List, if◌then◌else◌};
 ghost use Rattle.h3_field.specs.Field.{Field};
 ghost use Rattle.h3_messages.specs.Content.{content_behind_response};
@@ -8,14 +9,14 @@ ghost use Rattle.h3_messages.specs.declared.content.Content.TheVariants.{Tunnel}
 use crate::content::{Asked, Content, content_of_status, is_interim_status};
 use crate::text::byte_at;
 
-/// What the head of a response says of the content behind it.
+/// What the header section of a response says of the content after it.
 #[derive(Clone, Copy, Debug, PartialEq, Eq)]
 pub struct ResponseSaid {
     /// Whether it is interim, and so leaves what was awaited.
     pub is_interim: bool,
-    /// Whether a tunnel begins behind it, where its request was CONNECT.
+    /// Whether a tunnel begins after it, if its request was CONNECT.
     pub opens_tunnel: bool,
-    /// The content behind a final one, but behind HEAD and in a tunnel.
+    /// The content after a final one, except after HEAD and in a tunnel.
     pub content: Content,
 }
 
@@ -31,7 +32,7 @@ impl ResponseSaid {
         }
     }
 
-    /// The content behind such a head, in front of which this was awaited, as `Content::behind_response` tells it.
+    /// The content after such a header section, before which this was awaited, as `Content::behind_response` tells it.
     pub fn behind(self, awaited: Content) -> Content
         ensures { (fields : List Field) → self ≡ response_said fields → result ≡ content_behind_response awaited fields }
     {
@@ -45,7 +46,7 @@ impl ResponseSaid {
         }
     }
 
-    // The content behind a final response to CONNECT.
+    // The content after a final response to CONNECT.
     fn behind_connect(self) -> Content
         ensures { result ≡ (if self.opens_tunnel then Tunnel else self.content) }
     {

@@ -49,7 +49,7 @@ impl<'a> Seen<'a> {
         }
     }
 
-    /// Each field of the list, behind none.
+    /// Takes each field of the list; none was taken before.
     pub fn take_all(&mut self, fields: &Fields<'a>)
         requires { IsSeen [] self.old }
         ensures { IsSeen fields.now self.new }
@@ -59,7 +59,7 @@ impl<'a> Seen<'a> {
         }
     }
 
-    // One field more. The colon is looked at before the name is told, which leaves few names to compare with.
+    // One field more. The colon is looked at before the name is compared, which leaves few names to compare with.
     fn take_in(&mut self, field: &FieldRef<'a>)
         ensures { TakesField field.now self.old self.new }
     {
@@ -82,8 +82,8 @@ impl<'a> Seen<'a> {
         }
     }
 
-    /// Each field of the list, behind none, where nothing is malformed of any by itself, or else the first part that is. The kind that this
-    /// tells of a field is the name of a pseudo-header field, which is compared with no other.
+    /// Takes each field of the list, if nothing is malformed of any by itself, or else answers the first part that is. No field was taken
+    /// before. The kind that this tells of a field is the name of a pseudo-header field, which is compared with no other.
     #[inline(never)]
     pub fn take_good(&mut self, fields: &Fields<'a>) -> Result<(), BadPart>
         requires none { IsSeen [] self.old }
@@ -162,7 +162,7 @@ impl<'a> Seen<'a> {
     }
 }
 
-// Where the slots have what is known of a name.
+// The place at which the slots have what is known of a name.
 fn place_in(slots: &[Slot<'_>], known: Known) -> usize
     requires { length slots.now ≡ 14 }
     ensures place { result ≡ place known }
@@ -171,7 +171,7 @@ fn place_in(slots: &[Slot<'_>], known: Known) -> usize
     known.place()
 }
 
-// Sets the flag where this was found.
+// Sets the flag if this was found.
 fn note(flag: &mut bool, found: bool)
     ensures { flag.new ≡ (flag.old || found) }
 {

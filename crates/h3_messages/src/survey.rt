@@ -10,7 +10,7 @@ use crate::pseudo::has_pseudo;
 use crate::seen::Seen;
 use h3_field::Fields;
 
-/// A list, and what it holds. What it holds lies where it was found: it is some 350 bytes.
+/// A list, and what it holds. What it holds is lent and not copied: it is some 350 bytes.
 #[derive(Clone, Copy)]
 pub struct Survey<'a> {
     fields: &'a Fields<'a>,
@@ -48,7 +48,7 @@ impl<'a> Survey<'a> {
         self.seen.slots[name.place()].value
     }
 
-    /// Whether a pseudo-header field stands behind a regular one (RFC 9114, 4.3).
+    /// Whether a pseudo-header field stands after a regular one (RFC 9114, 4.3).
     pub(crate) fn is_out_of_order(&self) -> bool
         ensures { result ≡ not (pseudo_first self.now.fields.now) }
     {

@@ -7,14 +7,14 @@ ghost use Rattle.h3_messages.specs.Messages.{is_word, is_space, is_length, numbe
 // No stream carries as many bytes (RFC 9000, 4.5).
 const LENGTH_LIMIT: u64 = 1 << 62;
 
-/// The byte at this place, or 0 behind the end.
+/// The byte at this place, or 0 after the end.
 pub(crate) fn byte_at(text: &[u8], index: usize) -> u8
     ensures { result ≡ slice_index text.now index }
 {
     if index < text.len() { text[index] } else { 0 }
 }
 
-/// Whether the two texts are the same. Where their lengths tell, no call is made.
+/// Whether the two texts are the same. If their lengths differ, no call is made.
 #[tactic(auto, using(crate::proofs::Steps::other_lengths))]
 #[inline(always)]
 pub(crate) fn is_same(text: &[u8], word: &[u8]) -> bool
@@ -44,7 +44,7 @@ pub(crate) fn is_space(byte: u8) -> bool
     byte == 32 || byte == 9
 }
 
-/// Whether white space stands before or behind the text.
+/// Whether the text starts or ends with white space.
 pub(crate) fn has_space_around(text: &[u8]) -> bool
     ensures { result ≡ (is_space (slice_index text.now 0) || is_space (slice_index text.now (length text.now - 1))) }
 {
@@ -68,7 +68,7 @@ fn are_digits(text: &[u8]) -> bool
     true
 }
 
-/// The number of these digits, or 2 ^ 62 where it is greater.
+/// The number of these digits, or 2 ^ 62 if it is greater.
 #[tactic(auto, using(crate::proofs::Steps::number_step))]
 fn number_of(digits: &[u8]) -> u64
     ensures { result ≡ min (2 ^ 62) (number_of digits.now) }
@@ -84,7 +84,7 @@ fn number_of(digits: &[u8]) -> u64
     number
 }
 
-/// The number of bytes that a `content-length` says, or none where it is no length (RFC 9110, 8.6).
+/// The number of bytes that a `content-length` says, or none if it is no length (RFC 9110, 8.6).
 pub(crate) fn length_of(text: &[u8]) -> Option<u64>
     ensures { result ≡ (if is_length text.now then Some (number_of text.now) else None) }
 {

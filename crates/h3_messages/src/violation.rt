@@ -3,7 +3,7 @@
 /// The first rule that a field list breaks. Each makes its message malformed (RFC 9114, 4.1.2).
 #[derive(Clone, Copy, Debug, PartialEq, Eq)]
 pub enum Violation {
-    /// A pseudo-header field stands behind a regular field (RFC 9114, 4.3).
+    /// A pseudo-header field stands after a regular field (RFC 9114, 4.3).
     PseudoOrder,
     /// A pseudo-header field comes twice (RFC 9114, 4.3).
     RepeatedPseudo,
@@ -13,7 +13,7 @@ pub enum Violation {
     MissingPseudo,
     /// A connection-specific field, or a `te` that is not `trailers` in a request (RFC 9114, 4.2).
     ConnectionField,
-    /// `:protocol` without CONNECT, or where extended CONNECT was not announced (RFC 8441, 4; RFC 9220, 3).
+    /// `:protocol` without CONNECT, or if extended CONNECT was not announced (RFC 8441, 4; RFC 9220, 3).
     Protocol,
     /// CONNECT without `:authority`, or plain CONNECT with `:scheme` or `:path` (RFC 9114, 4.4).
     Connect,
@@ -30,6 +30,6 @@ pub enum Violation {
     ContentLength,
     /// A field that is not for trailers (RFC 9110, 6.5.1).
     TrailerField,
-    /// White space stands before or behind a value (RFC 9114, 10.3; RFC 9113, 8.2.1).
+    /// A value starts or ends with white space (RFC 9114, 10.3; RFC 9113, 8.2.1).
     Value,
 }

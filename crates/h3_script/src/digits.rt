@@ -6,7 +6,7 @@ use bytes::Bytes;
 use hex::FromHexError;
 use std::alloc::{AllocError, Global};
 
-/// The bytes that hex digits stand for, where the word is an even number of digits, in either case. Memory is asked for only where it has an
+/// The bytes that hex digits stand for, if the word is an even number of digits, in either case. Memory is asked for only if it has an
 /// even number of bytes.
 pub fn bytes_of_digits(alloc: Global, word: &str) -> Result<Option<Bytes>, AllocError>
     ensures bytes { IfOk result (λ found. IfSome found (λ bytes. decode_of word.now ≡ Ok bytes)) }

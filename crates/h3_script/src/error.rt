@@ -13,7 +13,7 @@ use std::alloc::{AllocError, AllocFailed};
 pub enum ScriptError {
     /// The line of this number, counted from 1, is refused.
     Line(u64),
-    /// Memory was refused.
+    /// An allocation failed.
     OutOfMemory,
 }
 
@@ -22,7 +22,7 @@ pub enum ScriptError {
 pub enum LineError {
     /// It is no line of a script.
     NoSuchLine,
-    /// Memory was refused.
+    /// An allocation failed.
     OutOfMemory,
 }
 

@@ -1,4 +1,4 @@
-//! The heads and trailers of a script's lines.
+//! The header sections and trailers of a script's lines.
 ghost use Rattle.std.specs.Prelude.{◌≡◌, [], OnOk, IfOk, IfErr};
 ghost use Rattle.http_header.specs.HeaderMap.{Entries};
 ghost use Rattle.http_header.specs.FieldValue.{FieldValue};
@@ -59,7 +59,7 @@ fn is_status(word: &[u8]) -> bool
     a.is_ascii_digit() && b.is_ascii_digit() && c.is_ascii_digit()
 }
 
-/// The head of a response.
+/// The header section of a response.
 fn response(alloc: Global, status: &[u8], words: &[&[u8]]) -> Result<Header, LineError>
     ensures ok { IfOk result (IsResponse status.now (texts words.now)) }
     ensures err { IfErr result (Denies ((head : Head) × IsResponse status.now (texts words.now) head)) }
@@ -70,7 +70,7 @@ fn response(alloc: Global, status: &[u8], words: &[&[u8]]) -> Result<Header, Lin
     Ok(Header::response(status, fields(alloc, words)?))
 }
 
-/// The head of a request.
+/// The header section of a request.
 fn request(alloc: Global, method: &[u8], uri: &[u8], words: &[&[u8]]) -> Result<Header, LineError>
     ensures ok { IfOk result (IsRequest method.now uri.now (texts words.now)) }
     ensures err { IfErr result (Denies ((head : Head) × IsRequest method.now uri.now (texts words.now) head)) }

@@ -1,4 +1,4 @@
-//! A script from a reader: all of it is read, and a refused line is told.
+//! A script from a reader: all of it is read, and the number of a refused line is written.
 ghost use Rattle.std.specs.Prelude.{◌≡◌, ◌⊎◌, IfOk, IfErr};
 ghost use Rattle.std.specs.Io.KnownBytes.{Appends};
 ghost use Rattle.h3_script.specs.Inputs.{HasRead, ReadsScript, RefusesInput, LosesInput, Fails};
@@ -16,14 +16,14 @@ const MOST: u64 = 1 << 48;
 /// Why there is no script to answer.
 #[derive(Clone, Copy)]
 enum Failure {
-    /// Memory was refused, or a read failed.
+    /// An allocation or a read failed.
     Lost,
     /// The line of this number is refused.
     Line(u64),
 }
 
-/// Reads a script of at most 2^48 bytes whole. Where a line is refused nothing but `line` and the number of the first such line is
-/// written, and the error is the status 1. It is 2 where memory was refused, or a read or a write failed. Then nothing was written, unless
+/// Reads a script of at most 2^48 bytes whole. If a line is refused, nothing but `line` and the number of the first such line is
+/// written, and the error is the status 1. It is 2 if an allocation, a read or a write failed. Then nothing was written, unless
 /// a line is refused: nothing is promised of what was written of its number.
 pub fn read_script<R: Read, W: Write>(
     alloc: Global,

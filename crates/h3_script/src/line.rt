@@ -61,7 +61,7 @@ fn setup(words: &[&[u8]]) -> Option<Setup>
     )
 }
 
-/// The setup of six numbers, where all are there.
+/// The setup of six numbers, if all are there and both sides may announce them.
 fn setup_by(
     client: Option<u64>,
     client_table: Option<u64>,
@@ -107,7 +107,7 @@ pub fn event_line(alloc: Global, line: &[u8]) -> Result<Event, LineError>
     event(alloc, &words)
 }
 
-/// `body`, a side and a stream id, each with one blank behind it, and then any bytes.
+/// `body`, a side and a stream id, each with one blank after it, and then any bytes.
 fn body(line: &[u8]) -> Option<(Side, StreamId, &[u8])>
     ensures { option_map (λ found. (found.0, found.1, found.2.now)) result ≡ body_of line.now }
 {
@@ -198,7 +198,7 @@ fn deliver_event(command: &[u8], side: Side, id: StreamId, count: u64) -> Option
     None
 }
 
-/// `head` or `trailer`, a side, a stream id, and the words of a head or a trailer.
+/// `head` or `trailer`, a side, a stream id, and the words of a header section or a trailer.
 fn section_event(alloc: Global, words: &[&[u8]]) -> Result<Event, LineError>
     ensures ok { IfOk result (IsSectionEvent (texts words.now)) }
     ensures err { IfErr result (Denies ((event : Does) × IsSectionEvent (texts words.now) event)) }

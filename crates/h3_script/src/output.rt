@@ -8,8 +8,8 @@ use h3_world::event::Answer;
 use std::alloc::{AllocError, Global};
 use std::io::Write;
 
-/// Writes the lines of the answers, each with its end. `true` is told where all of them were written; else memory was refused, or a
-/// write failed.
+/// Writes the lines of the answers, each with its end. Returns `true` if all of them were written; else an allocation or a write
+/// failed.
 pub fn write_answers<W: Write>(alloc: Global, answers: &[Answer], writer: &mut W) -> bool
     ensures { result ≡ true → Appends (W.contents writer.old) (W.contents writer.new) (printed answers.now) }
 {

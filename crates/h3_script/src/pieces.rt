@@ -4,7 +4,7 @@ ghost use Rattle.h3_script.specs.Pieces.{cut, pieces, texts};
 
 use std::alloc::{AllocError, Global};
 
-/// The bytes before the first of that value, and those behind it.
+/// The bytes before the first of that value, and those after it.
 pub fn cut(bytes: &[u8], at: u8) -> Option<(&[u8], &[u8])>
     ensures value { option_map (λ parts. (parts.0.now, parts.1.now)) result ≡ cut at bytes.now }
     ensures shorter { IfSome result (λ parts. length parts.1.now < length bytes.now) }

@@ -15,7 +15,7 @@ use std::alloc::{AllocError, Global};
 use std::fmt;
 use std::fmt::Write;
 
-/// What stands behind the name of a refusal.
+/// What stands after the name of a refusal.
 #[derive(Clone, Copy)]
 enum Behind {
     Nothing,
@@ -48,7 +48,7 @@ impl fmt::Display for RefusalText {
     }
 }
 
-/// The name of a refusal, and what stands behind it.
+/// The name of a refusal, and what stands after it.
 fn refusal_parts(refusal: Refusal) -> (&'static str, Behind)
     ensures { with_behind result.0.now result.1 ≡ refusal_text refusal }
 {
@@ -117,7 +117,7 @@ pub fn answer_text(alloc: Global, answer: &Answer) -> Result<String, AllocError>
     }
 }
 
-/// The text, and the digits of the number behind it.
+/// The text, and the digits of the number after it.
 fn numbered(alloc: Global, text: &str, number: u64) -> Result<String, AllocError>
     ensures { IfOk result (λ line. string_bytes line ≡ text.now ++ decimal number) }
 {
@@ -193,7 +193,7 @@ fn item_text(alloc: Global, item: &Item) -> Result<String, AllocError>
     }
 }
 
-/// The name, and the fields behind it.
+/// The name, and the fields after it.
 fn section_text(alloc: Global, name: &str, section: &Header) -> Result<String, AllocError>
     ensures { IfOk result (λ text. string_bytes text ≡ section_line name.now (head_fields section.now)) }
 {
@@ -201,7 +201,7 @@ fn section_text(alloc: Global, name: &str, section: &Header) -> Result<String, A
     fields_text(alloc, name, fields.as_slice())
 }
 
-/// The name, and these fields behind it.
+/// The name, and these fields after it.
 fn fields_text(alloc: Global, name: &str, fields: &[HeaderField]) -> Result<String, AllocError>
     ensures { IfOk result (λ text. string_bytes text ≡ section_line name.now fields.now) }
 {
@@ -226,7 +226,7 @@ fn push_field(text: &mut String, field: &HeaderField) -> Result<(), AllocError>
     Ok(())
 }
 
-/// The name, and the bytes behind it, with U+FFFD for what is no character.
+/// The name, and the bytes after it, with U+FFFD for what is no character.
 fn bytes_text(alloc: Global, name: &str, bytes: &[u8]) -> Result<String, AllocError>
     ensures { IfOk result (λ text. string_bytes text ≡ name.now ++ lossy bytes.now) }
 {

@@ -12,7 +12,7 @@ pub fn is(word: &[u8], text: &str) -> bool
     *word == *text.as_bytes()
 }
 
-/// The number with one more digit, where it is below 2^64.
+/// The number with one more digit, if the byte is a digit and the number is then below 2^64.
 fn with_digit(number: u64, byte: u8) -> Option<u64>
     ensures { result ≡ (if is_digit byte && nat_lt (10 * number + (byte - 48)) (2 ^ 64)
         then Some (10 * number + (byte - 48)) else None) }

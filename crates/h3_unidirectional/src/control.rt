@@ -149,23 +149,23 @@ impl PeerControl {
         self.unread.len()
     }
 
-    /// How many of them are held: none while an unknown frame is under way at the front. Where memory was refused its bytes are let go by the
-    /// next reading.
+    /// How many of them are held: none while an unknown frame is under way at the front. If an allocation failed, the next reading frees
+    /// its bytes.
     pub fn held(&self) -> usize
         ensures { result ≡ held_length self.now.unread }
     {
         self.unread.held()
     }
 
-    /// The bytes that are not read. Its `tries` say how often the head of the frame under way was tried, or else that of the last frame
-    /// that was read, an unknown one too: at most 17 times.
+    /// The bytes that are not read. Its `tries` say how often the frame under way was tried, or else the last frame that was read, an
+    /// unknown one too: at most 17 times.
     pub fn frames(&self) -> &FrameBuffer
         ensures { concat result.now.pieces ≡ self.now.unread }
     {
         &self.unread
     }
 
-    /// More of the stream, which is kept until it is read. An `Err` changes nothing, and hands the bytes back.
+    /// More of the stream, which is kept until it is read. An `Err` changes nothing, and returns the bytes.
     pub fn push(&mut self, bytes: Bytes) -> Result<(), Bytes>
         requires { length self.old.unread + length bytes < 2 ^ 64 }
         ensures ok { OnOk result (self.new ≡ with_unread self.old (self.old.unread ++ bytes)) }
@@ -239,8 +239,8 @@ impl PeerControl {
         }
     }
 
-    /// Reads the next frame, unless it says a length above `most`: then what came is let go. Where memory is refused only unknown frames are
-    /// passed.
+    /// Reads the next frame, unless it says a length above `most`: then it frees what came. If an allocation fails, it skips only unknown
+    /// frames.
     #[tactic(auto, using(crate::specs::PeerLaws::peer_waits, crate::proofs::ControlFronts::no_front, crate::proofs::ControlFronts::unknown_passed))]
     fn read_one(&mut self, alloc: Global, side: Side, most: u64) -> Result<Progress, AllocError>
         ensures ok { IfOk result (λ progress. ReadsOne most side self.old self.new progress) }
@@ -273,7 +273,7 @@ impl PeerControl {
         }
     }
 
-    /// Lets go of all ids of GOAWAY frames but the last, where that is kept alone. It takes no memory.
+    /// Drops all ids of GOAWAY frames but the last, if that is kept alone. It takes no memory.
     #[tactic(auto, using(crate::proofs::KeptFronts::none_changed))]
     fn keep_goaways(&mut self, last_alone: bool)
         ensures { self.new ≡ kept_peer last_alone self.old }
@@ -289,8 +289,8 @@ impl PeerControl {
     }
 
     /// Reads all whole frames, up to the first fault, and answers that fault. One that says a length above the limit of the choices is a
-    /// fault, whether its payload came or not (RFC 9114, section 10.5). Where the choices limit the ids that are kept, each GOAWAY frame's
-    /// id takes the place of the last. Where memory is refused the frames that were read stand, and the others stay unread: the next
+    /// fault, whether its payload came or not (RFC 9114, section 10.5). If the choices limit the ids that are kept, each GOAWAY frame's
+    /// id takes the place of the last. If an allocation fails, the frames that were read stand, and the others stay unread: the next
     /// reading goes on with them, and answers what this one would have.
     #[tactic(auto, using(crate::proofs::KeptFronts::none_kept, crate::proofs::KeptFronts::then_kept, crate::proofs::KeptFronts::all_kept, crate::proofs::KeptFronts::stops_kept))]
     pub fn read(

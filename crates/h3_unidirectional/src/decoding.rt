@@ -21,8 +21,8 @@ use h3_qpack::{Decoder, DecoderError, SliceCursor};
 use std::alloc::{AllocError, Global};
 use std::marker::Model;
 
-/// The own decoder, and the bytes of the peer's encoder stream that are not read: less than an instruction, unless memory was
-/// refused.
+/// The local decoder, and the bytes of the peer's encoder stream that are not read: less than an instruction, unless an allocation
+/// failed.
 #[derive(Drop)]
 pub struct Decoding {
     decoder: Decoder,
@@ -81,7 +81,7 @@ impl Decoding {
         Ok(())
     }
 
-    /// The fault of the instruction at the front, of which nothing is to be read, where it is longer than `most`.
+    /// The fault of the instruction at the front, of which nothing is to be read, if it is longer than `most`.
     fn excess(&self, most: u64) -> Option<Code>
         ensures { result ≡ fault_if (is_longer most (length self.now.unread) (encoder_wait self.now.unread)) excessive_load }
     {
@@ -151,9 +151,9 @@ impl Decoding {
         self.read_into(most, out.behind_mut())
     }
 
-    /// Reads what is unread, up to the first instruction that is bad, not whole or longer than `most`, and writes one increment where
+    /// Reads what is unread, up to the first instruction that is bad, not whole or longer than `most`, and writes one increment if
     /// something was inserted. It answers the fault of a bad instruction, and of one that is known to be longer, whether it came or not
-    /// (RFC 9114, section 10.5). Where memory is refused the instructions that were read stand, and the increment counts them; the others
+    /// (RFC 9114, section 10.5). If an allocation fails, the instructions that were read stand, and the increment counts them. The others
     /// stay unread, and the next reading goes on with them. Bytes that are known to leave the instruction at the front unfinished are not
     /// read again, so a stream costs no more however it is cut.
     pub fn read(&mut self, most: u64, out: &mut WaitingBytes) -> Result<Option<Code>, AllocError>
@@ -168,8 +168,8 @@ impl Decoding {
     }
 }
 
-// Reads the whole instructions in the first `most` bytes of `rest`, or in all of it where there is no limit, up to the first that is bad, and
-// answers whether to go on behind them: where there were none, or no bytes behind those, nothing of the rest is to be read.
+// Reads the whole instructions in the first `most` bytes of `rest`, or in all of it if there is no limit, up to the first that is bad. It
+// answers whether to go on after them: if there were none, or no bytes after those it looked at, nothing of the rest is to be read.
 fn read_window(
     decoder: &mut Decoder,
     rest: &mut SliceCursor<'_>,
@@ -210,7 +210,7 @@ fn read_windows(
     }
 }
 
-/// The fault that a refused instruction is, unless memory was refused.
+/// The fault that a refused instruction is, unless an allocation failed.
 fn fault_of(e: DecoderError) -> Result<Option<Code>, AllocError>
     ensures { IsFaultOf e result }
 {

@@ -1,4 +1,4 @@
-//! The own encoder, and the peer's decoder stream that tells it what was received (RFC 9204, section 4.4).
+//! The local encoder, and the peer's decoder stream that tells it what was received (RFC 9204, section 4.4).
 ghost use Rattle.std.specs.Prelude.{◌≡◌, ◌<◌, ◌^◌, ◌++◌, [], false, length, Some, IfOk, IfErr, OnOk, OnErr};
 ghost use Rattle.h3_field.specs.Field.{section_size};
 ghost use Rattle.h3_field.specs.Waiting.{goes_on, decoder_wait};
@@ -26,8 +26,8 @@ use h3_qpack::{Encoder, EncoderError, SliceCursor};
 use std::alloc::{AllocError, Global};
 use std::marker::Model;
 
-/// The own encoder, and the bytes of the peer's decoder stream that are not read: all of them before the peer's settings came,
-/// and less than an instruction after that, unless memory was refused.
+/// The local encoder, and the bytes of the peer's decoder stream that are not read. These are all of them before the peer's settings
+/// came, and less than an instruction after that, unless an allocation failed.
 #[derive(Drop)]
 pub struct Encoding {
     encoder: Encoder,
@@ -50,8 +50,8 @@ impl Model for Encoding {
 }
 
 impl Encoding {
-    /// An encoder that may not use a table yet. Whether acknowledgments tell of insertions (RFC 9204, section 2.1.4), the most that its
-    /// table may have, whether it is economical with it, and how many canceled streams it keeps, is chosen here.
+    /// An encoder that may not use a table yet. The choices say whether acknowledgments tell of insertions (RFC 9204, section 2.1.4), and
+    /// the most that its table may have. They also say whether it is economical with it, and how many canceled streams it keeps.
     pub fn new(alloc: Global, choices: Choices) -> Encoding
         ensures { result ≡ record { encoder = encoder_state (chosen_encoder choices); unread = [] } }
     {
@@ -91,10 +91,10 @@ impl Encoding {
         &self.encoder
     }
 
-    /// The peer's settings came. Where they allow a table of 1 to 2^30 - 1 bytes and at most 65535 blocked streams (RFC 9204,
-    /// section 5), and the own table may have more than 0, it is used from now on, and the answer is its capacity in bytes, the lesser
-    /// of what the peer announced and the most that it may have, which the caller writes on the encoder stream; else nothing changes.
-    /// It takes no memory.
+    /// The peer's settings came. If they allow a table of 1 to 2^30 - 1 bytes and at most 65535 blocked streams, they can be used (RFC
+    /// 9204, section 5). If they can, and the local table may have more than 0 bytes, it is used from now on; else nothing changes. The
+    /// answer is the capacity of a table that is used, in bytes, which the caller writes on the encoder stream. It is the lesser of what
+    /// the peer announced and the most that the table may have. The call takes no memory.
     pub fn allow(&mut self, settings: &Settings) -> Option<u64>
         requires { self.old.encoder.table.inserted ≡ 0 }
         ensures encoder { (s : EncoderHistory) → self.old.encoder ≡ encoder_state s → self.new.encoder ≡ encoder_state (having_learned s settings.now) }
@@ -116,9 +116,9 @@ impl Encoding {
         Some(most.min(capacity))
     }
 
-    /// Appends an encoded field section to `block`, and the instructions for it to what waits on the own encoder stream, and
+    /// Appends an encoded field section to `block`, and the instructions for it to what waits on the local encoder stream. It
     /// answers its required insert count (RFC 9204, sections 2.1 and 4.5). The sizes of the fields sum to less than 2^62.
-    /// Where memory is refused `block` is as it was, and the encoder stream gained whole instructions, those of the insertions
+    /// If an allocation fails, `block` is as it was, and the encoder stream gained whole instructions, those of the insertions
     /// that were made.
     pub fn encode(
         &mut self,
@@ -143,7 +143,7 @@ impl Encoding {
         Ok(count)
     }
 
-    /// Takes back the newest section of a stream, where `count` is its required insert count, as if it had not been written.
+    /// Takes back the newest section of a stream, as if it had not been written; `count` is its required insert count.
     /// Its insertions stay.
     pub fn withdraw(&mut self, stream: StreamId, count: usize)
         ensures encoder { (s : EncoderHistory) → self.old.encoder ≡ encoder_state s → self.new.encoder ≡ encoder_state (withdrawn s stream count) }
@@ -152,7 +152,7 @@ impl Encoding {
         self.encoder.withdraw(stream.into_inner(), count);
     }
 
-    /// The fault of the instruction at the front, of which nothing is to be read, where it is longer than `most`.
+    /// The fault of the instruction at the front, of which nothing is to be read, if it is longer than `most`.
     fn excess(&self, most: u64) -> Option<Code>
         ensures { result ≡ fault_if (is_longer most (length self.now.unread) (decoder_wait self.now.unread)) excessive_load }
     {
@@ -178,9 +178,9 @@ impl Encoding {
         outcome
     }
 
-    /// Reads what is unread, up to the first instruction that is refused, not whole or longer than `most`, and answers the fault of a
-    /// refused one, and of one that is known to be longer, whether it came or not (RFC 9114, section 10.5). Where memory is refused the
-    /// instructions that were read stand; the others stay unread, and the next reading goes on with them.
+    /// Reads what is unread, up to the first instruction that is refused, not whole or longer than `most`. It answers the fault of a
+    /// refused one, and of one that is known to be longer, whether it came or not (RFC 9114, section 10.5). If an allocation fails, the
+    /// instructions that were read stand. The others stay unread, and the next reading goes on with them.
     #[tactic(auto, using(crate::proofs::Listened::is_reply_fault))]
     pub fn read(&mut self, most: u64) -> Result<Option<Code>, AllocError>
         ensures ok { IfOk result (λ fault. (s : EncoderHistory) → self.old.encoder ≡ encoder_state s → Listens most s self.old.unread self.new fault) }
@@ -196,8 +196,8 @@ impl Encoding {
     }
 }
 
-// Reads the whole instructions in the first `most` bytes of `rest`, or in all of it where there is no limit, up to the first that is refused,
-// and answers whether to go on behind them: where there were none, or no bytes behind those, nothing of the rest is to be read.
+// Reads the whole instructions in the first `most` bytes of `rest`, or in all of it if there is no limit, up to the first that is refused.
+// It answers whether to go on after them: if there were none, or no bytes after those it looked at, nothing of the rest is to be read.
 fn read_window(
     encoder: &mut Encoder,
     rest: &mut SliceCursor<'_>,
@@ -238,14 +238,14 @@ fn read_windows(
     }
 }
 
-/// Whether the table may be used with these limits, where it has at most so much.
+/// Whether the table may be used with these limits, if it has at most so much.
 fn is_usable(most: u64, capacity: u64, blocked: u64) -> bool
     ensures { result ≡ is_table_usable most capacity blocked }
 {
     most.min(capacity) > 0 && capacity <= MAX_TABLE_CAPACITY && blocked <= MAX_BLOCKED_STREAMS
 }
 
-/// The fault that a refused instruction is, unless memory was refused.
+/// The fault that a refused instruction is, unless an allocation failed.
 fn fault_of(e: EncoderError) -> Result<Option<Code>, AllocError>
     ensures { IsReplyFaultOf e result }
 {

@@ -18,7 +18,7 @@ fn is_limit(most: u64) -> bool
     most < VarInt::MAX.into_inner()
 }
 
-/// How many ids are kept, where the choices limit them.
+/// How many ids are kept, if the choices limit them.
 pub(crate) fn most_kept(choices: Choices) -> Option<usize>
     ensures { result ≡ most_kept choices }
 {
@@ -60,8 +60,8 @@ pub(crate) fn window(most: u64, len: usize) -> usize
     }
 }
 
-/// Whether an instruction is longer than the limit, of which `len` bytes came and which is not whole within the limit: some came, and
-/// with what is missing they are more.
+/// Whether an instruction is longer than the limit, of which `len` bytes came and which is not whole within the limit. It is longer if
+/// some came, and with what is missing they are more.
 pub(crate) fn is_longer(most: u64, len: usize, wait: Wait) -> bool
     ensures { result ≡ is_longer most len wait }
 {

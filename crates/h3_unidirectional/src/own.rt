@@ -1,4 +1,4 @@
-//! The own control, encoder and decoder streams (RFC 9114, section 6.2.1; RFC 9204, section 4.2): what waits on each.
+//! The local control, encoder and decoder streams (RFC 9114, section 6.2.1; RFC 9204, section 4.2): what waits on each.
 ghost use Rattle.std.specs.Prelude.{◌≡◌, ◌≤◌, ◌++◌, length, IfOk, OnOk, OnErr};
 ghost use Rattle.h3_coding.specs.Encodings.{encoding};
 ghost use Rattle.h3_field.specs.Instruction.{decoder_bytes};
@@ -17,7 +17,7 @@ use h3_wire::proto::frame::FrameType;
 use std::alloc::{AllocError, Global};
 use std::marker::Model;
 
-/// What waits on the own streams.
+/// What waits on the three local streams.
 #[derive(Drop)]
 pub struct OwnStreams {
     /// On the control stream.
@@ -85,7 +85,7 @@ fn goaway_frame(alloc: Global, id: VarInt) -> Result<Vec<u8>, AllocError>
     Ok(bytes)
 }
 
-/// One of the own streams.
+/// One of the three local streams.
 #[derive(Clone, Copy)]
 enum OwnStream {
     Control,
@@ -93,7 +93,7 @@ enum OwnStream {
     Decoder,
 }
 
-/// Which of the own streams has an id: 2, 6 and 10 of a client, 3, 7 and 11 of a server.
+/// Which of the three local streams has an id: 2, 6 and 10 of a client, 3, 7 and 11 of a server.
 fn own_stream(side: Side, id: StreamId) -> Option<OwnStream>
     ensures { result ≡ own_stream_of side id }
 {
@@ -155,7 +155,7 @@ impl OwnStreams {
         stream_canceled(stream.into_inner(), self.decoder.behind_mut())
     }
 
-    /// The bytes that wait on the stream of this id, none where it is no own stream.
+    /// The bytes that wait on the stream of this id, none if it is not one of these three.
     pub fn outgoing(&self, side: Side, id: StreamId) -> &[u8]
         ensures { result.now ≡ waiting_on self.now side id }
     {

@@ -21,7 +21,7 @@ pub enum PlainRole {
 }
 
 impl PlainRole {
-    /// The role of a kind, where it is such a one.
+    /// The role of a kind, if it is such a one.
     fn of(kind: Kind) -> Option<PlainRole>
         ensures { IfSome result (λ role. plain role ≡ role_of kind []) }
     {
@@ -61,7 +61,7 @@ impl PlainRole {
     }
 }
 
-/// What the first bytes of a stream tell where its type alone tells its role: the role, and how many of them the type takes.
+/// What the first bytes of a stream tell if its type alone tells its role: the role, and how many of them the type takes.
 pub fn first_role(bytes: &[u8]) -> Option<(PlainRole, usize)>
     ensures told { IfSome result (λ first. role_after (Untold []) bytes.now ≡ (plain first.0, drop first.1 bytes.now)) }
     ensures within { IfSome result (λ first. first.1 ≤ length bytes.now) }

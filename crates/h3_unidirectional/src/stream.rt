@@ -52,15 +52,15 @@ pub enum Received {
     Nothing,
 }
 
-/// What came on it, and how far it was handed out.
+/// What came on it, and how far it was pulled.
 #[derive(Drop)]
 pub struct UnidirectionalStream {
     kind: Kind,
     // the first bytes, while the type or the id is not whole
     front: Vec<u8>,
-    // what came of a session and was not handed out
+    // what came of a session and was not pulled
     unread: BufList<Bytes>,
-    // where it was reset, the code; apart from `is_reset`, and the flags side by side, since the first stream takes room for 15 (104 bytes each)
+    // the code of a reset; apart from `is_reset`, and the flags side by side, since the first stream takes room for 15 (104 bytes each)
     reset_code: u64,
     is_reset: bool,
     ended: bool,
@@ -79,8 +79,8 @@ impl Model for UnidirectionalStream {
     ghost invariant = { λ s. IsUnfinished s.kind s.front.items };
 }
 
-/// Reads what a stream begins with: its type, and the id behind it where it is a push stream (RFC 9114, section 4.6) or one of a
-/// WebTransport session. `None` where that is not whole.
+/// Reads what a stream begins with: its type, and the id after it if it is a push stream (RFC 9114, section 4.6) or one of a
+/// WebTransport session. `None` if that is not whole.
 pub(crate) fn read_kind<B: Buf>(buf: &mut B) -> Option<Kind>
     ensures { Tells (B.unread buf.old) (B.unread buf.new) result }
 {
@@ -161,7 +161,7 @@ impl UnidirectionalStream {
         }
     }
 
-    /// Whether what it answers to each further pull is settled: the session's end was handed out, or it was cut off.
+    /// Whether what it answers to each further pull is settled: the session's end was pulled, or it was reset.
     pub fn is_settled(&self) -> bool
         ensures { result ≡ is_settled_session self.now self.now.role }
     {
@@ -177,7 +177,7 @@ impl UnidirectionalStream {
         }
     }
 
-    /// How many bytes of a session came and were not handed out.
+    /// How many bytes of a session came and were not pulled.
     pub fn unread_len(&self) -> usize
         ensures { result ≡ length (concat self.now.unread) }
     {
@@ -191,7 +191,7 @@ impl UnidirectionalStream {
         self.ended = true;
     }
 
-    /// It was cut off by its sender, with this code. This takes no memory.
+    /// Its sender reset it, with this code. This takes no memory.
     pub fn reset(&mut self, code: u64)
         ensures { self.new ≡ record self.old { reset_code = Some code } }
     {
@@ -215,7 +215,7 @@ impl UnidirectionalStream {
         Ok(())
     }
 
-    /// The role is known: the bytes behind those that were passed are for it.
+    /// The role is known: the bytes after those that were passed are for it.
     fn take(&mut self, kind: Kind, mut bytes: Bytes, passed: usize) -> Result<Received, Bytes>
         requires told { is_told_kind kind ≡ true }
         requires inside { passed ≤ length bytes }
@@ -255,7 +255,7 @@ impl UnidirectionalStream {
         }
     }
 
-    /// The role is not known: it is told by the first bytes with these behind them.
+    /// The role is not known: the first bytes, with these after them, tell it.
     fn tell(&mut self, bytes: Bytes) -> Result<Received, Bytes>
         requires untold { is_untold self.old.role ≡ true }
         requires fits { length (concat self.old.unread) + length bytes < 2 ^ 64 }
@@ -280,7 +280,7 @@ impl UnidirectionalStream {
     }
 
     /// Bytes come: they tell the role, or are for it. What a session got is stored as it is, with no copy but of small pieces. An `Err`
-    /// changes nothing, and hands the bytes back. What tells a role stands in front of the bytes that are for it.
+    /// changes nothing, and returns the bytes. What tells a role stands in front of the bytes that are for it.
     #[tactic(auto, using(crate::proofs::Heads::tells_first))]
     pub fn receive(&mut self, bytes: Bytes) -> Result<Received, Bytes>
         requires { length (concat self.old.unread) + length bytes < 2 ^ 64 }

@@ -1,4 +1,4 @@
-//! Bytes of an own stream that wait to be taken.
+//! Bytes of a local stream that wait to be taken.
 ghost use Rattle.std.specs.Prelude.{◌≡◌, ◌≤◌, ◌-◌, ◌++◌, length, drop, OnOk, OnErr};
 ghost use Rattle.std.specs.Borrow.{Lends, sem};
 ghost use Rattle.h3_unidirectional.specs.Rows.{bytes_row};
@@ -23,7 +23,7 @@ impl Model for WaitingBytes {
     ghost view = { λ w. drop w.taken w.bytes.items };
 }
 
-/// Drops the first `count` bytes, or all where there are fewer.
+/// Drops the first `count` bytes, or all if there are fewer.
 pub(crate) fn drop_front(bytes: &mut Vec<u8>, count: usize)
     ensures { bytes.new.items ≡ drop count bytes.old.items }
 {
@@ -31,7 +31,7 @@ pub(crate) fn drop_front(bytes: &mut Vec<u8>, count: usize)
     bytes.drain(..count);
 }
 
-/// Lets go of so many bytes at the front, once they are more than half, and answers how many still stand there.
+/// Drops so many bytes at the front, once they are more than half, and answers how many still stand there.
 fn let_go(bytes: &mut Vec<u8>, taken: usize) -> usize
     ensures rest { drop result bytes.new.items ≡ drop taken bytes.old.items }
     ensures within { result ≤ length bytes.new.items }
@@ -75,7 +75,7 @@ impl WaitingBytes {
         self.taken = let_go(&mut self.bytes, self.taken + count);
     }
 
-    /// Lends what waits as a vector, so that more can be written behind it. Where some of it was taken, the rest is moved.
+    /// Lends what waits as a vector, so that more can be written after it. If some of it was taken, the rest is moved.
     pub fn bytes_mut(&mut self) -> &mut Vec<u8>
         ensures* writes_back { sem 𝓛 (Lends the_row bytes_row self.entry result (λ bytes. bytes.items)) }
         ensures value { result.now.items ≡ self.old }
@@ -85,7 +85,7 @@ impl WaitingBytes {
         &mut self.bytes
     }
 
-    /// Lends a vector to write behind what waits, which is its end: bytes that were taken may stand in front of it, as many as wait at
+    /// Lends a vector to write after what waits, which is its end: bytes that were taken may stand in front of it, as many as wait at
     /// most. So it moves no more bytes than were taken since it last moved any.
     pub fn behind_mut(&mut self) -> &mut Vec<u8>
         ensures* writes_back { sem 𝓛 (Lends the_row bytes_row self.entry result (λ bytes. drop (length result.now.items - length self.old) bytes.items)) }

@@ -6,8 +6,8 @@ use super::{Kind, UnidirectionalStream};
 use bytes::Buf;
 
 impl UnidirectionalStream {
-    /// How many bytes of it came and are held: those of its type, or of the id behind that, while they are not whole, and those of a
-    /// session that were not handed out. What came for another reader is that reader's, and what came for none was thrown away.
+    /// How many bytes of it came and are held. These are those of its type, or of the id after that, while they are not whole, and those
+    /// of a session that were not pulled. What came for another reader is that reader's, and what came for none was thrown away.
     pub fn held(&self) -> usize
         ensures { result ≡ held_of_role self.now self.now.role }
     {
