@@ -40,9 +40,9 @@ pub enum Error {
     IdsUsedUp,
     /// The stream is not open at this side.
     NotOpen,
-    /// Not at this place of the message: a head first, then bodies, then a trailer, then the end.
+    /// Not at this place of the message: first a header section, then bodies, then a trailer section, then the end.
     OutOfOrder,
-    /// A client sends heads of requests, a server those of responses.
+    /// A client sends header sections of requests, a server those of responses.
     WrongSide,
     /// A trailer has no pseudo-header field.
     PseudoInTrailer,
@@ -56,7 +56,7 @@ pub enum Error {
     NotRequestId,
     /// An earlier GOAWAY had this lower id.
     Raised(u64),
-    /// Memory was refused. Nothing is lost: the same call may be made again.
+    /// Out of memory. Nothing is lost: the same call may be made again.
     Memory,
     /// `table` is above 2^30 - 1.
     TableLimit,
@@ -83,7 +83,7 @@ pub enum Error {
 }
 
 impl Error {
-    /// The refusal that an answer tells, but for 0 and `H3_KEPT`, which are none.
+    /// The refusal that an answer tells, but for 0 and `H3_KEPT`, which refuse nothing.
     pub(crate) fn of(answer: u32, detail: u64) -> Error {
         match answer {
             1 => Error::Closed(detail),
@@ -117,7 +117,7 @@ impl Error {
         }
     }
 
-    /// The code to close the QUIC connection with, where it has a fault.
+    /// The code to close the QUIC connection with, if it has a fault.
     pub fn connection_code(&self) -> Option<u64> {
         match self {
             Error::Closed(code) | Error::Connection(code) => Some(*code),
@@ -125,7 +125,7 @@ impl Error {
         }
     }
 
-    /// Whether memory was refused: the same call may be made again.
+    /// Whether it is out of memory: the same call may be made again.
     pub fn is_memory(&self) -> bool {
         matches!(self, Error::Memory)
     }
@@ -205,8 +205,8 @@ impl fmt::Display for Fault {
 
 impl std::error::Error for Fault {}
 
-/// Why a message is malformed (RFC 9114, section 4.1.2): an `h3_malformation`, which says more of each. Those from `LatePseudoField` on are
-/// told where `strict` is set, and `TooLong` where there is an `unfinished_limit`.
+/// Why a message is malformed (RFC 9114, section 4.1.2): an `h3_malformation`, which says more of each. Those from `LatePseudoField` to
+/// `NoTrailerField` are found if `strict` is set, and `TooLong` if there is an `unfinished_limit`.
 #[derive(Debug, Clone, Copy, PartialEq, Eq)]
 #[non_exhaustive]
 pub enum Malformation {
