@@ -17,7 +17,7 @@ const (
 	Raw             Kind = C.H3_RAW            // bytes of a session
 	End             Kind = C.H3_END            // the stream has ended, and all of it was delivered
 	Pending         Kind = C.H3_PENDING        // the next item is not there yet
-	Waiting         Kind = C.H3_WAITING        // the next field section needs insertions from the peer's encoder stream; Number: how many in all
+	Waiting         Kind = C.H3_WAITING        // the next field section needs insertions of the peer's encoder; Number: how many in all
 	NoMessages      Kind = C.H3_NO_MESSAGES    // the stream has no messages for this side
 	FaultConnection Kind = C.H3_FAULT_CONNECTION
 	FaultMalformed  Kind = C.H3_FAULT_MALFORMED

@@ -46,7 +46,7 @@ fn answered(answer: u32, detail: u64) -> Result<(), Error> {
 }
 
 // SAFETY, of all calls below: the handle holds an endpoint, since `new` returns one only if it was made, and each call writes the handle
-// back through its last argument; pointers and lengths are those of slices and of local variables.
+// back through its last argument. Pointers and lengths are those of slices and of local variables.
 impl Endpoint {
     /// Makes an endpoint, whose settings wait to be sent on its control stream.
     ///

@@ -40,7 +40,7 @@ pub fn round_trip(alloc: Global, header: &Header) -> Result<Header, HeaderError>
     Header::try_from(alloc, fields)
 }
 
-/// A list of so few fields that a map has room for all their names is judged field by field: the first of which anything is malformed
+/// A list of so few fields that a map has room for all their names is judged field by field. The first of which anything is malformed
 /// refuses it, and if nothing is malformed of any it is a header section's.
 pub fn fields_are_judged_alone()
     ensures refused { (fields : List Field) (i : ℕ) (f : Field) (part : BadPart) → length fields ≤ 24576 → i < length fields → All (λ f. bad_part f ≡ None) (take i fields) → bad_part (get_or fields i f) ≡ Some part → head_of fields ≡ IsNone (refusal_of part) }

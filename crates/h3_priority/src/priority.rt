@@ -76,8 +76,8 @@ impl Priority {
         self.incremental
     }
 
-    /// The priority that a `priority` field's value says, all lines of the field joined by ", "; none if the value is no dictionary, and
-    /// then the field is ignored (RFC 8941, section 4.2).
+    /// The priority that a `priority` field's value says, all lines of the field joined by ", ". None if the value is no dictionary: then
+    /// the field is ignored (RFC 8941, section 4.2).
     pub fn read(value: &[u8]) -> Option<Self>
         ensures { result ≡ priority_of value.now }
     {

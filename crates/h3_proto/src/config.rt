@@ -243,9 +243,9 @@ impl Config {
     }
 
     /// Whether the local encoder is economical with its table. It then keeps out of the table what never comes again, and does not name
-    /// what is soon to go, so that the table does not freeze (RFC 9204, section 2.1.1.1). If the peer lets no section wait (section 2.1.2),
-    /// it inserts such a field after its literal line, and names the entry once the insertion is known to be received; else it never
-    /// inserts there. Off by default.
+    /// what is soon to go. So the table does not freeze (RFC 9204, section 2.1.1.1). If the peer lets no section wait (section 2.1.2), an
+    /// economical encoder inserts such a field after its literal line. It names the entry once the insertion is known to be received. Any
+    /// other encoder never inserts there. Off by default.
     pub fn with_economical_table(mut self, economical: bool) -> Self
         ensures { result ≡ record self { choices = record self.choices { economical_table = economical } } }
     {
@@ -268,7 +268,7 @@ impl Config {
     }
 
     /// The most ids of streams that the peer canceled which the local encoder keeps (RFC 9204, section 4.4.2). If there is one too many,
-    /// the least is dropped, and from then on sections on each stream up to it are written without the table, unless one there is not yet
+    /// the least is dropped. From then on sections on each stream up to it are written without the table, unless one there is not yet
     /// acknowledged. Of the ids in the peer's GOAWAY frames (RFC 9114, section 5.2) the last one alone is kept. 2^62 - 1 by default, and
     /// then all of both are kept; a greater value is the same.
     pub fn with_kept_ids(mut self, max: u64) -> Self
@@ -296,9 +296,9 @@ impl Config {
         self.choices
     }
 
-    /// The settings to send: if it greases, the reserved one of the number `grease` with value 0,
-    /// then the greatest size of a field section, extended CONNECT, WebTransport, datagrams and the
-    /// most WebTransport sessions. Refuses a size or a count of 2^62 or more.
+    /// The settings to send. If it greases, the reserved one of the number `grease` is first, with
+    /// value 0. Then come the greatest size of a field section, extended CONNECT, WebTransport,
+    /// datagrams and the most WebTransport sessions. Refuses a size or a count of 2^62 or more.
     pub fn into_settings(self, grease: u64) -> Result<frame::Settings, SettingsError>
         requires { grease < 0x210842108421083 }
         ensures { result ≡ announced self grease }

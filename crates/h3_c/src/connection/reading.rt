@@ -72,8 +72,8 @@ impl Connection {
         self.pull(alloc, id.into_inner(), item)
     }
 
-    // How many of the bytes are delivered at once. If the end of the frame that they begin with is known and nothing of the stream is held,
-    // they are delivered up to that end, so that a body after it is read from their own place; else all.
+    // How many of the bytes are delivered at once: up to the end of the frame that they begin with, if that end is known and nothing of the
+    // stream is held. A body after it is then read in its place. Else all.
     fn front_len(&self, id: StreamId, bytes: &[u8]) -> usize
         ensures within { result ≤ length bytes.now }
         ensures some { 0 < length bytes.now → 0 < result }
@@ -192,8 +192,8 @@ fn placed(place: BodyPlace) -> PulledItem
     }
 }
 
-// How many bytes the frame has that they begin with (RFC 9114, section 7.1), of DATA its type and length, if so many are there and no
-// payload of DATA follows; else all.
+// How many bytes the frame has that they begin with (RFC 9114, section 7.1), if so many are there: of DATA its type and length, if no
+// payload follows. Else all.
 #[tactic(auto, using(h3_coding::specs::VarintLaws::shorter))]
 fn first_frame_len(bytes: &[u8]) -> usize
     ensures within { result ≤ length bytes.now }
