@@ -72,8 +72,8 @@ impl Connection {
         self.pull(alloc, id.into_inner(), item)
     }
 
-    // How many of the bytes are delivered at once: up to the end of the frame that they begin with, if that end is known and nothing of the
-    // stream is held. A body after it is then read in its place. Else all.
+    // How many of the bytes are delivered at once. If nothing of the stream is held and the end of the frame that they begin with is known:
+    // up to that end. A body after it is then read in its place. Else all.
     fn front_len(&self, id: StreamId, bytes: &[u8]) -> usize
         ensures within { result ≤ length bytes.now }
         ensures some { 0 < length bytes.now → 0 < result }
