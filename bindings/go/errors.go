@@ -47,27 +47,27 @@ var refusals = map[Answer]string{
 	Closed:          "the connection is closed",
 	ConnectionFault: "the connection has a fault",
 	NotReceiving:    "the peer sends nothing on this stream",
-	AfterEnd:        "the stream has ended before",
+	AfterEnd:        "the stream's end or reset came before",
 	NotClient:       "only a client opens requests",
 	GoingAway:       "the peer takes no more requests",
 	IDsUsedUp:       "there are no further stream ids",
 	NotOpen:         "the stream is not open",
 	OutOfOrder:      "not at this place of the message",
-	WrongSide:       "a head of the other side",
+	WrongSide:       "a header section of the other side",
 	PseudoInTrailer: "a pseudo-header field in a trailer",
 	TooLarge:        "the fields are larger than the peer takes",
 	Critical:        "the connection needs this stream",
 	Ended:           "the stream has ended",
-	NotRequestID:    "the id is that of no request",
+	NotRequestID:    "not the id of a request stream",
 	Raised:          "an earlier GOAWAY had a lower id",
 	Malformed:       "a strict peer would call the message malformed",
-	Memory:          "memory was refused",
+	Memory:          "out of memory",
 	TableLimit:      "the table is above its limit",
 	BlockedLimit:    "the count of blocked streams is above its limit",
 	Setting:         "a setting cannot be announced",
 	UnfinishedLimit: "the limit on what is unfinished is below four times what is announced",
-	FieldName:       "a field's name is none",
-	FieldValue:      "a field's value is none",
+	FieldName:       "invalid field name",
+	FieldValue:      "invalid field value",
 	FieldCount:      "too many fields",
 	Rejected:        "the request is rejected",
 	Argument:        "an argument is out of range",
@@ -174,7 +174,7 @@ func (f Fault) Error() string {
 	case FaultCanceled:
 		return "h3: the stream was given up"
 	}
-	return "h3: memory was refused"
+	return "h3: out of memory"
 }
 
 // Is says whether another error is the same kind of fault, or Memory: errors.Is(err, h3.Memory) holds of a call and of a pull.
