@@ -18,8 +18,8 @@ use crate::headers::{Header, HeaderError};
 use std::alloc::Global;
 
 /// The field list of every header, however it was made, is accepted, and it makes a header with
-/// this very list: the same one but for an empty path, which is `/`, and for the marks of sensitive
-/// values. Each item of its names and values is below 256.
+/// this very list. It is the same header but for an empty path, which is `/`, and for the marks of
+/// sensitive values. Each item of its names and values is below 256.
 pub fn every_header_reads_back(header: &Header)
     ensures reads_back { ReadsBack (head_fields header.now) }
     ensures read_as { head_of_fields (head_fields header.now) ≡ as_read header.now }

@@ -177,7 +177,7 @@ pub fn encode_into(plain: &[u8], out: &mut [u8])
     }
 }
 
-/// Writes the Huffman encoding of a string to the front of `out`, and answers its length. It needs no length before and has no loop over
+/// Writes the Huffman encoding of a string to the front of `out`, and returns its length. It needs no length before and has no loop over
 /// the last bytes, so it is the faster one for short strings. It writes up to four bytes after the encoding.
 pub fn encode_front(plain: &[u8], out: &mut [u8]) -> usize
     requires { 4 * length plain.now + 4 ≤ length out.old }

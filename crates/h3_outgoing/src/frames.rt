@@ -138,7 +138,7 @@ impl WaitingFrames {
         }
     }
 
-    /// Copies the first bytes to the front of `out`, over frames too, up to a payload that the caller holds and as many as fit, and says how
+    /// Copies the first bytes to the front of `out`, over frames too, up to a payload that the caller holds and as many as fit. Returns how
     /// many, and how many of that payload follow them.
     pub(crate) fn copy_to(&self, out: &mut [u8]) -> (usize, usize)
         ensures copied { Filled (front_of (bytes_of self.now.frames)) out.old out.new result.0 }

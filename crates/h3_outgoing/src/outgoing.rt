@@ -292,8 +292,8 @@ impl OutgoingStream {
         Ok(())
     }
 
-    /// Copies the first bytes that wait to the front of `out`, over frames too, up to a payload that the caller holds and as many as fit, and
-    /// says how many, and how many of that payload follow them. They keep waiting. It takes no memory.
+    /// Copies the first bytes that wait to the front of `out`, over frames too, up to a payload that the caller holds and as many as fit.
+    /// Returns how many, and how many of that payload follow them. They keep waiting. It takes no memory.
     pub fn copy_to(&self, out: &mut [u8]) -> (usize, usize)
         ensures copied { Filled (front_of (bytes_of self.now.pieces)) out.old out.new result.0 }
         ensures past { AreApart self.now.pieces → result.1 ≡ past_of (drop result.0 (bytes_of self.now.pieces)) }

@@ -253,9 +253,9 @@ impl Config {
         self
     }
 
-    /// The greatest length, in bytes, that a frame of the peer may say whose payload is kept until it is whole: one of a known type other than
-    /// DATA (RFC 9114, section 7.2). A longer HEADERS frame makes its message malformed, as soon as its type and length came. Any other longer
-    /// one is a fault of the connection, H3_EXCESSIVE_LOAD (sections 8.1 and 10.5), as soon as its type and length came. So is a longer
+    /// The greatest length in bytes that a peer's frame may say whose payload is kept until it is whole: one of a known type other than DATA
+    /// (RFC 9114, section 7.2). A longer HEADERS frame makes its message malformed, as soon as its type and length came. Any other longer one
+    /// is a fault of the connection, H3_EXCESSIVE_LOAD (sections 8.1 and 10.5), as soon as its type and length came. So is a longer
     /// instruction of the peer's encoder or decoder stream (RFC 9204, sections 4.3 and 4.4), as soon as what came tells that it is longer.
     /// So is more than this of its decoder stream before its settings. 2^62 - 1 by default, which no length exceeds: there is no limit then.
     /// A greater value is the same.

@@ -84,7 +84,8 @@ impl Connection {
         first_frame_len(bytes)
     }
 
-    // The bytes are delivered, if there are any: a copy of them. If an allocation for it fails, what else refuses them is answered first.
+    // The bytes are delivered, if there are any: a copy of them. If the allocation for it fails, anything else that refuses them is
+    // answered first.
     #[tactic(auto, using(crate::proofs::Reading::takes_none, crate::proofs::Reading::takes_some))]
     fn take(&mut self, alloc: Global, id: StreamId, bytes: &[u8]) -> Result<(), Stop>
         ensures last { self.new.last ≡ self.old.last }
