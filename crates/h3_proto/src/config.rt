@@ -253,14 +253,15 @@ impl Config {
         self
     }
 
-    /// The greatest length in bytes that a peer's frame may say whose payload is kept until it is whole: one of a known type other than DATA
-    /// (RFC 9114, section 7.2). A longer HEADERS frame makes its message malformed, as soon as its type and length came. Any other longer one
-    /// is a fault of the connection, H3_EXCESSIVE_LOAD (sections 8.1 and 10.5), as soon as its type and length came. So is a longer
-    /// instruction of the peer's encoder or decoder stream (RFC 9204, sections 4.3 and 4.4), as soon as what came tells that it is longer.
-    /// So is more than this of its decoder stream before its settings. 2^62 - 1 by default, which no length exceeds: there is no limit then.
-    /// A greater value is the same.
-    /// A limit below the greatest size of a field section is refused when an endpoint is made, so it goes with `with_max_field_section_size`. An
-    /// encoder that writes every string in the Huffman code, as this library's, may need four times that size.
+    /// The greatest length in bytes that a peer's frame may say whose payload is kept until it is whole. That is one of a known type other
+    /// than DATA (RFC 9114, section 7.2). A longer HEADERS frame makes its message malformed, as soon as its type and length came. Any
+    /// other longer one is a fault of the connection, H3_EXCESSIVE_LOAD (sections 8.1 and 10.5), as soon as its type and length came. So is
+    /// a longer instruction of the peer's encoder or decoder stream (RFC 9204, sections 4.3 and 4.4), as soon as what came tells that it is
+    /// longer. So is more than this of its decoder stream before its settings. 2^62 - 1 by default, which no length exceeds: there is no
+    /// limit then. A greater value is the same.
+    /// A limit below the greatest size of a field section is refused when an endpoint is made, so it goes with
+    /// `with_max_field_section_size`. An encoder that writes every string in the Huffman code, as this library's, may need four times that
+    /// size.
     pub fn with_unfinished_limit(mut self, max: u64) -> Self
         ensures { result ≡ record self { choices = record self.choices { unfinished_limit = max } } }
     {
