@@ -302,7 +302,7 @@ class endpoint {
     said.answer = made(&raw_, given..., &said.detail);
     return said;
   }
-  /* A delivery that was taken while memory was refused for reading it must not be made again: it counts as one that succeeded. */
+  /* A delivery that was taken, though an allocation failed while it was read, must not be made again: it counts as one that succeeded. */
   template <class Call, class... Given>
   result delivered(Call made, Given... given) noexcept {
     result said = call(made, given...);

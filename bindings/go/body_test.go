@@ -30,7 +30,8 @@ func TestBodies(t *testing.T) {
 	is(t, []any{count, err}, []any{len(sent), nil})
 	is(t, writer.SendTrailer(trailer), nil)
 	is(t, writer.Close(), nil)
-	// 200,000 bytes: 12 pieces of 16 KiB, and the rest with the end. A piece has a frame head of 5 bytes (RFC 9114, section 7.1), the first the header section too
+	// 200,000 bytes: 12 pieces of 16 KiB, and the rest with the end. Each piece has a frame's type and length in 5 bytes (RFC 9114, section
+	// 7.1), and the first has the header section too
 	is(t, []any{flushes, most < 17*1024}, []any{13, true})
 	_, err = writer.Write([]byte("x"))
 	is(t, err, Error{Answer: OutOfOrder})

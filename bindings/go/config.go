@@ -6,11 +6,11 @@ import "C"
 // Config is what an endpoint is and announces, as h3_config.
 type Config struct {
 	Server                  bool   // this side accepted the connection
-	MaxFieldSectionSize     uint64 // the greatest head or trailer that is taken, in bytes (RFC 9114, section 4.2.2)
-	Table                   uint64 // capacity of the own decoder's dynamic table in bytes; 0: none
+	MaxFieldSectionSize     uint64 // the greatest header or trailer section that is taken, in bytes (RFC 9114, section 4.2.2)
+	Table                   uint64 // capacity of the local decoder's dynamic table in bytes; 0: none
 	Blocked                 uint64 // how many streams may wait for its insertions
-	EncoderTable            uint64 // the most bytes that the table of the own encoder has; 0: it uses none
-	EconomicalTable         bool   // the own encoder's table does not freeze and keeps out what never comes again; it serves also where the peer lets no stream wait
+	EncoderTable            uint64 // the most bytes that the table of the local encoder has; 0: it uses none
+	EconomicalTable         bool   // it does not freeze, keeps out what never comes again, and serves also if the peer lets no stream wait
 	Strict                  bool   // messages are judged by all of RFC 9114, sections 4.1.2 and 4.2 to 4.5
 	CountAcknowledgments    bool   // an acknowledgment tells the encoder of insertions (RFC 9204, section 2.1.4)
 	SendGrease              bool   // a reserved setting is sent (RFC 9114, section 7.2.4.1)
@@ -30,8 +30,9 @@ type Config struct {
 	RejectRequests bool
 }
 
-// DefaultConfig has the limits of h3_config_default, which are fit for a peer that is not trusted: heads and trailers of at most 65,536 bytes, a
-// dynamic table of 4,096 bytes, for which 16 streams may wait, and one of 4,096 bytes for the own encoder. Messages are judged (Strict).
+// DefaultConfig has the limits of h3_config_default, which are fit for a peer that is not trusted. Header and trailer sections may have at
+// most 65,536 bytes. There is a dynamic table of 4,096 bytes, for which 16 streams may wait, and one of 4,096 bytes for the local encoder.
+// Messages are judged (Strict).
 func DefaultConfig(server bool) Config {
 	var raw C.h3_config
 	C.h3_config_default(&raw)

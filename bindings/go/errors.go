@@ -19,14 +19,14 @@ const (
 	IDsUsedUp       Answer = C.H3_IDS_USED_UP       // there are no further ids below 2^62
 	NotOpen         Answer = C.H3_NOT_OPEN          // the stream is not open at this side
 	OutOfOrder      Answer = C.H3_OUT_OF_ORDER      // not at this place of the message
-	WrongSide       Answer = C.H3_WRONG_SIDE        // a client sends heads of requests, a server those of responses
+	WrongSide       Answer = C.H3_WRONG_SIDE        // a client sends header sections of requests, a server those of responses
 	PseudoInTrailer Answer = C.H3_PSEUDO_IN_TRAILER // a trailer has no pseudo-header field
 	TooLarge        Answer = C.H3_TOO_LARGE         // the field section is larger than the peer takes; detail: its size
 	Critical        Answer = C.H3_CRITICAL          // the connection needs this stream
 	Ended           Answer = C.H3_ENDED             // the stream has ended
 	NotRequestID    Answer = C.H3_NOT_REQUEST_ID    // a server's GOAWAY names a request stream: a multiple of 4
 	Raised          Answer = C.H3_RAISED            // an earlier GOAWAY had a lower id; detail: that id
-	Memory          Answer = C.H3_MEMORY            // memory was refused: nothing is lost, the same call may be made again
+	Memory          Answer = C.H3_MEMORY            // out of memory: nothing is lost, the same call may be made again
 	TableLimit      Answer = C.H3_TABLE_LIMIT       // Table is above 2^30 - 1
 	BlockedLimit    Answer = C.H3_BLOCKED_LIMIT     // Blocked is above 65535
 	Setting         Answer = C.H3_SETTING           // a setting cannot be announced; detail: its id
@@ -47,27 +47,27 @@ var refusals = map[Answer]string{
 	Closed:          "the connection is closed",
 	ConnectionFault: "the connection has a fault",
 	NotReceiving:    "the peer sends nothing on this stream",
-	AfterEnd:        "the stream has ended before",
+	AfterEnd:        "the stream's end or reset came before",
 	NotClient:       "only a client opens requests",
 	GoingAway:       "the peer takes no more requests",
 	IDsUsedUp:       "there are no further stream ids",
 	NotOpen:         "the stream is not open",
 	OutOfOrder:      "not at this place of the message",
-	WrongSide:       "a head of the other side",
+	WrongSide:       "a header section of the other side",
 	PseudoInTrailer: "a pseudo-header field in a trailer",
 	TooLarge:        "the fields are larger than the peer takes",
 	Critical:        "the connection needs this stream",
 	Ended:           "the stream has ended",
-	NotRequestID:    "the id is that of no request",
+	NotRequestID:    "not the id of a request stream",
 	Raised:          "an earlier GOAWAY had a lower id",
 	Malformed:       "a strict peer would call the message malformed",
-	Memory:          "memory was refused",
+	Memory:          "out of memory",
 	TableLimit:      "the table is above its limit",
 	BlockedLimit:    "the count of blocked streams is above its limit",
 	Setting:         "a setting cannot be announced",
 	UnfinishedLimit: "the limit on what is unfinished is below four times what is announced",
-	FieldName:       "a field's name is none",
-	FieldValue:      "a field's value is none",
+	FieldName:       "invalid field name",
+	FieldValue:      "invalid field value",
 	FieldCount:      "too many fields",
 	Rejected:        "the request is rejected",
 	Argument:        "an argument is out of range",
@@ -102,7 +102,7 @@ func (e Error) Error() string {
 // Unwrap is the answer: errors.Is(err, h3.Memory) asks for it.
 func (e Error) Unwrap() error { return e.Answer }
 
-// Code is what the QUIC connection is closed with, where the refusal says that it has a fault.
+// Code is what the QUIC connection is closed with, if the refusal says that it has a fault.
 func (e Error) Code() (code uint64, isFault bool) {
 	return e.Detail, e.Answer == Closed || e.Answer == ConnectionFault
 }
@@ -117,7 +117,8 @@ func refusal(answer C.uint32_t, detail C.uint64_t) error {
 // Malformation is why a message is malformed (RFC 9114, section 4.1.2): an h3_malformation.
 type Malformation uint64
 
-// The malformations of h3.h. Those from LatePseudoField on are told where Strict is set.
+// The malformations of h3.h. Those from LatePseudoField to NoTrailerField are found if Strict is set, TooLong if there is a
+// limit on what is unfinished.
 const (
 	BadName              Malformation = C.H3_BAD_NAME
 	BadValue             Malformation = C.H3_BAD_VALUE
@@ -155,8 +156,8 @@ const (
 	MessageError      = C.H3_CODE_MESSAGE_ERROR
 )
 
-// Fault is why nothing more is handed out of a stream: one of FaultConnection, FaultMalformed, FaultReset, FaultCanceled and FaultMemory, which loses
-// nothing.
+// Fault is why a stream delivers nothing more: one of FaultConnection, FaultMalformed, FaultReset, FaultCanceled and FaultMemory, which
+// loses nothing.
 type Fault struct {
 	Kind   Kind
 	Number uint64 // a code, or a Malformation; else 0
@@ -173,7 +174,7 @@ func (f Fault) Error() string {
 	case FaultCanceled:
 		return "h3: the stream was given up"
 	}
-	return "h3: memory was refused"
+	return "h3: out of memory"
 }
 
 // Is says whether another error is the same kind of fault, or Memory: errors.Is(err, h3.Memory) holds of a call and of a pull.

@@ -31,15 +31,15 @@ func New(config Config) (*Endpoint, error) {
 	return endpoint, nil
 }
 
-// Close frees the endpoint. A second one does nothing, and every other call behind it answers NoEndpoint.
+// Close frees the endpoint. A second one does nothing, and every other call after it returns NoEndpoint.
 func (e *Endpoint) Close() {
 	C.h3_free(&e.raw)
 }
 
-// OpenRequest opens a client's next request, and answers the id of its stream: 0, 4, 8, ..
+// OpenRequest opens a client's next request, and returns the id of its stream: 0, 4, 8, ..
 //
-// QUIC counts its streams by itself. Call OpenRequest first, and open no stream of QUIC where it is refused. Where it gives an id and QUIC has no room,
-// keep the id for the next stream that QUIC opens.
+// QUIC counts its streams by itself. Call OpenRequest first, and open no stream of QUIC if it is refused. If it gives an id and QUIC has no
+// room, keep the id for the next stream that QUIC opens.
 func (e *Endpoint) OpenRequest() (uint64, error) {
 	var id, detail C.uint64_t
 	err := refusal(C.h3_open_request(&e.raw, &id, &detail), detail)
@@ -53,7 +53,7 @@ func (e *Endpoint) NextRequestID() (uint64, error) {
 	return uint64(id), err
 }
 
-// start is the address of the first byte, or nil where there is none.
+// start is the address of the first byte, or nil if there is none.
 func start(bytes []byte) unsafe.Pointer {
 	if len(bytes) == 0 {
 		return nil
@@ -61,7 +61,7 @@ func start(bytes []byte) unsafe.Pointer {
 	return unsafe.Pointer(&bytes[0])
 }
 
-// Field is a field of a head or trailer. A name is in lower case; a pseudo-header field's begins with ':'.
+// Field is a field of a header or trailer section. A name is in lower case; a pseudo-header field's begins with ':'.
 type Field struct{ Name, Value string }
 
 // row is a list as the library takes it: the sizes of names and values, and all their bytes.
@@ -125,7 +125,7 @@ func (e *Endpoint) SendBodyOf(id uint64, length int) error {
 	return refusal(C.h3_send_body_of(&e.raw, C.uint64_t(id), C.size_t(length), &detail), detail)
 }
 
-// Finish says that the own message is whole: FIN goes behind what waits.
+// Finish says that the local message is whole: FIN goes after what waits.
 func (e *Endpoint) Finish(id uint64) error {
 	var detail C.uint64_t
 	return refusal(C.h3_finish(&e.raw, C.uint64_t(id), &detail), detail)
@@ -137,7 +137,7 @@ func (e *Endpoint) Reset(id uint64) error {
 	return refusal(C.h3_reset(&e.raw, C.uint64_t(id), &detail), detail)
 }
 
-// Cancel wants nothing more of a request stream: QUIC sends STOP_SENDING.
+// Cancel says that nothing more of a request stream is needed: QUIC sends STOP_SENDING.
 func (e *Endpoint) Cancel(id uint64) error {
 	var detail C.uint64_t
 	return refusal(C.h3_cancel(&e.raw, C.uint64_t(id), &detail), detail)
@@ -183,8 +183,8 @@ func (e *Endpoint) NextToSend(from uint64) (uint64, bool) {
 	return uint64(id), answer == C.H3_OK
 }
 
-// Outgoing copies the first bytes that wait on a stream into the buffer, and says whether the stream ends behind them. They wait until Advance.
-// It is for streams without a body of SendBodyOf: where bytes of one follow it answers none, and OutgoingPast tells of them.
+// Outgoing copies the first bytes that wait on a stream into the buffer, and returns whether the stream ends after them. They wait until
+// Advance. It is for streams without a body of SendBodyOf: if bytes of one follow it returns none, and OutgoingPast tells of them.
 func (e *Endpoint) Outgoing(id uint64, buffer []byte) (count int, end bool) {
 	count, past, end := e.OutgoingPast(id, buffer)
 	if past > 0 {
@@ -193,8 +193,8 @@ func (e *Endpoint) Outgoing(id uint64, buffer []byte) (count int, end bool) {
 	return count, end
 }
 
-// OutgoingPast copies the first bytes that wait on a stream into the buffer, and says how many bytes of a body that the caller holds (SendBodyOf)
-// come next, and whether the stream ends behind both. They wait until Advance, which counts both.
+// OutgoingPast copies the first bytes that wait on a stream into the buffer. It returns how many bytes of a body that the caller holds
+// (SendBodyOf) come next, and whether the stream ends after both. They wait until Advance, which counts both.
 func (e *Endpoint) OutgoingPast(id uint64, buffer []byte) (count, past int, end bool) {
 	var n, held C.size_t
 	var fin C.uint32_t
@@ -215,7 +215,8 @@ func (e *Endpoint) Advance(id uint64, count int) error {
 // EndTaken says that QUIC has the FIN of a stream: NextToSend names it no longer. false: no end was next.
 func (e *Endpoint) EndTaken(id uint64) bool { return C.h3_end_taken(&e.raw, C.uint64_t(id)) == C.H3_OK }
 
-// taken is the refusal of a delivery. Bytes that were taken while memory was refused for reading them are none: the next delivery or pull reads on.
+// taken is the refusal of a delivery. If the bytes were taken and an allocation failed while they were read, nothing is refused: the next
+// delivery or pull reads on.
 func taken(answer C.uint32_t, detail C.uint64_t) error {
 	if answer == C.H3_KEPT {
 		return nil
@@ -223,8 +224,8 @@ func taken(answer C.uint32_t, detail C.uint64_t) error {
 	return refusal(answer, detail)
 }
 
-// Deliver hands over bytes that came on a stream, behind those that came before. An Error with a Code ends the connection. One that is Memory took
-// nothing: deliver again.
+// Deliver passes bytes that came on a stream, after those that came before. An Error with a Code ends the connection. One that is Memory
+// took nothing: deliver again.
 func (e *Endpoint) Deliver(id uint64, bytes []byte) error {
 	var detail C.uint64_t
 	return taken(C.h3_deliver(&e.raw, C.uint64_t(id), start(bytes), C.size_t(len(bytes)), &detail), detail)

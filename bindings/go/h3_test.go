@@ -58,7 +58,7 @@ func is(t *testing.T, got, wanted any) {
 	}
 }
 
-// pull wants an item of this kind.
+// pull expects an item of this kind.
 func pull(t *testing.T, endpoint *Endpoint, id uint64, kind Kind) Item {
 	t.Helper()
 	item, err := endpoint.Pull(id)
@@ -68,7 +68,7 @@ func pull(t *testing.T, endpoint *Endpoint, id uint64, kind Kind) Item {
 	return item
 }
 
-// body pulls a body to what comes behind it.
+// body pulls a body, and what comes after it.
 func body(t *testing.T, endpoint *Endpoint, id uint64) (all []byte, behind Item) {
 	t.Helper()
 	for {

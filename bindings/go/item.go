@@ -3,21 +3,21 @@ package h3
 // #include <h3.h>
 import "C"
 
-// Kind is what a read or a pull handed out: an h3_kind.
+// Kind is what a read or a pull returned: an h3_kind.
 type Kind uint32
 
 // Items, pauses (Pending, Waiting, NoMessages), and the kinds of a Fault.
 const (
-	Interim         Kind = C.H3_INTERIM        // a response's head with a status from 100 to 199
-	Head            Kind = C.H3_HEAD           // the head
+	Interim         Kind = C.H3_INTERIM        // a response's header section with a status from 100 to 199
+	Head            Kind = C.H3_HEAD           // the header section
 	Body            Kind = C.H3_BODY           // a piece of the body
 	Trailer         Kind = C.H3_TRAILER        // the trailer
-	TooLargeHead    Kind = C.H3_TOO_LARGE_HEAD // in the place of a head or trailer above the own limit; Number: its size
+	TooLargeHead    Kind = C.H3_TOO_LARGE_HEAD // in the place of a header or trailer section above the local limit; Number: its size
 	Session         Kind = C.H3_SESSION        // a WebTransport session begins; Number: its id
 	Raw             Kind = C.H3_RAW            // bytes of a session
-	End             Kind = C.H3_END            // the stream has ended, and all of it was handed out
+	End             Kind = C.H3_END            // the stream has ended, and all of it was delivered
 	Pending         Kind = C.H3_PENDING        // the next item is not there yet
-	Waiting         Kind = C.H3_WAITING        // the next head needs what the peer's encoder stream brings; Number: how many insertions in all
+	Waiting         Kind = C.H3_WAITING        // the next field section needs insertions of the peer's encoder; Number: how many in all
 	NoMessages      Kind = C.H3_NO_MESSAGES    // the stream has no messages for this side
 	FaultConnection Kind = C.H3_FAULT_CONNECTION
 	FaultMalformed  Kind = C.H3_FAULT_MALFORMED
@@ -30,15 +30,15 @@ const (
 // String is the kind's name in h3.h.
 func (k Kind) String() string { return C.GoString(C.h3_kind_text(C.uint32_t(k))) }
 
-// IsPause says that nothing was handed out yet, and nothing is wrong.
+// IsPause says that nothing was delivered yet, and nothing is wrong.
 func (k Kind) IsPause() bool { return k == Pending || k == Waiting || k == NoMessages }
 
-// Item is what a read or a pull handed out: its kind, and what the kind has.
+// Item is what a read or a pull returned: its kind, and what the kind has.
 type Item struct {
 	Kind   Kind
-	Status int     // of a response's head
+	Status int     // of a response's header section
 	Number uint64  // what the kind says
-	Fields []Field // of a head or trailer
+	Fields []Field // of a header or trailer section
 	Bytes  []byte  // of a body, or of a session; of BodyGiven a part of the bytes that were given
 }
 
@@ -52,7 +52,7 @@ func (i Item) Value(name string) (string, bool) {
 	return "", false
 }
 
-// fields reads the list of the head or trailer that was pulled last, in the order that it came.
+// fields reads the list of the header or trailer section that was pulled last, in the order that it came.
 func (e *Endpoint) fields(count, length int) ([]Field, error) {
 	sizes, bytes, fields := make([]C.h3_field_size, count), make([]byte, length), make([]Field, count)
 	if answer := C.h3_item_fields(&e.raw, &sizes[0], C.size_t(count), start(bytes), C.size_t(length)); answer != C.H3_OK {
@@ -74,9 +74,9 @@ func (e *Endpoint) bytes(length int) ([]byte, error) {
 	return bytes, refusal(answer, 0)
 }
 
-// Read takes bytes that came on a stream, and its end behind them, and hands out the next item: an item, a pause, or a Fault as the error; and the
-// bytes that are left. Call it with these until a pause, End, or a Fault that is not Memory. It copies no body: the Bytes of an item of kind
-// BodyGiven are a part of those that were given. Where memory is refused nothing is lost: go on with the bytes that are left.
+// Read takes bytes that came on a stream, and its end after them. It returns the next item, a pause, or a Fault as the error; and the bytes
+// that are left. Call it with these until a pause, End, or a Fault that is not Memory. It copies no body: the Bytes of an item of kind
+// BodyGiven are a part of those that were given. If an allocation fails nothing is lost: go on with the bytes that are left.
 func (e *Endpoint) Read(id uint64, bytes []byte, end bool) (item Item, rest []byte, err error) {
 	var raw C.h3_item
 	var used C.size_t
@@ -97,7 +97,7 @@ func (e *Endpoint) Read(id uint64, bytes []byte, end bool) (item Item, rest []by
 	return item, bytes, err
 }
 
-// Pull hands out what comes next on a stream: an item, a pause, or a Fault as the error. Where memory is refused nothing is lost: pull again.
+// Pull returns what comes next on a stream: an item, a pause, or a Fault as the error. If an allocation fails nothing is lost: pull again.
 func (e *Endpoint) Pull(id uint64) (Item, error) {
 	var raw C.h3_item
 	if answer := C.h3_pull(&e.raw, C.uint64_t(id), &raw); answer != C.H3_OK {

@@ -8,12 +8,12 @@ type StreamState struct {
 	Waiting     uint64 // bytes that wait to be sent
 	Unread      uint64 // bytes that came and are still held: grant credit for the others
 	HasOutgoing bool   // something can be sent
-	Finished    bool   // the own message was finished
-	Reset       bool   // sending was cut off
+	Finished    bool   // the local message was finished
+	Reset       bool   // sending was reset
 	Tries       int    // how often the field section that is next was tried
 }
 
-// Stream is the state of a stream. Of an id that is none, and of an endpoint that was closed, all of it is zero.
+// Stream is the state of a stream. Of an invalid id (2^62 or more), and of an endpoint that was closed, all of it is zero.
 func (e *Endpoint) Stream(id uint64) StreamState {
 	var s C.h3_stream_state
 	if C.h3_stream(&e.raw, C.uint64_t(id), &s) != C.H3_OK {
@@ -72,13 +72,13 @@ func side(server bool) C.int {
 	return 0
 }
 
-// ControlID, EncoderID and DecoderID are the ids of the own unidirectional streams.
+// ControlID, EncoderID and DecoderID are the ids of the local unidirectional streams.
 func ControlID(server bool) uint64 { return uint64(C.h3_control_id(side(server))) }
 
-// EncoderID is the id of the own encoder stream.
+// EncoderID is the id of the local encoder stream.
 func EncoderID(server bool) uint64 { return uint64(C.h3_encoder_id(side(server))) }
 
-// DecoderID is the id of the own decoder stream.
+// DecoderID is the id of the local decoder stream.
 func DecoderID(server bool) uint64 { return uint64(C.h3_decoder_id(side(server))) }
 
 // Version is the version of the library, major, minor and patch, a byte each, and whether it was proved.

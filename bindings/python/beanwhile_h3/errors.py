@@ -142,8 +142,9 @@ _TEXTS = {
 class Refused(Exception):
     """A call was refused, and changed nothing but what h3.h says (ANSWERS).
 
-    `answer` is the reason, `detail` the number that the reason names, else 0. `start` is where the bytes begin that a refused `read` did
-    not take, else 0. Two reasons have classes of their own, since a program treats them apart: `ConnectionFault` and `OutOfMemory`."""
+    `answer` is the reason, `detail` the number that the reason names, else 0. `start` is the index of the first byte that a refused
+    `read` did not take, else 0. Two reasons have classes of their own, since a program treats them apart: `ConnectionFault` and
+    `OutOfMemory`."""
 
     def __init__(self, answer: int, detail: int = 0) -> None:
         super().__init__(answer, detail)

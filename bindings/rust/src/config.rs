@@ -16,15 +16,15 @@ pub(crate) const NUMBERS: usize = 18;
 pub struct Config {
     /// This side accepted the connection.
     pub server: bool,
-    /// The greatest head or trailer that is taken, in bytes (RFC 9114, section 4.2.2).
+    /// The greatest header or trailer section that is taken, in bytes (RFC 9114, section 4.2.2).
     pub max_field_section_size: u64,
-    /// Capacity of the own decoder's dynamic table in bytes; 0: none.
+    /// Capacity of the local decoder's dynamic table in bytes; 0: none.
     pub table: u64,
     /// How many streams may wait for its insertions.
     pub blocked: u64,
-    /// The most bytes that the dynamic table of the own encoder has (RFC 9204, section 3.2.3); 0: it uses none.
+    /// The most bytes that the dynamic table of the local encoder has (RFC 9204, section 3.2.3); 0: it uses none.
     pub encoder_table: u64,
-    /// The own encoder's table does not freeze and keeps out what never comes again; it serves also where the peer lets no stream wait.
+    /// The local encoder's table does not freeze and keeps out what never comes again; it serves also if the peer lets no stream wait.
     pub economical_table: bool,
     /// Messages are judged by all of RFC 9114, sections 4.1.2 and 4.2 to 4.5.
     pub strict: bool,
@@ -56,9 +56,9 @@ pub struct Config {
 }
 
 impl Config {
-    /// A client with the limits of `h3_config_default`, which are fit for a peer that is not trusted: heads and trailers of at most 65,536
-    /// bytes, a dynamic table of 4,096 bytes, for which 16 streams may wait, and one of 4,096 bytes for the own encoder. Messages are
-    /// judged.
+    /// A client with the limits of `h3_config_default`, which are fit for a peer that is not trusted. Header and trailer sections may have
+    /// at most 65,536 bytes. There is a dynamic table of 4,096 bytes, for which 16 streams may wait, and one of 4,096 bytes for the local
+    /// encoder. Messages are judged.
     pub fn client() -> Config {
         Config::of(defaults())
     }

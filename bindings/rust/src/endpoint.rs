@@ -45,8 +45,8 @@ fn answered(answer: u32, detail: u64) -> Result<(), Error> {
     }
 }
 
-// SAFETY, of all calls below: the handle holds an endpoint, since `new` hands one out alone where it was made, and each call writes the
-// handle back through its last argument; pointers and lengths are those of slices and of local variables.
+// SAFETY, of all calls below: the handle holds an endpoint, since `new` returns one only if it was made, and each call writes the handle
+// back through its last argument. Pointers and lengths are those of slices and of local variables.
 impl Endpoint {
     /// Makes an endpoint, whose settings wait to be sent on its control stream.
     ///
@@ -68,7 +68,7 @@ impl Endpoint {
         answered(answer, detail)
     }
 
-    /// A delivery, which is taken too where memory was refused for reading it (`H3_KEPT`): the next delivery or pull reads on.
+    /// A delivery, which is taken too if an allocation failed while it was read (`H3_KEPT`): the next delivery or pull reads on.
     fn delivery(&mut self, call: impl FnOnce(Handle, *mut u64, *mut Handle) -> u32) -> Result<(), Error> {
         let mut detail = 0;
         match call(self.handle, &mut detail, &mut self.handle) {
@@ -171,7 +171,7 @@ impl Endpoint {
         self.call(|handle, detail, out| unsafe { raw::h3_raw_reset(handle, id, detail, out) })
     }
 
-    /// Nothing more is wanted of a request stream: QUIC sends STOP_SENDING.
+    /// Nothing more of a request stream is needed: QUIC sends STOP_SENDING.
     ///
     /// # Errors
     ///

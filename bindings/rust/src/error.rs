@@ -40,9 +40,9 @@ pub enum Error {
     IdsUsedUp,
     /// The stream is not open at this side.
     NotOpen,
-    /// Not at this place of the message: a head first, then bodies, then a trailer, then the end.
+    /// Not at this place of the message: first a header section, then bodies, then a trailer section, then the end.
     OutOfOrder,
-    /// A client sends heads of requests, a server those of responses.
+    /// A client sends header sections of requests, a server those of responses.
     WrongSide,
     /// A trailer has no pseudo-header field.
     PseudoInTrailer,
@@ -56,7 +56,7 @@ pub enum Error {
     NotRequestId,
     /// An earlier GOAWAY had this lower id.
     Raised(u64),
-    /// Memory was refused. Nothing is lost: the same call may be made again.
+    /// Out of memory. Nothing is lost: the same call may be made again.
     Memory,
     /// `table` is above 2^30 - 1.
     TableLimit,
@@ -83,7 +83,7 @@ pub enum Error {
 }
 
 impl Error {
-    /// The refusal that an answer tells, but for 0 and `H3_KEPT`, which are none.
+    /// The refusal that an answer tells, but for 0 and `H3_KEPT`, which refuse nothing.
     pub(crate) fn of(answer: u32, detail: u64) -> Error {
         match answer {
             1 => Error::Closed(detail),
@@ -117,7 +117,7 @@ impl Error {
         }
     }
 
-    /// The code to close the QUIC connection with, where it has a fault.
+    /// The code to close the QUIC connection with, if it has a fault.
     pub fn connection_code(&self) -> Option<u64> {
         match self {
             Error::Closed(code) | Error::Connection(code) => Some(*code),
@@ -125,7 +125,7 @@ impl Error {
         }
     }
 
-    /// Whether memory was refused: the same call may be made again.
+    /// Whether it is out of memory: the same call may be made again.
     pub fn is_memory(&self) -> bool {
         matches!(self, Error::Memory)
     }
@@ -144,16 +144,16 @@ impl fmt::Display for Error {
             Error::Rejected(code) => return write!(f, "the request is rejected, {code:#x}"),
             Error::Other(answer) => return write!(f, "the library answered {answer}"),
             Error::NotReceiving => "the peer sends nothing on this stream",
-            Error::AfterEnd => "the stream has ended before",
+            Error::AfterEnd => "the stream's end or reset came before",
             Error::NotClient => "only a client opens requests",
             Error::IdsUsedUp => "there are no further stream ids",
             Error::NotOpen => "the stream is not open",
             Error::OutOfOrder => "not at this place of the message",
-            Error::WrongSide => "a head of the other side",
+            Error::WrongSide => "a header section of the other side",
             Error::PseudoInTrailer => "a pseudo-header field in a trailer",
             Error::Critical => "the connection needs this stream",
             Error::Ended => "the stream has ended",
-            Error::NotRequestId => "the id is that of no request",
+            Error::NotRequestId => "not the id of a request stream",
             Error::Memory => "out of memory",
             Error::TableLimit => "the table is above its limit",
             Error::BlockedLimit => "the count of blocked streams is above its limit",
@@ -205,8 +205,8 @@ impl fmt::Display for Fault {
 
 impl std::error::Error for Fault {}
 
-/// Why a message is malformed (RFC 9114, section 4.1.2): an `h3_malformation`, which says more of each. Those from `LatePseudoField` on are
-/// told where `strict` is set, and `TooLong` where there is an `unfinished_limit`.
+/// Why a message is malformed (RFC 9114, section 4.1.2): an `h3_malformation`, which says more of each. Those from `LatePseudoField` to
+/// `NoTrailerField` are found if `strict` is set, and `TooLong` if there is an `unfinished_limit`.
 #[derive(Debug, Clone, Copy, PartialEq, Eq)]
 #[non_exhaustive]
 pub enum Malformation {
@@ -293,9 +293,9 @@ impl fmt::Display for Malformation {
             Malformation::BadName => "invalid field name",
             Malformation::BadValue => "invalid field value",
             Malformation::TooMany => "too many fields",
-            Malformation::HeadOfWrongSide => "a head of the other side",
+            Malformation::HeadOfWrongSide => "a header section of the other side",
             Malformation::PseudoFieldInTrailer => "a pseudo-header field in a trailer",
-            Malformation::NoHead => "no head",
+            Malformation::NoHead => "no header section",
             Malformation::LatePseudoField => "a pseudo-header field after a regular field",
             Malformation::WrongPseudoField => "a pseudo-header field of the other side",
             Malformation::RepeatedPseudoField => "a pseudo-header field comes twice",

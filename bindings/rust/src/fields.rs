@@ -10,11 +10,11 @@ pub struct Field<'a> {
     pub value: &'a [u8],
 }
 
-/// The fields of a head or trailer, in the order that they came.
+/// The fields of a header or trailer section, in the order that they came.
 #[derive(Clone, Default, PartialEq, Eq)]
 pub struct Fields {
     bytes: Vec<u8>,
-    /// where each name and each value ends
+    /// the ends of each name and each value
     ends: Vec<(usize, usize)>,
 }
 

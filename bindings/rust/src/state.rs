@@ -8,11 +8,11 @@ pub struct StreamState {
     pub waiting: u64,
     /// Bytes that were delivered and are still held: grant credit for the others.
     pub unread: u64,
-    /// Something can be sent: an own unidirectional stream, or a request stream that was opened.
+    /// Something can be sent: a local unidirectional stream, or a request stream that was opened.
     pub has_outgoing: bool,
-    /// The own message was finished.
+    /// The local message was finished.
     pub is_finished: bool,
-    /// Sending was cut off.
+    /// Sending was reset.
     pub is_reset: bool,
     /// How often the field section that is next was tried.
     pub tries: u32,

@@ -13,7 +13,7 @@ use std::alloc::Global;
 /// How many numbers `h3_config` has: its size in bytes, and those of `GivenConfig`.
 const NUMBERS: usize = 18;
 
-/// The numbers of `h3_config` behind its size, in its order. One other than 0 means yes.
+/// The numbers of `h3_config` after its size, in its order. One other than 0 means yes.
 #[derive(Copy, Clone)]
 pub struct GivenConfig {
     pub max_field_section_size: u64,
@@ -93,7 +93,7 @@ impl GivenConfig {
         })
     }
 
-    /// All numbers, behind a size.
+    /// All numbers, after a size.
     pub(crate) fn numbers(&self, size: u64) -> [u64; NUMBERS]
         ensures { result ≡ numbers_of size self.now }
     {
@@ -131,7 +131,7 @@ impl GivenConfig {
     }
 }
 
-// Where this is announced: four times as much, and at least 256 bytes; or no limit.
+// The least limit if this is announced: four times as much, and at least 256 bytes; or no limit.
 fn least_for(announced: u64) -> u64
     ensures { result ≡ least_for announced }
 {

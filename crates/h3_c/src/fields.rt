@@ -102,8 +102,8 @@ fn without_room(sizes: &[FieldSize], bytes: &'static [u8]) -> Told
     ARGUMENT
 }
 
-/// The fields go to an empty list, where the sizes are those of all bytes. Names and values stay where they lie: no field may outlive the
-/// call of C. After a refusal some may be in the list.
+/// The fields go to an empty list, if the sizes are those of all bytes. Names and values stay where they lie: no field may outlive the call
+/// of C. After a refusal some may be in the list.
 #[tactic(auto, using(crate::proofs::Cuts::start))]
 pub(crate) fn cut_fields(
     fields: &mut Vec<HeaderField>,

@@ -9,7 +9,7 @@ use crate::loose::Loose;
 use std::alloc::Global;
 use std::marker::Model;
 
-/// `h3_endpoint` of the header: a pointer that owns a connection, or nothing where `value` is `None`.
+/// `h3_endpoint` of the header: a pointer that owns a connection, or nothing if `value` is `None`.
 #[repr(C)]
 #[derive(Drop)]
 pub struct Handle {

@@ -107,7 +107,7 @@ pub(crate) fn or_memory(refusal: Option<Refusal>) -> Told
     }
 }
 
-/// What a call tells that hands out nothing.
+/// What a call tells that returns no value.
 pub(crate) fn called(call: Result<(), Refusal>) -> Told
     ensures { result ≡ call_told call }
 {
@@ -138,7 +138,7 @@ pub(crate) fn listed(call: &Result<(), FieldsError>) -> Told
     }
 }
 
-// What refuses a list by its own fields has the numbers of a list that is handed in, and a rule of strict messages its number beside.
+// A list that its own fields refuse has the numbers of a list that C passes. A rule of strict messages has its number beside.
 fn malformed(why: Malformation) -> Told
     ensures { result ≡ malformed_told why }
 {

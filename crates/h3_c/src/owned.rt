@@ -1,4 +1,4 @@
-//! Steps that drop a value of any type: where the type is not named, a proof does not open what a drop of it is.
+//! Steps that drop a value of any type: as the type is not named, a proof does not open what a drop of it is.
 ghost use Rattle.std.specs.Prelude.{◌≡◌, IfOk};
 
 use std::alloc::{AllocError, Global};
@@ -10,7 +10,7 @@ pub(crate) fn put<T: Drop>(place: &mut T, value: T)
     *place = value;
 }
 
-/// The value in a box. Where memory is refused it is dropped.
+/// The value in a box. If the allocation fails it is dropped.
 pub(crate) fn boxed<T: Drop>(alloc: Global, value: T) -> Result<Box<T>, AllocError>
     ensures { IfOk result (λ b. b.value ≡ value) }
 {

@@ -1,4 +1,4 @@
-//! All fields of a head or trailer, as C gets them at once: their sizes, and their names and values one behind another.
+//! All fields of a header or trailer section, as C gets them at once: their sizes, and their names and values in order.
 ghost use Rattle.std.specs.Prelude.{◌≡◌, ◌≤◌, ◌++◌, true, length, drop};
 ghost use Rattle.std.specs.List.{list_all};
 ghost use Rattle.h3_c.specs.Exported.{GivesFields};
@@ -8,7 +8,7 @@ use crate::fields::FieldSize;
 use crate::numbers::{OK, ROOM, Told};
 use h3_field::{FieldBlock, FieldRef, Fields};
 
-/// Hands out all fields, if there is room for all of them.
+/// Returns all fields, if there is room for all of them.
 #[tactic(auto, using(crate::proofs::RowLaws::row_is_end_to_end))]
 pub(crate) fn fields_at_once(block: &FieldBlock, sizes: &mut [FieldSize], bytes: &mut [u8]) -> Told
     ensures { GivesFields block.now result sizes.old sizes.new bytes.old bytes.new }
@@ -37,7 +37,8 @@ pub(crate) fn bytes_in(block: &FieldBlock) -> usize
     block.bytes().len()
 }
 
-// Whether each size is a number of 32 bits, where all names and values have so many bytes: no field is looked at where these are one.
+// Whether each size is a number of 32 bits. All names and values have at most so many bytes: if that is a number of 32 bits, no field is
+// looked at.
 #[tactic(auto, using(crate::proofs::RowLaws::short_within))]
 fn are_short_within(fields: &Fields<'_>, len: usize) -> bool
     requires { row_len fields.now ≤ len }

@@ -22,7 +22,7 @@ pub enum Capsule {
     Pending,
 }
 
-/// A reader of capsules, which takes their bytes in any pieces. It keeps the bytes of a head that is not whole, and no other.
+/// A reader of capsules, which takes their bytes in any pieces. It keeps the bytes of a type and length that are not whole, and no other.
 #[derive(Drop)]
 pub struct CapsuleReader {
     head: HeadBytes,
@@ -41,7 +41,7 @@ impl Model for CapsuleReader {
     ghost invariant = { λ r. length r.head < 16 };
 }
 
-/// The type and the length that bytes begin with, where both are whole.
+/// The type and the length that bytes begin with, if both are whole.
 #[tactic(auto, unfolding(crate::specs::Capsule::head_of))]
 fn head_of(bytes: &[u8]) -> Option<(u64, u64)>
     ensures value { result ≡ head_of bytes.now }
@@ -123,8 +123,8 @@ impl CapsuleReader {
         (count as usize, Capsule::Value(count as usize))
     }
 
-    /// Whether the data may end here: no capsule was begun, or each that was begun was told to be whole. Where it is false at
-    /// the end of a stream, the message is malformed (RFC 9297, section 3.3).
+    /// Whether the data may end here: no capsule was begun, or `Capsule::End` came of each that was begun. If it is false at the end of a
+    /// stream, the message is malformed (RFC 9297, section 3.3).
     pub fn is_between(&self) -> bool
         ensures { result ≡ is_between self.now }
     {

@@ -1,4 +1,4 @@
-//! The heads of HTTP Datagrams (RFC 9297, section 2.1).
+//! What stands in front of the payload of an HTTP Datagram: its Quarter Stream ID (RFC 9297, section 2.1).
 ghost use Rattle.std.specs.Prelude.{◌≡◌, ◌+◌, ◌%◌, ◌^◌, ◌<◌, ◌++◌, None, Some, MatchOption, IfSome, OnOk, OnErr, length};
 ghost use Rattle.h3_coding.specs.Writing.{UsesRoom};
 ghost use Rattle.h3_capsule.specs.Datagram.{datagram_of, datagram_head};

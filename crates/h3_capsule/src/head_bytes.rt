@@ -1,9 +1,9 @@
-//! The first bytes of a head.
+//! The first bytes of a capsule's type and length.
 ghost use Rattle.std.specs.Prelude.{◌≡◌, ◌<◌, ◌≤◌, ◌++◌, ◌∷◌, [], ◌==◌, length};
 
 use std::marker::Model;
 
-/// The most bytes of a head: two variable-length integers.
+/// The most bytes of a type and length: two variable-length integers.
 const MOST: usize = 16;
 
 /// At most 16 bytes. A contract sees them as a list.

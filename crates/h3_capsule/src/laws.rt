@@ -27,7 +27,8 @@ pub fn any_calls_tell_their_bytes()
         → TellsAll place bytes parts last }
 {}
 
-/// A capsule is told as it is, whatever follows: its type and its length, in whatever encodings, each byte of its value, and its end.
+/// The reader tells a capsule as it is, whatever follows: its type and its length, in whatever encodings, each byte of its value, and its
+/// end.
 pub fn a_capsule_is_told_as_it_is()
     ensures { (kind : ℕ) (value k l more : List ℕ) → IsEncoding kind k → IsEncoding (length value) l
         → told (InHead []) ((k ++ l) ++ (value ++ more)) ≡ then_told (parts_of_capsule kind value) (told (InHead []) more) }
@@ -39,7 +40,7 @@ pub fn what_is_written_is_told()
         → told (InHead []) (capsule_head kind (length value) ++ (value ++ more)) ≡ then_told (parts_of_capsule kind value) (told (InHead []) more) }
 {}
 
-/// The head that is written of a datagram reads back as the id of its stream, and the rest is the payload.
+/// What is written in front of a datagram's payload reads back as the id of its stream, and the rest is the payload.
 pub fn datagrams_read_back()
     ensures { (id : ℕ) (payload : List ℕ) → id < 2 ^ 62 → id % 4 ≡ 0 → datagram_of (datagram_head id ++ payload) ≡ Some (id, payload) }
 {}

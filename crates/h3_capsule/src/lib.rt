@@ -1,4 +1,4 @@
-//! Capsules and the heads of HTTP Datagrams (RFC 9297).
+//! Capsules, and what stands in front of the payload of HTTP Datagrams (RFC 9297).
 #![tactic(auto)]
 
 pub mod capsule;

@@ -1,4 +1,4 @@
-//! Reading and writing values at a buffer, with an error where bytes or room are missing. Each trait
+//! Reading and writing values at a buffer, with an error if bytes or room are missing. Each trait
 //! says in ghost members which bytes stand for a value, so that generic code knows them.
 ghost use Rattle.std.specs.Prelude.{◌≡◌, ℕ, ◌<◌, ◌^◌, List, [], ◌∷◌, ◌++◌, length, IfOk, IfErr, IfSome, IsNone, OnOk, OnErr, None, Some, ◌≤◌, take, drop, refl};
 ghost use Rattle.h3_coding.specs.ByteLaws.{one_byte, byte_finished};
@@ -15,7 +15,7 @@ use bytes::{Buf, BufMut};
 #[derive(Clone, Copy, Debug, PartialEq, Eq)]
 pub struct UnexpectedEnd(pub usize);
 
-/// The buffer is full, or was refused memory.
+/// The buffer is full, or its allocation failed.
 #[derive(Clone, Copy, Debug, PartialEq, Eq)]
 pub struct WriteRefused;
 
@@ -27,8 +27,8 @@ pub trait Encode {
     // The encoding that is written.
     ghost encoding: { Self → List ℕ };
 
-    /// Appends the encoding. It is refused only where the buffer is full or was refused memory, and then
-    /// leaves the bytes that were there and a beginning of the encoding.
+    /// Appends the encoding. It is refused only if the buffer is full or its allocation fails, and then leaves the bytes that were there
+    /// and a beginning of the encoding.
     fn encode<B: BufMut>(&self, buf: &mut B) -> std::result::Result<(), WriteRefused>
         ensures ok { OnOk result (B.written buf.new ≡ B.written buf.old ++ encoding self.now) }
         ensures err { OnErr result
@@ -150,7 +150,7 @@ pub trait BufExt: Buf + Sized {
     }
 
     /// Takes a number that lies within the first `len` bytes, and answers it with how many of those
-    /// bytes follow it. Takes nothing where no number lies within them.
+    /// bytes follow it. Takes nothing if no number lies within them.
     final fn get_var_within(&mut self, len: usize) -> Option<(u64, usize)>
         requires { len ≤ length (Self.unread self.old) }
         ensures some { IfSome result (λ p. (varint_at (take len (Self.unread self.old))

@@ -124,9 +124,9 @@ impl VarInt {
         VarInt::decode_in_pieces(buf)
     }
 
-    // Takes the first byte, where there is one, of bytes that begin no encoding, and answers why.
-    // Where the bytes of a buffer always lie together, this is all that is left of a read that fails:
-    // so the place of such a buffer stays in registers.
+    // Takes the first byte, if there is one, of bytes that begin no encoding, and returns why. If the
+    // bytes of a buffer always lie together, this is all that is left of a read that fails: so the
+    // place of such a buffer stays in registers.
     #[inline(always)]
     fn take_unfinished<B: Buf>(buf: &mut B) -> UnexpectedEnd
         requires { varint_at (B.unread buf.old) ≡ None }
@@ -151,10 +151,10 @@ impl VarInt {
         usize::from(first >> 6)
     }
 
-    // The number that the bytes begin with, and how many of them it has; none where it does not lie
+    // The number that the bytes begin with, and how many of them it has; none if it does not lie
     // whole in them. Short forms have a branch each, so that the place of the next number does not
     // wait for this one's bytes. Longer ones take one load and share a branch, since one more would
-    // often be guessed wrong where all forms come in turn.
+    // often be guessed wrong when all forms come in turn.
     #[inline(always)]
     fn at_front(bytes: &[u8]) -> Option<(Self, usize)>
         ensures some { IfSome result (λ p. IsEncoding p.0 (take p.1 bytes.now)
@@ -210,7 +210,7 @@ impl VarInt {
         Ok(VarInt(get_number(buf, first & 0x3f, more)))
     }
 
-    /// Appends the shortest encoding, whole or, where the buffer is full or was refused memory, not at
+    /// Appends the shortest encoding, whole or, if the buffer is full or its allocation fails, not at
     /// all.
     pub fn encode<B: BufMut>(&self, buf: &mut B) -> Result<(), WriteRefused>
         ensures ok { OnOk result (B.written buf.new ≡ B.written buf.old ++ encoding self.now) }

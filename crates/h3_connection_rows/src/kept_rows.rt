@@ -1,4 +1,4 @@
-//! Worked rows of what is kept when memory was refused, and of what was handed over to send.
+//! Worked rows of what is kept when out of memory, and of what was passed to send.
 
 ghost use Rattle.std.specs.Prelude.{◌≡◌, [], Some, length, codes, true};
 ghost use Rattle.h3_connection.specs.declared.event.Pull.TheVariants as pulled;
@@ -34,7 +34,7 @@ pub fn kept_rows_compute()
     ensures held_bytes_are_read_alike { read_arrival (held early 3 settings) (BytesCame 3 []) ≡ read_arrival early (BytesCame 3 settings) }
 {}
 
-/// What was handed over to send is counted so.
+/// What was passed to send is counted so.
 pub fn sent_rows_compute()
     ensures nothing { sent_after 1 ≡ 0 }
     ensures head { sent_after 2 ≡ 138 }

@@ -1,4 +1,4 @@
-//! Worked rows of messages: heads, bodies, sessions, resets and cancellations.
+//! Worked rows of messages: header sections, bodies, sessions, resets and cancellations.
 
 ghost use Rattle.std.specs.Prelude.{◌≡◌};
 ghost use Rattle.h3_connection.specs.CallLists.{answers};

@@ -57,7 +57,7 @@ fn endpoint(alloc: Global, side: Side) -> Result<Endpoint, Stop> {
     }
 }
 
-// (each end has one owner with one exit, which lets it go by one call)
+// (each end has one owner with one exit, which frees it by one call)
 fn with_client(alloc: Global, text: &mut String) -> Result<(), Stop> {
     match endpoint(alloc, Side::Client) {
         Ok(mut client) => {
@@ -91,7 +91,7 @@ fn talk(
     let id = client.open_request()?;
     send_request(alloc, client, id)?;
     carry(alloc, client, server, id)?;
-    // its head waits for the insertions on the encoder stream
+    // its header section waits for the insertions on the encoder stream
     pull_all(alloc, text, "server", server, id)?;
     carry_own(alloc, client, server)?;
     pull_all(alloc, text, "server", server, id)?;
@@ -165,8 +165,8 @@ fn send_body(endpoint: &mut Endpoint, id: StreamId, body: &'static [u8]) -> Resu
     }
 }
 
-/// A head comes as no `Endpoint` sends it, with a name in capitals (RFC 9114, section 4.2): the server resets its stream, and other
-/// streams are as before.
+/// A header section comes as no `Endpoint` sends it, with a name in capitals (RFC 9114, section 4.2): the server resets its stream, and
+/// other streams are as before.
 fn reset_malformed(
     alloc: Global,
     text: &mut String,
@@ -184,7 +184,7 @@ fn reset_malformed(
     pull_all(alloc, text, "client", client, id)
 }
 
-/// The server takes no request from stream 12 on, and a client that was told opens none.
+/// The server takes no request from stream 12 on, and a client that has learned it opens none.
 fn go_away(
     alloc: Global,
     text: &mut String,
@@ -198,7 +198,7 @@ fn go_away(
     Ok(words(text, line.as_str())?)
 }
 
-/// Carries what waits on the own streams of both: control, encoder and decoder stream, which QUIC opened before any other.
+/// Carries what waits on the control, encoder and decoder stream of both ends, which QUIC opened before any other.
 pub(crate) fn carry_own(
     alloc: Global,
     client: &mut Endpoint,

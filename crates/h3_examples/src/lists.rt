@@ -1,4 +1,4 @@
-//! An exchange by lists of fields (RFC 9114, section 4.3): no header is made of a head, at either end.
+//! An exchange by lists of fields (RFC 9114, section 4.3): no header is made of a header section, at either end.
 use crate::endpoints::{Stop, carry, carry_own};
 use crate::log::{field, fields, words};
 use h3_session::endpoint::Endpoint;
@@ -57,7 +57,7 @@ fn add(
     Ok(())
 }
 
-/// A message that is a head alone.
+/// A message that is a header section alone.
 fn send_list(endpoint: &mut Endpoint, id: StreamId, list: Vec<HeaderField>) -> Result<(), Stop> {
     let sent = endpoint.send_fields(id, list.as_slice());
     drop(list);
@@ -80,7 +80,7 @@ fn pull_lists(text: &mut String, endpoint: &mut Endpoint, id: StreamId) -> Resul
     Ok(())
 }
 
-/// The same by one block for all heads: a field is lent from where it lies.
+/// The same by one block for all header sections: a field is lent from its place in the block.
 fn read_blocks(
     alloc: Global,
     text: &mut String,
@@ -97,7 +97,7 @@ fn read_blocks(
     Ok(())
 }
 
-/// Lines of what was told, and whether to pull again at once.
+/// Lines of what the pull said, and whether to pull again at once.
 fn is_read(text: &mut String, answer: &BlockPull) -> Result<bool, AllocError> {
     match answer.told() {
         Told::Message(_, _) => {

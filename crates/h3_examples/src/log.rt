@@ -42,7 +42,7 @@ pub fn field(text: &mut String, name: &[u8], value: &[u8]) -> Result<(), AllocEr
     text.push('\n')
 }
 
-/// Bytes as text, or a question mark where they are none.
+/// Bytes as text, or a question mark if they are not text.
 fn push_bytes(text: &mut String, bytes: &[u8]) -> Result<(), AllocError> {
     match str::from_utf8(bytes) {
         Ok(part) => text.push_str(part),

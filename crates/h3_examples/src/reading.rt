@@ -6,7 +6,7 @@ use std::alloc::{AllocError, Global};
 // Capacity 220, and the insertions of :authority www.example.com and :path /sample/path.
 const TWO_INSERTIONS: &[u8] = b"\x3f\xbd\x01\xc0\x0fwww.example.com\xc1\x0c/sample/path";
 
-// Both entries, behind two lines of the static table.
+// Both entries, after two lines of the static table.
 const SECTION: &[u8] = &[3, 129, 209, 215, 16, 17];
 
 /// The section waits, and is decoded once both instructions are whole. Of bytes that end inside an instruction its front is left.

@@ -19,7 +19,7 @@ pub fn field(name: &'static [u8], value: &'static [u8]) -> HeaderField {
     HeaderField::from_static(name, value)
 }
 
-/// A request whose head waits for its insertions, is decoded and acknowledged, and one that is given up.
+/// A request whose header section waits for its insertions, is decoded and acknowledged, and one that is given up.
 pub fn round_trip(alloc: Global, text: &mut String) -> Result<(), AllocError> {
     words(
         text,
@@ -94,7 +94,7 @@ impl Ends {
         bytes(self.alloc, text, "encoder stream", &self.instructions)
     }
 
-    /// Decodes the section, where its insertions were read, and acknowledges it where it names some.
+    /// Decodes the section, if its insertions were read, and acknowledges it if it names some.
     fn read(&mut self, stream: u64, text: &mut String) -> Result<(), AllocError> {
         let mut cursor = SliceCursor::new(&self.section);
         match self.decoder.decode_header(&mut cursor) {

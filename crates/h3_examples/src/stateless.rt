@@ -4,7 +4,7 @@ use crate::session::field;
 use h3_qpack::{SliceCursor, decode_stateless, encode_stateless};
 use std::alloc::{AllocError, Global};
 
-/// A response is written, read back, and refused where it is larger than is taken.
+/// A response is written, read back, and refused if it is larger than is taken.
 pub fn response(alloc: Global, text: &mut String) -> Result<(), AllocError> {
     words(text, "# a section without a table")?;
     let mut section = Vec::new(alloc);
@@ -33,7 +33,7 @@ fn told(alloc: Global, text: &mut String, section: &[u8]) -> Result<(), AllocErr
     read(alloc, text, section, 77)
 }
 
-/// The fields, where their sizes sum to at most `most` (RFC 9114, section 4.2.2).
+/// The fields, if their sizes sum to at most `most` (RFC 9114, section 4.2.2).
 fn read(alloc: Global, text: &mut String, section: &[u8], most: u64) -> Result<(), AllocError> {
     let mut cursor = SliceCursor::new(section);
     match decode_stateless(alloc, &mut cursor, most) {

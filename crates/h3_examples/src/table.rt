@@ -86,7 +86,7 @@ fn begin_and_release(table: &mut DynamicTable)
     table.encoder(0).release();
 }
 
-/// An entry that is inserted is named by the sections behind that which inserted it.
+/// An entry that is inserted is named by the sections after the one that inserted it.
 pub fn finds(alloc: Global, text: &mut String) -> Result<(), AllocError> {
     words(text, "# what is found in a table")?;
     let mut table = DynamicTable::new(alloc);

@@ -95,7 +95,7 @@ fn is_authority_byte(byte: u8) -> bool
         || byte == 126
 }
 
-// The same, said by the grammar: the counts begin anew behind userinfo and behind a closing bracket.
+// The same, said by the grammar: the counts begin again after userinfo and after a closing bracket.
 fn has_grammar(text: &[u8]) -> bool
     ensures { MatchBool result (IsAuthority text.now) (¬ (IsAuthority text.now)) }
 {
@@ -142,7 +142,7 @@ fn has_grammar(text: &[u8]) -> bool
     opened == closed && colons <= 1 && !percent
 }
 
-/// Whether the text is a path and a query, with or without a fragment behind them (RFC 3986, 3.3 to 3.5).
+/// Whether the text is a path and a query, with or without a fragment after them (RFC 3986, 3.3 to 3.5).
 pub(crate) fn is_path_input(text: &[u8]) -> bool
     ensures { result ≡ is_path_input text.now }
 {
@@ -152,7 +152,7 @@ pub(crate) fn is_path_input(text: &[u8]) -> bool
             && is_path(before(b'#', text)))
 }
 
-// Whether the text is a path in ASCII, which may have a query in ASCII behind it, as most are.
+// Whether the text is a path in ASCII, which may have a query in ASCII after it, as most are.
 fn is_plain_path(text: &[u8]) -> bool
     ensures { result ≡ is_plain_path text.now }
 {
@@ -178,7 +178,7 @@ fn starts_with_delimiter(text: &[u8]) -> bool
     first == b'/' || first == b'?' || first == b'#'
 }
 
-// Whether the text is a path and a query behind its first `?`.
+// Whether the text is a path and a query after its first `?`.
 #[tactic(auto, using(crate::proofs::HeadTestLaws::decided, crate::proofs::HeadTestLaws::utf8))]
 fn is_path(text: &[u8]) -> bool
     ensures { result ≡ is_path text.now }
@@ -198,7 +198,7 @@ fn begins_path(text: &[u8]) -> bool
     text.is_empty() || text == b"*".as_slice() || first == b'/' || first == b'?'
 }
 
-// Whether what stands behind the first `?` may be a query. Without one there is none.
+// Whether what comes after the first `?` may be a query. Without one there is none.
 fn has_query(text: &[u8]) -> bool
     ensures { result ≡ are_query (split_once_back question_mark text.now) }
 {
@@ -245,7 +245,7 @@ fn before(byte: u8, text: &[u8]) -> &[u8]
     &text[..index_of(byte, text)]
 }
 
-// Where the byte first stands, or the length.
+// The index at which the byte first occurs, or the length.
 fn index_of(byte: u8, text: &[u8]) -> usize
     ensures value { result ≡ index_of byte text.now }
     ensures within { result ≤ length text.now }
@@ -253,7 +253,7 @@ fn index_of(byte: u8, text: &[u8]) -> usize
     text.iter().take_while(|b| **b != byte).count()
 }
 
-/// The byte at this place, or 0 behind the end.
+/// The byte at this place, or 0 after the end.
 pub(crate) fn byte_at(text: &[u8], index: usize) -> u8
     ensures { result ≡ slice_index text.now index }
 {

@@ -275,7 +275,7 @@ impl Header {
     ///
     /// The first field that is refused decides: `InvalidHeaderName` for a name that is empty, not
     /// in lower case, or unknown with a `:`, `InvalidHeaderValue` for a value that its type
-    /// refuses, `TooManyFields` where the map is full.
+    /// refuses, `TooManyFields` if the map is full.
     pub fn try_from(alloc: Global, fields: Vec<HeaderField>) -> Result<Header, HeaderError>
         ensures ok { IfOk result (IsHeadOf fields.items) }
         ensures err { IfErr result (RefusesOne (trailer_head []) fields.items) }
@@ -283,8 +283,8 @@ impl Header {
         Header::of_fields(alloc, &Fields::of(fields.as_slice()))
     }
 
-    /// The same of fields that stay where they are: what is malformed of a list that was refused for want of memory can still be told
-    /// (`first_bad_part`).
+    /// The same of fields that stay where they are. If the list is refused because it is out of memory, `first_bad_part` can still say what
+    /// is malformed of it.
     pub fn of_fields(alloc: Global, fields: &Fields<'_>) -> Result<Header, HeaderError>
         ensures ok { IfOk result (IsHeadOf fields.now) }
         ensures err { IfErr result (RefusesOne (trailer_head []) fields.now) }

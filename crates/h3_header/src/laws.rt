@@ -18,8 +18,8 @@ use crate::headers::{Header, HeaderError};
 use std::alloc::Global;
 
 /// The field list of every header, however it was made, is accepted, and it makes a header with
-/// this very list: the same one but for an empty path, which is `/`, and for the marks of sensitive
-/// values. Each item of its names and values is below 256.
+/// this very list. It is the same header but for an empty path, which is `/`, and for the marks of
+/// sensitive values. Each item of its names and values is below 256.
 pub fn every_header_reads_back(header: &Header)
     ensures reads_back { ReadsBack (head_fields header.now) }
     ensures read_as { head_of_fields (head_fields header.now) ≡ as_read header.now }
@@ -28,8 +28,8 @@ pub fn every_header_reads_back(header: &Header)
     header.visit_parts();
 }
 
-/// A header there and back: its fields are read as a header with the same fields, and nothing but
-/// want of memory refuses them.
+/// A header there and back: its fields are read as a header with the same fields, and they are
+/// refused only when out of memory.
 pub fn round_trip(alloc: Global, header: &Header) -> Result<Header, HeaderError>
     ensures ok { IfOk result (λ h. head_fields h ≡ head_fields header.now) }
     ensures err { IfErr result (λ e. e ≡ HeaderError.OutOfMemory) }
@@ -40,14 +40,14 @@ pub fn round_trip(alloc: Global, header: &Header) -> Result<Header, HeaderError>
     Header::try_from(alloc, fields)
 }
 
-/// A list of so few fields that a map has room for all their names is judged field by field: the first of which anything is malformed refuses
-/// it, and where nothing is malformed of any it is a head's.
+/// A list of so few fields that a map has room for all their names is judged field by field. The first of which anything is malformed
+/// refuses it, and if nothing is malformed of any it is a header section's.
 pub fn fields_are_judged_alone()
     ensures refused { (fields : List Field) (i : ℕ) (f : Field) (part : BadPart) → length fields ≤ 24576 → i < length fields → All (λ f. bad_part f ≡ None) (take i fields) → bad_part (get_or fields i f) ≡ Some part → head_of fields ≡ IsNone (refusal_of part) }
     ensures head { (fields : List Field) → All (λ f. bad_part f ≡ None) (take 24576 fields) → IsHeadUnlessMany fields }
 {}
 
-/// What a field list is read as is a value: its head, or the first refusal, memory aside. What the value says is so.
+/// What a field list is read as is a value: its header section, or the first refusal, memory aside. What the value says is so.
 pub fn lists_are_their_value()
     ensures head { (fields : List Field) (h : Head) → IsHeadOf fields h → head_of fields ≡ IsHead h }
     ensures refused { (fields : List Field) (e : HeaderError) (why : HeadRefusal) → RefusesOne (trailer_head []) fields e → told e ≡ Some why → head_of fields ≡ IsNone why }
@@ -55,8 +55,8 @@ pub fn lists_are_their_value()
     ensures is_refused { (fields : List Field) (e : HeaderError) (why : HeadRefusal) → head_of fields ≡ IsNone why → told e ≡ Some why → RefusesOne (trailer_head []) fields e }
 {}
 
-/// What `Header::connect` sends: `:method` and `:authority`, and behind them the regular fields (RFC 9114, 4.4). So `:scheme`, `:path` and
-/// `:protocol`, which are wrong there, are none of its fields, and both that are needed are there once.
+/// What `Header::connect` sends: `:method` and `:authority`, and after them the regular fields (RFC 9114, 4.4). So it has no `:scheme`,
+/// `:path` or `:protocol`, which are wrong there, and both that are needed are there once.
 pub fn a_connect_is_method_and_authority()
     ensures sent { (authority : List ℕ) (m : Entries FieldValue) → head_fields (connect_head authority m)
         ≡ record { name = codes ":method"; value = codes "CONNECT" } ∷ record { name = codes ":authority"; value = authority } ∷ regular_fields m }

@@ -1,5 +1,5 @@
-//! Heads and trailers of HTTP/3 messages (RFC 9114, 4.1 to 4.3): their pseudo-header fields and
-//! regular fields, and the field lists that they are sent as.
+//! Header and trailer sections of HTTP/3 messages (RFC 9114, 4.1 to 4.3): their pseudo-header
+//! fields and regular fields, and the field lists that they are sent as.
 #![tactic(auto)]
 
 pub mod ext;

@@ -62,7 +62,7 @@ fn word_at(payload: &[u8], place: usize) -> u32
     ])
 }
 
-/// Writes the entry's symbols, and says where the next ones go.
+/// Writes the entry's symbols, and returns the place of the next ones.
 fn put_symbols(out: &mut [u8], place: usize, entry: u32) -> usize
     requires room { place + 2 ≤ length out.old }
     requires few { entry_count entry ≤ 2 }

@@ -32,7 +32,7 @@ fn put_word(out: &mut [u8], place: usize, word: u32)
     out[place..place + 4].copy_from_slice(&word.to_be_bytes());
 }
 
-/// How many bits the words of a string have, where their sum fits 64 bits.
+/// How many bits the words of a string have, if their sum fits 64 bits.
 fn word_bits(plain: &[u8]) -> u64
     requires { length plain.now < 2 ^ 58 }
     ensures value { result ≡ length (flat_map code_word plain.now) }
@@ -177,9 +177,8 @@ pub fn encode_into(plain: &[u8], out: &mut [u8])
     }
 }
 
-/// Writes the Huffman encoding of a string to the front of `out`, and answers its length. It needs no length before
-/// and has no loop over the last bytes, so it is the faster one for short strings; it writes up to four bytes behind the
-/// encoding.
+/// Writes the Huffman encoding of a string to the front of `out`, and returns its length. It needs no length before and has no loop over
+/// the last bytes, so it is the faster one for short strings. It writes up to four bytes after the encoding.
 pub fn encode_front(plain: &[u8], out: &mut [u8]) -> usize
     requires { 4 * length plain.now + 4 ≤ length out.old }
     ensures payload { take result out.new ≡ huffman plain.now }

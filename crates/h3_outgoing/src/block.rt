@@ -15,7 +15,7 @@ pub(crate) struct FrameBytes {
     form: BytesForm,
 }
 
-/// Where the bytes of a HEADERS frame lie.
+/// The place of the bytes of a HEADERS frame.
 #[derive(Drop)]
 pub(crate) enum BytesForm {
     Short(ShortBytes),
@@ -64,8 +64,8 @@ impl FrameBytes {
         }
     }
 
-    /// Writes the type and the length of the HEADERS frame of a section, which begins behind the first 9 bytes, right in front of it, and
-    /// answers where they begin.
+    /// Writes the type and the length of a section's HEADERS frame right in front of the section, which begins after the first 9 bytes.
+    /// Returns the place at which they begin.
     pub(crate) fn write_head(&mut self) -> usize
         requires room { 9 ≤ length self.old }
         requires size { length (drop 9 self.old) < 2 ^ 62 }

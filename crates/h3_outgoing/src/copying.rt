@@ -5,7 +5,7 @@ ghost use Rattle.h3_coding.specs.Encodings.{IsByte};
 ghost use Rattle.h3_outgoing.specs.Copied.{Puts, put};
 ghost use Rattle.h3_outgoing.specs.Held.{Fronts};
 
-/// Copies bytes into a buffer from a place on, as many as fit, and answers the place behind them.
+/// Copies bytes into a buffer from a place on, as many as fit, and returns the place after them.
 pub(crate) fn put_at(bytes: &[u8], at: usize, out: &mut [u8]) -> usize
     requires { at ≤ length out.old }
     ensures { Puts bytes.now at out.old result out.new }

@@ -18,12 +18,12 @@ pub(crate) struct Frame {
     form: Form,
 }
 
-/// Where the bytes of a frame lie.
+/// The place of a frame's bytes.
 #[derive(Drop)]
 pub(crate) enum Form {
     /// A HEADERS frame, in one piece.
     Headers(HeadersFrame),
-    /// A DATA frame, whose payload is the body that was handed over.
+    /// A DATA frame, whose payload is the body that was passed to send.
     Data(MessageBuf<Bytes>),
     /// A DATA frame, whose payload the caller holds.
     Held(HeldFrame),
@@ -100,8 +100,8 @@ impl Frame {
         }
     }
 
-    /// Copies what is left into a buffer from a place on, up to a payload that the caller holds and as much as fits, and answers the place
-    /// behind it, how many bytes of that payload follow, and whether nothing more is to be copied behind this frame.
+    /// Copies what is left into a buffer from a place on: up to a payload that the caller holds, and as much as fits. Returns the place
+    /// after it, how many bytes of that payload follow, and whether nothing more is to be copied after this frame.
     #[inline]
     pub(crate) fn put(&self, at: usize, out: &mut [u8]) -> (usize, usize, bool)
         requires { at ≤ length out.old }
@@ -162,7 +162,7 @@ fn held_head(frame: &HeldFrame) -> &[u8]
     as_bytes(frame.head())
 }
 
-// Copies it to the front of a buffer, and says how many bytes of the payload follow where all of it fits.
+// Copies it to the front of a buffer. Returns how many bytes fit, and how many bytes of the payload follow: 0 unless all of it fits.
 fn put_held(frame: &HeldFrame, out: &mut [u8]) -> (usize, usize)
     ensures { Fronts (all_of frame.now) out.old out.new result.0 result.1 }
 {

@@ -15,7 +15,7 @@ use std::marker::Model;
 /// How many frames a queue has memory for at first.
 const FIRST_PLACES: usize = 4;
 
-/// Frames that wait, none of them empty, one behind the other. Two have places of their own, since most messages are a head and a body: only
+/// Frames that wait in order, none of them empty. Two have places of their own, since most messages are a header section and a body: only
 /// further ones take memory for a queue. A contract sees the frames, and how many more find a place.
 pub(crate) struct WaitingFrames {
     first: Option<Frame>,
@@ -70,7 +70,7 @@ impl WaitingFrames {
         self.waiting == 0
     }
 
-    /// Makes room for one more frame, which `push` then takes. An `Err` comes only where there was none. No frame changes.
+    /// Makes room for one more frame, which `push` then takes. An `Err` comes only if there was none. No frame changes.
     #[inline(always)]
     pub(crate) fn reserve(&mut self) -> Result<(), AllocError>
         ensures same { self.new.frames ≡ self.old.frames }
@@ -83,7 +83,7 @@ impl WaitingFrames {
         take_place(&mut self.later)
     }
 
-    /// One frame more, behind the others. It takes no memory.
+    /// One frame more, after the others. It takes no memory.
     #[inline(always)]
     pub(crate) fn push(&mut self, frame: Frame)
         requires room { 0 < self.old.room }
@@ -111,7 +111,7 @@ impl WaitingFrames {
         *self = WaitingFrames::new(alloc);
     }
 
-    /// No memory is kept for a queue where none waits in it.
+    /// No memory is kept for a queue if no frame waits in it.
     pub(crate) fn release(&mut self)
         ensures { self.new.frames ≡ self.old.frames }
     {
@@ -121,7 +121,7 @@ impl WaitingFrames {
         }
     }
 
-    /// The first bytes: the rest of a frame's type and length, or of its payload. Empty exactly where none waits, or first those that the
+    /// The first bytes: the rest of a frame's type and length, or of its payload. Empty exactly if none waits, or first those that the
     /// caller holds.
     pub(crate) fn first_part(&self) -> &[u8]
         ensures { result.now ≡ front_of (lent self.now.frames) }
@@ -138,7 +138,7 @@ impl WaitingFrames {
         }
     }
 
-    /// Copies the first bytes to the front of `out`, over frames too, up to a payload that the caller holds and as many as fit, and says how
+    /// Copies the first bytes to the front of `out`, over frames too, up to a payload that the caller holds and as many as fit. Returns how
     /// many, and how many of that payload follow them.
     pub(crate) fn copy_to(&self, out: &mut [u8]) -> (usize, usize)
         ensures copied { Filled (front_of (bytes_of self.now.frames)) out.old out.new result.0 }
@@ -184,14 +184,14 @@ impl Drop for WaitingFrames {
     }
 }
 
-/// Whether one more frame has a place in front of the queue: none waits behind the first.
+/// Whether one more frame has a place in front of the queue: none waits after the first.
 fn has_own_place(second: &Option<Frame>, later: &VecDeque<Frame>) -> bool
     ensures { result ≡ has_own_place second.now later.now.items }
 {
     second.is_none() && later.is_empty()
 }
 
-/// Takes memory for one more frame in a queue, where it has none: for as many more as there are, or for four. A place that is taken stays
+/// Takes memory for one more frame in a queue, if it has none: for as many more as there are, or for four. A place that is taken stays
 /// until a frame is put in, so that this needs no memory then.
 #[cold]
 #[inline(never)]
@@ -209,7 +209,7 @@ fn take_place(later: &mut VecDeque<Frame>) -> Result<(), AllocError>
     later.reserve_exact(len.max(FIRST_PLACES))
 }
 
-/// Copies what is left of a frame, where there is one, as `Frame::put` does.
+/// Copies what is left of a frame, if there is one, as `Frame::put` does.
 fn put_one(frame: &Option<Frame>, at: usize, out: &mut [u8]) -> (usize, usize, bool)
     requires { at ≤ length out.old }
     ensures copied { FrontsAt (bytes_of (at_most_one frame.now)) at out.old result.0 result.1 result.2 out.new }
@@ -221,7 +221,7 @@ fn put_one(frame: &Option<Frame>, at: usize, out: &mut [u8]) -> (usize, usize, b
     }
 }
 
-/// The same of frames one behind the other, without whether they are the last.
+/// The same of frames in order, without whether they are the last.
 #[inline(never)]
 fn put_later(frames: &VecDeque<Frame>, at: usize, out: &mut [u8]) -> (usize, usize)
     requires { at ≤ length out.old }
@@ -248,7 +248,7 @@ fn put_queue(frames: &VecDeque<Frame>, out: &mut [u8]) -> (usize, usize)
     (at, 0)
 }
 
-/// Takes up to `count` bytes of a frame, where there is one, and answers how many. One that is wholly taken goes.
+/// Takes up to `count` bytes of a frame, if there is one, and returns how many. One that is wholly taken goes.
 fn take_of(place: &mut Option<Frame>, count: usize) -> usize
     requires { All (λ f. 0 < length (all_of f)) (at_most_one place.old) }
     ensures taken { result ≡ min count (length (bytes_of (at_most_one place.old))) }

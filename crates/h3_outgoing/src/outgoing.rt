@@ -1,4 +1,4 @@
-//! What is sent on a request stream: where its message is, and the frames that wait.
+//! What is sent on a request stream: the place in its message, and the frames that wait.
 ghost use Rattle.std.specs.Prelude.{◌≡◌, ◌==◌, ◌+◌, ◌<◌, ◌≤◌, ◌^◌, ◌++◌, length, take, drop, true, false, OnOk, OnErr, IfErr, IsTrue};
 ghost use Rattle.h3_connection.specs.WaitingPieces.{bytes_of, lent};
 ghost use Rattle.h3_connection.specs.State.{nothing_waits};
@@ -20,14 +20,14 @@ use h3_messages::Content;
 use std::alloc::{AllocError, Global};
 use std::marker::Model;
 
-/// A request stream at its sender. Its frames wait one behind the other: a short section in the frame itself, a longer one in the block in which
-/// it was written, a body that was handed over as the payload itself, and one that the caller holds as its length. Only the first is copied. A
-/// contract sees the pieces that wait.
+/// A request stream at its sender. Its frames wait in order. A short section waits in the frame itself, a longer one in the block in which
+/// it was written. A body that was passed waits as the payload itself, and one that the caller holds as its length. Only a short section is
+/// copied. A contract sees the pieces that wait.
 #[derive(Drop)]
 pub struct OutgoingStream {
     frames: WaitingFrames,
     place: SendPlace,
-    // how much content is still to be sent, where the endpoint holds that against what the head said
+    // how much content is still to be sent, if the endpoint checks that against what the header section said
     content: Content,
     is_finished: bool,
     is_reset: bool,
@@ -64,21 +64,21 @@ impl OutgoingStream {
         }
     }
 
-    /// Whether a head may be sent: the stream is open, and no final head was sent.
+    /// Whether a header section may be sent: the stream is open, and no final one was sent.
     pub fn takes_head(&self) -> bool
         ensures { result ≡ takes_head self.now }
     {
         !self.is_finished && !self.is_reset && matches!(self.place, SendPlace::NothingSent)
     }
 
-    /// Whether a body or the trailer may be sent: the stream is open, the final head was sent, and no trailer.
+    /// Whether a body or the trailer may be sent: the stream is open, the final header section was sent, and no trailer.
     pub fn takes_body(&self) -> bool
         ensures { result ≡ takes_body self.now }
     {
         !self.is_finished && !self.is_reset && matches!(self.place, SendPlace::HeadSent)
     }
 
-    /// Whether it may be finished: the stream is open, and the final head was sent.
+    /// Whether it may be finished: the stream is open, and the final header section was sent.
     pub fn takes_end(&self) -> bool
         ensures { result ≡ takes_end self.now }
     {
@@ -125,7 +125,7 @@ impl OutgoingStream {
         Ok(())
     }
 
-    /// So much content is to be sent behind the head. A stream whose sending has ended stays as it is.
+    /// So much content is to be sent after the header section. A stream whose sending has ended stays as it is.
     pub fn expect(&mut self, content: Content)
         ensures { self.new ≡ is_to_have self.old content }
     {
@@ -134,14 +134,14 @@ impl OutgoingStream {
         }
     }
 
-    /// How much content is still to be sent: any, where nothing says it or the endpoint does not ask.
+    /// How much content is still to be sent: any, if nothing says it or the endpoint does not check it.
     pub fn content(&self) -> Content
         ensures { result ≡ self.now.content }
     {
         self.content
     }
 
-    /// Whether so many bytes more are more content than the head said (RFC 9114, section 4.1.2).
+    /// Whether so many bytes more are more content than the header section said (RFC 9114, section 4.1.2).
     pub fn passes_content(&self, size: usize) -> bool
         ensures { result ≡ passes_content self.now.content size }
     {
@@ -224,7 +224,7 @@ impl OutgoingStream {
         self.end_taken
     }
 
-    /// Takes the end where it waits, and no bytes ahead of it, and answers whether that is so. It takes no memory.
+    /// Takes the end if it waits with no bytes ahead of it, and returns whether it did. It takes no memory.
     pub fn take_end(&mut self) -> bool
         ensures told { result ≡ is_end_next self.old }
         ensures taken { result ≡ true → self.new ≡ has_end_taken self.old }
@@ -256,7 +256,7 @@ impl OutgoingStream {
         }
     }
 
-    /// The first bytes that wait: the rest of a frame's type and length, or of its payload. Empty exactly where nothing waits, or first a
+    /// The first bytes that wait: the rest of a frame's type and length, or of its payload. Empty exactly if nothing waits, or first a
     /// payload that the caller holds.
     pub fn outgoing(&self) -> &[u8]
         ensures { result.now ≡ front_of (lent self.now.pieces) }
@@ -292,8 +292,8 @@ impl OutgoingStream {
         Ok(())
     }
 
-    /// Copies the first bytes that wait to the front of `out`, over frames too, up to a payload that the caller holds and as many as fit, and
-    /// says how many, and how many of that payload follow them. They keep waiting. It takes no memory.
+    /// Copies the first bytes that wait to the front of `out`, over frames too, up to a payload that the caller holds and as many as fit.
+    /// Returns how many, and how many of that payload follow them. They keep waiting. It takes no memory.
     pub fn copy_to(&self, out: &mut [u8]) -> (usize, usize)
         ensures copied { Filled (front_of (bytes_of self.now.pieces)) out.old out.new result.0 }
         ensures past { AreApart self.now.pieces → result.1 ≡ past_of (drop result.0 (bytes_of self.now.pieces)) }
@@ -349,7 +349,7 @@ impl OutgoingStream {
         like
     }
 
-    /// Where the message is.
+    /// The place in the message.
     pub fn place(&self) -> SendPlace
         ensures { result ≡ self.now.place }
     {
@@ -363,7 +363,7 @@ impl OutgoingStream {
         self.is_finished
     }
 
-    /// Whether sending was cut off.
+    /// Whether sending was reset.
     pub fn is_reset(&self) -> bool
         ensures { result ≡ self.now.is_reset }
     {

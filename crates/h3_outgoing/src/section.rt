@@ -16,8 +16,8 @@ pub(crate) const HEAD_ROOM: usize = 9;
 /// The type of a HEADERS frame (RFC 9114, section 7.2.2).
 const HEADERS: u8 = 1;
 
-/// An encoded field section, with room in front of it for the type and length of its frame. So the frame goes out from where its section
-/// lies: from the block in which it was written, or a short one from the frame itself. A contract sees the section.
+/// An encoded field section, with room in front of it for the type and length of its frame. So the frame goes out from the place of its
+/// section: from the block in which it was written, or a short one from the frame itself. A contract sees the section.
 #[derive(Drop)]
 pub struct EncodedSection {
     block: FrameBytes,
@@ -34,7 +34,7 @@ impl Model for EncodedSection {
 }
 
 impl EncodedSection {
-    /// A block behind whose 9 bytes a section is to be written, with room for so many bytes of it. It takes memory once.
+    /// A block of 9 bytes, after which a section is to be written, with room for so many bytes of it. It takes memory once.
     pub fn block(alloc: Global, size: usize) -> Result<Vec<u8>, AllocError>
         ensures { IfOk result (λ block. length block.items ≡ 9) }
     {
@@ -43,7 +43,7 @@ impl EncodedSection {
         Ok(block)
     }
 
-    /// The section that was written behind the first 9 bytes of a block; none where it has fewer.
+    /// The section that was written after the first 9 bytes of a block; none if it has fewer.
     pub fn behind_room(block: Vec<u8>) -> Option<EncodedSection>
         ensures some { IfSome result (λ section. section ≡ drop 9 block.items) }
         ensures none { IfNone result (length block.items < 9) }
@@ -55,7 +55,7 @@ impl EncodedSection {
         Some(EncodedSection { block })
     }
 
-    /// Empties a block but for 9 bytes, behind which a section is to be written. One that has fewer takes memory once, with room for so many
+    /// Empties a block but for 9 bytes, after which a section is to be written. One that has fewer takes memory once, with room for so many
     /// bytes of it.
     pub fn begin(block: &mut Vec<u8>, size: usize) -> Result<(), AllocError>
         ensures { OnOk result (length block.new.items ≡ 9) }
@@ -68,7 +68,7 @@ impl EncodedSection {
         Ok(())
     }
 
-    /// The section that was written behind the first 9 bytes of a block; none where it has fewer. A short one is copied, so that the block
+    /// The section that was written after the first 9 bytes of a block; none if it has fewer. A short one is copied, so that the block
     /// serves again, and a longer one takes the block with it. It takes no memory.
     pub fn taken_from(block: &mut Vec<u8>) -> Option<EncodedSection>
         ensures some { IfSome result (λ section. section ≡ drop 9 block.old.items) }
@@ -162,7 +162,7 @@ impl HeadersFrame {
     }
 }
 
-/// Writes the type and the length of the HEADERS frame of a section right in front of it, and answers where they begin.
+/// Writes the type and the length of the HEADERS frame of a section right in front of it, and returns the place at which they begin.
 pub(crate) fn write_head(block: &mut [u8]) -> usize
     requires room { 9 ≤ length block.old }
     requires size { length (drop 9 block.old) < 2 ^ 62 }
@@ -174,7 +174,7 @@ pub(crate) fn write_head(block: &mut [u8]) -> usize
     write_front(block, HEADERS, len as u64)
 }
 
-/// Writes the type and the length of a frame so that they end with the ninth byte of a block, and answers where they begin.
+/// Writes the type and the length of a frame so that they end with the ninth byte of a block, and returns the place at which they begin.
 pub(crate) fn write_front(block: &mut [u8], kind: u8, len: u64) -> usize
     requires room { 9 ≤ length block.old }
     requires kind { kind < 64 }

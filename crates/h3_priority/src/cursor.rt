@@ -65,7 +65,7 @@ impl<'a> Cursor<'a> {
         Some(*first)
     }
 
-    /// Takes this character, where the text begins with it.
+    /// Takes this character, if the text begins with it.
     pub fn take(&mut self, byte: u8) -> bool
         ensures begins { result ≡ begins_with byte self.old }
         ensures rest { self.new ≡ (if result then drop 1 self.old else self.old) }

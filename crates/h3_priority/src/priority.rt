@@ -48,7 +48,7 @@ const DEFAULT_URGENCY: u8 = 3;
 const MOST_URGENCY: u8 = 7;
 
 impl Priority {
-    /// A priority of this urgency, from 0, the most urgent, to 7; none where it is greater.
+    /// A priority of this urgency, from 0, the most urgent, to 7; none if it is greater.
     pub fn new(urgency: u8, incremental: bool) -> Option<Self>
         ensures { SomeIff result (urgency ≤ 7) (record { urgency = urgency; incremental = incremental }) }
     {
@@ -76,8 +76,8 @@ impl Priority {
         self.incremental
     }
 
-    /// The priority that a `priority` field's value says, all lines of the field joined by ", "; none where the value is no
-    /// dictionary, and then the field is ignored (RFC 8941, section 4.2).
+    /// The priority that a `priority` field's value says, all lines of the field joined by ", ". None if the value is no dictionary: then
+    /// the field is ignored (RFC 8941, section 4.2).
     pub fn read(value: &[u8]) -> Option<Self>
         ensures { result ≡ priority_of value.now }
     {

@@ -9,7 +9,7 @@ use h3_coding::varint::VarInt;
 /// The settings of one end (RFC 9114, section 7.2.4.1), those of QPACK aside.
 #[derive(Clone, Copy, Debug)]
 pub struct Settings {
-    // The greatest size of a field section that is accepted, 2^62 - 1 where none is named.
+    // The greatest size of a field section that is accepted, 2^62 - 1 if none is named.
     max_field_section_size: u64,
     enable_webtransport: bool,
     enable_extended_connect: bool,
@@ -54,7 +54,7 @@ impl Settings {
     }
 }
 
-/// The settings that a peer announced: a flag holds where its value is other than 0, and what is
+/// The settings that a peer announced: a flag holds if its value is other than 0, and what is
 /// missing has its default.
 impl From<&frame::Settings> for Settings {
     ghost from_gives = { λ pairs s. s ≡ peer_settings pairs.now };
@@ -89,9 +89,9 @@ pub struct Choices {
     pub strict_messages: bool,
     /// An acknowledgment of a section raises the known received count (RFC 9204, section 2.1.4).
     pub acknowledgments_counted: bool,
-    /// The most bytes that the table of the own encoder has, however many its peer announces (RFC 9204, section 3.2.3).
+    /// The most bytes that the table of the local encoder has, however many its peer announces (RFC 9204, section 3.2.3).
     pub encoder_table: u64,
-    /// The own encoder keeps out of its table what never comes again. Where its peer lets no section wait, it inserts for later ones.
+    /// The local encoder keeps out of its table what never comes again. If its peer lets no section wait, it inserts for later ones.
     pub economical_table: bool,
     /// The greatest length of a frame or an instruction that is kept until it is whole (RFC 9114, section 10.5). 2^62 - 1 or more: none.
     pub unfinished_limit: u64,
@@ -232,9 +232,9 @@ impl Config {
         self
     }
 
-    /// The most bytes that the table of the own encoder has: it sets and uses the lesser of this and the capacity that its peer
-    /// announces (RFC 9204, section 3.2.3). With 0 it uses no table, and writes no instruction. 2^30 - 1 by default, the greatest
-    /// capacity of a table, so that a table is as large as was announced; a greater value is the same.
+    /// The most bytes that the table of the local encoder has: it sets and uses the lesser of this and the capacity that its peer announces
+    /// (RFC 9204, section 3.2.3). With 0 it uses no table, and writes no instruction. 2^30 - 1 by default, the greatest capacity of a
+    /// table, so that a table is as large as was announced; a greater value is the same.
     pub fn with_encoder_table(mut self, max: u64) -> Self
         ensures { result ≡ record self { choices = record self.choices { encoder_table = max } } }
     {
@@ -242,10 +242,10 @@ impl Config {
         self
     }
 
-    /// Whether the own encoder is economical with its table. It then keeps out of the table what never comes again, and does not name what
-    /// is soon to go, so that the table does not freeze (RFC 9204, section 2.1.1.1). Where the peer lets no section wait (section 2.1.2),
-    /// it inserts such a field behind its literal line, and names the entry once the insertion is known to be received; else it never
-    /// inserts there. Off by default.
+    /// Whether the local encoder is economical with its table. It then keeps out of the table what never comes again, and does not name
+    /// what is soon to go. So the table does not freeze (RFC 9204, section 2.1.1.1). If the peer lets no section wait (section 2.1.2), an
+    /// economical encoder inserts such a field after its literal line. It names the entry once the insertion is known to be received. Any
+    /// other encoder never inserts there. Off by default.
     pub fn with_economical_table(mut self, economical: bool) -> Self
         ensures { result ≡ record self { choices = record self.choices { economical_table = economical } } }
     {
@@ -253,13 +253,15 @@ impl Config {
         self
     }
 
-    /// The greatest length, in bytes, that a frame of the peer may say whose payload is kept until it is whole: one of a known type other than
-    /// DATA (RFC 9114, section 7.2). One that says more is a fault of the connection, H3_EXCESSIVE_LOAD (sections 8.1 and 10.5), as soon as its
-    /// type and length came. So is a longer instruction of the peer's encoder or decoder stream (RFC 9204, sections 4.3 and 4.4), as soon as what
-    /// came tells that it is longer, and more than this of its decoder stream before its settings. 2^62 - 1 by default, which no length
-    /// exceeds: there is no limit then; a greater value is the same.
-    /// A limit below the greatest size of a field section is refused when an endpoint is made, so it goes with `with_max_field_section_size`. An
-    /// encoder that writes every string in the Huffman code, as this library's, may need four times that size.
+    /// The greatest length in bytes that a peer's frame may say whose payload is kept until it is whole. That is one of a known type other
+    /// than DATA (RFC 9114, section 7.2). A longer HEADERS frame makes its message malformed, as soon as its type and length came. Any
+    /// other longer one is a fault of the connection, H3_EXCESSIVE_LOAD (sections 8.1 and 10.5), as soon as its type and length came. So is
+    /// a longer instruction of the peer's encoder or decoder stream (RFC 9204, sections 4.3 and 4.4), as soon as what came tells that it is
+    /// longer. So is more than this of its decoder stream before its settings. 2^62 - 1 by default, which no length exceeds: there is no
+    /// limit then. A greater value is the same.
+    /// A limit below the greatest size of a field section is refused when an endpoint is made, so it goes with
+    /// `with_max_field_section_size`. An encoder that writes every string in the Huffman code, as this library's, may need four times that
+    /// size.
     pub fn with_unfinished_limit(mut self, max: u64) -> Self
         ensures { result ≡ record self { choices = record self.choices { unfinished_limit = max } } }
     {
@@ -267,10 +269,10 @@ impl Config {
         self
     }
 
-    /// The most ids of streams that the peer canceled which the local encoder keeps (RFC 9204, section 4.4.2). If there is one too many, the
-    /// least is let go, and from then on sections on each stream up to it are written without the table, unless one there is not yet
-    /// acknowledged. Of the ids in the peer's GOAWAY frames (RFC 9114, section 5.2) the last one alone is kept. 2^62 - 1 by default, and then
-    /// all of both are kept; a greater value is the same.
+    /// The most ids of streams that the peer canceled which the local encoder keeps (RFC 9204, section 4.4.2). If there is one too many,
+    /// the least is dropped. From then on sections on each stream up to it are written without the table, unless one there is not yet
+    /// acknowledged. Of the ids in the peer's GOAWAY frames (RFC 9114, section 5.2) the last one alone is kept. 2^62 - 1 by default, and
+    /// then all of both are kept; a greater value is the same.
     pub fn with_kept_ids(mut self, max: u64) -> Self
         ensures { result ≡ record self { choices = record self.choices { extensions = record self.choices.extensions { kept_ids = max } } } }
     {
@@ -296,9 +298,9 @@ impl Config {
         self.choices
     }
 
-    /// The settings to send: where it greases the reserved one of the number `grease` with value 0,
-    /// then the greatest size of a field section, extended CONNECT, WebTransport, datagrams and the
-    /// most WebTransport sessions. Refuses a size or a count of 2^62 or more.
+    /// The settings to send. If it greases, the reserved one of the number `grease` is first, with
+    /// value 0. Then come the greatest size of a field section, extended CONNECT, WebTransport,
+    /// datagrams and the most WebTransport sessions. Refuses a size or a count of 2^62 or more.
     pub fn into_settings(self, grease: u64) -> Result<frame::Settings, SettingsError>
         requires { grease < 0x210842108421083 }
         ensures { result ≡ announced self grease }
@@ -307,7 +309,7 @@ impl Config {
     }
 }
 
-/// The settings that an end sends which announces these, behind the reserved one where it greases.
+/// The settings that an end sends which announces these, after the reserved one if it greases.
 fn settings_to_send(
     send_grease: bool,
     own: Settings,

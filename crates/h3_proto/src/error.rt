@@ -37,7 +37,7 @@ impl Code {
     /// A stream that the connection needs was closed or reset.
     pub const H3_CLOSED_CRITICAL_STREAM: Code = Code(0x104);
 
-    /// A frame came where it is not permitted.
+    /// A frame came at a place that does not permit it.
     pub const H3_FRAME_UNEXPECTED: Code = Code(0x105);
 
     /// A frame has a wrong layout or size.

@@ -91,15 +91,15 @@ pub enum SettingsError {
     Malformed,
     /// There is a setting of this id already.
     Repeated(SettingId),
-    /// The id is reserved as one of HTTP/2's, or, where a setting is inserted, 2^62 or more.
+    /// The id is reserved as one of HTTP/2's, or, if a setting is inserted, 2^62 or more.
     InvalidSettingId(u64),
     /// The value of the setting is 2^62 or more.
     InvalidSettingValue(SettingId, u64),
 }
 
 impl SettingsError {
-    /// The code of the connection fault that such a payload is (RFC 9114, sections 7.1 and 7.2.4): `H3_FRAME_ERROR` where it ends
-    /// inside a pair, and else `H3_SETTINGS_ERROR`.
+    /// The code of the connection fault that such a payload is (RFC 9114, sections 7.1 and 7.2.4): `H3_FRAME_ERROR` if it ends inside a
+    /// pair, and else `H3_SETTINGS_ERROR`.
     pub fn code(&self) -> Code
         ensures { result ≡ settings_code self.now }
     {
@@ -258,10 +258,9 @@ impl Settings {
         Ok(())
     }
 
-    /// Reads a payload, to the end of the buffer: the settings of known ids in order; others are left
-    /// out. Refuses, whichever comes first, a pair whose numbers are not whole (`Malformed`), an id that
-    /// is reserved as one of HTTP/2's, and a known id that came before. An `Err` leaves what follows the
-    /// refused pair, or what follows the id where its value is not whole (RFC 9114, section 7.2.4).
+    /// Reads a payload, to the end of the buffer: the settings of known ids in order; others are left out. Refuses, whichever comes first,
+    /// a pair whose numbers are not whole (`Malformed`), an id that is reserved as one of HTTP/2's, and a known id that came before. An
+    /// `Err` leaves what follows the refused pair, or what follows the id if its value is not whole (RFC 9114, section 7.2.4).
     pub fn read_payload<B: Buf>(buf: &mut B) -> Result<Self, SettingsError>
         ensures value { result ≡ settings_of (B.unread buf.old) }
         ensures ok { OnOk result (B.unread buf.new ≡ []) }

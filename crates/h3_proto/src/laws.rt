@@ -60,7 +60,7 @@ pub fn kept_settings_read_back()
 {}
 
 /// What an end announces of itself is received without the setting that has no meaning, alone or
-/// with the limits of its dynamic table behind.
+/// with the limits of its dynamic table after it.
 pub fn announced_is_received()
     ensures alone { (c : Config) (grease : ℕ) (pairs : List (ℕ × ℕ)) → grease < 0x210842108421083
         → announced c grease ≡ Ok pairs → settings_of (payload_of pairs) ≡ Ok (own_pairs c.settings) }

@@ -24,7 +24,7 @@ pub enum Side {
     Server = 1,
 }
 
-/// The id of a stream, below 2^62: bit 0 tells who opened the stream, bit 1 whether it is one-way,
+/// The id of a stream, below 2^62. Bit 0 tells who opened the stream, bit 1 whether it is one-way,
 /// and the rest is its index among the streams of that kind. A contract sees it as its number.
 #[derive(Clone, Copy, PartialEq, Eq, PartialOrd, Ord, Hash, Debug)]
 pub struct StreamId(u64);

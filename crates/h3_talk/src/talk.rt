@@ -17,8 +17,8 @@ use std::io::{Read, Write};
 use std::process::ExitCode;
 
 /// Answers a script: reads it whole, drives a client and a server by it and writes a line for each
-/// event. The status is 0 then. Where a line is refused nothing but `line` and the number of the
-/// first such line is written, and the status is 1. It is 2 where memory was refused outside an
+/// event. The status is 0 then. If a line is refused, nothing but `line` and the number of the
+/// first such line is written, and the status is 1. It is 2 if an allocation failed outside an
 /// event, or a read or a write failed. Then nothing was written, unless a line is refused or the
 /// input is a script: nothing is promised of what was written of its number or its answers.
 pub fn talk<R: Read, W: Write>(alloc: Global, reader: &mut R, writer: &mut W) -> u8

@@ -40,7 +40,7 @@ impl Connection {
         }
     }
 
-    // What is told of a list that was not cut: that its stream takes none comes before want of memory.
+    // The answer for a list that was not cut. If its stream takes none, it says so rather than out of memory.
     #[tactic(auto, using(crate::proofs::Uncut::no_sizes, crate::proofs::Uncut::not_taken, crate::proofs::Uncut::no_room))]
     fn head_not_cut(&self, stream: StreamId, told: Told) -> Told
         ensures { (cut : Option (List Field)) → RefusesFields cut told → SendsCut cut (λ e. place_refusal e stream) result self.now self.now (λ fields call. SendsFieldList self.now.endpoint self.now.endpoint stream fields call) }

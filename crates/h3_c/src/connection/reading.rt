@@ -72,8 +72,8 @@ impl Connection {
         self.pull(alloc, id.into_inner(), item)
     }
 
-    // How many of the bytes are delivered at once: up to the end of the frame that they begin with where that is told and nothing of the
-    // stream is held, so that a body behind it is read where it lies; else all.
+    // How many of the bytes are delivered at once. If nothing of the stream is held and the end of the frame that they begin with is known:
+    // up to that end. A body after it is then read in its place. Else all.
     fn front_len(&self, id: StreamId, bytes: &[u8]) -> usize
         ensures within { result ≤ length bytes.now }
         ensures some { 0 < length bytes.now → 0 < result }
@@ -84,7 +84,8 @@ impl Connection {
         first_frame_len(bytes)
     }
 
-    // The bytes are delivered, where there are any: a copy of them. Want of memory for it is told after what else refuses them.
+    // The bytes are delivered, if there are any: a copy of them. If the allocation for it fails, anything else that refuses them is
+    // answered first.
     #[tactic(auto, using(crate::proofs::Reading::takes_none, crate::proofs::Reading::takes_some))]
     fn take(&mut self, alloc: Global, id: StreamId, bytes: &[u8]) -> Result<(), Stop>
         ensures last { self.new.last ≡ self.old.last }
@@ -106,7 +107,7 @@ impl Connection {
         }
     }
 
-    // The end is delivered where it stands behind what was used.
+    // The end is delivered if it comes right after what was used.
     fn take_fin(&mut self, id: StreamId, is_last: bool, is_alone: bool) -> Result<(), Told>
         ensures last { self.new.last ≡ self.old.last }
         ensures ok { OnOk result (TakesEnd is_last is_alone self.old.endpoint self.new.endpoint id) }
@@ -140,7 +141,7 @@ impl Connection {
 #[derive(Clone, Copy)]
 struct Stop {
     told: Told,
-    // the bytes were taken, though memory was refused
+    // the bytes were taken, though an allocation failed
     is_taken: bool,
 }
 
@@ -155,7 +156,7 @@ fn stopped(e: DeliverError) -> Stop
     }
 }
 
-// The end stands behind so many of the bytes.
+// The end comes right after so many of the bytes.
 fn is_behind(fin: u32, bytes: &[u8], count: usize) -> bool
     ensures { result ≡ ends_with fin bytes.now count }
 {
@@ -192,8 +193,8 @@ fn placed(place: BodyPlace) -> PulledItem
     }
 }
 
-// How many bytes the frame has that they begin with (RFC 9114, section 7.1), of DATA its head, where so many are there and no payload of
-// DATA follows; else all.
+// How many bytes the frame has that they begin with (RFC 9114, section 7.1), if so many are there: of DATA its type and length, if no
+// payload follows. Else all.
 #[tactic(auto, using(h3_coding::specs::VarintLaws::shorter))]
 fn first_frame_len(bytes: &[u8]) -> usize
     ensures within { result ≤ length bytes.now }

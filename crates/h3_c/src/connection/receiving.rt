@@ -12,7 +12,8 @@ use h3_proto::stream::StreamId;
 use std::alloc::Global;
 
 impl Connection {
-    // The stream of this id, or why nothing is delivered on it: it is none, or its request is rejected.
+    // The stream of this id, or why nothing is delivered on it: the id is invalid, or its request
+    // is rejected.
     pub(super) fn receiving(&self, id: u64) -> Result<StreamId, Told>
         ensures ok { IfOk result (λ stream. (stream ≡ id) × (id < 2 ^ 62) × (is_rejected_in self.now.endpoint id ≡ false)) }
         ensures unknown { IfErr result (λ told. 2 ^ 62 ≤ id → told ≡ argument) }
@@ -52,7 +53,7 @@ impl Connection {
         delivered(&self.endpoint.deliver_end(id))
     }
 
-    /// A stream was cut off by its sender.
+    /// The sender reset a stream.
     pub(crate) fn deliver_reset(&mut self, id: u64, code: u64) -> Told
         ensures { DeliversOn delivery_told id result self.old self.new (λ call. DeliversReset self.old.endpoint self.new.endpoint id code call) }
     {

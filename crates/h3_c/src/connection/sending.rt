@@ -1,4 +1,4 @@
-//! What C sends, heads and trailers aside.
+//! What C sends, header and trailer sections aside.
 ghost use Rattle.std.specs.Prelude.{◌≡◌, ◌<◌, ◌≤◌, ◌^◌, IfErr, IfOk};
 ghost use Rattle.h3_connection.specs.SendingContracts.{SendsBody, Finishes, Resets, Cancels, GoesAway};
 ghost use Rattle.h3_c.specs.Exported.{Calls, CallsOn, OnStream, OpensRequest, ShowsNextId};
@@ -84,7 +84,7 @@ impl Connection {
         called(self.endpoint.reset(id))
     }
 
-    /// Nothing more is wanted of a stream.
+    /// The caller needs nothing more of a stream.
     pub(crate) fn cancel(&mut self, id: u64) -> Told
         ensures { CallsOn call_told id result self.old self.new (λ call. Cancels self.old.endpoint self.new.endpoint id call) }
     {
@@ -105,7 +105,7 @@ impl Connection {
     }
 }
 
-// The stream of this id, where there may be one.
+// The stream of this id, if there may be one.
 fn stream_of(id: u64) -> Result<StreamId, Told>
     ensures ok { IfOk result (λ stream. (stream ≡ id) × (id < 2 ^ 62)) }
     ensures unknown { IfErr result (λ told. (told ≡ argument) × (2 ^ 62 ≤ id)) }

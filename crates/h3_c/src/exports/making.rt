@@ -10,7 +10,7 @@ use crate::handle::{Handle, kept, opened};
 use crate::numbers::{ARGUMENT, OK, Told};
 use std::alloc::Global;
 
-/// A client whose limits are fit for a peer that is not trusted: as many of its numbers as the caller's `h3_config` has, behind its size.
+/// A client whose limits are fit for a peer that is not trusted: as many of its numbers as the caller's `h3_config` has, after its size.
 #[unsafe(no_mangle)]
 pub extern "C" fn h3_raw_config_default(config: &mut [u64])
     ensures { config.new ≡ put (numbers_of (8 * length config.old) default_config) config.old }
@@ -27,7 +27,7 @@ fn put_front(numbers: &[u64], out: &mut [u64])
     out[..count].copy_from_slice(&numbers[..count]);
 }
 
-/// Makes an endpoint. The handle is written where `H3_OK` is answered.
+/// Makes an endpoint. The handle is written if it returns `H3_OK`.
 #[tactic(auto, using(crate::proofs::Making::given_some, crate::proofs::Making::given_none))]
 #[unsafe(no_mangle)]
 pub extern "C" fn h3_raw_new(

@@ -48,7 +48,7 @@ pub extern "C" fn h3_raw_deliver_end(
     told.number
 }
 
-/// A stream was cut off by its sender, with this code.
+/// The sender reset a stream, with this code.
 #[unsafe(no_mangle)]
 pub extern "C" fn h3_raw_deliver_reset(
     alloc: Global,

@@ -130,7 +130,7 @@ pub extern "C" fn h3_raw_reset(
     told.number
 }
 
-/// Nothing more is wanted of a request stream.
+/// The caller needs nothing more of a request stream.
 #[unsafe(no_mangle)]
 pub extern "C" fn h3_raw_cancel(
     alloc: Global,

@@ -112,7 +112,7 @@ pub(crate) fn or_host(
     }
 }
 
-/// The URI of these parts, where the first `host` stands for a missing authority.
+/// The URI of these parts, in which the first `host` stands for a missing authority.
 pub(crate) fn uri_of(alloc: Global, parts: Parts, map: &HeaderMap) -> Result<Uri, HeaderError>
     ensures ok { IfOk result (λ u. AreOfUri (with_host parts (host_of map.now)) × IsUriOfParts (with_host parts (host_of map.now)) u) }
     ensures err { IfErr result (λ e. ((e ≡ HeaderError.InvalidRequest) × ¬ (AreOfUri (with_host parts (host_of map.now))))

@@ -12,7 +12,7 @@ use std::fmt;
 pub enum HeaderError {
     /// The name is empty, no lower case header name, or begins with `:` and is unknown.
     InvalidHeaderName(String),
-    /// The value is none of its field.
+    /// The value is invalid for its field.
     InvalidHeaderValue(String),
     /// Path, scheme and authority make no URI, or the authority of a plain CONNECT has userinfo or an
     /// empty host.

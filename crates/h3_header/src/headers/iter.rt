@@ -11,8 +11,8 @@ use http_header::{HeaderName, HeaderValue};
 use std::alloc::{AllocError, Global};
 use std::marker::Model;
 
-/// The fields that are left. A field that finds no memory is passed over,
-/// and its refusal stands in its place. At the end it goes on to answer `None`.
+/// The fields that are left. A field for which an allocation fails is skipped, and its refusal
+/// stands in its place. At the end it goes on to return `None`.
 #[derive(Drop)]
 pub struct HeaderIter {
     pub(crate) alloc: Global,

@@ -13,7 +13,7 @@ use crate::grammar::{
 use h3_field::{FieldRef, Fields};
 use http::StatusCode;
 
-/// So many names a `HeaderMap` has room for: of a list of no more fields it is told without memory whether it is a header's.
+/// So many names a `HeaderMap` has room for: whether a list of no more fields is a header's is decided without memory.
 pub const MOST_NAMES: usize = 24576;
 
 /// What is malformed of a field by itself (RFC 9114, 4.2 and 4.3).
@@ -26,7 +26,7 @@ pub enum BadPart {
 }
 
 /// What is malformed of a list, by the first of its first 24,576 fields of which anything is: `Header::try_from` refuses the list for that,
-/// unless memory is refused first. It takes no memory, and makes no text. None: each of these fields is good by itself, and a list of no
+/// unless an allocation fails first. It takes no memory, and makes no text. None: each of these fields is good by itself, and a list of no
 /// more fields is a header's.
 pub fn first_bad_part(fields: &Fields<'_>) -> Option<BadPart>
     ensures some { IfSome result (λ part. head_of fields.now ≡ IsNone (refusal_of part)) }

@@ -36,7 +36,7 @@ impl FieldKind {
     }
 }
 
-// The kind of a name with a colon ahead. Names of other lengths are told apart by their length alone.
+// The kind of a name with a colon ahead. A name of another length is ruled out by its length alone.
 fn of_colon(name: &[u8]) -> FieldKind
     ensures { result ≡ kind_of name.now }
 {

@@ -53,7 +53,7 @@ impl RequestPath {
         }
     }
 
-    /// The path that a request is sent with: `/` where it has none, ahead of a query too.
+    /// The path that a request is sent with: `/` if it has none, ahead of a query too.
     pub(crate) fn of_request(method: &Method, path: Option<PathAndQuery>) -> RequestPath
         ensures { result ≡ rooted method.now (unwrap_or path (codes "/")) }
     {
@@ -86,7 +86,7 @@ impl RequestPath {
         visit_text(Some(self.text.as_str()));
     }
 
-    // It as one text, which takes memory where `/` stands ahead of it.
+    // It as one text, which takes memory if `/` stands ahead of it.
     fn into_text(self, alloc: Global) -> Result<PathAndQuery, HeaderError>
         ensures ok { IfOk result (λ t. t ≡ self) }
         ensures err { IfErr result (λ e. (e ≡ HeaderError.OutOfMemory) × (is_rooted self ≡ true)) }
@@ -113,7 +113,7 @@ fn path_of(joined: Vec<u8>) -> Result<PathAndQuery, HeaderError>
     }
 }
 
-/// The path as one text, where there is one.
+/// The path as one text, if there is one.
 pub(crate) fn joined_path(
     alloc: Global,
     path: Option<RequestPath>,
@@ -127,7 +127,7 @@ pub(crate) fn joined_path(
     }
 }
 
-/// Appends the field `:path`, where there is a path.
+/// Appends the field `:path`, if there is a path.
 pub(crate) fn append_path(
     alloc: Global,
     list: &mut Vec<HeaderField>,
@@ -143,7 +143,7 @@ pub(crate) fn append_path(
     Ok(())
 }
 
-/// Reads the bytes of a path, where there is one.
+/// Reads the bytes of a path, if there is one.
 pub(crate) fn visit_path(path: &Option<RequestPath>)
     ensures valid { IfSome path.now IsPathAndQuery }
     ensures of_bytes { IfSome (option_map or_slash path.now) AreBytes }

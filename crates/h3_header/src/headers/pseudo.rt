@@ -106,7 +106,7 @@ impl Pseudo {
         }
     }
 
-    /// The method, the parts of the URI and the protocol. A query behind `/` takes memory.
+    /// The method, the parts of the URI and the protocol. A query after `/` takes memory.
     pub(crate) fn into_request(self, alloc: Global) -> Result<RequestParts, HeaderError>
         ensures ok { IfOk result (λ made. (made.method ≡ self.method) × (made.protocol ≡ self.protocol)
             × (made.parts ≡ record { scheme = self.scheme; authority = self.authority; path_and_query = self.path })) }

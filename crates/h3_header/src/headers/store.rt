@@ -1,4 +1,4 @@
-//! Where the bytes of a list's fields are kept.
+//! The memory in which the bytes of a list's fields are kept.
 ghost use Rattle.std.specs.Prelude.{◌≡◌, [], IfOk, IfErr};
 
 use super::error::HeaderError;
@@ -16,7 +16,7 @@ pub(crate) struct Store {
 }
 
 impl Store {
-    /// With room for so many bytes, where there is memory for it.
+    /// With room for so many bytes, if there is memory for it.
     fn with_room(alloc: Global, bytes: usize) -> Store {
         match BytesMut::with_capacity(alloc, bytes) {
             Ok(room) => Store { room },
@@ -42,7 +42,7 @@ impl Store {
     }
 }
 
-/// An empty map and a store, with room for these fields where there is memory for it.
+/// An empty map and a store, with room for these fields if there is memory for it.
 pub(crate) fn room_for(alloc: Global, fields: &Fields<'_>) -> (HeaderMap, Store)
     ensures { result.0 ≡ [] }
 {
@@ -59,7 +59,7 @@ pub(crate) fn room_for(alloc: Global, fields: &Fields<'_>) -> (HeaderMap, Store)
     (map_with_room(alloc, names), Store::with_room(alloc, bytes))
 }
 
-// An empty map, with room for so many names where there is memory for it.
+// An empty map, with room for so many names if there is memory for it.
 fn map_with_room(alloc: Global, names: usize) -> HeaderMap
     ensures { result ≡ [] }
 {
