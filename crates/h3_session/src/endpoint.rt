@@ -129,9 +129,9 @@ impl Endpoint {
         })
     }
 
-    /// Lets the endpoint go, as the end of its scope does. A program proves the drop of each type that it lets go itself, some forty
-    /// for an endpoint: one that lets each of its endpoints go by this call proves none of them. No clause says that its memory is given back: that is
-    /// tested (`tests/c`), and what a drop frees rests on the types that it drops.
+    /// Frees the endpoint, as the end of its scope does. A program proves the drop of each type that it drops itself, some forty for an
+    /// endpoint. One that frees each of its endpoints by this call proves none of them. No clause says that the memory of the endpoint is
+    /// given back: that is tested (`tests/c`), and what a drop frees rests on the types that it drops.
     pub fn free(self) {
         drop(self);
     }

@@ -1,6 +1,7 @@
-//! An HTTP/3 connection (RFC 9114) with QPACK (RFC 9204), as one endpoint sees it: `endpoint::Endpoint`. It reads no socket. A caller with a QUIC
-//! library delivers what comes on each stream (`deliver`, `deliver_end`, `deliver_reset`), pulls heads, bodies and trailers (`pull`), sends
-//! its own (`open_request`, `send_head`, `send_body`, `send_trailer`, `finish`) and takes the bytes that wait (`outgoing`, `advance`).
+//! An HTTP/3 connection (RFC 9114) with QPACK (RFC 9204), as one endpoint sees it: `endpoint::Endpoint`. It reads no socket. A caller with
+//! a QUIC library delivers what comes on each stream (`deliver`, `deliver_end`, `deliver_reset`), and pulls header sections, bodies and
+//! trailers (`pull`). It sends its messages (`open_request`, `send_head`, `send_body`, `send_trailer`, `finish`), and takes the bytes that
+//! wait (`outgoing`, `advance`).
 //!
 //! - An endpoint is made for a `Side`, by a `Config` and the `Limits` of its decoder, unless a `NewError` refuses them.
 //! - Messages are a `Header`, `Bytes` and perhaps a `Header` again; a stream is named by a `StreamId`.
