@@ -5,8 +5,8 @@ ghost use Rattle.h3_world.specs.Ends.{answers_of_ends, new_ends};
 ghost use Rattle.h3_strict.specs.PlainEnds.{answers_without_malformed, before_judged, plain_setup, without_malformed};
 ghost use Rattle.h3_strict.specs.WorkedStrict.{early_answers, early_front, early_run, left_answers, left_run, refused_answers, refused_run, strict_setup};
 
-/// A head without a path, more content than was said and an end before all of it are refused, and what is sent comes out: as without strict
-/// messages and these three sends.
+/// A header section without a path, more content than was said and an end before all of it are refused. What is sent comes out: as without
+/// strict messages and these three sends.
 pub fn worked_refusals()
     ensures answers { answers_of_ends (new_ends strict_setup) refused_run ≡ refused_answers }
     ensures events { without_malformed refused_run refused_answers ≡ left_run }
@@ -25,8 +25,8 @@ pub fn worked_judgment()
 ghost use Rattle.h3_strict.specs.Limits.{LimitsTakeWhatIsSent};
 ghost use Rattle.h3_strict.specs.WorkedLimits.{close_client, inserting_answers, inserting_run, settled_answers, settled_run, small_server, waiting_answers, waiting_run};
 
-/// A client cancels nineteen requests, and what its decoder says of them comes to a server whose limit takes what is sent (`limits`). Before the
-/// client's settings it waits, and may pass the limit (`waits`), and behind them it is read (`settled`).
+/// A client cancels nineteen requests, and what its decoder says of them comes to a server whose limit takes what is sent (`limits`).
+/// Before the client's settings it waits, and may pass the limit (`waits`), and after them it is read (`settled`).
 pub fn worked_cancellations()
     ensures limits { LimitsTakeWhatIsSent small_server }
     ensures waits { answers_of_ends (new_ends small_server) waiting_run ≡ waiting_answers }
