@@ -59,7 +59,7 @@ pub fn each_step_keeps_worlds_sound()
     h3_headline::laws::what_is_cited_holds();
 }
 
-/// Where no answer tells of refused memory and nothing is kept, a run is one of the world, and nothing is kept at its end.
+/// If no answer reports out of memory and nothing is kept, a run is one of the world, and nothing is kept at its end.
 pub fn without_memory_answers_a_run_is_one_of_the_world()
     ensures run { (setup : Setup) (w : World) (events : List Event) (answers : List Answer) (new : KeepingWorld) → list_any is_memory answers ≡ false →
         Run (HappensWithMemory setup) (nothing_kept w) events answers new → Run (Happens setup) w events answers new.world }
@@ -67,8 +67,8 @@ pub fn without_memory_answers_a_run_is_one_of_the_world()
         Run (HappensWithMemory setup) (nothing_kept w) events answers new → new ≡ nothing_kept new.world }
 {}
 
-/// Over a whole run, with memory refused anywhere: each event has an answer, none tells of a connection fault, and what a side is handed out of a
-/// stream is a front of what the other side sent on it, and with the end all of it.
+/// What is pulled over a whole run is what was sent, whichever allocations fail. Each event has an answer, and none tells of a connection
+/// fault. What a side pulled from a stream is a front of what the other side sent on it, and with the end all of it.
 pub fn what_is_pulled_with_memory_refused_is_what_was_sent()
     ensures as_many { (setup : Setup) (events : List Event) (answers : List Answer) (k : KeepingWorld) → Run (HappensWithMemory setup) (nothing_kept (empty_world setup)) events answers k → length answers ≡ length events }
     ensures fault { (setup : Setup) (events : List Event) (answers : List Answer) (k : KeepingWorld) → Run (HappensWithMemory setup) (nothing_kept (empty_world setup)) events answers k → list_any is_connection_fault answers ≡ false }
@@ -82,10 +82,10 @@ pub fn what_is_pulled_with_memory_refused_is_what_was_sent()
     h3_headline::laws::what_is_cited_holds();
 }
 
-/// Once memory is back nothing has been lost: the first delivery to a side that is taken, and the first pull there that is answered and not
-/// settled, leave nothing kept; from a world with nothing kept on a run without memory answers is one of today's
-/// (`without_memory_answers_a_run_is_one_of_the_world`); a head or a trailer that was refused memory is judged as before; and with everything
-/// handed over and pulled, all that was sent has come out.
+/// Once memory is back nothing has been lost. The first delivery to a side that is taken, and the first pull there that is answered and not
+/// settled, leave nothing kept. From a world with nothing kept on, a run without memory answers is one of the world of a connection
+/// (`without_memory_answers_a_run_is_one_of_the_world`). A header section or a trailer for which an allocation failed is judged as before.
+/// With everything delivered and pulled, all that was sent has come out.
 pub fn once_memory_is_back_nothing_is_lost()
     ensures pull { (setup : Setup) (k new : KeepingWorld) (side : Side) (id : ℕ) (a : Answer) → is_memory a ≡ false → is_settled k.world side id ≡ false → StepWithMemory setup k (does.Pull side id) a new → kept_at new side ≡ [] }
     ensures bytes { (setup : Setup) (k new : KeepingWorld) (writer : Side) (id count n : ℕ) → StepWithMemory setup k (does.Deliver writer id count) (gives.Delivered n) new → kept_at new (other writer) ≡ [] }
