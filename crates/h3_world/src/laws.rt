@@ -98,8 +98,9 @@ ghost use Rattle.h3_world.specs.Flow.{flow_bytes};
 ghost use Rattle.h3_world.specs.Refused.{held_back, with_insertions};
 ghost use Rattle.h3_world.specs.Streams.{flow, is_open};
 
-/// A sound world is sound where memory was refused: with the insertions for fields whose section was not written; where what a decoder wrote
-/// before its side's settings came counts as not delivered; and once bytes are read that were handed over before their stream was reset.
+/// A sound world is sound after an allocation failed: with the insertions for fields whose section was not written. It is sound if what a
+/// decoder wrote before its side's settings came counts as not delivered. It is sound once bytes are read that were delivered before their
+/// stream was reset.
 pub fn what_refused_memory_leaves_is_sound()
     ensures insertions { (setup : Setup) (w : World) (side : Side) (id : ℕ) (fields : List Field) → IsSoundWorld setup w → IsSoundWorld setup (with_insertions w side id fields) }
     ensures held { (setup : Setup) (w : World) (side : Side) → settings_came setup w side ≡ false → IsSoundWorld setup w → IsSoundWorld setup (held_back w side) }
