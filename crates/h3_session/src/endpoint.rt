@@ -80,10 +80,10 @@ impl Model for Endpoint {
 }
 
 impl Endpoint {
-    /// An endpoint that announces these settings and limits, with a reserved setting by `grease`. Its control stream begins with
-    /// its type and the settings, its encoder and decoder streams with their types (RFC 9114, section 6.2.1; RFC 9204, section
-    /// 4.2). Refused are first a table above 2^30 - 1 bytes, then more than 65535 blocked streams, then the settings, then
-    /// a limit on what is unfinished below the size of the field sections that are announced.
+    /// An endpoint that announces these settings and limits, with a reserved setting by `grease`. Its control stream begins with its type
+    /// and the settings, its encoder and decoder streams with their types (RFC 9114, section 6.2.1; RFC 9204, section 4.2). Refused are
+    /// first a table above 2^30 - 1 bytes, then more than 65535 blocked streams, then the settings. Last is a limit on what is unfinished
+    /// below the size of the field sections that are announced.
     pub fn new(
         alloc: Global,
         side: Side,

@@ -1,11 +1,14 @@
-//! The laws of the definitions that the contracts of `Endpoint` and of `run` name. Each is a function that does nothing: its contract is the law.
+//! The laws of the definitions that the contracts of `Endpoint` and of `run` name. Each is a function that does nothing: its contract is
+//! the law.
 //!
-//! - Isolation: what a request stream's calls are answered rests on its own calls and on the insertions read (`each_stream_is_isolated`); what
-//!   comes on streams and in frames of unknown types changes nothing else (`unknown_streams_change_nothing_else`, `unknown_frames_give_nothing`).
+//! - Isolation: what a request stream's calls are answered rests on its own calls and on the insertions read (`each_stream_is_isolated`).
+//!   What comes on streams and in frames of unknown types changes nothing else (`unknown_streams_change_nothing_else`,
+//!   `unknown_frames_give_nothing`).
 //! - Cuts: at which places bytes are cut into deliveries doesn't count (`cut_deliveries_are_answered_alike`,
 //!   `cut_pulls_are_answered_alike`, `cut_calls_are_answered_alike`).
-//! - Bounds: no section is tried more than twice, and no more streams wait than were announced (`tries_and_waiting_streams_are_bounded`). Every
-//!   endpoint that calls made has these bounds, memory refused or not (`endpoints_stay_bounded`, `lists_leave_endpoints_bounded`).
+//! - Bounds: no section is tried more than twice, and no more streams wait than were announced (`tries_and_waiting_streams_are_bounded`).
+//!   Every endpoint that calls made has these bounds, whether allocations fail or not (`endpoints_stay_bounded`,
+//!   `lists_leave_endpoints_bounded`).
 //! - Well-formed messages: an endpoint that asks for strict messages returns no header section and no trailer whose list breaks a rule
 //!   (`strict_endpoints_hand_out_no_broken_list`). It returns no more content than the header section says, and the end only after all of
 //!   it (`content_is_as_long_as_was_said`). Of a response to HEAD it returns no content (`a_response_to_head_has_no_content`). What it
@@ -14,10 +17,11 @@
 //!   (`strict_endpoints_send_as_much_content_as_was_said`).
 //! - What stays: a connection fault (`a_connection_fault_stays`), and the end of a stream once a pull returned it (`the_end_stays`). If
 //!   nothing is kept, calls are the plain ones (`nothing_kept_is_plain`).
-//! - Two endpoints: a schedule's answers are those of a run of the world of a connection (`two_endpoints_run_in_a_world`), in which each endpoint
-//!   decodes what the other sent (`endpoints_decode_what_was_sent`). The parts of what `run` promises, each by itself: `no_connection_fault`,
-//!   `ordered_sends_are_accepted`, `what_is_pulled_is_what_was_sent`, `everything_comes_out`, `what_comes_out_rests_on_what_was_sent`, `tables_agree`,
-//!   `no_instruction_is_refused`, `runs_can_be_cut`, and by the answers of two endpoints alone `endpoints_hand_out_what_was_sent`.
+//! - Two endpoints: a schedule's answers are those of a run of the world of a connection (`two_endpoints_run_in_a_world`), in which each
+//!   endpoint decodes what the other sent (`endpoints_decode_what_was_sent`). The parts of what `run` promises, each by itself:
+//!   `no_connection_fault`, `ordered_sends_are_accepted`, `what_is_pulled_is_what_was_sent`, `everything_comes_out`,
+//!   `what_comes_out_rests_on_what_was_sent`, `tables_agree`, `no_instruction_is_refused`, `runs_can_be_cut`, and by the answers of two
+//!   endpoints alone `endpoints_hand_out_what_was_sent`.
 //! - Allocations that may fail: events that were answered by their calls are steps of two endpoints (`calls_are_steps_of_two_endpoints`).
 //!   These run in a world in which allocations may fail (`two_endpoints_run_with_memory`), which is the world of a connection if none fails
 //!   (`without_memory_answers_a_run_is_one_of_the_world`). What is pulled in such a run is what was sent
@@ -28,7 +32,7 @@
 //!   two strict sides no pull finds one malformed, if the server knows what was asked before it answers
 //!   (`strict_endpoints_take_what_they_send`, `two_strict_endpoints_run_in_a_world`).
 //! - Limits on what is unfinished: if each takes what is sent to it they change nothing (`limits_that_take_what_is_sent_change_nothing`). A
-//!   limit does if it is at least four times what its side announces (`limits_above_what_is_announced_take_what_is_sent`). So two such
+//!   limit takes it if it is at least four times what its side announces (`limits_above_what_is_announced_take_what_is_sent`). So two such
 //!   sides run in a world (`two_limited_endpoints_run_in_a_world`, `two_strict_limited_endpoints_run_in_a_world`).
 //! - What `Setup::new` answers may be given to `run` (`setups_are_made`).
 //! - Lists: a header section and a trailer are sent as the lists of their fields are (`heads_are_sent_as_their_lists`).
@@ -89,9 +93,9 @@ pub fn heads_are_sent_as_their_lists(header: &Header)
 
 ghost use Rattle.h3_session.specs.StrictLists.{SendsWellFormedLists, SendsWellFormedTrailerLists};
 
-/// A list that an endpoint which asks for strict messages sends, as a header section or as a trailer, breaks no rule of well-formed
-/// messages (RFC 9114, sections 4.1.2 and 4.2 to 4.5). A peer that asks for strict messages judges it. That peer announced extended CONNECT
-/// if its settings that came say so.
+/// A list that an endpoint with strict messages sends, as a header section or trailer, breaks no rule of well-formed messages (RFC 9114,
+/// sections 4.1.2 and 4.2 to 4.5). It breaks none as a peer judges it that asks for strict messages, so long as that peer announced
+/// extended CONNECT if its settings that came say so.
 pub fn strict_endpoints_send_no_broken_field_list()
     ensures heads { SendsWellFormedLists }
     ensures trailers { SendsWellFormedTrailerLists }

@@ -7,8 +7,8 @@
 //! - Messages are a `Header`, `Bytes` and perhaps a `Header` again; a stream is named by a `StreamId`.
 //! - A `Pull` is an `Item`, a pause or a `Fault`, and a `FieldsPull` the same with lists of fields in the place of headers. A `BlockPull`
 //!   has these in a block of memory that serves again. A call that is refused answers a `Refusal`, a delivery a `DeliverError`.
-//! - `run::run` drives two endpoints, made by a `Setup`, over a list of `Event`s, and gives an `Answer` for each: what a client and a server
-//!   may count on with each other is its contract.
+//! - `run::run` drives two endpoints, made by a `Setup`, over a list of `Event`s, and gives an `Answer` for each. What a client and a
+//!   server may count on with each other is its contract.
 //! - `laws` says what the calls come to over whole lists of calls: streams are isolated, cuts don't count, work is bounded.
 //!
 //! The types of all signatures are here too, so a caller names this crate alone, and those of the kit that it uses (`bytes`, `http`).

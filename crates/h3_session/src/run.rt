@@ -96,8 +96,8 @@ fn beside<A: Drop, B: Drop>(first: A, second: Result<B, AllocError>) -> Result<(
 ///   definitions with the bytes carried between them.
 /// - `messages`: within the bounds of `headline`, after each event, no answer tells of a connection fault. What a side pulled from a stream
 ///   is a front of what the other side sent on it, and with the end it is all of that.
-/// - `front`: within the bounds of `headline`, these are the answers of a run of the world of a connection, in each step of which all that
-///   `headline` says holds.
+/// - `front`: within the bounds of `headline`, the answers up to the first that reports out of memory are those of a run of the world of a
+///   connection. In each of its steps all that `headline` says holds.
 /// - `memory`: within the bounds of `headline` all answers are those of a run of a world in which allocations may fail. What a side keeps
 ///   and has not read counts as not delivered there. An answer that does not report out of memory is one of that world, and one that does
 ///   loses nothing; no connection fault arises. The endpoints that are returned stand in its last world, with what they keep.
@@ -105,19 +105,19 @@ fn beside<A: Drop, B: Drop>(first: A, second: Result<B, AllocError>) -> Result<(
 /// If no answer reports out of memory:
 /// - `runs`: the answers are those of two endpoints of the definitions with the bytes carried between them, and the endpoints that are
 ///   returned stand for these.
-/// - `headline`: its bounds are fewer than 2^48 events, with less than 2^56 bytes for each side to send, and sides that neither ask for
-///   strict messages nor limit what is unfinished. Then the answers are a run of the world of a connection, and the endpoints that are
-///   returned stand in its last world. In each of its steps no connection fault arises, and a send that is in order and within the known
-///   limit is accepted. A pull returns what was sent, or pauses exactly when that isn't there. With everything delivered everything comes
-///   out, and no more header sections wait than were announced.
+/// - `headline`: its bounds are fewer than 2^48 events, with less than 2^56 bytes for each side to send. Neither side may ask for strict
+///   messages or limit what is unfinished. Then the answers are a run of the world of a connection, and the endpoints that are returned
+///   stand in its last world. In each of its steps no connection fault arises, and a send that is in order and within the known limit is
+///   accepted. A pull returns what was sent, or pauses exactly when that isn't there. With everything delivered everything comes out, and
+///   no more header sections wait than were announced.
 ///
 /// In every setup, with both sides strict, one or none, with limits or without, and the bounds of numbers of `headline`:
 /// - `faultless_front`: the answers are a run of the world of the setup that asks for no strict messages, and each side pulls what the
 ///   other side sent. The sends that were refused as malformed are left out of that run. It is so up to the first answer that reports out
-///   of memory, or that a pull found a message malformed, a frame at the wrong place or one too long. (`finds_fault`: a malformed message,
+///   of memory, a message that a pull found malformed, a frame at the wrong place or one too long. (`finds_fault`: a malformed message,
 ///   H3_FRAME_UNEXPECTED, or H3_EXCESSIVE_LOAD, which a delivery may tell too.) No answer tells of a connection fault of another code
 ///   either.
-/// - `faultless`: if no answer tells of these, so it is of all of them, and the endpoints that are returned stand in the last world, once
+/// - `faultless`: if no answer tells of these, so it is of all of them. The endpoints that are returned then stand in the last world, once
 ///   they are taken for ones without strict messages.
 ///
 /// Between two strict sides without limits, if the server pulled the header section of a request before it sends the final header section

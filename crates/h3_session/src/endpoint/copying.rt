@@ -31,10 +31,10 @@ impl Endpoint {
         Ok(())
     }
 
-    /// Copies the first bytes that wait on a stream to the front of `out`, over frames too, up to a payload that the caller holds
-    /// (`send_body_of`) and as many as fit. The rest of `out` stays, and they keep waiting. It takes no memory. Says how many bytes, and
-    /// how many of that payload's follow them. Says also whether the message was finished and these are all that wait of it: then the end
-    /// of the stream goes out after them. With one look-up.
+    /// Copies the first bytes that wait on a stream to the front of `out`, over frames too: as many as fit, up to a payload that the caller
+    /// holds (`send_body_of`). The rest of `out` stays, and they keep waiting. It takes no memory. Says how many bytes, and how many of
+    /// that payload's follow them. Says also whether the message was finished and these are all that wait of it: then the end of the stream
+    /// goes out after them. With one look-up.
     #[tactic(auto, using(crate::proofs::Copying::puts_own, crate::proofs::Copying::own_goes_on))]
     pub fn copy_with_end(&self, id: StreamId, out: &mut [u8]) -> (usize, usize, bool)
         ensures copied { CopiesTo self.now id result.0 result.1 out.old out.new }

@@ -144,8 +144,8 @@ impl Endpoint {
         }
     }
 
-    // Remembers on its stream what a header section says of content, if the endpoint asks for strict messages. That of a request says so of
-    // its response too.
+    // Remembers on its stream what a header section says of content, if the endpoint asks for strict messages. From that of a request it
+    // also remembers what is awaited of the response.
     fn await_response(&mut self, id: StreamId, said: Said)
         ensures { (fields : List Field) → IsSaid self.old.side self.old.announced fields said → Remembers self.old self.new id fields }
     {
@@ -305,7 +305,8 @@ fn encode(
     Ok((section, count))
 }
 
-/// A block with room for the section of so many short fields, so that it seldom grows while that is written: the one that is kept, if it is one.
+/// A block with room for the section of so many short fields, so that it seldom grows while that is written: the one that is kept, if it is
+/// one.
 fn block_for(kept: &mut Vec<u8>, fields: &[HeaderField]) -> Result<Vec<u8>, AllocError>
     ensures { IfOk result (λ block. length block.items ≡ 9) }
 {

@@ -31,8 +31,8 @@ use std::alloc::{AllocError, Global};
 pub enum FieldsError {
     /// As a header of these fields is refused.
     Refused(Refusal),
-    /// It is no list of a header (`Name`, `Value`, `TooMany`), as `Header::try_from` tells it. Or the endpoint asks for strict messages, and
-    /// a strict peer would call it malformed, as a header of these fields is refused by `Refusal::Malformed`.
+    /// It is no list of a header (`Name`, `Value`, `TooMany`), as `Header::try_from` tells it. Or the endpoint asks for strict messages,
+    /// and a strict peer would call it malformed, as a header of these fields is refused by `Refusal::Malformed`.
     Malformed(Malformation),
 }
 

@@ -271,9 +271,9 @@ impl Endpoint {
         pull_stream(requests, alloc, side, announced, id, streams, out)
     }
 
-    /// Nothing more is needed of a request stream: what came on it is thrown away, and the peer's encoder learns it (RFC 9204, section
+    /// Nothing more is needed of a request stream: what came on it is thrown away, and the peer's encoder learns of it (RFC 9204, section
     /// 2.2.2.2). Refused are first calls after a connection fault, then streams that the connection needs, then those that are not open.
-    /// Last are those whose end a pull returned or that were given up. Out of memory changes nothing.
+    /// Last are those whose end a pull returned or that were given up. `OutOfMemory` changes nothing.
     #[tactic(auto, using(crate::proofs::ReceivingCancel::cancel_critical, crate::proofs::ReceivingCancel::cancels))]
     pub fn cancel(&mut self, id: StreamId) -> Result<(), Refusal>
         ensures { Cancels self.old self.new id result }

@@ -21,7 +21,7 @@ use h3_streams::left::Left;
 use std::alloc::AllocError;
 use std::collections::VecDeque;
 
-/// What is left to be read of an arrival after an allocation failed: this, and then what the peer's decoder stream has waiting since before
+/// What is left to read of an arrival after an allocation failed: this, and then what the peer's decoder stream has waiting since before
 /// the settings, if it is named.
 #[derive(Drop)]
 pub(super) struct Unread {

@@ -168,7 +168,7 @@ impl Endpoint {
     }
 
     /// A stream was reset by its sender, with this code of an application. It is refused as bytes are. What came on a request stream and
-    /// was not pulled is thrown away, and the peer's encoder learns it (RFC 9204, section 2.2.2.2).
+    /// was not pulled is thrown away, and the peer's encoder learns of it (RFC 9204, section 2.2.2.2).
     pub fn deliver_reset(&mut self, id: StreamId, code: u64) -> Result<(), DeliverError>
         ensures { DeliversReset self.old self.new id code result }
     {

@@ -83,7 +83,7 @@ impl Endpoint {
     /// Sends a body on a stream, as the payload of a DATA frame (RFC 9114, section 7.2.1); an empty one writes nothing. Refused are first
     /// every call after a connection fault, then a stream that is not open. Next is one whose final header section was not sent, or whose
     /// trailer or end was. An endpoint that asks for strict messages then refuses more content than the header section said (section
-    /// 4.1.2). Last is out of memory. A refused body comes back.
+    /// 4.1.2). `OutOfMemory` comes last. A refused body comes back.
     pub fn send_body(&mut self, id: StreamId, body: Bytes) -> Result<(), (Refusal, Bytes)>
         ensures { SendsBody self.old self.new id body result }
     {
@@ -194,8 +194,8 @@ impl Endpoint {
         self.requests.finish_stream(id)
     }
 
-    /// Sending on a stream ends here, and what waits is dropped. It takes no memory. Refused are, in this order, every call after a
-    /// connection fault, a stream that the connection needs, one that is not open, and one of which nothing is left to be sent.
+    /// Sending on a stream ends here, and what waits is dropped. It takes no memory. Refused are first every call after a connection fault,
+    /// then a stream that the connection needs, then one that is not open. Last is one of which nothing is left to be sent.
     pub fn reset(&mut self, id: StreamId) -> Result<(), Refusal>
         ensures { Resets self.old self.new id result }
     {

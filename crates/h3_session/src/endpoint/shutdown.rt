@@ -18,9 +18,9 @@ use h3_proto::stream::{Side, StreamId};
 const GREATEST_REQUEST: u64 = (1 << 62) - 4;
 
 impl Endpoint {
-    /// Tells the peer that the connection will be shut down, while all that it sends meanwhile is taken. A server sends a GOAWAY with 2^62
-    /// - 4, and a client one with 2^62 - 1 (RFC 9114, section 5.2). After a round trip `shutdown` follows. If an earlier GOAWAY was sent it
-    /// is `Ok`, and nothing is written. Refused as `goaway` is.
+    /// Tells the peer that the connection will be shut down, while all that it sends meanwhile is taken. By a server it is a GOAWAY with
+    /// 2^62 - 4, and by a client one with 2^62 - 1 (RFC 9114, section 5.2). After a round trip `shutdown` follows. If an earlier GOAWAY was
+    /// sent it is `Ok`, and nothing is written. Refused as `goaway` is.
     pub fn shutdown_notice(&mut self) -> Result<(), Refusal>
         ensures { GivesNotice self.old self.new result }
     {
@@ -46,10 +46,10 @@ impl Endpoint {
         above_greatest(self.requests.greatest())
     }
 
-    /// Whether the request on this stream is rejected (RFC 9114, sections 4.1.1 and 5.2). It is if the endpoint is a server that asks for
-    /// it (`Config::with_requests_rejected`), and the stream is a request stream from the id of its last GOAWAY on. Nothing of the stream
-    /// was seen then, and the connection has no fault. Ask before each delivery on such a stream. If it is so deliver nothing, and end the
-    /// stream both ways in QUIC (RESET_STREAM and STOP_SENDING) with H3_REQUEST_REJECTED. No delivery asks by itself.
+    /// Whether the request on this stream is rejected (RFC 9114, sections 4.1.1 and 5.2). The endpoint has to be a server that asks for it
+    /// (`Config::with_requests_rejected`), and the connection to have no fault. The stream has to be a request stream from the id of the
+    /// last GOAWAY of this server on, of which nothing was seen. Ask before each delivery on such a stream. If it is so deliver nothing,
+    /// and end the stream both ways in QUIC (RESET_STREAM and STOP_SENDING) with H3_REQUEST_REJECTED. No delivery asks by itself.
     pub fn is_rejected(&self, id: StreamId) -> bool
         ensures stored { result ≡ is_rejected_in self.now id }
         ensures shown { ShowsRejected self.now id result }
@@ -69,11 +69,11 @@ impl Endpoint {
             && !self.requests.contains(id)
     }
 
-    /// Whether nothing is left to be done, so that the connection can be closed without losing a request (RFC 9114, section 5.2). No request is to
-    /// come: a server named an id that is no higher than `first_unseen`, and to a client its server sent a GOAWAY. Each stream was pulled to its end
-    /// or given up; sending on it has ended, all bytes were taken, and `end_taken` said so of its end. And the GOAWAY was taken. A caller that never
-    /// calls `end_taken` (it goes by `next_waiting` alone) sees no connection drained on which a message was finished. It takes no memory, and looks
-    /// at the streams under way alone.
+    /// Whether nothing is left to be done, so that the connection can be closed without losing a request (RFC 9114, section 5.2). No
+    /// request is to come: a server named an id that is no higher than `first_unseen`, and to a client its server sent a GOAWAY. Each
+    /// stream was pulled to its end or given up; sending on it has ended, all bytes were taken, and `end_taken` said so of its end. And the
+    /// GOAWAY was taken. A caller that never calls `end_taken` (it goes by `next_waiting` alone) sees no connection drained on which a
+    /// message was finished. It takes no memory, and looks at the streams under way alone.
     pub fn is_drained(&self) -> bool
         ensures { ShowsDrained self.now result }
     {

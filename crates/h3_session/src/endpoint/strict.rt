@@ -1,5 +1,5 @@
-//! What the rules of well-formed messages make of a list that is to be sent (RFC 9114, sections 4.1.2 and 4.2 to 4.5): which of them it breaks, as
-//! a strict peer would judge it, and what it says of content.
+//! What the rules of well-formed messages make of a list that is to be sent (RFC 9114, sections 4.1.2 and 4.2 to 4.5). That is which of
+//! them the list breaks, as a strict peer would judge it, and what it says of content.
 ghost use Rattle.std.specs.Prelude.{◌≡◌, ◌≢◌, None, Some, IfOk, IfErr, IfSome, OnOk};
 ghost use Rattle.h3_connection.specs.StrictSending.{peer_connects, violation_of_own_head};
 ghost use Rattle.h3_connection.specs.declared.place.SendPlace.TheVariants.{TrailerSent};
