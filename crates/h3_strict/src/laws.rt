@@ -20,9 +20,9 @@ pub fn new_ends_are_plain()
     ensures plain { (setup : Setup) → JudgesPlainly (plain_setup setup) }
 {}
 
-/// Each event at two ends, beside the same ends without strict messages: a send is refused as malformed, and nothing has changed; or it is a
-/// pull that finds a message malformed, a trailer in a tunnel or a frame too long, or a delivery that is too long for a reader with a limit; or
-/// it is answered alike, and the ends after it are the same without strict messages.
+/// Each event at two ends, beside the same ends without strict messages, is one of these. A send is refused as malformed, and nothing has
+/// changed. A pull finds a message malformed, a trailer in a tunnel or a frame too long, or a delivery is too long for a reader with a
+/// limit. Or the event is answered alike, and the ends after it are the same without strict messages.
 pub fn each_event_steps_plainly()
     ensures { (ends : Ends) (e : Event) → StepsPlainly ends e }
 {}
@@ -37,10 +37,10 @@ pub fn ends_stay_bounded()
 }
 
 /// A schedule in which no event judges so is answered, without the sends that were refused as malformed, as by the ends without strict
-/// messages over the other events (`all`). By its answers alone, so is each in which no pull was answered by a malformed message, a frame
-/// at the wrong place or one too long. Nor was a delivery answered by the fault of what is too long (`faultless`), and no more streams wait
-/// than may. So that no pull is answered by another fault of the connection is no premise, and follows. So is every schedule up to the
-/// first event that judges (`front`): these events are a front of it, and their answers one of its answers.
+/// messages over the other events (`all`). By its answers alone, so is each in which no answer finds a fault, if no more streams wait than
+/// may (`faultless`). There no pull was answered by a malformed message, a frame at the wrong place or one too long, and no delivery by the
+/// fault of what is too long. So that no pull is answered by another fault of the connection is no premise, and follows. So is every
+/// schedule up to the first event that judges answered (`front`): these events are a front of it, and their answers one of its answers.
 pub fn whole_runs_are_plain()
     ensures all { (ends : Ends) (events : List Event) → NoneJudges ends events → RunsPlainly ends events }
     ensures faultless { (ends : Ends) (events : List Event) → AreBounded ends → list_any finds_fault (answers_of_ends ends events) ≡ false → RunsPlainly ends events }
@@ -60,8 +60,8 @@ ghost use Rattle.h3_world.specs.World.{World, empty_world};
 ghost use Rattle.h3_headline.specs.Standing.{Stands};
 ghost use Rattle.h3_strict.specs.PlainEnds.{answers_without_malformed, without_malformed};
 
-/// So two endpoints that may ask for strict messages run in a world: over every schedule of events that may be sent and is answered so,
-/// the answers without the sends that were refused as malformed are those of a run of the world of the setup that asks for no strict messages.
+/// So two endpoints that may ask for strict messages run in a world, over every schedule of events that may be sent and is answered so. The
+/// answers without the sends that were refused as malformed are those of a run of the world of the setup that asks for no strict messages.
 /// All that is said of each step holds there, and both ends without strict messages stand in the world that it leads to.
 pub fn strict_endpoints_run_in_a_world()
     ensures { (setup : Setup) (events : List Event) → IsMadeSetup setup → AllByRecursion IsSendable events → RunsPlainly (new_ends setup) events →

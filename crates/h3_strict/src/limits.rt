@@ -18,8 +18,8 @@ ghost use Rattle.h3_strict.specs.Limits.{AreTaken, AsksForNone, AsksForStrict, E
 ghost use Rattle.h3_strict.specs.PlainEnds.{NoneJudges, answers_without_malformed, plain_ends, plain_setup, without_malformed};
 ghost use Rattle.h3_strict.specs.ServerKnows.{ServerKnows};
 
-/// Limits on what is unfinished change nothing, if each list of fields that a side sends is one whose encoding its reader takes. No
-/// delivery is answered by the fault of what is too long, either. Then the schedule is answered as by the same two endpoints without
+/// Limits on what is unfinished change nothing under two premises. Each list of fields that a side sends is one whose encoding its reader
+/// takes, and no delivery is answered by the fault of what is too long. Then the schedule is answered as by the same two endpoints without
 /// limits, and leads to the same ends. So it is if neither side asks for strict messages (`plain`), and if both do (`strict`).
 pub fn limits_that_take_what_is_sent_change_nothing()
     ensures plain { (setup : Setup) (events : List Event) → IsMadeSetup setup → AsksForNone setup → AllByRecursion IsSendable events →
@@ -32,11 +32,11 @@ pub fn limits_that_take_what_is_sent_change_nothing()
     crate::strict::two_strict_endpoints_run_in_a_world();
 }
 
-/// A side that knows the other side's settings sends no list above the size that these announce, and no instruction for a larger table than they
-/// announce. On its control stream it sends its settings and GOAWAY frames, and its decoder writes numbers. Each limit of a setup that was made
-/// takes every list of the size, and every instruction for the table, that its side announces, whatever their encoding, and those frames and
-/// numbers (`made`). So each limit takes what is sent to it, once the lists that were sent before the settings came are taken too: no delivery is
-/// answered by the fault of what is too long.
+/// A side that knows the other side's settings sends no list above the size that these announce, and no instruction for a larger table than
+/// they announce. On its control stream it sends its settings and GOAWAY frames, and its decoder writes numbers. Each limit of a setup that
+/// was made takes every list of the size, and every instruction for the table, that its side announces, whatever their encoding. It takes
+/// those frames and numbers too (`made`). So each limit takes what is sent to it, once the lists that were sent before the settings came
+/// are taken too. No delivery is then answered by the fault of what is too long.
 pub fn limits_above_what_is_announced_take_what_is_sent()
     ensures made { (setup : Setup) → IsMadeSetup setup → LimitsTakeWhatIsSent setup }
     ensures plain { (setup : Setup) (events : List Event) → IsMadeSetup setup → AsksForNone setup → AllByRecursion IsSendable events →

@@ -1,4 +1,5 @@
-//! Worked schedules of two sides that ask for strict messages, or limit what is unfinished: these laws compute. The answers were worked out from the standards.
+//! Worked schedules of two sides that ask for strict messages, or limit what is unfinished: these laws compute. The answers were worked out
+//! from the standards.
 
 ghost use Rattle.std.specs.Prelude.{◌≡◌};
 ghost use Rattle.h3_world.specs.Ends.{answers_of_ends, new_ends};
@@ -15,8 +16,8 @@ pub fn worked_refusals()
     ensures none { before_judged (new_ends strict_setup) refused_run ≡ refused_run }
 {}
 
-/// A server that answers HEAD with content before it reads the request: the client's second pull finds the response malformed, and the schedule
-/// up to there is the front.
+/// A server that answers HEAD with content before it reads the request: the client's second pull finds the response malformed, and the
+/// schedule up to there is the front.
 pub fn worked_judgment()
     ensures answers { answers_of_ends (new_ends strict_setup) early_run ≡ early_answers }
     ensures front { before_judged (new_ends strict_setup) early_run ≡ early_front }
@@ -33,8 +34,8 @@ pub fn worked_cancellations()
     ensures settled { answers_of_ends (new_ends small_server) settled_run ≡ settled_answers }
 {}
 
-/// A server inserts a field of bytes that are rare ones for a client whose limit is as long as the lists that it announces. The insertion is longer,
-/// since every string is written in the Huffman code, and is refused as soon as that is known.
+/// A server inserts a field of bytes that are rare ones for a client whose limit is as long as the lists that it announces. The insertion
+/// is longer, since every string is written in the Huffman code, and is refused as soon as that is known.
 pub fn worked_insertion()
     ensures { answers_of_ends (new_ends close_client) inserting_run ≡ inserting_answers }
 {}
