@@ -29,9 +29,9 @@ ghost use Rattle.h3_memory.specs.Refused.{EndsRun};
 ghost use Rattle.h3_memory.specs.SoundKeeping.{IsSoundKeeping};
 ghost use Rattle.h3_memory.specs.Theorem.{RunsWithMemory, StepsOn};
 
-/// Two endpoints with the bytes carried between them run in a world, with memory refused anywhere: over every schedule of events that may be
-/// sent, however both answer by the contracts of their calls, the answers are those of a run of which all holds that is said of each step, and
-/// both stand in the world that it leads to, with what they keep. Neither end asks for strict messages.
+/// Two endpoints with the bytes carried between them run in a world, whichever allocations fail. Over every schedule of events that may be
+/// sent, however both answer by the contracts of their calls, the answers are those of a run. Of that run all holds that is said of each
+/// step, and both stand in the world that it leads to, with what they keep. Neither end asks for strict messages.
 pub fn two_endpoints_run_with_memory()
     ensures { (setup : Setup) (events : List Event) (answers : List Answer) (ends : Ends) → IsMadeSetup setup → JudgesPlainly setup → AllByRecursion IsSendable events →
         EndsRun (new_ends setup) events answers ends → RunsWithMemory setup events answers ends }
@@ -40,8 +40,9 @@ pub fn two_endpoints_run_with_memory()
     h3_headline::laws::what_is_cited_holds();
 }
 
-/// Every event is a step from any world in which two endpoints stand with what they keep, however they answer by the contracts of their calls, be
-/// memory refused or not; its pause is exact, and both stand in the world that it leads to. Neither end asks for strict messages.
+/// Every event is a step from any world in which two endpoints stand with what they keep. It is so however they answer by the contracts of
+/// their calls, whether allocations fail or not. The step's pause is exact, and both stand in the world that it leads to. Neither end asks
+/// for strict messages.
 pub fn every_event_steps_on()
     ensures { (setup : Setup) (e : Event) → IsMadeSetup setup → JudgesPlainly setup → StepsOn setup e }
 {
@@ -49,8 +50,8 @@ pub fn every_event_steps_on()
     h3_headline::laws::what_is_cited_holds();
 }
 
-/// Each step that is allowed, of an event that may be sent and with an exact pause, leaves a world sound, and what is kept there readable. All that
-/// is said of a step holds of it.
+/// Each step that is allowed, of an event that may be sent and with an exact pause, leaves a world sound, and what is kept there readable.
+/// All that is said of a step holds of it.
 pub fn each_step_keeps_worlds_sound()
     ensures happens { (setup : Setup) (k new : KeepingWorld) (e : Event) (a : Answer) → IsSendable e → IsSoundKeeping setup k → StepWithMemory setup k e a new → UnlessMemory (is_memory a) (IsExact (reader_world setup k e) e a) → HappensWithMemory setup k e a new }
     ensures sound { (setup : Setup) (k new : KeepingWorld) (e : Event) (a : Answer) → IsSendable e → IsSoundKeeping setup k → StepWithMemory setup k e a new → UnlessMemory (is_memory a) (IsExact (reader_world setup k e) e a) → IsSoundKeeping setup new }
