@@ -1,5 +1,5 @@
-//! The parts of the headline, each a law that reads alone: of every run of a client and a server in a world (`h3_world`), as all runs of two
-//! endpoints are. These functions do nothing: their contracts are the laws.
+//! The parts of the headline, each a law that reads alone. They are laws of every run of a client and a server in a world (`h3_world`), as
+//! all runs of two endpoints are. These functions do nothing: their contracts are the laws.
 ghost use Rattle.std.specs.Prelude.{◌≡◌, ℕ, List, ◌++◌, map, take, true, false, None, is_none, is_some};
 ghost use Rattle.std.specs.List.{AllByRecursion, list_any};
 ghost use Rattle.h3_qpack.specs.Instructions.{AreAccepted};
@@ -47,7 +47,7 @@ pub fn ordered_sends_are_accepted()
     ensures { (setup : Setup) (before : List Event) (given : List Answer) (w new : World) (e : Event) (a : Answer) → Run (Happens setup) (empty_world setup) before given w → Happens setup w e a new → IsInOrder setup w e → a ≡ Done }
 {}
 
-/// With everything delivered, a pull of a stream that was not given up pauses only if no part is left: all that the other side sent on it
+/// With everything delivered, a pull of a stream that was not given up pauses only if no part is left. All that the other side sent on it
 /// was pulled before.
 pub fn everything_comes_out()
     ensures none_left { (setup : Setup) (before : List Event) (given : List Answer) (w new : World) (side : Side) (id : ℕ) (p : PullAnswer) → Run (Happens setup) (empty_world setup) before given w → Happens setup w (Pull side id) (Pulled p) new →
@@ -94,7 +94,7 @@ pub fn tables_agree()
     what_is_cited_holds();
 }
 
-/// A side's encoder refuses none of the instructions of the other side's decoder that it has not read, however many of them come, and its
+/// A side's encoder refuses none of the instructions of the other side's decoder that it has not read, however many of them come. Its
 /// decoder has refused none of those that came of the other side's encoder.
 pub fn no_instruction_is_refused()
     ensures encoder { (setup : Setup) (events : List Event) (answers : List Answer) (w : World) (side : Side) (n : ℕ) → AllByRecursion IsSendable events → Run (Happens setup) (empty_world setup) events answers w →
