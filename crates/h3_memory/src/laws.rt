@@ -84,9 +84,9 @@ pub fn what_is_pulled_with_memory_refused_is_what_was_sent()
 }
 
 /// Once memory is back nothing has been lost. The first delivery to a side that is taken, and the first pull there that is answered and not
-/// settled, leave nothing kept. From a world with nothing kept on, a run without memory answers is one of the world of a connection
-/// (`without_memory_answers_a_run_is_one_of_the_world`). A header section or a trailer for which an allocation failed is judged as before.
-/// With everything delivered and pulled, all that was sent has come out.
+/// settled, leave nothing kept. From a world with nothing kept on, a run in which no answer reports out of memory is one of the world of a
+/// connection (`without_memory_answers_a_run_is_one_of_the_world`). A header section or a trailer for which an allocation failed is judged
+/// as before. With everything delivered and pulled, all that was sent has come out.
 pub fn once_memory_is_back_nothing_is_lost()
     ensures pull { (setup : Setup) (k new : KeepingWorld) (side : Side) (id : ℕ) (a : Answer) → is_memory a ≡ false → is_settled k.world side id ≡ false → StepWithMemory setup k (does.Pull side id) a new → kept_at new side ≡ [] }
     ensures bytes { (setup : Setup) (k new : KeepingWorld) (writer : Side) (id count n : ℕ) → StepWithMemory setup k (does.Deliver writer id count) (gives.Delivered n) new → kept_at new (other writer) ≡ [] }
