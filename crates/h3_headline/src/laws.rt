@@ -36,8 +36,8 @@ pub fn what_is_cited_holds()
     h3_world::laws::every_exact_step_happens();
 }
 
-/// An endpoint that stands in a world has read the insertions that came. In a sound world its decoder makes of the section that is next
-/// on a stream, if it was not given up, what was sent: its fields once its insertions came, and until then how many it needs
+/// An endpoint that stands in a world has read the insertions that came. In a sound world its decoder makes of the section that is next on
+/// a stream what was sent, if the stream was not given up. That is its fields once its insertions came, and until then how many it needs
 /// (RFC 9204, section 2.2.1).
 pub fn endpoints_decode_what_was_sent()
     ensures insertions { (setup : Setup) (w : World) (side : Side) (e : EndpointHistory) → StandsAt setup w side e → e.decoding.decoder.table.inserted ≡ insertions_came (party w (other side)) }
@@ -48,9 +48,9 @@ pub fn endpoints_decode_what_was_sent()
     what_is_cited_holds();
 }
 
-/// Two endpoints with the bytes carried between them run in a world: over every schedule of events that may be sent, the answers of both
-/// are those of a run of the world, of which all holds that is said of each step, and both stand in the world that it leads to. Neither end
-/// asks for strict messages.
+/// Two endpoints with the bytes carried between them run in a world. Over every schedule of events that may be sent, the answers of both
+/// are those of a run of the world. Of that run all holds that is said of each step, and both stand in the world that it leads to. Neither
+/// end asks for strict messages.
 pub fn two_endpoints_run_in_a_world()
     ensures { (setup : Setup) (events : List Event) → IsMadeSetup setup → JudgesPlainly setup → AllByRecursion IsSendable events →
         (w : World) × Run (Happens setup) (empty_world setup) events (answers_of_ends (new_ends setup) events) w × Stands setup w (ends_after (new_ends setup) events) }

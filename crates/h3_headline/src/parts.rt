@@ -1,5 +1,5 @@
-//! The parts of the headline, each a law that reads alone: of every run of a client and a server in a world (`h3_world`), as all runs of two
-//! endpoints are. These functions do nothing: their contracts are the laws.
+//! The parts of the headline, each a law that reads alone. They are laws of every run of a client and a server in a world (`h3_world`), as
+//! all runs of two endpoints are. These functions do nothing: their contracts are the laws.
 ghost use Rattle.std.specs.Prelude.{◌≡◌, ℕ, List, ◌++◌, map, take, true, false, None, is_none, is_some};
 ghost use Rattle.std.specs.List.{AllByRecursion, list_any};
 ghost use Rattle.h3_qpack.specs.Instructions.{AreAccepted};
@@ -41,14 +41,14 @@ pub fn no_connection_fault()
     ensures { (setup : Setup) (events : List Event) (answers : List Answer) (w : World) → Run (Happens setup) (empty_world setup) events answers w → list_any is_connection_fault answers ≡ false }
 {}
 
-/// A head, a piece of the body, a trailer or the end of a message that is in order, on a stream that is open, with a field section within
-/// the limit known, is accepted.
+/// A send that is in order is accepted, on a stream that is open, with a field section within the limit known. It is a header section, a
+/// piece of the body, a trailer or the end of a message.
 pub fn ordered_sends_are_accepted()
     ensures { (setup : Setup) (before : List Event) (given : List Answer) (w new : World) (e : Event) (a : Answer) → Run (Happens setup) (empty_world setup) before given w → Happens setup w e a new → IsInOrder setup w e → a ≡ Done }
 {}
 
-/// With everything delivered, a pull of a stream that was not given up pauses only where no part is left: all that the other side sent on it
-/// was handed out before.
+/// With everything delivered, a pull of a stream that was not given up pauses only if no part is left. All that the other side sent on it
+/// was pulled before.
 pub fn everything_comes_out()
     ensures none_left { (setup : Setup) (before : List Event) (given : List Answer) (w new : World) (side : Side) (id : ℕ) (p : PullAnswer) → Run (Happens setup) (empty_world setup) before given w → Happens setup w (Pull side id) (Pulled p) new →
         IsDelivered setup w (other side) id → settled w side id ≡ None → is_none (pause_of p) ≡ false → next_part (flow w (other side) id) ≡ None }
@@ -59,9 +59,9 @@ pub fn everything_comes_out()
     what_is_cited_holds();
 }
 
-/// What a side was handed out of a stream is a front of what the other side sent on it: each field section with its fields, or its exact
-/// size where that is above the side's limit, and the bytes of the body in any pieces. Once the end is handed out, that is all, and the
-/// other side has finished.
+/// What a side pulled from a stream is a front of what the other side sent on it. Each field section comes with its fields, or as its exact
+/// size if that is above the side's limit, and the bytes of the body come in any pieces. Once the end is pulled, that is all, and the other
+/// side has finished.
 pub fn what_is_pulled_is_what_was_sent()
     ensures front { (setup : Setup) (events : List Event) (answers : List Answer) (w : World) (side : Side) (id : ℕ) → AllByRecursion IsSendable events → Run (Happens setup) (empty_world setup) events answers w →
         IsFrontOf (pulled side id events answers) (map (at_reader (section_of (announced_at setup side))) (sent (other side) id events answers)) }
@@ -72,8 +72,8 @@ pub fn what_is_pulled_is_what_was_sent()
     what_is_cited_holds();
 }
 
-/// Two runs, with other setups, schedules and deliveries too, in which the same was sent on a stream and its end was handed out hand out the
-/// same, where no section is above the reader's limit: what was sent.
+/// Two runs in which the same was sent on a stream, and its end was pulled, return the same, if no section is above the reader's limit:
+/// what was sent. They may have other setups, schedules and deliveries too.
 pub fn what_comes_out_rests_on_what_was_sent()
     ensures all { (setup : Setup) (events : List Event) (answers : List Answer) (w : World) (side : Side) (id : ℕ) → AllByRecursion IsSendable events → Run (Happens setup) (empty_world setup) events answers w →
         has_pulled_end side id events answers ≡ true → AllByRecursion (IsTakenWhole (section_of (announced_at setup side))) (sent (other side) id events answers) →
@@ -94,7 +94,7 @@ pub fn tables_agree()
     what_is_cited_holds();
 }
 
-/// A side's encoder refuses none of the instructions of the other side's decoder that it has not read, however many of them come, and its
+/// A side's encoder refuses none of the instructions of the other side's decoder that it has not read, however many of them come. Its
 /// decoder has refused none of those that came of the other side's encoder.
 pub fn no_instruction_is_refused()
     ensures encoder { (setup : Setup) (events : List Event) (answers : List Answer) (w : World) (side : Side) (n : ℕ) → AllByRecursion IsSendable events → Run (Happens setup) (empty_world setup) events answers w →
@@ -105,9 +105,9 @@ pub fn no_instruction_is_refused()
     what_is_cited_holds();
 }
 
-/// The same of two endpoints with the bytes carried between them, by their own answers: over every schedule of events that may be sent no
-/// answer tells of a connection fault, what a side is handed out of a stream is a front of what the other side sent on it, and all of that
-/// with the end. Neither end asks for strict messages.
+/// The same of two endpoints with the bytes carried between them, by their own answers. Over every schedule of events that may be sent no
+/// answer tells of a connection fault. What a side pulled from a stream is a front of what the other side sent on it, and all of that with
+/// the end. Neither end asks for strict messages.
 pub fn endpoints_hand_out_what_was_sent()
     ensures fault { (setup : Setup) (events : List Event) → IsMadeSetup setup → JudgesPlainly setup → AllByRecursion IsSendable events → list_any is_connection_fault (answers_of_ends (new_ends setup) events) ≡ false }
     ensures front { (setup : Setup) (events : List Event) (side : Side) (id : ℕ) → IsMadeSetup setup → JudgesPlainly setup → AllByRecursion IsSendable events →

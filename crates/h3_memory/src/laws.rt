@@ -29,9 +29,9 @@ ghost use Rattle.h3_memory.specs.Refused.{EndsRun};
 ghost use Rattle.h3_memory.specs.SoundKeeping.{IsSoundKeeping};
 ghost use Rattle.h3_memory.specs.Theorem.{RunsWithMemory, StepsOn};
 
-/// Two endpoints with the bytes carried between them run in a world, with memory refused anywhere: over every schedule of events that may be
-/// sent, however both answer by the contracts of their calls, the answers are those of a run of which all holds that is said of each step, and
-/// both stand in the world that it leads to, with what they keep. Neither end asks for strict messages.
+/// Two endpoints with the bytes carried between them run in a world, whichever allocations fail. Over every schedule of events that may be
+/// sent, however both answer by the contracts of their calls, the answers are those of a run. Of that run all holds that is said of each
+/// step, and both stand in the world that it leads to, with what they keep. Neither end asks for strict messages.
 pub fn two_endpoints_run_with_memory()
     ensures { (setup : Setup) (events : List Event) (answers : List Answer) (ends : Ends) → IsMadeSetup setup → JudgesPlainly setup → AllByRecursion IsSendable events →
         EndsRun (new_ends setup) events answers ends → RunsWithMemory setup events answers ends }
@@ -40,8 +40,9 @@ pub fn two_endpoints_run_with_memory()
     h3_headline::laws::what_is_cited_holds();
 }
 
-/// Every event is a step from any world in which two endpoints stand with what they keep, however they answer by the contracts of their calls, be
-/// memory refused or not; its pause is exact, and both stand in the world that it leads to. Neither end asks for strict messages.
+/// Every event is a step from any world in which two endpoints stand with what they keep. It is so however they answer by the contracts of
+/// their calls, whether allocations fail or not. The step's pause is exact, and both stand in the world that it leads to. Neither end asks
+/// for strict messages.
 pub fn every_event_steps_on()
     ensures { (setup : Setup) (e : Event) → IsMadeSetup setup → JudgesPlainly setup → StepsOn setup e }
 {
@@ -49,8 +50,8 @@ pub fn every_event_steps_on()
     h3_headline::laws::what_is_cited_holds();
 }
 
-/// Each step that is allowed, of an event that may be sent and with an exact pause, leaves a world sound, and what is kept there readable. All that
-/// is said of a step holds of it.
+/// Each step that is allowed, of an event that may be sent and with an exact pause, leaves a world sound, and what is kept there readable.
+/// All that is said of a step holds of it.
 pub fn each_step_keeps_worlds_sound()
     ensures happens { (setup : Setup) (k new : KeepingWorld) (e : Event) (a : Answer) → IsSendable e → IsSoundKeeping setup k → StepWithMemory setup k e a new → UnlessMemory (is_memory a) (IsExact (reader_world setup k e) e a) → HappensWithMemory setup k e a new }
     ensures sound { (setup : Setup) (k new : KeepingWorld) (e : Event) (a : Answer) → IsSendable e → IsSoundKeeping setup k → StepWithMemory setup k e a new → UnlessMemory (is_memory a) (IsExact (reader_world setup k e) e a) → IsSoundKeeping setup new }
@@ -59,7 +60,7 @@ pub fn each_step_keeps_worlds_sound()
     h3_headline::laws::what_is_cited_holds();
 }
 
-/// Where no answer tells of refused memory and nothing is kept, a run is one of the world, and nothing is kept at its end.
+/// If no answer reports out of memory and nothing is kept, a run is one of the world, and nothing is kept at its end.
 pub fn without_memory_answers_a_run_is_one_of_the_world()
     ensures run { (setup : Setup) (w : World) (events : List Event) (answers : List Answer) (new : KeepingWorld) → list_any is_memory answers ≡ false →
         Run (HappensWithMemory setup) (nothing_kept w) events answers new → Run (Happens setup) w events answers new.world }
@@ -67,8 +68,8 @@ pub fn without_memory_answers_a_run_is_one_of_the_world()
         Run (HappensWithMemory setup) (nothing_kept w) events answers new → new ≡ nothing_kept new.world }
 {}
 
-/// Over a whole run, with memory refused anywhere: each event has an answer, none tells of a connection fault, and what a side is handed out of a
-/// stream is a front of what the other side sent on it, and with the end all of it.
+/// What is pulled over a whole run is what was sent, whichever allocations fail. Each event has an answer, and none tells of a connection
+/// fault. What a side pulled from a stream is a front of what the other side sent on it, and with the end all of it.
 pub fn what_is_pulled_with_memory_refused_is_what_was_sent()
     ensures as_many { (setup : Setup) (events : List Event) (answers : List Answer) (k : KeepingWorld) → Run (HappensWithMemory setup) (nothing_kept (empty_world setup)) events answers k → length answers ≡ length events }
     ensures fault { (setup : Setup) (events : List Event) (answers : List Answer) (k : KeepingWorld) → Run (HappensWithMemory setup) (nothing_kept (empty_world setup)) events answers k → list_any is_connection_fault answers ≡ false }
@@ -82,10 +83,10 @@ pub fn what_is_pulled_with_memory_refused_is_what_was_sent()
     h3_headline::laws::what_is_cited_holds();
 }
 
-/// Once memory is back nothing has been lost: the first delivery to a side that is taken, and the first pull there that is answered and not
-/// settled, leave nothing kept; from a world with nothing kept on a run without memory answers is one of today's
-/// (`without_memory_answers_a_run_is_one_of_the_world`); a head or a trailer that was refused memory is judged as before; and with everything
-/// handed over and pulled, all that was sent has come out.
+/// Once memory is back nothing has been lost. The first delivery to a side that is taken, and the first pull there that is answered and not
+/// settled, leave nothing kept. From a world with nothing kept on, a run in which no answer reports out of memory is one of the world of a
+/// connection (`without_memory_answers_a_run_is_one_of_the_world`). A header section or a trailer for which an allocation failed is judged
+/// as before. With everything delivered and pulled, all that was sent has come out.
 pub fn once_memory_is_back_nothing_is_lost()
     ensures pull { (setup : Setup) (k new : KeepingWorld) (side : Side) (id : ℕ) (a : Answer) → is_memory a ≡ false → is_settled k.world side id ≡ false → StepWithMemory setup k (does.Pull side id) a new → kept_at new side ≡ [] }
     ensures bytes { (setup : Setup) (k new : KeepingWorld) (writer : Side) (id count n : ℕ) → StepWithMemory setup k (does.Deliver writer id count) (gives.Delivered n) new → kept_at new (other writer) ≡ [] }

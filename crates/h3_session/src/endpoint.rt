@@ -80,10 +80,10 @@ impl Model for Endpoint {
 }
 
 impl Endpoint {
-    /// An endpoint that announces these settings and limits, with a reserved setting by `grease`. Its control stream begins with
-    /// its type and the settings, its encoder and decoder streams with their types (RFC 9114, section 6.2.1; RFC 9204, section
-    /// 4.2). Refused are first a table above 2^30 - 1 bytes, then more than 65535 blocked streams, then the settings, then
-    /// a limit on what is unfinished below the size of the field sections that are announced.
+    /// An endpoint that announces these settings and limits, with a reserved setting by `grease`. Its control stream begins with its type
+    /// and the settings, its encoder and decoder streams with their types (RFC 9114, section 6.2.1; RFC 9204, section 4.2). Refused are
+    /// first a table above 2^30 - 1 bytes, then more than 65535 blocked streams, then the settings. Last is a limit on what is unfinished
+    /// below the size of the field sections that are announced.
     pub fn new(
         alloc: Global,
         side: Side,
@@ -129,9 +129,9 @@ impl Endpoint {
         })
     }
 
-    /// Lets the endpoint go, as the end of its scope does. A program proves the drop of each type that it lets go itself, some forty
-    /// for an endpoint: one that lets each of its endpoints go by this call proves none of them. No clause says that its memory is given back: that is
-    /// tested (`tests/c`), and what a drop frees rests on the types that it drops.
+    /// Frees the endpoint, as the end of its scope does. A program proves the drop of each type that it drops itself, some forty for an
+    /// endpoint. One that frees each of its endpoints by this call proves none of them. No clause says that the memory of the endpoint is
+    /// given back: that is tested (`tests/c`), and what a drop frees rests on the types that it drops.
     pub fn free(self) {
         drop(self);
     }

@@ -1,36 +1,41 @@
-//! The laws of the definitions that the contracts of `Endpoint` and of `run` name. Each is a function that does nothing: its contract is the law.
+//! The laws of the definitions that the contracts of `Endpoint` and of `run` name. Each is a function that does nothing: its contract is
+//! the law.
 //!
-//! - Isolation: what a request stream's calls are answered rests on its own calls and on the insertions read (`each_stream_is_isolated`); what
-//!   comes on streams and in frames of unknown types changes nothing else (`unknown_streams_change_nothing_else`, `unknown_frames_give_nothing`).
-//! - Cuts: where bytes are cut into deliveries doesn't count (`cut_deliveries_are_answered_alike`, `cut_pulls_are_answered_alike`,
-//!   `cut_calls_are_answered_alike`).
-//! - Bounds: no section is tried more than twice, and no more streams wait than were announced (`tries_and_waiting_streams_are_bounded`). Every
-//!   endpoint that calls made has these bounds, memory refused or not (`endpoints_stay_bounded`, `lists_leave_endpoints_bounded`).
-//! - Well-formed messages: where an endpoint asks for strict messages it hands out no head and no trailer whose list breaks a rule
-//!   (`strict_endpoints_hand_out_no_broken_list`), and of content no more than the head says, and the end behind all of it
-//!   (`content_is_as_long_as_was_said`), and of a response to HEAD none (`a_response_to_head_has_no_content`). What it sends breaks none for a
-//!   peer that asks for them (`strict_endpoints_send_no_broken_list`, and of lists `strict_endpoints_send_no_broken_field_list`), and has as much
-//!   content as its head says (`strict_endpoints_send_as_much_content_as_was_said`).
-//! - What stays: a connection fault (`a_connection_fault_stays`), and the end of a stream once it was handed out (`the_end_stays`). Where nothing is
-//!   kept, calls are the plain ones (`nothing_kept_is_plain`).
-//! - Two endpoints: a schedule's answers are those of a run of the world of a connection (`two_endpoints_run_in_a_world`), in which each endpoint
-//!   decodes what the other sent (`endpoints_decode_what_was_sent`). The parts of what `run` promises, each by itself: `no_connection_fault`,
-//!   `ordered_sends_are_accepted`, `what_is_pulled_is_what_was_sent`, `everything_comes_out`, `what_comes_out_rests_on_what_was_sent`, `tables_agree`,
-//!   `no_instruction_is_refused`, `runs_can_be_cut`, and by the answers of two endpoints alone `endpoints_hand_out_what_was_sent`.
-//! - Where memory may be refused: events that were answered by their calls are steps of two endpoints (`calls_are_steps_of_two_endpoints`), and
-//!   these run in a world in which it may (`two_endpoints_run_with_memory`), which is the world of a connection where none is refused
-//!   (`without_memory_answers_a_run_is_one_of_the_world`). What such a run hands out is what was sent
+//! - Isolation: what a request stream's calls are answered rests on its own calls and on the insertions read (`each_stream_is_isolated`).
+//!   What comes on streams and in frames of unknown types changes nothing else (`unknown_streams_change_nothing_else`,
+//!   `unknown_frames_give_nothing`).
+//! - Cuts: at which places bytes are cut into deliveries doesn't count (`cut_deliveries_are_answered_alike`,
+//!   `cut_pulls_are_answered_alike`, `cut_calls_are_answered_alike`).
+//! - Bounds: no section is tried more than twice, and no more streams wait than were announced (`tries_and_waiting_streams_are_bounded`).
+//!   Every endpoint that calls made has these bounds, whether allocations fail or not (`endpoints_stay_bounded`,
+//!   `lists_leave_endpoints_bounded`).
+//! - Well-formed messages: an endpoint that asks for strict messages returns no header section and no trailer whose list breaks a rule
+//!   (`strict_endpoints_hand_out_no_broken_list`). It returns no more content than the header section says, and the end only after all of
+//!   it (`content_is_as_long_as_was_said`). Of a response to HEAD it returns no content (`a_response_to_head_has_no_content`). What it
+//!   sends breaks no rule for a peer that asks for strict messages (`strict_endpoints_send_no_broken_list`, and of lists
+//!   `strict_endpoints_send_no_broken_field_list`). What it sends has as much content as its header section says
+//!   (`strict_endpoints_send_as_much_content_as_was_said`).
+//! - What stays: a connection fault (`a_connection_fault_stays`), and the end of a stream once a pull returned it (`the_end_stays`). If
+//!   nothing is kept, calls are the plain ones (`nothing_kept_is_plain`).
+//! - Two endpoints: a schedule's answers are those of a run of the world of a connection (`two_endpoints_run_in_a_world`), in which each
+//!   endpoint decodes what the other sent (`endpoints_decode_what_was_sent`). The parts of what `run` promises, each by itself:
+//!   `no_connection_fault`, `ordered_sends_are_accepted`, `what_is_pulled_is_what_was_sent`, `everything_comes_out`,
+//!   `what_comes_out_rests_on_what_was_sent`, `tables_agree`, `no_instruction_is_refused`, `runs_can_be_cut`, and by the answers of two
+//!   endpoints alone `endpoints_hand_out_what_was_sent`.
+//! - Allocations that may fail: events that were answered by their calls are steps of two endpoints (`calls_are_steps_of_two_endpoints`).
+//!   These run in a world in which allocations may fail (`two_endpoints_run_with_memory`), which is the world of a connection if none fails
+//!   (`without_memory_answers_a_run_is_one_of_the_world`). What is pulled in such a run is what was sent
 //!   (`what_is_pulled_with_memory_refused_is_what_was_sent`), and nothing is lost (`once_memory_is_back_nothing_is_lost`).
 //! - Strict sides: each event is answered as without strict messages, or is refused as malformed, or finds a message malformed
-//!   (`each_event_steps_plainly`), so whole schedules are answered so (`whole_runs_are_plain`) and run in a world
-//!   (`strict_endpoints_run_in_a_world`, `strict_endpoints_hand_out_what_was_sent`, `schedules_that_judge_nothing_find_no_fault`). Between two
-//!   strict sides no pull finds one malformed, where the server knows what was asked before it answers (`strict_endpoints_take_what_they_send`,
-//!   `two_strict_endpoints_run_in_a_world`).
-//! - Limits on what is unfinished: where each takes what is sent to it they change nothing (`limits_that_take_what_is_sent_change_nothing`), and it
-//!   does where it is at least four times what its side announces (`limits_above_what_is_announced_take_what_is_sent`). So two such sides run in a
-//!   world (`two_limited_endpoints_run_in_a_world`, `two_strict_limited_endpoints_run_in_a_world`).
+//!   (`each_event_steps_plainly`). So whole schedules are answered so (`whole_runs_are_plain`) and run in a world
+//!   (`strict_endpoints_run_in_a_world`, `strict_endpoints_hand_out_what_was_sent`, `schedules_that_judge_nothing_find_no_fault`). Between
+//!   two strict sides no pull finds one malformed, if the server knows what was asked before it answers
+//!   (`strict_endpoints_take_what_they_send`, `two_strict_endpoints_run_in_a_world`).
+//! - Limits on what is unfinished: if each takes what is sent to it they change nothing (`limits_that_take_what_is_sent_change_nothing`). A
+//!   limit takes it if it is at least four times what its side announces (`limits_above_what_is_announced_take_what_is_sent`). So two such
+//!   sides run in a world (`two_limited_endpoints_run_in_a_world`, `two_strict_limited_endpoints_run_in_a_world`).
 //! - What `Setup::new` answers may be given to `run` (`setups_are_made`).
-//! - Lists: a head and a trailer are sent as the lists of their fields are (`heads_are_sent_as_their_lists`).
+//! - Lists: a header section and a trailer are sent as the lists of their fields are (`heads_are_sent_as_their_lists`).
 //! - Shutting down: no request below the last GOAWAY is rejected (`nothing_below_a_goaway_is_rejected`).
 ghost use Rattle.std.specs.Prelude.{◌≡◌, ℕ, List};
 ghost use Rattle.h3_header.specs.Head.{head_fields};
@@ -77,7 +82,7 @@ pub use h3_strict::strict::{
 };
 pub use h3_world::laws::setups_are_made;
 
-/// A head is sent as the list of its fields is, and so is a trailer: `send_head` is `send_fields` of that list, in every history.
+/// A header section is sent as the list of its fields is, and so is a trailer: `send_head` is `send_fields` of that list, in every history.
 pub fn heads_are_sent_as_their_lists(header: &Header)
     ensures head { (e : EndpointHistory) (id : ℕ) → send_fields e id (head_fields header.now) ≡ as_error (send_head e id header.now) }
     ensures trailer { (e : EndpointHistory) (id : ℕ) → send_trailer_fields e id (head_fields header.now) ≡ as_error (send_trailer e id header.now) }
@@ -88,16 +93,16 @@ pub fn heads_are_sent_as_their_lists(header: &Header)
 
 ghost use Rattle.h3_session.specs.StrictLists.{SendsWellFormedLists, SendsWellFormedTrailerLists};
 
-/// A list that an endpoint which asks for strict messages sends as a head or as a trailer breaks no rule of well-formed messages (RFC 9114,
-/// sections 4.1.2 and 4.2 to 4.5) as a peer judges it that asks for them, so long as that announced extended CONNECT where its settings that
-/// came say so.
+/// A list that an endpoint with strict messages sends, as a header section or trailer, breaks no rule of well-formed messages (RFC 9114,
+/// sections 4.1.2 and 4.2 to 4.5). It breaks none as a peer judges it that asks for strict messages, so long as that peer announced
+/// extended CONNECT if its settings that came say so.
 pub fn strict_endpoints_send_no_broken_field_list()
     ensures heads { SendsWellFormedLists }
     ensures trailers { SendsWellFormedTrailerLists }
 {}
 
-/// Events that were answered by their calls are steps of the two endpoints that were stood for, memory refused or not, and what is stored then
-/// stands for the endpoints behind them.
+/// Events that were answered by their calls are steps of the two endpoints that were stood for, whether allocations fail or not. What is
+/// stored then stands for the endpoints after them.
 pub fn calls_are_steps_of_two_endpoints()
     ensures { (ends : Ends) (events : List Event) (answers : List Answer) (client server : EndpointState) → RunsByCalls ends events answers client server →
         (new : Ends) × EndsRun ends events answers new × StandsFor client new.client × StandsFor server new.server }
@@ -110,8 +115,8 @@ ghost use Rattle.h3_connection.specs.Calls.{IsSame};
 ghost use Rattle.h3_session.specs.SendingLists.{SendsFieldList, SendsTrailerList};
 ghost use Rattle.h3_session.specs.declared.endpoint.lists.FieldsError.{FieldsError};
 
-/// A list that is sent, as a head or as a trailer, leaves an endpoint with its bounds, and so does a call that changes nothing. So each
-/// call of an endpoint does, by its contract alone, whether it was answered, refused, or refused memory (`endpoints_stay_bounded`).
+/// A list that is sent, as a header section or as a trailer, leaves an endpoint with its bounds, and so does a call that changes nothing.
+/// So each call of an endpoint does, by its contract alone, whether it was answered, refused, or out of memory (`endpoints_stay_bounded`).
 pub fn lists_leave_endpoints_bounded()
     ensures fields { (old new : EndpointState) (id : ℕ) (fields : List Field) (result : Result Unit FieldsError) → SendsFieldList old new id fields result → StandsBounded old → StandsBounded new }
     ensures trailer { (old new : EndpointState) (id : ℕ) (fields : List Field) (result : Result Unit FieldsError) → SendsTrailerList old new id fields result → StandsBounded old → StandsBounded new }

@@ -40,9 +40,9 @@ use std::alloc::{AllocError, Global};
 pub struct Outcome {
     /// An answer for each event, in order.
     pub answers: Vec<Answer>,
-    /// The client behind the last event.
+    /// The client after the last event.
     pub client: Endpoint,
-    /// The server behind the last event.
+    /// The server after the last event.
     pub server: Endpoint,
 }
 
@@ -86,44 +86,45 @@ fn beside<A: Drop, B: Drop>(first: A, second: Result<B, AllocError>) -> Result<(
     }
 }
 
-/// Drives a client and a server by the events, in order, and answers each. `Err` arises only where there is no room for the
-/// endpoints and the answers, before the first event.
+/// Drives a client and a server by the events, in order, and answers each. `Err` arises only if there is no room for the endpoints and the
+/// answers, before the first event.
 ///
-/// Whatever memory is refused:
-/// - `calls`: each event is answered by the calls of the endpoints that it names, by their own contracts, and the endpoints are handed back
-///   as these left them.
-/// - `each`: there are as many answers as events, and those up to the first that tells of refused memory are the answers of two
-///   endpoints of the definitions with the bytes carried between them.
-/// - `messages`: within the bounds of `headline`, behind each event, no answer tells of a connection fault, what a side is handed out of a
-///   stream is a front of what the other side sent on it, and with the end it is all of that.
-/// - `front`: within the bounds of `headline`, these are the answers of a run of the world of a connection, in each step of which
-///   all that `headline` says holds.
-/// - `memory`: within the bounds of `headline` all answers are those of a run of a world in which memory may be refused: what a side keeps
-///   and has not read counts as not delivered there. An answer that tells of no refused memory is one of that world, and one that does
-///   loses nothing; no connection fault arises. The endpoints handed back stand in its last world, with what they keep.
+/// Whichever allocations fail:
+/// - `calls`: each event is answered by the calls of the endpoints that it names, by their own contracts. The endpoints are returned as
+///   these calls left them.
+/// - `each`: there are as many answers as events. Those up to the first that reports out of memory are the answers of two endpoints of the
+///   definitions with the bytes carried between them.
+/// - `messages`: within the bounds of `headline`, after each event, no answer tells of a connection fault. What a side pulled from a stream
+///   is a front of what the other side sent on it, and with the end it is all of that.
+/// - `front`: within the bounds of `headline`, the answers up to the first that reports out of memory are those of a run of the world of a
+///   connection. In each of its steps all that `headline` says holds.
+/// - `memory`: within the bounds of `headline` all answers are those of a run of a world in which allocations may fail. What a side keeps
+///   and has not read counts as not delivered there. An answer that does not report out of memory is one of that world, and one that does
+///   loses nothing; no connection fault arises. The endpoints that are returned stand in its last world, with what they keep.
 ///
-/// Where no answer tells of refused memory:
-/// - `runs`: the answers are those of two endpoints of the definitions with the bytes carried between them, and the endpoints
-///   handed back stand for these.
-/// - `headline`: with fewer than 2^48 events, of which each side is handed less than 2^56 bytes to send, and where neither side asks for
-///   strict messages or limits what is unfinished, the answers are a run of the world of a connection, and the endpoints handed back
-///   stand in its last world. In each of its steps no connection fault arises, a send that is in order and within the known limit is
-///   accepted, a pull hands out what was sent or pauses just where that isn't there, with everything delivered everything comes out,
-///   and no more heads wait than were announced.
+/// If no answer reports out of memory:
+/// - `runs`: the answers are those of two endpoints of the definitions with the bytes carried between them, and the endpoints that are
+///   returned stand for these.
+/// - `headline`: its bounds are fewer than 2^48 events, with less than 2^56 bytes for each side to send. Neither side may ask for strict
+///   messages or limit what is unfinished. Then the answers are a run of the world of a connection, and the endpoints that are returned
+///   stand in its last world. In each of its steps no connection fault arises, and a send that is in order and within the known limit is
+///   accepted. A pull returns what was sent, or pauses exactly when that isn't there. With everything delivered everything comes out, and
+///   no more header sections wait than were announced.
 ///
 /// In every setup, with both sides strict, one or none, with limits or without, and the bounds of numbers of `headline`:
-/// - `faultless_front`: up to the first answer that tells of refused memory, or that a pull found a message malformed, a frame at the wrong
-///   place or one too long (`finds_fault`: a malformed message, H3_FRAME_UNEXPECTED, or H3_EXCESSIVE_LOAD, which a delivery may tell too), and
-///   without the sends that were refused as malformed, the answers are a run of the world of the setup that asks for no strict messages; and
-///   each side is handed what the other side sent. No answer tells of a connection fault of another code either.
-/// - `faultless`: where no answer tells of these, so it is of all of them, and the endpoints handed back stand in the last world, once they are
-///   taken for ones without strict messages.
+/// - `faultless_front`: the answers are a run of the world of the setup that asks for no strict messages, and each side pulls what the
+///   other side sent. The sends that were refused as malformed are left out of that run. It is so up to the first answer that reports out
+///   of memory, a message that a pull found malformed, a frame at the wrong place or one too long. (`finds_fault`: a malformed message,
+///   H3_FRAME_UNEXPECTED, or H3_EXCESSIVE_LOAD, which a delivery may tell too.) No answer tells of a connection fault of another code
+///   either.
+/// - `faultless`: if no answer tells of these, so it is of all of them. The endpoints that are returned then stand in the last world, once
+///   they are taken for ones without strict messages.
 ///
-/// Between two strict sides without limits, where the server was handed the head of a request before it sends the final head of its
-/// response (`ServerKnows`):
-/// - `strict_front`: no answer tells of a malformed message or of a connection fault, up to the first that tells of refused memory, and what
+/// Between two strict sides without limits, if the server pulled the header section of a request before it sends the final header section
+/// of its response (`ServerKnows`):
+/// - `strict_front`: no answer tells of a malformed message or of a connection fault, up to the first that reports out of memory, and what
 ///   `faultless_front` says holds up to there.
-/// - `strict`: where no answer tells of refused memory none tells of these, and all that `faultless` says holds.
+/// - `strict`: if no answer reports out of memory none tells of these, and all that `faultless` says holds.
 ///
 /// What `Setup::new` answers is a made setup: `h3_world::laws::setups_are_made`.
 pub fn run(alloc: Global, setup: Setup, events: &[Event]) -> Result<Outcome, AllocError>

@@ -11,8 +11,8 @@ ghost use Rattle.h3_world.specs.declared.setup.Setup.{Setup};
 ghost use Rattle.h3_strict.specs.PlainEnds.{AreBounded, FewWaitAt, IsFront, NoneJudges, RunsPlainly, StepsPlainly, before_judged, finds_fault, plain_ends, plain_setup};
 ghost use Rattle.h3_strict.specs.Plainly.{plain, plainly};
 
-/// Without strict messages a new endpoint, and two new ends, are those of the setup that asks for none. That setup is made where the other
-/// one is.
+/// Without strict messages a new endpoint, and two new ends, are those of the setup that asks for none. That setup is made if the other one
+/// is.
 pub fn new_ends_are_plain()
     ensures endpoint { (side : Side) (announced : Announced) → plainly (new_endpoint side announced) ≡ new_endpoint side (plain announced) }
     ensures ends { (setup : Setup) → plain_ends (new_ends setup) ≡ new_ends (plain_setup setup) }
@@ -20,9 +20,9 @@ pub fn new_ends_are_plain()
     ensures plain { (setup : Setup) → JudgesPlainly (plain_setup setup) }
 {}
 
-/// Each event at two ends, beside the same ends without strict messages: a send is refused as malformed, and nothing has changed; or it is a
-/// pull that finds a message malformed, a trailer in a tunnel or a frame too long, or a delivery that is too long for a reader with a limit; or
-/// it is answered alike, and the ends after it are the same without strict messages.
+/// Each event at two ends, beside the same ends without strict messages, is one of these. A send is refused as malformed, and nothing has
+/// changed. A pull finds a message malformed, a trailer in a tunnel or a frame too long, or a delivery is too long for a reader with a
+/// limit. Or the event is answered alike, and the ends after it are the same without strict messages.
 pub fn each_event_steps_plainly()
     ensures { (ends : Ends) (e : Event) → StepsPlainly ends e }
 {}
@@ -36,11 +36,11 @@ pub fn ends_stay_bounded()
     h3_connection::laws::tries_and_waiting_streams_are_bounded();
 }
 
-/// A schedule in which no event judges so is answered, without the sends that were refused as malformed, as by the ends without
-/// strict messages over the other events (`all`). By its answers alone: so is each in which no pull was answered by a malformed message, a
-/// frame at the wrong place or one too long, and no delivery by the fault of what is too long (`faultless`), where no more
-/// streams wait than may. So that no pull is answered by another fault of the connection is no premise, and follows. So is every schedule up
-/// to the first event that judges (`front`): these events are a front of it, and their answers one of its answers.
+/// A schedule in which no event judges so is answered, without the sends that were refused as malformed, as by the ends without strict
+/// messages over the other events (`all`). By its answers alone, so is each in which no answer finds a fault, if no more streams wait than
+/// may (`faultless`). There no pull was answered by a malformed message, a frame at the wrong place or one too long, and no delivery by the
+/// fault of what is too long. So that no pull is answered by another fault of the connection is no premise, and follows. So is every
+/// schedule up to the first event that judges answered (`front`): these events are a front of it, and their answers one of its answers.
 pub fn whole_runs_are_plain()
     ensures all { (ends : Ends) (events : List Event) → NoneJudges ends events → RunsPlainly ends events }
     ensures faultless { (ends : Ends) (events : List Event) → AreBounded ends → list_any finds_fault (answers_of_ends ends events) ≡ false → RunsPlainly ends events }
@@ -60,8 +60,8 @@ ghost use Rattle.h3_world.specs.World.{World, empty_world};
 ghost use Rattle.h3_headline.specs.Standing.{Stands};
 ghost use Rattle.h3_strict.specs.PlainEnds.{answers_without_malformed, without_malformed};
 
-/// So two endpoints that may ask for strict messages run in a world: over every schedule of events that may be sent and is answered so,
-/// the answers without the sends that were refused as malformed are those of a run of the world of the setup that asks for no strict messages.
+/// So two endpoints that may ask for strict messages run in a world, over every schedule of events that may be sent and is answered so. The
+/// answers without the sends that were refused as malformed are those of a run of the world of the setup that asks for no strict messages.
 /// All that is said of each step holds there, and both ends without strict messages stand in the world that it leads to.
 pub fn strict_endpoints_run_in_a_world()
     ensures { (setup : Setup) (events : List Event) → IsMadeSetup setup → AllByRecursion IsSendable events → RunsPlainly (new_ends setup) events →
@@ -78,7 +78,7 @@ ghost use Rattle.h3_world.specs.Headline.{is_connection_fault};
 ghost use Rattle.h3_world.specs.Setup.{announced_at};
 ghost use Rattle.h3_headline.specs.Messages.{IsFrontOf, at_reader, has_finished, has_pulled_end, pulled, sent};
 
-/// By their own answers, with no world in view: in such a schedule no answer tells of a connection fault, what a side is handed out of a stream
+/// By their own answers, with no world in view: in such a schedule no answer tells of a connection fault. What a side pulled from a stream
 /// is a front of what the other side sent on it, and all of that with the end.
 pub fn strict_endpoints_hand_out_what_was_sent()
     ensures fault { (setup : Setup) (events : List Event) → IsMadeSetup setup → AllByRecursion IsSendable events → RunsPlainly (new_ends setup) events → list_any is_connection_fault (answers_of_ends (new_ends setup) events) ≡ false }
@@ -92,8 +92,8 @@ pub fn strict_endpoints_hand_out_what_was_sent()
     h3_headline::parts::endpoints_hand_out_what_was_sent();
 }
 
-/// In such a schedule of new ends, where no event judges, no answer finds a message malformed, a frame at the wrong place or one too long: so
-/// what is judged is told by the answers alone.
+/// If no event judges in such a schedule of new ends, no answer finds a message malformed, a frame at the wrong place or one too long. So
+/// the answers alone tell what is judged.
 pub fn schedules_that_judge_nothing_find_no_fault()
     ensures { (setup : Setup) (events : List Event) → IsMadeSetup setup → AllByRecursion IsSendable events → NoneJudges (new_ends setup) events → list_any finds_fault (answers_of_ends (new_ends setup) events) ≡ false }
 {

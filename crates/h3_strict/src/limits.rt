@@ -18,9 +18,9 @@ ghost use Rattle.h3_strict.specs.Limits.{AreTaken, AsksForNone, AsksForStrict, E
 ghost use Rattle.h3_strict.specs.PlainEnds.{NoneJudges, answers_without_malformed, plain_ends, plain_setup, without_malformed};
 ghost use Rattle.h3_strict.specs.ServerKnows.{ServerKnows};
 
-/// Where each list of fields that a side sends is one whose encoding its reader takes, and no delivery is answered by the fault of what is too long,
-/// limits on what is unfinished change nothing: the schedule is answered as by the same two endpoints without limits, and leads to the same ends.
-/// So it is where neither side asks for strict messages (`plain`), and where both do (`strict`).
+/// Limits on what is unfinished change nothing under two premises. Each list of fields that a side sends is one whose encoding its reader
+/// takes, and no delivery is answered by the fault of what is too long. Then the schedule is answered as by the same two endpoints without
+/// limits, and leads to the same ends. So it is if neither side asks for strict messages (`plain`), and if both do (`strict`).
 pub fn limits_that_take_what_is_sent_change_nothing()
     ensures plain { (setup : Setup) (events : List Event) → IsMadeSetup setup → AsksForNone setup → AllByRecursion IsSendable events →
         AreTaken setup events (answers_of_ends (new_ends setup) events) → RunsUnlimited (new_ends setup) events }
@@ -32,11 +32,11 @@ pub fn limits_that_take_what_is_sent_change_nothing()
     crate::strict::two_strict_endpoints_run_in_a_world();
 }
 
-/// A side that knows the other side's settings sends no list above the size that these announce, and no instruction for a larger table than they
-/// announce. On its control stream it sends its settings and GOAWAY frames, and its decoder writes numbers. Each limit of a setup that was made
-/// takes every list of the size, and every instruction for the table, that its side announces, whatever their encoding, and those frames and
-/// numbers (`made`). So each limit takes what is sent to it, once the lists that were sent before the settings came are taken too: no delivery is
-/// answered by the fault of what is too long.
+/// A side that knows the other side's settings sends no list above the size that these announce, and no instruction for a larger table than
+/// they announce. On its control stream it sends its settings and GOAWAY frames, and its decoder writes numbers. Each limit of a setup that
+/// was made takes every list of the size, and every instruction for the table, that its side announces, whatever their encoding. It takes
+/// those frames and numbers too (`made`). So each limit takes what is sent to it, once the lists that were sent before the settings came
+/// are taken too. No delivery is then answered by the fault of what is too long.
 pub fn limits_above_what_is_announced_take_what_is_sent()
     ensures made { (setup : Setup) → IsMadeSetup setup → LimitsTakeWhatIsSent setup }
     ensures plain { (setup : Setup) (events : List Event) → IsMadeSetup setup → AsksForNone setup → AllByRecursion IsSendable events →
@@ -50,10 +50,10 @@ pub fn limits_above_what_is_announced_take_what_is_sent()
     crate::strict::two_strict_endpoints_run_in_a_world();
 }
 
-/// So two endpoints that ask for no strict messages run in a world whatever their limits, over every schedule of events that may be sent in which
-/// each limit takes the lists that were sent to it before its side's settings came: the answers are those of a run of the world of the setup
-/// without limits (`world`). By the answers alone, no answer tells of a connection fault (`fault`), what a side is handed out of a stream is a
-/// front of what the other side sent on it (`front`), and all of that with the end (`end`).
+/// So two endpoints that ask for no strict messages run in a world whatever their limits. It is so over every schedule of events that may
+/// be sent in which each limit takes the lists that were sent to it before its side's settings came. The answers are those of a run of the
+/// world of the setup without limits (`world`). By the answers alone, no answer tells of a connection fault (`fault`). What a side pulled
+/// from a stream is a front of what the other side sent on it (`front`), and all of that with the end (`end`).
 pub fn two_limited_endpoints_run_in_a_world()
     ensures world { (setup : Setup) (events : List Event) → IsMadeSetup setup → AsksForNone setup → AllByRecursion IsSendable events → EarlyAreTaken setup (new_ends setup) events →
         (w : World) × Run (Happens (unlimited_setup setup)) (empty_world (unlimited_setup setup)) events (answers_of_ends (new_ends setup) events) w
@@ -73,8 +73,8 @@ pub fn two_limited_endpoints_run_in_a_world()
     h3_headline::parts::endpoints_hand_out_what_was_sent();
 }
 
-/// And so do two endpoints that both ask for strict messages, where the server knows what was asked when it answers: no event judges a
-/// message or finds a frame too long (`none`), and all of the above holds without the sends that were refused as malformed.
+/// And so do two endpoints that both ask for strict messages, if the server knows what was asked when it answers. No event judges a message
+/// or finds a frame too long (`none`), and all of the above holds without the sends that were refused as malformed.
 pub fn two_strict_limited_endpoints_run_in_a_world()
     ensures none { (setup : Setup) (events : List Event) → IsMadeSetup setup → AsksForStrict setup → AllByRecursion IsSendable events →
         ServerKnows events (answers_of_ends (new_ends setup) events) → EarlyAreTaken setup (new_ends setup) events → NoneJudges (new_ends setup) events }

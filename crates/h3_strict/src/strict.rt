@@ -18,9 +18,9 @@ ghost use Rattle.h3_strict.specs.PlainEnds.{NoneJudges, answers_without_malforme
 ghost use Rattle.h3_strict.specs.ServerKnows.{ServerKnows};
 ghost use Rattle.h3_strict.specs.Tallies.{JudgesStrictly};
 
-/// Between two endpoints that both ask for strict messages, and do not limit what is unfinished, no pull finds a message malformed, nor a
-/// trailer in a tunnel (RFC 9114, sections 4.1.2, 4.2 to 4.5): what either sends, the other takes. The schedule's server sends the final head of
-/// a response only where it was handed the head of that request.
+/// Two endpoints take what they send each other, if both ask for strict messages and do not limit what is unfinished. No pull finds a
+/// message malformed, nor a trailer in a tunnel (RFC 9114, sections 4.1.2, 4.2 to 4.5). The schedule's server sends the final header
+/// section of a response only if it pulled the header section of that request before.
 pub fn strict_endpoints_take_what_they_send()
     ensures { (setup : Setup) (events : List Event) → IsMadeSetup setup → JudgesStrictly setup → AllByRecursion IsSendable events →
         ServerKnows events (answers_of_ends (new_ends setup) events) → NoneJudges (new_ends setup) events }
@@ -29,10 +29,10 @@ pub fn strict_endpoints_take_what_they_send()
     h3_headline::laws::two_endpoints_run_in_a_world();
 }
 
-/// So two such endpoints run in a world, over every such schedule of events that may be sent: the answers without the sends that were refused
-/// as malformed are those of a run of the world of the setup that asks for no strict messages (`world`). By the answers alone, no answer
-/// tells of a connection fault (`fault`), what a side is handed out of a stream is a front of what the other side sent on it (`front`), and
-/// all of that with the end (`end`).
+/// So two such endpoints run in a world, over every such schedule of events that may be sent. The answers without the sends that were
+/// refused as malformed are those of a run of the world of the setup that asks for no strict messages (`world`). By the answers alone, no
+/// answer tells of a connection fault (`fault`). What a side pulled from a stream is a front of what the other side sent on it (`front`),
+/// and all of that with the end (`end`).
 pub fn two_strict_endpoints_run_in_a_world()
     ensures world { (setup : Setup) (events : List Event) → IsMadeSetup setup → JudgesStrictly setup → AllByRecursion IsSendable events →
         ServerKnows events (answers_of_ends (new_ends setup) events) →

@@ -10,7 +10,7 @@ use h3_proto::stream::{Side, StreamId};
 pub enum Event {
     /// A client opens the next request stream.
     OpenRequest(Side),
-    /// A head is sent on a stream: that of a request, of an interim response or of a response.
+    /// A header section is sent on a stream: that of a request, of an interim response or of a response.
     Head(Side, StreamId, Header),
     /// Some bytes of the body are sent.
     Body(Side, StreamId, Bytes),
@@ -47,7 +47,7 @@ pub enum Answer {
     Delivered(usize),
     /// Fewer bytes wait: so many. Nothing was delivered.
     Short(usize),
-    /// The side has no bytes to hand over under this id.
+    /// The side has no bytes to deliver under this id.
     NoStream,
     /// The end or the reset can't go over yet.
     Early,

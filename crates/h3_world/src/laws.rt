@@ -22,8 +22,8 @@ ghost use Rattle.h3_world.specs.Order.{next_part};
 ghost use Rattle.h3_world.specs.Pauses.{PauseAllowed, pause_of};
 ghost use Rattle.h3_world.specs.Pulling.{PausesExactly, settled};
 
-/// In a sound world a pause that is exact is for bytes that are missing: own bytes of the next part, or bytes that the encoder stream had
-/// once it was sent.
+/// In a sound world a pause that is exact is for bytes that are missing. These are bytes of the next part itself, or bytes that the encoder
+/// stream had once it was sent.
 pub fn pauses_wait_for_bytes()
     ensures { (setup : Setup) (w : World) (side : Side) (id : ℕ) (p : Pull) → IsSoundWorld setup w → settled w side id ≡ None → PausesExactly w side id p → is_none (pause_of p) ≡ false →
         PauseAllowed (flow w (other side) id) (party w (other side)).own.encoder_taken (next_part (flow w (other side) id)) }
@@ -98,8 +98,9 @@ ghost use Rattle.h3_world.specs.Flow.{flow_bytes};
 ghost use Rattle.h3_world.specs.Refused.{held_back, with_insertions};
 ghost use Rattle.h3_world.specs.Streams.{flow, is_open};
 
-/// A sound world is sound where memory was refused: with the insertions for fields whose section was not written; where what a decoder wrote
-/// before its side's settings came counts as not delivered; and once bytes are read that were handed over before their stream was reset.
+/// A sound world is sound after an allocation failed: with the insertions for fields whose section was not written (`insertions`). It is
+/// sound if what a decoder wrote before its side's settings came counts as not delivered (`held`). It is sound once bytes are read that
+/// were delivered before their stream was reset (`bytes`).
 pub fn what_refused_memory_leaves_is_sound()
     ensures insertions { (setup : Setup) (w : World) (side : Side) (id : ℕ) (fields : List Field) → IsSoundWorld setup w → IsSoundWorld setup (with_insertions w side id fields) }
     ensures held { (setup : Setup) (w : World) (side : Side) → settings_came setup w side ≡ false → IsSoundWorld setup w → IsSoundWorld setup (held_back w side) }

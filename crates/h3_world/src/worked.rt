@@ -16,22 +16,22 @@ pub fn worked_settings()
     ensures { settings_bytes (plain greatest_section 0 0) ≡ 0 ∷ 4 ∷ 27 ∷ 6 ∷ 255 ∷ 255 ∷ 255 ∷ 255 ∷ 255 ∷ 255 ∷ 255 ∷ 255 ∷ 8 ∷ 0 ∷ 171 ∷ 96 ∷ 55 ∷ 66 ∷ 0 ∷ 51 ∷ 0 ∷ 171 ∷ 96 ∷ 55 ∷ 67 ∷ 0 ∷ 1 ∷ 0 ∷ 7 ∷ 0 ∷ [] }
 {}
 
-/// A response of one head.
+/// A response of one header section.
 pub fn worked_head()
     ensures { answers no_tables head_run ≡ head_answers }
 {}
 
-/// A head that the client does not take.
+/// A header section that the client does not take.
 pub fn worked_large()
     ensures { answers (small_client 41) large_run ≡ large_answers }
 {}
 
-/// A head with a second field.
+/// A header section with a second field.
 pub fn worked_second()
     ensures { answers no_tables second_run ≡ second_answers }
 {}
 
-/// A head that comes in two pieces.
+/// A header section that comes in two pieces.
 pub fn worked_cut()
     ensures { answers no_tables cut_run ≡ cut_answers }
 {}
@@ -42,7 +42,7 @@ pub fn worked_literal()
     ensures bytes { written no_tables literal_run Server 0 ≡ 1 ∷ 9 ∷ 0 ∷ 0 ∷ 217 ∷ 43 ∷ 242 ∷ 180 ∷ 127 ∷ 129 ∷ 23 ∷ [] }
 {}
 
-/// Heads that are refused.
+/// Header sections that are refused.
 pub fn worked_refused()
     ensures { answers no_tables refused_run ≡ refused_answers }
 {}
@@ -53,7 +53,7 @@ pub fn worked_bytewise()
     ensures bytes { written (small_client 42) bytewise_run Server 0 ≡ 1 ∷ 3 ∷ 0 ∷ 0 ∷ 217 ∷ 0 ∷ 2 ∷ 104 ∷ 105 ∷ [] }
 {}
 
-/// A body behind a head that is too large.
+/// A body after a header section that is too large.
 pub fn worked_large_body()
     ensures { answers (small_client 41) large_body_run ≡ large_body_answers }
 {}
@@ -73,13 +73,13 @@ pub fn worked_three()
     ensures third { written (of_server 220 2) three_run Client 8 ≡ (1 ∷ 29 ∷ 0 ∷ 0 ∷ 209 ∷ 215 ∷ 80 ∷ []) ++ authority_literal ++ (81 ∷ []) ++ path_literal }
 {}
 
-/// A head that waits for its insertions.
+/// A header section that waits for its insertions.
 pub fn worked_waits()
     ensures answers { answers (of_server 220 2) waits_run ≡ waits_answers }
     ensures decoder { written_by_decoder (of_server 220 2) waits_run Server ≡ 3 ∷ 2 ∷ 132 ∷ [] }
 {}
 
-/// A head that waits and is given up.
+/// A header section that waits and is given up.
 pub fn worked_gives_up()
     ensures answers { answers (of_server 220 2) gives_up_run ≡ gives_up_answers }
     ensures decoder { written_by_decoder (of_server 220 2) gives_up_run Server ≡ 3 ∷ 68 ∷ [] }
@@ -90,7 +90,7 @@ pub fn worked_shown()
     ensures { answers (of_server 220 2) shown_run ≡ shown_answers }
 {}
 
-/// Bodies, a trailer and refusals, with a head that waits.
+/// Bodies, a trailer and refusals, with a header section that waits.
 pub fn worked_long()
     ensures { answers (of_server 220 2) long_run ≡ long_answers }
 {}
@@ -127,23 +127,23 @@ pub fn worked_dropped_entry()
     ensures second { written (of_client 64 10) dropped_entry_run Server 4 ≡ 1 ∷ 4 ∷ 3 ∷ 128 ∷ 217 ∷ 16 ∷ [] }
 {}
 
-/// An interim head before the final one.
+/// The header section of an interim response before the final one.
 pub fn worked_interim()
     ensures answers { answers no_tables interim_run ≡ interim_answers }
     ensures bytes { written no_tables interim_run Server 0 ≡ 1 ∷ 3 ∷ 0 ∷ 0 ∷ 216 ∷ 1 ∷ 3 ∷ 0 ∷ 0 ∷ 217 ∷ [] }
 {}
 
-/// Both heads are larger than the client takes.
+/// Both header sections are larger than the client takes.
 pub fn worked_large_interim()
     ensures { answers (small_client 41) large_interim_run ≡ large_interim_answers }
 {}
 
-/// Where an interim head may not come, and what may not follow it.
+/// The places at which an interim response may not come, and what may not follow it.
 pub fn worked_interim_order()
     ensures { answers no_tables interim_order_run ≡ interim_order_answers }
 {}
 
-/// Three heads that name one entry, and a cancellation that releases all of them.
+/// Three header sections that name one entry, and a cancellation that releases all of them.
 pub fn worked_released()
     ensures answers { answers (of_client 64 10) released_run ≡ released_answers }
     ensures first { written (of_client 64 10) released_run Server 0 ≡ 1 ∷ 4 ∷ 2 ∷ 128 ∷ 216 ∷ 16 ∷ 1 ∷ 4 ∷ 2 ∷ 0 ∷ 216 ∷ 128 ∷ 1 ∷ 4 ∷ 2 ∷ 0 ∷ 217 ∷ 128 ∷ [] }

@@ -15,10 +15,10 @@ use h3_proto::stream::StreamId;
 
 impl Endpoint {
     /// Reads a piece of a body where it lies in bytes that came on a stream, and answers its place in them. The endpoint is left as by
-    /// `deliver` of the bytes up to the end of the piece and a `pull`, which hands it out; what follows in the bytes was not delivered.
-    /// Nothing is copied, nothing of the bytes is kept, and no memory is taken. It is so on a request stream of which nothing is kept, where
-    /// the bytes go on with the payload of a DATA frame, or begin with the whole head of one and some of its payload. `None` changes nothing:
-    /// then the bytes are to be delivered.
+    /// `deliver` of the bytes up to the end of the piece and a `pull`, which returns it. What follows in the bytes was not delivered.
+    /// Nothing is copied, nothing of the bytes is kept, and no memory is taken. It is so on a request stream of which nothing is kept, if
+    /// the bytes go on with the payload of a DATA frame. It is so too if they begin with the whole type and length of one and some of its
+    /// payload. `None` changes nothing: then the bytes are to be delivered.
     #[tactic(auto, using(crate::proofs::ReadingBodies::place_elsewhere, crate::proofs::ReadingBodies::place_at_once, crate::proofs::ReadingBodies::reads_at_once, crate::proofs::ReadingBodies::same_at_once))]
     pub fn read_body(&mut self, id: StreamId, bytes: &[u8]) -> Option<BodyPlace>
         ensures place { (e : EndpointHistory) → StandsFor self.old e → result ≡ place_next e id bytes.now }

@@ -11,8 +11,8 @@ use h3_proto::stream::StreamId;
 use std::alloc::AllocError;
 
 impl Endpoint {
-    /// Appends the first `count` bytes that wait on a stream, at most all, to `out`, where `outgoing` lends those of the first
-    /// frame. They keep waiting. A refusal appends nothing: memory was refused, or the caller holds some of these bytes (`send_body_of`).
+    /// Appends the first `count` bytes that wait on a stream, at most all, to `out`, while `outgoing` lends those of the first frame. They
+    /// keep waiting. A refusal appends nothing: an allocation failed, or the caller holds some of these bytes (`send_body_of`).
     #[tactic(auto, using(crate::proofs::Copying::copies_own))]
     pub fn copy_outgoing(
         &self,
@@ -31,10 +31,10 @@ impl Endpoint {
         Ok(())
     }
 
-    /// Copies the first bytes that wait on a stream to the front of `out`, over frames too, up to a payload that the caller holds
-    /// (`send_body_of`) and as many as fit. The rest of `out` stays, and they keep waiting. It takes no memory. Says how many bytes; how many
-    /// of that payload's follow them; and whether the message was finished and these are all that wait of it: then the end of the stream
-    /// goes out behind them. With one look-up.
+    /// Copies the first bytes that wait on a stream to the front of `out`, over frames too: as many as fit, up to a payload that the caller
+    /// holds (`send_body_of`). The rest of `out` stays, and they keep waiting. It takes no memory. Says how many bytes, and how many of
+    /// that payload's follow them. Says also whether the message was finished and these are all that wait of it: then the end of the stream
+    /// goes out after them. With one look-up.
     #[tactic(auto, using(crate::proofs::Copying::puts_own, crate::proofs::Copying::own_goes_on))]
     pub fn copy_with_end(&self, id: StreamId, out: &mut [u8]) -> (usize, usize, bool)
         ensures copied { CopiesTo self.now id result.0 result.1 out.old out.new }
@@ -49,7 +49,7 @@ impl Endpoint {
     }
 }
 
-/// Whether the message on a stream was finished, and so many bytes and so many behind them are all that wait of it.
+/// Whether the message on a stream was finished, and so many bytes and so many after them are all that wait of it.
 fn ends_behind(stream: &OutgoingStream, count: usize, past: usize) -> bool
     requires { count ≤ length (bytes_of stream.now.pieces) }
     ensures { result ≡ (stream.now.is_finished && (length (bytes_of stream.now.pieces) - count == past)) }

@@ -1,4 +1,4 @@
-//! The heads and trailers that an endpoint sends.
+//! The header sections and trailers that an endpoint sends.
 ghost use Rattle.std.specs.Prelude.{◌≡◌, ◌≢◌, ◌<◌, ◌≤◌, ◌+◌, ◌^◌, ℕ, List, Some, None, IfOk, IfErr, IfSome, IfNone, OnOk, OnErr, drop, length, unwrap_or, if◌then◌else◌};
 ghost use Rattle.h3_field.specs.Field.{Field, section_size};
 ghost use Rattle.h3_qpack.specs.EncoderHistory.{EncoderHistory};
@@ -37,7 +37,7 @@ use http::StatusCode;
 use std::alloc::AllocError;
 use std::mem;
 
-/// A field seldom takes more bytes of a section: one of the static table takes 1, and a value behind a name of it often 10 to 30.
+/// A field seldom takes more bytes of a section: one of the static table takes 1, and a value with a name of it often 10 to 30.
 const SHORT_FIELD: usize = 32;
 
 /// So many fields have room at first, at most.
@@ -47,11 +47,12 @@ const MANY_FIELDS: usize = 64;
 const SIZE_LIMIT: u64 = 1 << 62;
 
 impl Endpoint {
-    /// A head goes out on a stream: an encoded field section in a HEADERS frame (RFC 9114, section 4.3), and its insertions on the
-    /// encoder stream. One with a status from 100 to 199 is not the last one. Refused are, in this order, every call after a
-    /// connection fault, a stream that is not open, one whose final head or end was sent, a head of the other side's messages, where
-    /// the endpoint asks for strict messages one that a strict peer would call malformed, and one whose size is above what the peer's
-    /// settings allow. Where memory is refused the encoder stream may have gained whole instructions, and the stream is as it was.
+    /// Sends a header section on a stream: an encoded field section in a HEADERS frame (RFC 9114, section 4.3), and its insertions on the
+    /// encoder stream. One with a status from 100 to 199 is not the last one. Refused are first every call after a connection fault, then a
+    /// stream that is not open, then one whose final header section or end was sent. Next is a header section of the other side's messages.
+    /// An endpoint that asks for strict messages then refuses one that a strict peer would call malformed. Last is one whose size is above
+    /// what the peer's settings allow. If an allocation fails the encoder stream may have gained whole instructions, and the stream is as
+    /// it was.
     pub fn send_head(&mut self, id: StreamId, head: &Header) -> Result<(), Refusal>
         ensures { SendsHead self.old self.new id head.now result }
     {
@@ -69,7 +70,7 @@ impl Endpoint {
         self.send_head_section(room, fields.as_slice(), place_behind(head), None)
     }
 
-    // Room for the frame of a head on a stream that takes one, unless `later` refuses it. The streams are found as they were.
+    // Room for the frame of a header section on a stream that takes one, unless `later` refuses it. The streams are found as they were.
     pub(super) fn reserve_head(
         &mut self,
         id: StreamId,
@@ -84,10 +85,11 @@ impl Endpoint {
         self.requests.reserve_head(id, later)
     }
 
-    /// A trailer goes out on a stream, as a head does, and ends the message's fields. Refused are, in this order, every call after
-    /// a connection fault, a stream that is not open, one whose final head was not sent, or whose trailer or end was, a trailer
-    /// with a pseudo-header field, where the endpoint asks for strict messages one in front of which less content was sent than the head
-    /// said, or in a tunnel, and one that a strict peer would call malformed, and one whose size is above what the peer's settings allow.
+    /// Sends a trailer on a stream, as `send_head` sends a header section, and ends the message's fields. Refused are first every call
+    /// after a connection fault, then a stream that is not open. Next is one whose final header section was not sent, or whose trailer or
+    /// end was, then a trailer with a pseudo-header field. An endpoint that asks for strict messages then refuses a trailer after less
+    /// content than the header section said, or in a tunnel. It also refuses one that a strict peer would call malformed. Last is one whose
+    /// size is above what the peer's settings allow.
     pub fn send_trailer(&mut self, id: StreamId, trailer: &Header) -> Result<(), Refusal>
         ensures { SendsTrailer self.old self.new id trailer.now result }
     {
@@ -120,7 +122,8 @@ impl Endpoint {
         self.requests.reserve_trailer(id, later)
     }
 
-    // Sends the fields of a head so, of which a walk may have told what the rules make of it, and what they say of content is remembered.
+    // Sends the fields of a header section so, and remembers what they say of content. A walk over them may have told what the rules make
+    // of them.
     pub(super) fn send_head_section(
         &mut self,
         room: SectionRoom,
@@ -141,8 +144,8 @@ impl Endpoint {
         }
     }
 
-    // What a head says of content is remembered on its stream, where the endpoint asks for strict messages: that of a request also of its
-    // response.
+    // Remembers on its stream what a header section says of content, if the endpoint asks for strict messages. From that of a request it
+    // also remembers what is awaited of the response.
     fn await_response(&mut self, id: StreamId, said: Said)
         ensures { (fields : List Field) → IsSaid self.old.side self.old.announced fields said → Remembers self.old self.new id fields }
     {
@@ -167,7 +170,8 @@ impl Endpoint {
         }
     }
 
-    // Sends fields on a stream that takes them and has room for their frame, where their list is allowed, and answers what a head says of content.
+    // Sends fields on a stream that takes them and has room for their frame, if their list is allowed. It answers what a header section
+    // says of content.
     fn send_section(
         &mut self,
         room: SectionRoom,
@@ -190,7 +194,7 @@ impl Endpoint {
         Ok(said)
     }
 
-    // What was sent, with these fields, and what they say, where they break no rule that is asked and the peer allows their size.
+    // What was sent, with these fields, and what they say, if they break no rule that is asked and the peer allows their size.
     pub(super) fn judge_list(
         &self,
         fields: &[HeaderField],
@@ -216,7 +220,7 @@ impl Endpoint {
         }
     }
 
-    // The same where they break none.
+    // The same of fields that break none.
     #[tactic(auto, using(crate::proofs::Costs::cost_is, crate::proofs::Costs::many_fields))]
     fn judge_size(&self, fields: &[HeaderField]) -> Result<u64, Refusal>
         ensures ok { IfOk result (λ sum. IsJudged self.now fields.now sum) }
@@ -250,7 +254,7 @@ impl Endpoint {
         }
     }
 
-    // Encodes fields, and puts the section behind what waits on the stream, in the room that was taken for it.
+    // Encodes fields, and puts the section after what waits on the stream, in the room that was taken for it.
     fn queue_section(
         &mut self,
         room: SectionRoom,
@@ -273,9 +277,9 @@ impl Endpoint {
     }
 }
 
-/// Encodes a field section for which room was taken, and writes its instructions on the own encoder stream. It answers the section and its
-/// required insert count. The block in which it was written is kept and serves again, unless the section is long and takes it along: so little
-/// memory is kept. Where memory is refused the section is cut off.
+/// Encodes a field section for which room was taken, and writes its instructions on the local encoder stream. It answers the section and
+/// its required insert count. The block in which it was written is kept and serves again, unless the section is long and takes it along: so
+/// little memory is kept. If an allocation fails the section ends early.
 fn encode(
     streams: &mut ConnectionStreams,
     kept: &mut Vec<u8>,
@@ -301,7 +305,8 @@ fn encode(
     Ok((section, count))
 }
 
-/// A block with room for the section of so many short fields, so that it seldom grows while that is written: the one that is kept, if it is one.
+/// A block with room for the section of so many short fields, so that it seldom grows while that is written: the one that is kept, if it is
+/// one.
 fn block_for(kept: &mut Vec<u8>, fields: &[HeaderField]) -> Result<Vec<u8>, AllocError>
     ensures { IfOk result (λ block. length block.items ≡ 9) }
 {
@@ -331,7 +336,7 @@ fn encode_into(
         .encode(id, block, &mut streams.own.encoder, fields)
 }
 
-/// Takes back the newest section of a stream: it is one then that was cut off behind all its fields.
+/// Takes back the newest section of a stream: it is one then that ended early, after all its fields.
 fn withdraw(streams: &mut ConnectionStreams, id: StreamId, count: usize)
     ensures { (s : EncoderHistory) (fields : List Field) (section : List ℕ) (before : StreamsState) → Encodes s id fields section count before streams.old → StopsEncoding s id fields before streams.new }
 {
@@ -339,7 +344,7 @@ fn withdraw(streams: &mut ConnectionStreams, id: StreamId, count: usize)
     streams.encoding.withdraw(id, count);
 }
 
-/// The size of fields (RFC 9114, section 4.2.2), in bytes, where it is below `SIZE_LIMIT`.
+/// The size of fields (RFC 9114, section 4.2.2), in bytes, if it is below `SIZE_LIMIT`.
 fn size_of(fields: &[HeaderField]) -> Option<u64>
     ensures some { IfSome result (λ size. (size ≡ section_size fields.now) × (size < 2 ^ 62)) }
     ensures none { IfNone result (2 ^ 62 ≤ section_size fields.now) }
@@ -351,7 +356,7 @@ fn size_of(fields: &[HeaderField]) -> Option<u64>
     Some(size)
 }
 
-/// Why a head is refused that is one of the other side's messages.
+/// Why a header section is refused that is one of the other side's messages.
 fn side_refusal(side: Side, head: &Header) -> Option<Refusal>
     ensures { result ≡ side_refused side head.now }
 {
@@ -371,7 +376,7 @@ fn pseudo_refusal(trailer: &Header) -> Option<Refusal>
     None
 }
 
-/// Whether a head is one that this side sends.
+/// Whether a header section is one that this side sends.
 fn is_sent_by(side: Side, head: &Header) -> bool
     ensures { result ≡ is_for (other side) head.now }
 {
@@ -381,14 +386,15 @@ fn is_sent_by(side: Side, head: &Header) -> bool
     }
 }
 
-/// Where the message is behind a head.
+/// The place of the message after a header section.
 fn place_behind(head: &Header) -> SendPlace
     ensures { result ≡ (if is_interim head.now.status then SendPlace.NothingSent else SendPlace.HeadSent) }
 {
     place_of(head.status())
 }
 
-/// Where it is behind one with this status: one from 100 to 199 (RFC 9110, section 15.2) is not that of the final head.
+/// The place of the message after one with this status: one from 100 to 199 (RFC 9110, section 15.2) is not that of the final header
+/// section.
 pub(super) fn place_of(status: Option<StatusCode>) -> SendPlace
     ensures { result ≡ (if is_interim status then SendPlace.NothingSent else SendPlace.HeadSent) }
 {

@@ -1,5 +1,5 @@
-//! What refuses a call whose bytes are not there: its caller copies them first, and has no memory for the copy. It asks here, and so answers
-//! what the call itself would have: any other reason comes before want of memory. Nothing changes, and no memory is taken.
+//! What refuses a call whose bytes are not there: its caller copies them first, and has no memory for the copy. It asks here, and so
+//! answers what the call itself would have: any other reason comes before out of memory. Nothing changes, and no memory is taken.
 ghost use Rattle.std.specs.Prelude.{◌≡◌};
 ghost use Rattle.h3_connection.specs.State.{kept_at};
 ghost use Rattle.h3_requests.specs.Refused.{body_refused_at, head_refused_at};
@@ -57,7 +57,7 @@ impl Endpoint {
         self.trailer_order_refusal(id)
     }
 
-    // Why a stream takes no head now, a fault of the connection aside.
+    // Why a stream takes no header section now, a fault of the connection aside.
     pub(super) fn head_order_refusal(&self, id: StreamId) -> Option<Refusal>
         ensures { result ≡ head_refused_at (kept_at self.now.requests id) }
     {

@@ -31,18 +31,18 @@ use std::alloc::{AllocError, Global};
 pub enum FieldsError {
     /// As a header of these fields is refused.
     Refused(Refusal),
-    /// It is no list of a header (`Name`, `Value`, `TooMany`), as `Header::try_from` tells it. Or the endpoint asks for strict messages, and
-    /// a strict peer would call it malformed, as a header of these fields is refused by `Refusal::Malformed`.
+    /// It is no list of a header (`Name`, `Value`, `TooMany`), as `Header::try_from` tells it. Or the endpoint asks for strict messages,
+    /// and a strict peer would call it malformed, as a header of these fields is refused by `Refusal::Malformed`.
     Malformed(Malformation),
 }
 
 impl Endpoint {
-    /// A head goes out on a stream, as `send_head` sends it, but as the list that it is given as: in its order, and from where its fields lie.
-    /// No header is made of it. Refused are, in this order, every call after a connection fault, a stream that is not open, one whose final
-    /// head or end was sent, a list that `Header::try_from` refuses, a head of the other side's messages, where the endpoint asks for strict
-    /// messages one that a strict peer would call malformed, and one whose size is above what the peer's settings allow. Where memory is
-    /// refused the encoder stream may have gained whole instructions, and the stream is as it was. A list of more than 24,576 fields also
-    /// takes memory to be judged.
+    /// Sends a header section on a stream, as `send_head` does, but as the list that it is given as: in its order, and from the memory of
+    /// its fields. No header is made of it. Refused are first every call after a connection fault, then a stream that is not open, then one
+    /// whose final header section or end was sent. Next is a list that `Header::try_from` refuses, then a header section of the other
+    /// side's messages. An endpoint that asks for strict messages then refuses one that a strict peer would call malformed. Last is one
+    /// whose size is above what the peer's settings allow. If an allocation fails the encoder stream may have gained whole instructions,
+    /// and the stream is as it was. A list of more than 24,576 fields also takes memory to be judged.
     pub fn send_fields(&mut self, id: StreamId, fields: &[HeaderField]) -> Result<(), FieldsError>
         ensures { SendsFieldList self.old self.new id fields.now result }
     {
@@ -56,10 +56,11 @@ impl Endpoint {
         as_error(self.send_head_at(id, fields, place, read))
     }
 
-    /// A trailer goes out on a stream, as `send_trailer` sends it, but as the list that it is given as. Refused are, in this order, every
-    /// call after a connection fault, a stream that is not open, one whose final head was not sent, or whose trailer or end was, a list
-    /// that `Header::try_from` refuses, one with a pseudo-header field, where the endpoint asks for strict messages one in front of which
-    /// less content was sent than the head said, or in a tunnel, and one that a strict peer would call malformed, and one whose size is above what the peer's settings allow.
+    /// Sends a trailer on a stream, as `send_trailer` does, but as the list that it is given as. Refused are first every call after a
+    /// connection fault, then a stream that is not open. Next is one whose final header section was not sent, or whose trailer or end was.
+    /// Then come a list that `Header::try_from` refuses, and one with a pseudo-header field. An endpoint that asks for strict messages then
+    /// refuses a trailer after less content than the header section said, or in a tunnel. It also refuses one that a strict peer would call
+    /// malformed. Last is one whose size is above what the peer's settings allow.
     pub fn send_trailer_fields(
         &mut self,
         id: StreamId,
@@ -76,8 +77,8 @@ impl Endpoint {
         as_error(self.send_trailer_list(id, fields))
     }
 
-    // Where the message is behind a list in the place of a head, or why that is none of this side. Where the endpoint asks for strict messages
-    // the walk that tells it tells also what the rules make of it.
+    // The place of the message after a list that is sent as a header section, or why the list is not one of this side. If the endpoint asks
+    // for strict messages the walk that tells it tells also what the rules make of it.
     fn judge_head(
         &self,
         fields: &[HeaderField],
@@ -119,7 +120,7 @@ impl Endpoint {
         }
     }
 
-    // Why a list is refused in the place of a head that is refused by itself: the stream's own refusal comes first.
+    // Why a list is refused as a header section that is refused by itself: the stream's own refusal comes first.
     fn head_error(&self, id: StreamId, later: FieldsError) -> FieldsError
         ensures { result ≡ error_after (head_refused_at (kept_at self.now.requests id)) later }
     {
@@ -139,7 +140,7 @@ impl Endpoint {
         }
     }
 
-    // A list that reads as a head of this side goes out, and the message is at this place behind it.
+    // A list that reads as a header section of this side goes out, and the message is at this place after it.
     fn send_head_at(
         &mut self,
         id: StreamId,
@@ -172,7 +173,7 @@ impl Endpoint {
         self.send_trailer_section(room, fields)
     }
 
-    // Why a list is not sent for which no room was made: it is at hand, so its own refusal comes before want of memory.
+    // Why a list is not sent for which no room was made: it is at hand, so its own refusal comes before out of memory.
     fn judged_or(
         &self,
         refusal: Refusal,
@@ -193,7 +194,8 @@ impl Endpoint {
     }
 }
 
-// Where the message is behind a list in the place of a head, or why that is none of this side. What the list reads as may be known.
+// The place of the message after a list that is sent as a header section, or why the list is not one of this side. What the list reads as
+// may be known.
 #[inline(always)]
 fn judge_place(
     known: Option<ListRead>,
@@ -215,7 +217,7 @@ fn judge_place(
     }
 }
 
-// What a list reads as, where that may be known.
+// What a list reads as, which may be known.
 #[inline(always)]
 fn read_unless(
     known: Option<ListRead>,
@@ -232,7 +234,7 @@ fn read_unless(
     }
 }
 
-// Where the message is behind a head, or that it is one of the other side.
+// The place of the message after a header section, or that it is one of the other side.
 fn place_behind(side: Side, outline: &Outline) -> Result<SendPlace, FieldsError>
     ensures ok { IfOk result (λ place. (is_sent_outline side outline.now ≡ true) × (place ≡ (if is_interim outline.now.status then SendPlace.NothingSent else SendPlace.HeadSent))) }
     ensures err { IfErr result (λ e. (is_sent_outline side outline.now ≡ false) × (e ≡ error.Refused refusal.WrongSide)) }

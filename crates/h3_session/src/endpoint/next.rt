@@ -8,16 +8,16 @@ use super::Endpoint;
 use h3_proto::stream::{Side, StreamId};
 
 impl Endpoint {
-    /// The first stream from this id on on which bytes wait to be sent, of the request streams and the own unidirectional ones; none
-    /// where bytes wait on no stream from there on. It takes no memory. A look-up passes by the streams on which nothing waits, so going from
-    /// each answer to the next costs one look-up for each stream that waits.
+    /// The first stream from this id on on which bytes wait to be sent, of the request streams and the local unidirectional ones. It is
+    /// `None` if bytes wait on no stream from there on. It takes no memory. A look-up passes by the streams on which nothing waits, so
+    /// going from each answer to the next costs one look-up for each stream that waits.
     pub fn next_waiting(&self, from: u64) -> Option<StreamId>
         ensures { ShowsNextWaiting self.now from result }
     {
         earlier(self.requests.next_waiting(from), self.next_own(from))
     }
 
-    // The same of the own streams alone.
+    // The same of the local unidirectional streams alone.
     fn next_own(&self, from: u64) -> Option<StreamId>
         ensures { IsLeast (has_own_bytes self.now) from result }
     {
@@ -29,7 +29,7 @@ impl Endpoint {
         earlier(first, self.own_from(control + 8, from))
     }
 
-    // The own stream of this number, where it is not before `from` and bytes wait on it.
+    // The local unidirectional stream of this number, if it is not before `from` and bytes wait on it.
     #[tactic(auto, using(crate::proofs::Next::least_before, crate::proofs::Next::least_fails, crate::proofs::Next::least_passes))]
     fn own_from(&self, number: u64, from: u64) -> Option<StreamId>
         requires { number < 2 ^ 62 }
@@ -48,7 +48,7 @@ impl Endpoint {
         }
     }
 
-    // Whether bytes wait on an own stream. (What waits there is asked first: mostly that is nothing.)
+    // Whether bytes wait on a local unidirectional stream. (What waits there is asked first: mostly that is nothing.)
     fn has_own_bytes(&self, id: StreamId) -> bool
         ensures { result ≡ has_own_bytes self.now id }
     {
@@ -76,7 +76,7 @@ pub(super) fn earlier(one: Option<StreamId>, other: Option<StreamId>) -> Option<
     }
 }
 
-/// The id of the own control stream. Those of the encoder and decoder streams are four and eight behind it.
+/// The id of the local control stream. Those of the encoder and decoder streams are four and eight more.
 fn control_id(side: Side) -> u64
     ensures { result ≡ control_id side }
 {

@@ -1,4 +1,4 @@
-//! What comes next on a stream, and the streams of which nothing more is wanted.
+//! What comes next on a stream, and the streams of which nothing more is needed.
 ghost use Rattle.std.specs.Prelude.{◌≡◌, true, false, [], Some, None, IfSome, is_some, unwrap_or, OnOk, OnErr, IfErr};
 ghost use Rattle.h3_connection.specs.Calls.{AllSame};
 ghost use Rattle.h3_connection.specs.Endpoint.{EndpointHistory, kind_of};
@@ -88,7 +88,7 @@ fn pull_stream<O: Answer>(
     )
 }
 
-// Gives up what comes on a stream where that is allowed, with one look-up, and tells the peer's encoder.
+// Gives up what comes on a stream if that is allowed, with one look-up, and tells the peer's encoder.
 #[tactic(auto, using(crate::proofs::Behind::cancels_behind))]
 fn cancel_stream(
     requests: &mut RequestStreams,
@@ -105,10 +105,10 @@ fn cancel_stream(
 }
 
 impl Endpoint {
-    /// What comes next on a stream: the fault of the connection, the fault for which the stream was given up, its end again, or its
-    /// next item. All that came before is read first. A fault of the connection closes it. `Fault::Memory` loses nothing: what came
-    /// is read on by the next delivery or pull, and the stream goes on as if it had not been asked. No pull sets back how often the head of
-    /// the frame under way was tried (`frames`): at most 17 times, however often a stream is pulled.
+    /// What comes next on a stream: the fault of the connection, the fault for which the stream was given up, its end again, or its next
+    /// item. All that came before is read first. A fault of the connection closes it. `Fault::Memory` loses nothing: what came is read on
+    /// by the next delivery or pull, and the stream goes on as if it had not been asked. No pull sets back how often the type and length of
+    /// the frame under way were tried (`frames`): at most 17 times, however often a stream is pulled.
     pub fn pull(&mut self, id: StreamId) -> Pull
         ensures { PullsNext self.old self.new id result }
     {
@@ -117,9 +117,9 @@ impl Endpoint {
         out
     }
 
-    /// What comes next on a stream, as `pull` answers it, but with each head and trailer as the list of its fields: as they came, in the order
-    /// in which they came, and with no header made of them. The endpoint is left as `pull` leaves it, and `Fault::Memory` loses nothing. It
-    /// makes a header only of a list of more than 24,576 fields, to judge it.
+    /// What comes next on a stream, as `pull` answers it, but with each header section and trailer as the list of its fields. The fields
+    /// are as they came, in the order in which they came, and no header is made of them. The endpoint is left as `pull` leaves it, and
+    /// `Fault::Memory` loses nothing. It makes a header only of a list of more than 24,576 fields, to judge it.
     pub fn pull_fields(&mut self, id: StreamId) -> FieldsPull
         ensures pulls { PullsNext self.old self.new id (pull_of result) }
         ensures list { ListsNext self.old id (list_of result) }
@@ -129,8 +129,8 @@ impl Endpoint {
         out
     }
 
-    /// The same, with the answer in the place of what `out` was, which is let go. So the answer is not moved, and a caller that keeps it has
-    /// it where it was made.
+    /// The same, with the answer in the place of what `out` was, which is freed. So the answer is not moved, and a caller that keeps it has
+    /// it at the place at which it was made.
     pub fn pull_fields_into(&mut self, id: StreamId, out: &mut FieldsPull)
         ensures pulls { PullsNext self.old self.new id (pull_of out.new) }
         ensures list { ListsNext self.old id (list_of out.new) }
@@ -138,8 +138,8 @@ impl Endpoint {
         self.pull_into(id, out);
     }
 
-    /// The same, with the fields of a head or trailer in a block of memory that serves again: `out` keeps the memory of its last answer for
-    /// the next one, and a head or trailer takes memory only where it is longer.
+    /// The same, with the fields of a header section or trailer in a block of memory that serves again. `out` keeps the memory of its last
+    /// answer for the next one, and a header section or trailer takes memory only if it is longer.
     pub fn pull_block(&mut self, id: StreamId, out: &mut BlockPull)
         ensures pulls { PullsNext self.old self.new id (pull_of out.new) }
         ensures list { ListsNext self.old id (list_of out.new) }
@@ -271,9 +271,9 @@ impl Endpoint {
         pull_stream(requests, alloc, side, announced, id, streams, out)
     }
 
-    /// Nothing more is wanted of a request stream: what came on it is thrown away, and the peer's encoder is told (RFC 9204,
-    /// section 2.2.2.2). Refused are, in this order, calls after a connection fault, streams that the connection needs, those
-    /// that are not open, and those whose end was handed out or that were given up. Want of memory changes nothing.
+    /// Nothing more is needed of a request stream: what came on it is thrown away, and the peer's encoder learns of it (RFC 9204, section
+    /// 2.2.2.2). Refused are first calls after a connection fault, then streams that the connection needs, then those that are not open.
+    /// Last are those whose end a pull returned or that were given up. `OutOfMemory` changes nothing.
     #[tactic(auto, using(crate::proofs::ReceivingCancel::cancel_critical, crate::proofs::ReceivingCancel::cancels))]
     pub fn cancel(&mut self, id: StreamId) -> Result<(), Refusal>
         ensures { Cancels self.old self.new id result }

@@ -21,8 +21,8 @@ use h3_streams::left::Left;
 use std::alloc::AllocError;
 use std::collections::VecDeque;
 
-/// What is left to be read of an arrival where memory was refused: this, and then what the peer's decoder stream has waiting since
-/// before the settings, where it is named.
+/// What is left to read of an arrival after an allocation failed: this, and then what the peer's decoder stream has waiting since before
+/// the settings, if it is named.
 #[derive(Drop)]
 pub(super) struct Unread {
     first: Arrival,
@@ -53,8 +53,8 @@ impl Unread {
 }
 
 impl Endpoint {
-    // Reads these arrivals in order, up to the first fault, which it answers; the others are dropped then. Where memory is refused
-    // what is left is kept: there has to be room for one arrival more.
+    // Reads these arrivals in order, up to the first fault, which it answers; the others are dropped then. If an allocation fails what is
+    // left is kept: there has to be room for one arrival more.
     #[tactic(auto, using(crate::proofs::ReceivingReading::front_first, crate::proofs::ReceivingReading::front_next, crate::proofs::ReceivingReading::front_whole, crate::proofs::ReceivingReading::front_faulty, crate::proofs::ReceivingReading::front_stopped))]
     pub(super) fn read_all(
         &mut self,
@@ -78,7 +78,7 @@ impl Endpoint {
         Ok(None)
     }
 
-    // Keeps what is left, and these behind it.
+    // Keeps what is left, and these after it.
     fn keep(&mut self, unread: Unread, mut arrivals: VecDeque<Arrival>)
         requires { deque_len arrivals + 2 ≤ deque_capacity arrivals }
         ensures { self.new ≡ record self.old { kept = unread_arrivals unread ++ arrivals.items } }

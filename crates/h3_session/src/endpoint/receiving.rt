@@ -38,7 +38,7 @@ pub(super) fn stream_of(arrival: &Arrival) -> StreamId
     }
 }
 
-/// The bytes that came, which are handed back where they could not be stored.
+/// The bytes that came, which are returned if they could not be stored.
 fn bytes_of(arrival: Arrival) -> Bytes
     ensures { result ≡ bytes_of arrival }
 {
@@ -71,7 +71,7 @@ fn is_stored(answer: &Result<(), DeliverError>) -> bool
     }
 }
 
-/// These arrivals with one more behind them.
+/// These arrivals with one more after them.
 fn behind(mut arrivals: VecDeque<Arrival>, arrival: Arrival) -> VecDeque<Arrival>
     requires { deque_len arrivals < deque_capacity arrivals }
     ensures items { result.items ≡ arrivals.items ++ arrival ∷ [] }
@@ -113,8 +113,8 @@ fn server_opened_refusal(side: Side) -> Option<Refusal>
     }
 }
 
-/// What came on a request stream is its receiver's. A stream that is not there is opened. Where memory is refused nothing has
-/// changed, and the arrival comes back.
+/// What came on a request stream is its receiver's. A stream that is not there is opened. If an allocation fails nothing has changed, and
+/// the arrival comes back.
 #[tactic(auto, using(crate::proofs::Behind::written_behind))]
 fn receive(
     requests: &mut RequestStreams,
@@ -145,11 +145,11 @@ fn receive(
 }
 
 impl Endpoint {
-    /// Bytes came on a stream. They are kept as they are, with no copy, and all that can be read of them is read. Refused are, in this
-    /// order, everything after a connection fault, what comes on a stream that sends nothing or isn't open, and what comes behind an
-    /// end or a reset. `OutOfMemory` hands the bytes back, and nothing has changed. `Kept`: the bytes are taken, and memory was
-    /// refused in reading what came; the next delivery or pull reads on from there. However small the pieces are, the head of a frame is
-    /// tried at most 17 times: no delivery sets the count back that `frames` shows.
+    /// Bytes came on a stream. They are kept as they are, with no copy, and all that can be read of them is read. Refused is first
+    /// everything after a connection fault, then what comes on a stream that sends nothing or isn't open, then what comes after an end or a
+    /// reset. `OutOfMemory` returns the bytes, and nothing has changed. `Kept`: the bytes are taken, and an allocation failed in reading
+    /// what came; the next delivery or pull reads on from there. However small the pieces are, the type and length of a frame are tried at
+    /// most 17 times: no delivery sets the count back that `frames` shows.
     #[tactic(auto, using(crate::proofs::ReceivingAtOnce::delivers_at_once))]
     pub fn deliver(&mut self, id: StreamId, bytes: Bytes) -> Result<(), DeliverError>
         ensures { Delivers self.old self.new id bytes result }
@@ -167,8 +167,8 @@ impl Endpoint {
         self.arrive(Arrival::EndCame(id))
     }
 
-    /// A stream was cut off by its sender, with this code of an application. It is refused as bytes are. What came on a request stream
-    /// and was not pulled is thrown away, and the peer's encoder is told (RFC 9204, section 2.2.2.2).
+    /// A stream was reset by its sender, with this code of an application. It is refused as bytes are. What came on a request stream and
+    /// was not pulled is thrown away, and the peer's encoder learns of it (RFC 9204, section 2.2.2.2).
     pub fn deliver_reset(&mut self, id: StreamId, code: u64) -> Result<(), DeliverError>
         ensures { DeliversReset self.old self.new id code result }
     {
@@ -196,7 +196,7 @@ impl Endpoint {
         self.requests.deliver_next(self.alloc, self.side, id, bytes)
     }
 
-    // What comes is read behind all that is kept. With nothing kept, what comes on a request stream is its receiver's at once.
+    // What comes is read after all that is kept. With nothing kept, what comes on a request stream is its receiver's at once.
     #[tactic(auto, using(crate::proofs::ReceivingArrives::was_closed, crate::proofs::ReceivingArrives::was_refused, crate::proofs::ReceivingArrives::is_taken, crate::proofs::ReceivingArrives::took_none, crate::proofs::ReceivingCancel::nothing_changed))]
     fn arrive(&mut self, arrival: Arrival) -> Result<(), DeliverError>
         ensures receives { Receives self.old self.new arrival result }
@@ -220,7 +220,7 @@ impl Endpoint {
         self.take(arrival)
     }
 
-    // What comes on a request stream is its receiver's, where nothing is kept.
+    // What comes on a request stream is its receiver's, with nothing kept.
     #[tactic(auto, using(crate::proofs::ReceivingArrives::received_once, crate::proofs::ReceivingArrives::took_none, crate::proofs::ReceivingCancel::requests_same))]
     fn receive_at_once(&mut self, arrival: Arrival) -> Result<(), DeliverError>
         requires none { self.old.kept ≡ [] }
@@ -235,8 +235,8 @@ impl Endpoint {
         }
     }
 
-    // What opens a request stream, behind what is kept. It is opened before that is read, since nothing is kept of a stream that is
-    // not open, and taken out again where what was kept has a fault.
+    // What opens a request stream, after what is kept. It is opened before that is read, since nothing is kept of a stream that is not
+    // open. It is taken out again if what was kept has a fault.
     #[tactic(auto, using(crate::proofs::ReceivingFirst::first_accepted, crate::proofs::ReceivingFirst::first_stored, crate::proofs::ReceivingFirst::first_undone, crate::proofs::ReceivingFirst::first_refused_memory))]
     fn take_first(&mut self, arrival: Arrival) -> Result<(), DeliverError>
         requires { ComesFirst self.old arrival }
@@ -269,7 +269,7 @@ impl Endpoint {
         self.requests.undo_open(id);
     }
 
-    // What comes is kept behind the rest, and all of it is read.
+    // What comes is kept after the rest, and all of it is read.
     #[tactic(auto, using(crate::proofs::ReceivingArrives::took_all, crate::proofs::ReceivingArrives::took_fault, crate::proofs::ReceivingArrives::took_part, crate::proofs::ReceivingArrives::took_none, crate::proofs::ReceivingCancel::nothing_changed))]
     fn take(&mut self, arrival: Arrival) -> Result<(), DeliverError>
         requires { IsAccepted self.old arrival }
@@ -289,7 +289,7 @@ impl Endpoint {
         }
     }
 
-    // Takes out all that is kept, with room for so many arrivals more, and one. An `Err` changes nothing: memory was refused.
+    // Takes out all that is kept, with room for so many arrivals more, and one. An `Err` changes nothing: an allocation failed.
     pub(super) fn take_kept(&mut self, more: usize) -> Result<VecDeque<Arrival>, AllocError>
         requires { more < 2 }
         ensures ok { IfOk result (λ kept. (kept.items ≡ self.old.kept) × (deque_len kept + more < deque_capacity kept)) }

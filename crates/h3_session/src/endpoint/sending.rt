@@ -48,7 +48,7 @@ impl Endpoint {
         Ok(id)
     }
 
-    /// The id that `open_request` gives next, or the refusal that it answers, want of memory aside. Nothing is opened.
+    /// The id that `open_request` gives next, or the refusal that it answers, out of memory aside. Nothing is opened.
     #[tactic(auto, using(crate::proofs::NextRequest::shows_id, crate::proofs::NextRequest::shows_refusal, crate::proofs::NextRequest::shows_far))]
     pub fn next_request(&self) -> Result<StreamId, Refusal>
         ensures { ShowsNextRequest self.now result }
@@ -80,10 +80,10 @@ impl Endpoint {
         None
     }
 
-    /// A body goes out on a stream, as the payload of a DATA frame (RFC 9114, section 7.2.1); an empty one writes nothing. Refused
-    /// are, in this order, every call after a connection fault, a stream that is not open, one whose final head was not sent, or
-    /// whose trailer or end was, where the endpoint asks for strict messages more content than the head said (section 4.1.2), and want of
-    /// memory. A refused body comes back.
+    /// Sends a body on a stream, as the payload of a DATA frame (RFC 9114, section 7.2.1); an empty one writes nothing. Refused are first
+    /// every call after a connection fault, then a stream that is not open. Next is one whose final header section was not sent, or whose
+    /// trailer or end was. An endpoint that asks for strict messages then refuses more content than the header section said (section
+    /// 4.1.2). `OutOfMemory` comes last. A refused body comes back.
     pub fn send_body(&mut self, id: StreamId, body: Bytes) -> Result<(), (Refusal, Bytes)>
         ensures { SendsBody self.old self.new id body result }
     {
@@ -97,7 +97,7 @@ impl Endpoint {
         self.append_body(id, body, sent)
     }
 
-    // A body goes behind what waits on its stream, with one look-up, and so much was sent then.
+    // Appends a body to what waits on its stream, with one look-up, and so much was sent then.
     fn append_body(&mut self, id: StreamId, body: Bytes, sent: u64) -> Result<(), (Refusal, Bytes)>
         ensures rest { OnOk result (self.new ≡ record self.old { requests = self.new.requests; sent = sent }) }
         ensures same { OnErr result (self.new ≡ record self.old { requests = self.new.requests }) }
@@ -115,8 +115,8 @@ impl Endpoint {
         }
     }
 
-    /// The same of a body of so many bytes, which the caller holds: a DATA frame of this length is announced, and none of its bytes is given.
-    /// They go out behind the bytes that are copied, where `copy_with_end` says so. Refused as a body of these bytes is.
+    /// The same of a body of so many bytes, which the caller holds: a DATA frame of this length is announced, and none of its bytes is
+    /// given. They go out after the bytes that are copied, at the place that `copy_with_end` says. Refused as a body of these bytes is.
     pub fn send_body_of(&mut self, id: StreamId, len: usize) -> Result<(), Refusal>
         ensures { SendsBodyOf self.old self.new id len result }
     {
@@ -147,7 +147,7 @@ impl Endpoint {
         }
     }
 
-    // Why a body is refused whose bytes cannot be counted: what refuses it on its stream comes before want of memory.
+    // Why a body is refused whose bytes cannot be counted: what refuses it on its stream comes before out of memory.
     pub(super) fn uncounted_refusal(&self, id: StreamId, size: usize) -> Refusal
         ensures { result ≡ unwrap_or (data_refused_at (kept_at self.now.requests id) size) OutOfMemory }
     {
@@ -163,7 +163,7 @@ impl Endpoint {
         Refusal::OutOfMemory
     }
 
-    // What was sent, in bytes and 64 for each field and call, with a call of this cost. A sum of `SENT_LIMIT` is refused as want of memory.
+    // What was sent, in bytes and 64 for each field and call, with a call of this cost. A sum of `SENT_LIMIT` is refused as out of memory.
     pub(super) fn sent_with(&self, cost: u64) -> Option<u64>
         ensures some { IfSome result (λ sum. sum ≡ self.now.sent + cost + 64) }
         ensures none { IfNone result (2 ^ 56 ≤ self.now.sent + cost + 64) }
@@ -172,9 +172,9 @@ impl Endpoint {
         if sum < SENT_LIMIT { Some(sum) } else { None }
     }
 
-    /// The message on a stream is whole (RFC 9114, section 4.1). It takes no memory. Refused are, in this order, every call after a
-    /// connection fault, a stream that is not open, one whose final head was not sent, or whose sending has ended, and, where the endpoint
-    /// asks for strict messages, one whose head said more content than was sent (section 4.1.2).
+    /// The message on a stream is whole (RFC 9114, section 4.1). It takes no memory. Refused are first every call after a connection fault,
+    /// then a stream that is not open. Next is one whose final header section was not sent, or whose sending has ended. An endpoint that
+    /// asks for strict messages last refuses one whose header section said more content than was sent (section 4.1.2).
     pub fn finish(&mut self, id: StreamId) -> Result<(), Refusal>
         ensures { Finishes self.old self.new id result }
     {
@@ -184,7 +184,7 @@ impl Endpoint {
         self.finish_stream(id)
     }
 
-    // The message on a stream is whole where its stream takes an end, with one look-up.
+    // The message on a stream is whole if its stream takes an end, with one look-up.
     fn finish_stream(&mut self, id: StreamId) -> Result<(), Refusal>
         ensures rest { self.new ≡ record self.old { requests = self.new.requests } }
         ensures ok { OnOk result (IfSome (kept_at self.old.requests id) (λ r. Sets self.old.requests self.new.requests id (record r { outgoing = has_ended r.outgoing }))) }
@@ -194,8 +194,8 @@ impl Endpoint {
         self.requests.finish_stream(id)
     }
 
-    /// Sending on a stream ends here, and what waits is dropped. It takes no memory. Refused are, in this order, every call after a
-    /// connection fault, a stream that the connection needs, one that is not open, and one of which nothing is left to be sent.
+    /// Sending on a stream ends here, and what waits is dropped. It takes no memory. Refused are first every call after a connection fault,
+    /// then a stream that the connection needs, then one that is not open. Last is one of which nothing is left to be sent.
     pub fn reset(&mut self, id: StreamId) -> Result<(), Refusal>
         ensures { Resets self.old self.new id result }
     {
@@ -205,7 +205,7 @@ impl Endpoint {
         self.reset_stream(id)
     }
 
-    // Sending on a stream ends where something is left to be sent on it, with one look-up.
+    // Sending on a stream ends if something is left to be sent on it, with one look-up.
     fn reset_stream(&mut self, id: StreamId) -> Result<(), Refusal>
         ensures rest { self.new ≡ record self.old { requests = self.new.requests } }
         ensures ok { OnOk result (IfSome (kept_at self.old.requests id) (λ r. Sets self.old.requests self.new.requests id (record r { outgoing = was_cut_off r.outgoing }))) }
@@ -288,7 +288,8 @@ impl Endpoint {
         take_own(&mut self.streams, self.side, id, count.min(waiting));
     }
 
-    /// Some of the bytes that wait on a stream, from the first on. Empty exactly where nothing waits, or first a payload that the caller holds.
+    /// Some of the bytes that wait on a stream, from the first on. Empty exactly if nothing waits, or first a payload that the caller
+    /// holds.
     #[tactic(auto, using(crate::proofs::Taking::lends_request, crate::proofs::Taking::lends_own, crate::proofs::Taking::lends_all))]
     pub fn outgoing(&self, id: StreamId) -> &[u8]
         ensures lends { HoldsNone self.now id → LendsOutgoing self.now id result.now }
@@ -311,14 +312,14 @@ impl Endpoint {
         }
     }
 
-    // What is sent on a request stream, where it is there.
+    // What is sent on a request stream, if it is there.
     pub(super) fn sender(&self, id: StreamId) -> Option<&OutgoingStream>
         ensures { option_copied result ≡ sender_in self.now id }
     {
         self.requests.outgoing(id)
     }
 
-    // What waits on an own stream, and nothing on a stream that is none.
+    // What waits on a local control, encoder or decoder stream, and nothing on any other stream.
     pub(super) fn own_outgoing(&self, id: StreamId) -> &[u8]
         ensures { result.now ≡ waiting_on self.now.own self.now.side id }
     {
@@ -335,7 +336,7 @@ pub(super) fn is_server(side: Side) -> bool
     }
 }
 
-/// Writes a GOAWAY frame on the own control stream. A refusal changes nothing.
+/// Writes a GOAWAY frame on the local control stream. A refusal changes nothing.
 fn write_goaway(
     streams: &mut ConnectionStreams,
     alloc: Global,
@@ -347,7 +348,7 @@ fn write_goaway(
     streams.own.goaway(alloc, id)
 }
 
-/// Takes the first `count` bytes that wait on an own stream.
+/// Takes the first `count` bytes that wait on a local control, encoder or decoder stream.
 fn take_own(streams: &mut ConnectionStreams, side: Side, id: StreamId, count: usize)
     requires { count ≤ length (waiting_on streams.old.own side id) }
     ensures { streams.new ≡ record streams.old { own = having_taken streams.old.own side id count } }

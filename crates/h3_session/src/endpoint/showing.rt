@@ -12,7 +12,7 @@ use h3_proto::stream::{Side, StreamId};
 use h3_wire::frame::FrameBuffer;
 
 impl Endpoint {
-    /// Whether anything can be sent on a stream: it is an own unidirectional one, or a request stream that was opened.
+    /// Whether anything can be sent on a stream: it is a local unidirectional one, or a request stream that was opened.
     pub fn has_outgoing(&self, id: StreamId) -> bool
         ensures { ShowsOutgoing self.now id result }
     {
@@ -29,7 +29,7 @@ impl Endpoint {
         }
     }
 
-    /// Whether sending on a stream was cut off.
+    /// Whether sending on a stream was reset.
     pub fn is_reset(&self, id: StreamId) -> bool
         ensures { ShowsReset self.now id result }
     {
@@ -92,7 +92,7 @@ impl Endpoint {
         self.requests.waiting(inserted)
     }
 
-    /// What was handed over to be sent: the bytes of names, values and bodies, and 64 for each field and each call.
+    /// What was given to be sent: the bytes of names, values and bodies, and 64 for each field and each call.
     pub fn sent(&self) -> u64
         ensures { ShowsSent self.now result }
     {
@@ -107,9 +107,9 @@ impl Endpoint {
         self.requests.tries(id)
     }
 
-    /// The bytes that came and were not read, of a request stream that is there or of the peer's control stream. Their `tries` say how often
-    /// the head of the frame under way was tried, or else that of the last frame that was read there: at most 17 times, and 0 before
-    /// the first. A try does not count that ends for want of memory or at a frame that is refused.
+    /// The bytes that came and were not read, of a request stream that is there or of the peer's control stream. Their `tries` say how
+    /// often the type and length of the frame under way were tried, or else those of the last frame that was read there. It is at most 17
+    /// times, and 0 before the first. A try does not count that ends out of memory or at a frame that is refused.
     pub fn frames(&self, id: StreamId) -> Option<&FrameBuffer>
         ensures { LendsFrames self.now id (option_copied result) }
     {

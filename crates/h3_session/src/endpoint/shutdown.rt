@@ -18,9 +18,9 @@ use h3_proto::stream::{Side, StreamId};
 const GREATEST_REQUEST: u64 = (1 << 62) - 4;
 
 impl Endpoint {
-    /// Tells the peer that the connection will be shut down, while all that it sends meanwhile is taken: a GOAWAY with 2^62 - 4 by a server, and with
-    /// 2^62 - 1 by a client (RFC 9114, section 5.2). After a round trip `shutdown` follows. Where an earlier GOAWAY was sent it is `Ok`, and
-    /// nothing is written. Refused as `goaway` is.
+    /// Tells the peer that the connection will be shut down, while all that it sends meanwhile is taken. By a server it is a GOAWAY with
+    /// 2^62 - 4, and by a client one with 2^62 - 1 (RFC 9114, section 5.2). After a round trip `shutdown` follows. If an earlier GOAWAY was
+    /// sent it is `Ok`, and nothing is written. Refused as `goaway` is.
     pub fn shutdown_notice(&mut self) -> Result<(), Refusal>
         ensures { GivesNotice self.old self.new result }
     {
@@ -28,9 +28,9 @@ impl Endpoint {
         self.goaway_once(id)
     }
 
-    /// Takes no more: a GOAWAY by a server with the first id that was not seen (`first_unseen`), and by a client, which takes no push, with 0 (RFC
-    /// 9114, section 5.2). Where an earlier GOAWAY names that id or a lower one it is `Ok`, and nothing is written. Refused as `goaway` is, and
-    /// `IdsUsedUp` where each id was seen and no GOAWAY was sent: none is left to name.
+    /// Takes no more: a server sends a GOAWAY with the first id that was not seen (`first_unseen`). A client, which takes no push, sends
+    /// one with 0 (RFC 9114, section 5.2). If an earlier GOAWAY names that id or a lower one it is `Ok`, and nothing is written. Refused as
+    /// `goaway` is, and `IdsUsedUp` if each id was seen and no GOAWAY was sent: none is left to name.
     pub fn shutdown(&mut self) -> Result<(), Refusal>
         ensures { ShutsDown self.old self.new result }
     {
@@ -38,18 +38,18 @@ impl Endpoint {
         self.goaway_once(id)
     }
 
-    /// The first id of a request stream above all that were seen: from there on no request was processed (RFC 9114, section 5.2). 0 where
-    /// none was seen. It takes no memory, and looks at the streams under way, and mostly at one that is over.
+    /// The first id of a request stream above all that were seen: from there on no request was processed (RFC 9114, section 5.2). 0 if none
+    /// was seen. It takes no memory, and looks at the streams under way, and mostly at one that is over.
     pub fn first_unseen(&self) -> u64
         ensures { ShowsFirstUnseen self.now result }
     {
         above_greatest(self.requests.greatest())
     }
 
-    /// Whether the request on this stream is rejected (RFC 9114, sections 4.1.1 and 5.2): the endpoint is a server that asks for it
-    /// (`Config::with_requests_rejected`), the stream is a request stream from the id of its last GOAWAY on, nothing of it was seen, and the
-    /// connection has no fault. Ask before each delivery on such a stream: where it is so deliver nothing, and end the stream both ways in QUIC
-    /// (RESET_STREAM and STOP_SENDING) with H3_REQUEST_REJECTED. No delivery asks by itself.
+    /// Whether the request on this stream is rejected (RFC 9114, sections 4.1.1 and 5.2). The endpoint has to be a server that asks for it
+    /// (`Config::with_requests_rejected`), and the connection to have no fault. The stream has to be a request stream from the id of the
+    /// last GOAWAY of this server on, of which nothing was seen. Ask before each delivery on such a stream. If it is so deliver nothing,
+    /// and end the stream both ways in QUIC (RESET_STREAM and STOP_SENDING) with H3_REQUEST_REJECTED. No delivery asks by itself.
     pub fn is_rejected(&self, id: StreamId) -> bool
         ensures stored { result ≡ is_rejected_in self.now id }
         ensures shown { ShowsRejected self.now id result }
@@ -69,11 +69,11 @@ impl Endpoint {
             && !self.requests.contains(id)
     }
 
-    /// Whether nothing is left to be done, so that the connection can be closed without losing a request (RFC 9114, section 5.2). No request is to
-    /// come: a server named an id that is no higher than `first_unseen`, and to a client its server sent a GOAWAY. Each stream was pulled to its end
-    /// or given up; sending on it has ended, all bytes were taken, and `end_taken` said so of its end. And the GOAWAY was taken. A caller that never
-    /// calls `end_taken` (it goes by `next_waiting` alone) sees no connection drained on which a message was finished. It takes no memory, and looks
-    /// at the streams under way alone.
+    /// Whether nothing is left to be done, so that the connection can be closed without losing a request (RFC 9114, section 5.2). No
+    /// request is to come: a server named an id that is no higher than `first_unseen`, and to a client its server sent a GOAWAY. Each
+    /// stream was pulled to its end or given up; sending on it has ended, all bytes were taken, and `end_taken` said so of its end. And the
+    /// GOAWAY was taken. A caller that never calls `end_taken` (it goes by `next_waiting` alone) sees no connection drained on which a
+    /// message was finished. It takes no memory, and looks at the streams under way alone.
     pub fn is_drained(&self) -> bool
         ensures { ShowsDrained self.now result }
     {
@@ -142,7 +142,7 @@ impl Endpoint {
         }
     }
 
-    // Whether nothing waits on the own control stream.
+    // Whether nothing waits on the local control stream.
     fn control_is_taken(&self) -> bool
         ensures { Shows (λ e. length (own_waiting e (control_id e.side)) == 0) self.now result }
     {

@@ -1,5 +1,5 @@
-//! What the rules of well-formed messages make of a list that is to be sent (RFC 9114, sections 4.1.2 and 4.2 to 4.5): which of them it breaks, as
-//! a strict peer would judge it, and what it says of content.
+//! What the rules of well-formed messages make of a list that is to be sent (RFC 9114, sections 4.1.2 and 4.2 to 4.5). That is which of
+//! them the list breaks, as a strict peer would judge it, and what it says of content.
 ghost use Rattle.std.specs.Prelude.{◌≡◌, ◌≢◌, None, Some, IfOk, IfErr, IfSome, OnOk};
 ghost use Rattle.h3_connection.specs.StrictSending.{peer_connects, violation_of_own_head};
 ghost use Rattle.h3_connection.specs.declared.place.SendPlace.TheVariants.{TrailerSent};
@@ -16,7 +16,7 @@ use h3_messages::{
 use h3_proto::frame::SettingId;
 use h3_proto::stream::Side;
 
-/// What a list that is sent says of content, where its endpoint asks for strict messages.
+/// What a list that is sent says of content, if its endpoint asks for strict messages.
 #[derive(Clone, Copy)]
 pub(crate) enum Said {
     /// Nothing that is asked.
@@ -35,8 +35,8 @@ pub(crate) struct SentRead {
 }
 
 impl Endpoint {
-    // What a list says, or the rule that it breaks, by the place of its message behind it. An endpoint that asks for no strict messages looks at no
-    // field. What a walk told of a head is asked of no second one.
+    // What a list says, or the rule that it breaks, by the place of its message after it. An endpoint that asks for no strict messages
+    // looks at no field. What a walk told of a header section is asked of no second one.
     pub(super) fn read_sent(
         &self,
         fields: &[HeaderField],
@@ -58,7 +58,7 @@ impl Endpoint {
         }
     }
 
-    // The same where rules are asked: of a head or of a trailer.
+    // The same if rules are asked: of a header section or of a trailer.
     fn read_strictly(
         &self,
         fields: &[HeaderField],
@@ -81,7 +81,7 @@ impl Endpoint {
         }
     }
 
-    // That of a head of the request that a client sends, or of the response that a server sends.
+    // That of a header section of the request that a client sends, or of the response that a server sends.
     fn read_head(&self, fields: &Fields<'_>) -> SentRead
         ensures violation { result.violation ≡ violation_of_own_head self.now.side self.now.peer.settings fields.now }
         ensures said { IsSaidBy self.now.side fields.now result.said }

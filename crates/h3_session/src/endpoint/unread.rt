@@ -41,16 +41,18 @@ fn held_in_all(id: StreamId, arrivals: &[Arrival]) -> usize
 }
 
 impl Endpoint {
-    /// How many bytes were delivered on a stream and are still held: they were not handed out by a pull, and not read. Credit in QUIC may be
-    /// granted for all others that came (RFC 9000, section 4.1), since of these nothing is kept. Counted are the bytes of a request stream that were
-    /// not read, as those of an unfinished frame, and the field section that waits to be decoded; of the peer's control, encoder and decoder streams
-    /// those behind the last whole frame or instruction; of its other unidirectional streams a type that is not whole and what was not pulled of a
-    /// session; and what was kept of the stream because memory was refused. 0 of a stream that is not there or was given up, and of each stream once
-    /// the connection has a fault: no byte is read then, also not by this call, so bytes that were lent may be gone. At most the greatest `u64`. It
-    /// takes no memory, and one look-up; behind a `Kept` also a pass over what is kept.
+    /// How many bytes were delivered on a stream and are still held: no pull returned them, and they were not read. Credit in QUIC may be
+    /// granted for all others that came (RFC 9000, section 4.1), since of these nothing is kept. Of a request stream the bytes are counted
+    /// that were not read, as those of an unfinished frame, and the field section that waits to be decoded. Of the peer's control, encoder
+    /// and decoder streams those after the last whole frame or instruction are counted. Of its other unidirectional streams a type that is
+    /// not whole is counted, and what was not pulled of a session. What was kept of the stream because an allocation failed is counted too.
+    /// 0 of a stream that is not there or was given up, and of each stream once the connection has a fault. No byte is read then, also not
+    /// by this call, so bytes that were lent may be gone. At most the greatest `u64`. It takes no memory, and one look-up; after a `Kept`
+    /// also a pass over what is kept.
     ///
-    /// Proved is that it is what the definitions hold of all that came (`held_at`). What memory has of it no clause says here: of a frame of an
-    /// unknown type `FrameBytes` of `h3_wire` says that the bytes are let go of (`AreSpared`), and tests measure that nothing else stays.
+    /// It is proved that this is what the definitions hold of all that came (`held_at`). No clause here says what memory has of it. Of a
+    /// frame of an unknown type `FrameBytes` of `h3_wire` says that its bytes are freed (`AreSpared`), and tests measure that nothing else
+    /// stays.
     #[tactic(auto, using(crate::proofs::Held::shows_none, crate::proofs::Held::shows_unread))]
     pub fn unread(&self, id: StreamId) -> u64
         ensures { ShowsUnread self.now id result }
@@ -88,7 +90,7 @@ impl Endpoint {
         self.streams.held(id)
     }
 
-    // What is kept of the stream because memory was refused.
+    // What is kept of the stream because an allocation failed.
     #[tactic(auto, using(crate::proofs::Held::counted_sum))]
     fn held_in_kept(&self, id: StreamId) -> usize
         ensures { result ≡ counted (sum_by (held_in id) self.now.kept) }

@@ -55,7 +55,7 @@ fn open_request(client: &mut Endpoint, server: &mut Endpoint, side: Side) -> Ans
     }
 }
 
-/// A side sends a head.
+/// A side sends a header section.
 fn send_head(
     client: &mut Endpoint,
     server: &mut Endpoint,
