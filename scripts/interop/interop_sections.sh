@@ -107,7 +107,7 @@ curl_asks() { # TABLE, PORT: how many connections the requests took, and how oft
   cp "$work/got" "$work/log"
   [ "$(grep -c "^3 200 [01]$" "$work/got")" -eq 300 ] || return 1
   connections=$(grep -c "^3 200 1$" "$work/got")
-  faults=$(grep -c "^connection closed by the server with HTTP/3 code 0x200$" "$work/table$1.log" || true)
+  faults=$(grep -c "^connection closed by the server: QPACK_DECOMPRESSION_FAILED$" "$work/table$1.log" || true)
 }
 is_whole() { curl_asks "$@" && [ "$connections" -eq 1 ] && [ "$faults" -eq 0 ]; }
 # curl asks again on another connection. If this check fails, the fault is mended, and the pages that tell of it are to be changed.
@@ -137,7 +137,7 @@ clients() { # what the server is called, PORT, its status for a path of 60 KB
 if has_curl; then make_fields; else echo "skipped curl: there is none with HTTP/3 in build/trixie (make upstream-root)"; fi
 command -v chromium > /dev/null || echo "skipped Chromium: $(bash scripts/dev/packages.sh interop 2>&1)"
 command -v gtlsclient > /dev/null || echo "skipped gtlsclient: $(bash scripts/dev/packages.sh interop 2>&1)"
-clients serve "${ports[0]}" 400 # a path of more than 4,096 bytes
+clients serve "${ports[0]}" 414 # a path of more than 4,096 bytes (RFC 9110, section 15.5.15)
 clients "Go server" "${ports[1]}" 200
 if has_curl; then tables "${ports[@]:2}"; fi
 if has_curl; then rm -rf "${root:?}$there"; fi
