@@ -148,7 +148,11 @@ check "serve: SIGHUP shows new certificates, and a download goes on" reloaded "$
 LINE='^[0-9TZ:-]{20} 127\.0\.0\.1:[0-9]+ "GET /hello\.txt" 200 6 [0-9]+ ms -$'
 check "serve: a line for each request" grep -qE "$LINE" "$work/access.log"
 check "serve: the log before SIGHUP stays" grep -qE "$LINE" "$work/access.1"
-check "serve: a path is no line of its own" bash -c "'${ours[0]}' --address 127.0.0.1 --trust '$cert' '$(url "${ports[9]}" '/x%0a"y')' 2> /dev/null; sleep 0.5; grep -q '\"GET /x%0a%22y\" 404' '$work/access.log'"
+logs_path() { # PORT
+  within 60 "${ours[@]}" "$(url "$1" '/x%0a"y')" # 404
+  soon grep -q '"GET /x%0a%22y" 404' "$work/access.log"
+}
+check "serve: a path is no line of its own" logs_path "${ports[9]}"
 counts() { # PROCESS
   kill -USR1 "$1"
   sleep 0.5
@@ -178,14 +182,16 @@ check "serve: it ends, with a log" ended "$operated" 40
 
 # ---- limits ----
 
-few_lines() { # PORT, LOG
-  works "$work/peer" resets "$cert" 10000 "localhost:$1" && [ "$(wc -l < "$work/$2")" -lt 400 ] && grep -q "more lines" "$work/$2"
+few_lines() { # PORT, LOG: 20 a second at most, one that counts the others, and one at its end
+  local began=$SECONDS before
+  before=$(wc -l < "$work/$2")
+  works "$work/peer" resets "$cert" 10000 "localhost:$1" && soon grep -q "more lines" "$work/$2" &&
+    [ $(($(wc -l < "$work/$2") - before)) -le $((22 * (SECONDS - began + 1))) ]
 }
 check "serve: few lines for 10,000 resets" few_lines "${ports[1]}" serve.log
+has_closed() { ! ls -l "/proc/$1/fd" | grep -q big.bin; } # PROCESS
 closes_files() { # PORT, PROCESS
-  works "${ours[@]}" "$(url "$1" /big.bin)" || return 1
-  sleep 3
-  ! ls -l "/proc/$2/fd" | grep -q big.bin
+  works "${ours[@]}" "$(url "$1" /big.bin)" && soon has_closed "$2"
 }
 check "serve: no file stays open" closes_files "${ports[1]}" "$server"
 serving "${ports[3]}" limited.log "$serve" --connections 2 --handshakes 0

@@ -49,6 +49,15 @@ proxying() {
   shift 3
   running "$port" "$log" "$@" --trust "$cert" 127.0.0.1 "$port" "$cert" "$key" 127.0.0.1 "$to" localhost
 }
+# soon COMMAND..: the command succeeds within ten seconds, tried each tenth of a second
+soon() {
+  local tries
+  for ((tries = 0; tries < 100; tries++)); do
+    if "$@"; then return 0; fi
+    sleep 0.1
+  done
+  return 1
+}
 # says TEXT, COMMAND..: the command ends well and prints this alone
 says() {
   local text=$1
