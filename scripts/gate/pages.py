@@ -13,7 +13,7 @@
 - Each record of docs/decisions begins with its decision in bold, and has at most LONGEST_RECORD lines.
 - docs/C_API.md has each call of include/h3.h, and names none that is not there.
 - scripts/README.md has each file of scripts/.
-- README and docs/PROVED.md say how many edits must be refused, how many of them the prover refuses by itself, and how many a reader judged."""
+- README and docs/PROVED.md say how many edits must be refused, how many of them the prover refuses by itself, how many a reader judged, and how many of those a run shows."""
 import os
 import re
 import sys
@@ -165,10 +165,12 @@ def counts(page):
     """what a page says of the edits that must be refused: a form of its words, and the number in it"""
     edits = [it for it in files("crates") if "/refused/" in it and it.endswith(".edit")]
     judged = [it for it in edits if re.search(r"^judged:", read(it), re.M)]
+    witnessed = [it for it in edits if re.search(r"^witness:", read(it), re.M)]
     by_itself = (r"(prover\s+refuses\s+)\d+(\s+by\s+itself)", len(edits) - len(judged))
     if page == "README.md":
         return ((r"(contracts: )\d+( wrong\s+edits)", len(edits)), by_itself, (r"(for\s+the\s+other\s+)\d+(\s+a\s+reader)", len(judged)))
-    return ((r"(There are )\d+(\s+edits\s+of)", len(edits)), by_itself, (r"(reader judged )\d+(\W)", len(judged)))
+    return ((r"(There are )\d+(\s+edits\s+of)", len(edits)), by_itself, (r"(reader judged )\d+(\W)", len(judged)),
+            (r"(run shows )\d+( of these)", len(witnessed)))
 
 
 def counted(page, text):
