@@ -13,7 +13,8 @@
 - Each record of docs/decisions begins with its decision in bold, and has at most LONGEST_RECORD lines.
 - docs/C_API.md has each call of include/h3.h, and names none that is not there.
 - scripts/README.md has each file of scripts/.
-- README and docs/PROVED.md say how many edits must be refused, how many of them the prover refuses by itself, how many a reader judged, and how many of those a run shows."""
+- README and docs/PROVED.md say how many edits must be refused, how many of them the prover refuses by itself, and how many a reader judged;
+  PROVED also says how many of those a run shows."""
 import os
 import re
 import sys
