@@ -10,7 +10,8 @@ found across the end of a line too. Its first letter may be a capital one: `head
 which the word may stand. No comment of include/h3.h makes a line longer than LONGEST_COMMENT.
 
 COVERED are the pages for users (user_pages.py), the header, and the pages for provers (PROVERS, PROVER_FOLDERS). Not in it:
-crates/*/README.md, which quote statements and names of definitions. LATER has the names whose comments in include/h3.h are not mended yet."""
+crates/*/README.md, which quote statements and names of definitions. Of SOURCES the comments alone are read, with one line 'ok FOLDER' for each
+folder. LATER has the names whose comments in include/h3.h are not mended yet."""
 import os
 import re
 import sys
@@ -31,6 +32,9 @@ PROVERS = ["ARCHITECTURE.md", "DECISIONS.md", "GATE.md", "HEADLINE.md", "MESSAGE
 PROVER_FOLDERS = ["decisions", "headline", "model", "proofs"]
 COVERED += [f"docs/{page}" for page in PROVERS]
 COVERED += [f"docs/{it}/{page}" for it in PROVER_FOLDERS for page in sorted(os.listdir(f"{ROOT}/docs/{it}")) if page.endswith(".md")]
+# folders whose comments are read, in files of these kinds
+SOURCES = [f"crates/{it}/src" for it in sorted(os.listdir(f"{ROOT}/crates"))] + ["bindings/go", "bindings/rust/src"]
+KINDS = (".rt", ".go", ".rs")
 
 
 def read(path):
@@ -102,6 +106,19 @@ def source_text(source, is_python):
     return re.sub(r"`[^`]*`", lambda it: blank(it[0]), "".join(text))
 
 
+def comment_text(source):
+    """the comments of a source that have a line of their own, without the code in them"""
+    text = "\n".join(it.strip().lstrip("/!") if it.lstrip().startswith("//") else "" for it in source.split("\n"))
+    for form in LEFT_OUT:
+        text = form.sub(lambda it: blank(it[0]), text)
+    return text
+
+
+def sources_below(folder):
+    for at, _, files in sorted(os.walk(f"{ROOT}/{folder}")):
+        yield from (os.path.relpath(f"{at}/{it}", ROOT) for it in sorted(files) if it.endswith(KINDS))
+
+
 def wrong_words(text, terms):
     for say, wrong, fine in terms:
         for it in wrong.finditer(fine.sub(lambda it: blank(it[0]), text) if fine else text):
@@ -156,6 +173,14 @@ def main():
             print(f"failed {file}:{line}: {why}")
         if not wrong:
             print(f"ok {file}: {len(text.split())} words, and none that {LIST} replaces")
+        bad |= bool(wrong)
+    for folder in [] if sys.argv[1:] else SOURCES:
+        files = [*sources_below(folder)]
+        wrong = [(file, line, why) for file in files for line, why in wrong_words(comment_text(read(file)), table)]
+        for file, line, why in wrong:
+            print(f"failed {file}:{line}: {why}")
+        if not wrong:
+            print(f"ok {folder}: comments of {len(files)} files")
         bad |= bool(wrong)
     return bad
 

@@ -264,8 +264,8 @@ impl OutgoingStream {
         self.frames.first_part()
     }
 
-    /// Appends the first `count` bytes that wait, at most all, over frames too. They keep waiting. A refusal appends nothing: memory was
-    /// refused, or the caller holds some of these bytes.
+    /// Appends the first `count` bytes that wait, at most all, over frames too. They keep waiting. A refusal appends nothing: an allocation
+    /// failed, or the caller holds some of these bytes.
     pub fn copy_front(&self, count: usize, out: &mut Vec<u8>) -> Result<(), AllocError>
         ensures ok { OnOk result (out.new.items ≡ out.old.items ++ take count (bytes_of self.now.pieces)) }
         ensures err { OnErr result (out.new.items ≡ out.old.items) }
