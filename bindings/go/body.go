@@ -14,8 +14,8 @@ type BodyReader struct {
 	trailer  []Field
 }
 
-// BodyReader returns a reader of the body on a stream. Pull the header section first. At a pause it calls wait. wait returns after a delivery
-// on this stream, or on the peer's encoder stream if the pause is Waiting. An error of wait is the error of Read.
+// BodyReader returns a reader of the body on a stream. Pull the header section first. At a pause the reader calls wait, which has to return
+// after a delivery on this stream, or on the peer's encoder stream if the pause is Waiting. Read returns the error of wait.
 //
 // A lock around the endpoint's calls is held while Read is called. wait frees it while it waits, and takes it again.
 func (e *Endpoint) BodyReader(id uint64, wait func(pause Item) error) *BodyReader {
@@ -61,8 +61,8 @@ type BodyWriter struct {
 	flush    func() error
 }
 
-// BodyWriter returns a writer of the body on a stream. Send the header section first. When 16 KiB wait, and at the end, it calls flush. flush
-// passes what waits on the stream to QUIC, and returns after QUIC took it: so a body of any length needs 16 KiB.
+// BodyWriter returns a writer of the body on a stream. Send the header section first. When 16 KiB wait, and at the end, it calls flush,
+// which has to pass what waits on the stream to QUIC, and to return after QUIC took it. So a body of any length needs 16 KiB.
 //
 // A lock around the endpoint's calls is held while Write and Close are called. flush frees it while it waits, and takes it again.
 func (e *Endpoint) BodyWriter(id uint64, flush func() error) *BodyWriter {

@@ -1,7 +1,9 @@
-// Package h3 is one endpoint of an HTTP/3 connection (RFC 9114, RFC 9204), for programs that have a QUIC library: the calls of beanwhile/h3.h.
+// Package h3 is one endpoint of an HTTP/3 connection (RFC 9114, RFC 9204), for programs that have a QUIC library: the calls of
+// beanwhile/h3.h.
 //
 // An Endpoint reads no socket and starts no goroutine. A program reads what came on a stream (Read; or Deliver and Pull), sends messages
-// (OpenRequest, SendHead, SendBody or SendBodyOf, SendTrailer, Finish), and hands to QUIC what waits (NextToSend, Outgoing, Advance, EndTaken).
+// (OpenRequest, SendHead, SendBody or SendBodyOf, SendTrailer, Finish), and passes what waits to QUIC (NextToSend, Outgoing, Advance,
+// EndTaken).
 //
 // The library is found by pkg-config, as beanwhile-h3.
 package h3
@@ -14,8 +16,8 @@ import "C"
 
 import "unsafe"
 
-// Endpoint is one endpoint of a connection. One call at a time: a program with several goroutines has a lock around its calls. Two endpoints share
-// nothing. Close frees it.
+// Endpoint is one endpoint of a connection. One call at a time: a program with several goroutines has a lock around its calls. Two
+// endpoints share nothing. Close frees it.
 type Endpoint struct {
 	raw C.h3_endpoint
 }
@@ -94,8 +96,8 @@ func (list row) count() C.size_t { return C.size_t(len(list.sizes)) }
 
 func (list row) len() C.size_t { return C.size_t(len(list.bytes)) }
 
-// SendHead sends a header section: these fields in this order. Put pseudo-header fields in front, each once. A response with a status from 100
-// to 199 is an interim one: send a further header section after it.
+// SendHead sends a header section: these fields in this order. Pseudo-header fields come first, each once. A response with a status from
+// 100 to 199 is an interim response: send another header section after it.
 func (e *Endpoint) SendHead(id uint64, fields []Field) error {
 	var detail C.uint64_t
 	list := inARow(fields)
@@ -115,8 +117,8 @@ func (e *Endpoint) SendBody(id uint64, bytes []byte) error {
 	return refusal(C.h3_send_body(&e.raw, C.uint64_t(id), start(bytes), C.size_t(len(bytes)), &detail), detail)
 }
 
-// SendBodyOf sends a piece of a body of this length, whose bytes stay with the caller: the package never reads them. OutgoingPast says when they
-// go out. Keep them until QUIC needs them no more.
+// SendBodyOf sends a piece of a body of this length, whose bytes stay with the caller: the package never reads them. OutgoingPast says
+// when they go out. Keep them until QUIC needs them no more.
 func (e *Endpoint) SendBodyOf(id uint64, length int) error {
 	var detail C.uint64_t
 	if length < 0 {
@@ -156,8 +158,8 @@ func (e *Endpoint) ShutdownNotice() error {
 	return refusal(C.h3_shutdown_notice(&e.raw, &detail), detail)
 }
 
-// Shutdown is the second step: a GOAWAY of a server with FirstUnseen, of a client with 0. A delivery of a later request is Rejected then: deliver no
-// more of its stream, and reset it both ways with CodeRequestRejected.
+// Shutdown is the second step: a GOAWAY of a server with FirstUnseen, of a client with 0. A delivery of a later request is Rejected then:
+// deliver no more of its stream, and reset it both ways with CodeRequestRejected.
 func (e *Endpoint) Shutdown() error {
 	var detail C.uint64_t
 	return refusal(C.h3_shutdown(&e.raw, &detail), detail)

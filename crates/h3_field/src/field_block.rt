@@ -65,7 +65,8 @@ impl FieldBlock {
         self.places.len()
     }
 
-    /// Whether its memory is more than the usual section takes: above 64 KiB for either block.
+    /// Whether its memory is more than the usual section takes: above 64 KiB for either block. No clause says so: it decides what memory is
+    /// kept, and no answer depends on it.
     pub fn is_large(&self) -> bool {
         self.bytes.capacity() > MOST_BYTES || self.places.capacity() > MOST_PLACES
     }
