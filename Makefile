@@ -68,13 +68,13 @@ fuzz: ## fuzz the library for SECONDS=60 by each program of tests/fuzz (libFuzze
 test-c: need-rt ## build the library, and run the C programs of tests/c over it, and the tests of the packages for Go and Rust
 	@bash scripts/c/test-c.sh
 
-test: need-rt ## prove every crate from nothing, try the edits of crates/*/refused but those that a reader judged, run the tests and the programs
+test: need-rt ## prove every crate from nothing, try the edits of crates/*/refused by the prover and by runs, run the tests and the programs
 	@bash scripts/gate/logged.sh bash scripts/gate/test.sh
 
-refused: need-rt ## try all edits of crates/*/refused, or of CRATE=name, those that a reader judged too: run it before a contract changes
+refused: need-rt ## let the prover try all edits of crates/*/refused, or of CRATE=name, those with a line `judged:` too: run it before a contract changes
 	@python3 scripts/gate/refused.py $(CRATE)
 
-witnessed: need-rt ## run each edit of crates/*/refused that no proof refuses, or of CRATE=name, at its witness, the input whose answer it changes; FIND=1 finds witnesses and writes them
+witnessed: need-rt ## run each edit of crates/*/refused with a line `judged:`, or of CRATE=name, at its witness, the input whose answer it changes; FIND=1 finds witnesses and writes them
 	@python3 scripts/gate/witnesses.py $(if $(FIND),--find) $(CRATE)
 
 bench: need-rt ## print our figures beside nghttp3's and plain C's, measured in one run

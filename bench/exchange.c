@@ -81,11 +81,11 @@ static void body_rows(const list_sets *sets) {
   row("by 128 KiB, in place", "16 MiB GET", in_place(long_get(sets, 16 * MIB, 128 * KIB)), IN_PLACE_TARGET);
 }
 
-/* So many exchanges on one connection, timed by nobody, for a program that counts instructions: scripts/bench/instructions.sh. */
+/* Runs so many exchanges on one connection, or each on its own, and measures no time: scripts/bench/instructions.sh counts instructions. */
 static int run_once(const list_sets *sets, const char *name, size_t exchanges, const char *who) {
   exchange_kind kind = kind_named(sets, name);
-  kind.exchanges = exchanges;
-  (strcmp(who, "ours") == 0 ? our_exchanges : peer_exchanges)(&kind, 1);
+  uint64_t connections = connections_of(&kind, exchanges);
+  (strcmp(who, "ours") == 0 ? our_exchanges : peer_exchanges)(&kind, connections);
   return 0;
 }
 

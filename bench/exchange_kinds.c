@@ -52,6 +52,19 @@ exchange_kind long_get(const list_sets *sets, size_t body, size_t piece) {
   return (exchange_kind){&sets->gets, &sets->oks, 0, body, body < 4 * MIB ? 20 : 4, 1, piece, 0, 0, 0};
 }
 
+exchange_kind small_pieces(const list_sets *sets, size_t piece) {
+  exchange_kind pieces = small_get(sets);
+  pieces.piece = piece;
+  return pieces;
+}
+
+exchange_kind short_connection(const list_sets *sets, size_t table, size_t blocked) {
+  exchange_kind one = real_get(sets);
+  one.exchanges = 1;
+  one.table = table, one.blocked = blocked;
+  return one;
+}
+
 exchange_kind in_place(exchange_kind kind) {
   kind.in_place = 1;
   return kind;
@@ -72,8 +85,17 @@ void name_kinds(const list_sets *sets, named_kind named[NAMED_KINDS]) {
       {"1 MiB GET by 1 MiB in place", in_place(long_get(sets, MIB, MIB))},
       {"16 MiB GET by 128 KiB", long_get(sets, 16 * MIB, GATHERED)},
       {"16 MiB GET by 128 KiB in place", in_place(long_get(sets, 16 * MIB, GATHERED))},
+      {"small GET byte by byte", small_pieces(sets, 1)},
+      {"a connection with one real GET", short_connection(sets, 0, 0)},
+      {"a connection with one real GET and tables", short_connection(sets, 4096, 16)},
   };
   memcpy(named, all, sizeof all);
+}
+
+uint64_t connections_of(exchange_kind *kind, size_t exchanges) {
+  if (kind->exchanges == 1) return exchanges;
+  kind->exchanges = exchanges;
+  return 1;
 }
 
 exchange_kind kind_named(const list_sets *sets, const char *name) {

@@ -1,7 +1,7 @@
 /* Exchanges by whichever libnghttp3 the loader finds: nghttp3 itself, or the drop-in of compat/nghttp3. scripts/compat/speed.sh compares
  * both.
  *
- *     exchange_speed DATA once KIND EXCHANGES     so many exchanges on one connection, timed by nobody
+ *     exchange_speed DATA once KIND EXCHANGES     so many exchanges on one connection, or each on its own; no time is measured
  *     exchange_speed DATA time KIND SECONDS       the microseconds of an exchange, of the fastest round */
 #define _GNU_SOURCE
 #include "exchange_kinds.h"
@@ -37,8 +37,8 @@ int main(int argc, char **argv) {
   const list_sets sets = load_sets(argv[1]);
   exchange_kind kind = kind_named(&sets, argv[3]);
   if (strcmp(argv[2], "once") == 0) {
-    kind.exchanges = strtoul(argv[4], NULL, 10);
-    peer_exchanges(&kind, 1);
+    uint64_t connections = connections_of(&kind, strtoul(argv[4], NULL, 10));
+    peer_exchanges(&kind, connections);
     return 0;
   }
   printf("%.3f\n", 1e6 * fastest(&kind, atof(argv[4])));

@@ -149,6 +149,26 @@ static void idle_row(void) {
   drop();
 }
 
+/* what an end holds while so many requests are open: their header sections were sent and read, and nothing came back yet */
+static void open_row(size_t count) {
+  char size[32];
+  sized(size, sizeof size, count, count == 1 ? "request" : "requests");
+  double before = held;
+  make(0, 0);
+  carry_own();
+  for (size_t i = 0; i < count; i++) {
+    uint64_t id;
+    h3_item item;
+    done("h3_open_request", 0, h3_open_request(&ends[CLIENT], &id, NULL));
+    send_request(id);
+    carry(CLIENT, id);
+    done("h3_pull", id, h3_pull(&ends[SERVER], id, &item));
+    if (item.kind != H3_HEAD) stop("no header section came", id, item.kind);
+  }
+  row("an endpoint with open requests", size, (held - before) / 2, "bytes an end", 0);
+  drop();
+}
+
 /* how the rows of exchanges are named, and what is wanted of them */
 struct exchanges {
   int ends_are_told; /* does the caller tell of each end that was taken, as h3.h asks? */
@@ -458,6 +478,7 @@ int main(int argc, char **argv) {
   }
   printf("| What | At | Figure | Unit | Wanted |\n|---|---|---|---|---|\n");
   idle_row();
+  for (size_t open = 1; open <= 10000; open *= 100) open_row(open);
   exchange_rows(count, &TOLD);
   exchange_rows(count, &UNTOLD);
   reset_rows("a stream that its client opens and resets", 100000, 0);

@@ -80,8 +80,8 @@
  * what was taken, or the next pull of a stream that may still deliver something: not of one whose
  * pull returns H3_END or a fault of the stream again. If there is no such stream, pull
  * h3_control_id, which delivers nothing. h3_finish, h3_reset, h3_advance, h3_end_taken,
- * h3_outgoing, h3_next_to_send, h3_next_request_id, h3_first_unseen, h3_is_drained, the states and
- * h3_free take no memory.
+ * h3_outgoing, h3_next_to_send, h3_next_request_id, h3_first_unseen, h3_is_drained, the calls for
+ * datagrams and capsules, the states and h3_free take no memory.
  *
  * WHAT TO CALL FROM QUIC'S CALLBACKS
  *
@@ -99,6 +99,7 @@
  *                            whose last item was H3_WAITING, until a pause, H3_END or a fault.
  *   RESET_STREAM came        h3_deliver_reset(id, code), then pull; drop later data of that stream
  *   STOP_SENDING came        h3_reset(id), and send RESET_STREAM (RFC 9000, section 3.5)
+ *   a DATAGRAM frame came    h3_read_datagram, if HTTP datagrams are announced
  *   data can be sent         h3_outgoing(id, buffer, ..): pass these bytes to QUIC, and after them
  *                            `past` bytes of the body that you hold (h3_send_body_of), if there
  *                            are such. Call h3_advance(id, n) with the n bytes that QUIC took of
@@ -175,8 +176,9 @@
  *     a client after a 2xx response to it.
  *   Content that you send is as long as your content-length says: a body that passes it, and an end
  *     or a trailer section before it is reached, is H3_MALFORMED with H3_BAD_CONTENT_LENGTH. So is
- *     a body in a response to HEAD or with status 204 or 304. A server checks this only if its pull
- *     returned the request's header section before it answers: so pull before you answer.
+ *     a body in a response to HEAD or with status 204, 205 or 304, and in a TRACE request. A server
+ *     checks this only if its pull returned the request's header section before it answers: so pull
+ *     before you answer.
  *   A trailer section in a tunnel is not sent: H3_MALFORMED with H3_BAD_CONNECT. So is a trailer
  *     section after a 2xx response that a server sends before it pulled the request's header
  *     section: the request may be CONNECT, and the trailer would close the client's connection.
@@ -277,7 +279,8 @@ enum h3_answer {
                                 (RFC 9114, section 4.2.2) */
   H3_CRITICAL = 14,          /* the connection needs this stream */
   H3_ENDED = 15,             /* the stream has ended */
-  H3_NOT_REQUEST_ID = 16,    /* a server's GOAWAY names a request stream: a multiple of 4 */
+  H3_NOT_REQUEST_ID = 16,    /* a server's GOAWAY and a datagram name a request stream: a multiple
+                                of 4 */
   H3_RAISED = 17,            /* an earlier GOAWAY had a lower id; detail: that id */
   H3_MEMORY = 18,            /* out of memory: nothing is lost */
   /* of h3_new */
@@ -298,6 +301,9 @@ enum h3_answer {
   /* of a strict endpoint */
   H3_MALFORMED = 27,         /* a strict peer would call the message malformed; detail: the
                                 h3_malformation */
+  /* of datagrams */
+  H3_NO_DATAGRAMS = 29,      /* this side or the peer announced no HTTP datagrams, or the peer's
+                                settings have not come */
   /* of a server that shuts down */
   H3_REJECTED = 30,          /* the request is rejected: nothing was delivered; detail:
                                 H3_CODE_REQUEST_REJECTED */
@@ -325,13 +331,16 @@ static inline const char *h3_answer_text(uint32_t answer) {
     case H3_FIELD_NAME: return "H3_FIELD_NAME"; case H3_FIELD_VALUE: return "H3_FIELD_VALUE";
     case H3_FIELD_COUNT: return "H3_FIELD_COUNT"; case H3_NONE: return "H3_NONE";
     case H3_ROOM: return "H3_ROOM"; case H3_MALFORMED: return "H3_MALFORMED";
-    case H3_UNFINISHED_LIMIT: return "H3_UNFINISHED_LIMIT"; case H3_REJECTED: return "H3_REJECTED";
+    case H3_UNFINISHED_LIMIT: return "H3_UNFINISHED_LIMIT";
+    case H3_NO_DATAGRAMS: return "H3_NO_DATAGRAMS"; case H3_REJECTED: return "H3_REJECTED";
     case H3_ARGUMENT: return "H3_ARGUMENT"; case H3_NO_ENDPOINT: return "H3_NO_ENDPOINT";
     default: return "an unknown answer";
   }
 }
 
-/* Error codes: RFC 9114, section 8.1, and of QPACK RFC 9204, section 6. */
+/* Error codes: RFC 9114, section 8.1; of QPACK RFC 9204, section 6; of datagrams and capsules RFC
+ * 9297, section 5.2. */
+#define H3_CODE_DATAGRAM_ERROR UINT64_C(0x33)
 #define H3_CODE_NO_ERROR UINT64_C(0x100)
 #define H3_CODE_GENERAL_PROTOCOL_ERROR UINT64_C(0x101)
 #define H3_CODE_INTERNAL_ERROR UINT64_C(0x102)
@@ -356,6 +365,7 @@ static inline const char *h3_answer_text(uint32_t answer) {
 /* The name of a code, for a log, or "an unknown code". */
 static inline const char *h3_code_text(uint64_t code) {
   switch (code) {
+    case H3_CODE_DATAGRAM_ERROR: return "H3_DATAGRAM_ERROR";
     case H3_CODE_NO_ERROR: return "H3_NO_ERROR";
     case H3_CODE_GENERAL_PROTOCOL_ERROR: return "H3_GENERAL_PROTOCOL_ERROR";
     case H3_CODE_INTERNAL_ERROR: return "H3_INTERNAL_ERROR";
@@ -404,8 +414,9 @@ typedef struct {
   uint64_t extended_connect;          /* whether extended CONNECT is announced (RFC 9220). :protocol
                                        * is connect-udp or webtransport here; any other one, as
                                        * websocket, is malformed: leave 0 if browsers connect */
-  uint64_t datagram;                  /* whether HTTP datagrams are announced (RFC 9297); they are
-                                       * yours to send */
+  uint64_t datagram;                  /* whether HTTP datagrams are announced (RFC 9297), as
+                                       * h3_datagram_head asks for. QUIC has to announce its
+                                       * max_datagram_frame_size too (RFC 9221, section 3) */
   uint64_t strict;                    /* whether header sections, trailer sections and content are
                                        * checked (RFC 9114, sections 4.1.2 and 4.2 to 4.5): see
                                        * h3_malformation and WHAT IS CHECKED */
@@ -563,10 +574,12 @@ static inline uint32_t h3_shutdown(h3_endpoint *endpoint, uint64_t *detail);
 static inline uint32_t h3_first_unseen(h3_endpoint *endpoint, uint64_t *id);
 
 /* *drained is 1 if nothing is left to be done, so that the connection can be closed without losing
- * a request, else 0. Then all of this is true: no request is to come (a server's GOAWAY has an id
- * of at most h3_first_unseen; at a client one came from its server); each request stream was pulled
- * to H3_END or a fault of the stream, or canceled; each was finished or reset; all that waited on
- * it was taken, and h3_end_taken was called for its FIN; nothing waits on the local control stream.
+ * a request, else 0. Then all of this is true: no request is to come (a server saw each one below
+ * the id of its last GOAWAY; at a client a GOAWAY came from its server); each request stream was
+ * pulled to H3_END or a fault of the stream, or canceled; each was finished or reset; all that
+ * waited on it was taken, and h3_end_taken was called for its FIN; nothing waits on the local
+ * control stream. A server that names an id above a request that never comes stays at 0: so give
+ * shutting down a deadline.
  * If you never call h3_end_taken, it stays 0 once a message was finished. After a fault of the
  * connection it says nothing: close the connection. Takes no memory, and reads the streams that are
  * not over. */
@@ -664,21 +677,25 @@ enum h3_malformation {
   H3_CONNECTION_FIELD = 9,      /* a connection-specific field, or a te that is not "trailers" in a
                                  * request (4.2) */
   H3_BAD_CONTENT_LENGTH = 10,   /* no number, twice, or not with this status (RFC 9110, section
-                                 * 8.6); at a server also: not as long as what came (4.1.2) */
+                                 * 8.6); at a server also: not as long as what came (4.1.2). In
+                                 * sending also: with 204, and more than 0 with 205 or TRACE */
   H3_BAD_PROTOCOL = 11,         /* :protocol without CONNECT, or where who receives it has not
                                  * announced it (RFC 8441, section 4; RFC 9220, section 3) */
-  H3_BAD_CONNECT = 12,          /* CONNECT without :authority, or plain CONNECT with :scheme or :path
-                                 * (4.4); a trailer section that is sent in a tunnel, or after a 2xx
+  H3_BAD_CONNECT = 12,          /* plain CONNECT without a port in :authority (RFC 9110, section
+                                 * 9.3.6), or with :scheme or :path (4.4); a trailer section that is sent in a tunnel, or after a 2xx
                                  * response to a request that was not pulled yet */
   H3_MISSING_PSEUDO_FIELD = 13, /* a request without :method, :scheme or :path, a response without
                                  * :status (4.3.1, 4.3.2) */
-  H3_BAD_SCHEME = 14,           /* empty, or does not begin with a letter (RFC 3986, section 3.1) */
+  H3_BAD_SCHEME = 14,           /* no letter, and then letters, digits, '+', '-' and '.' (RFC 3986,
+                                 * section 3.1) */
   H3_BAD_AUTHORITY = 15,        /* missing, empty, with userinfo; host twice, no authority, or
                                  * unlike :authority (4.3.1; RFC 9110, section 7.2) */
   H3_BAD_PATH = 16,             /* does not begin with '/' and is not "*" for OPTIONS, or has a
                                  * fragment (4.3.1) */
   H3_BAD_STATUS = 17,           /* 101 (4.5) */
-  H3_NO_TRAILER_FIELD = 18,     /* content-length or host in a trailer (RFC 9110, section 6.5.1) */
+  H3_NO_TRAILER_FIELD = 18,     /* content-length or host in a trailer (RFC 9110, section 6.5.1); in
+                                 * sending also fields of authentication, cookies, request modifiers,
+                                 * response control and content format */
   H3_TOO_LONG = 19              /* HEADERS longer than unfinished_limit (RFC 9114, section 10.5) */
 };
 
@@ -779,6 +796,66 @@ static inline uint32_t h3_item_fields(h3_endpoint *endpoint, h3_field_size *size
 static inline uint32_t h3_item_bytes(h3_endpoint *endpoint, size_t from, void *buffer, size_t room,
                                      size_t *n);
 
+/* ---- datagrams and capsules (RFC 9297) ---- */
+
+/* What stands in front of the payload of an HTTP datagram for the request on stream `id`, 1 to 8
+ * bytes: they are written to `buffer`, which has room for `room` bytes, and *n says how many. Send
+ * them, and the payload after them, in one QUIC DATAGRAM frame. Refused, with *n and the buffer not
+ * written, in this order: H3_ARGUMENT (id not below 2^62), H3_CLOSED, H3_NOT_REQUEST_ID,
+ * H3_NO_DATAGRAMS, H3_NOT_OPEN, H3_ENDED (sending on the stream was finished or reset), H3_ROOM. */
+static inline uint32_t h3_datagram_head(h3_endpoint *endpoint, uint64_t id, void *buffer,
+                                        size_t room, size_t *n, uint64_t *detail);
+
+/* An HTTP datagram came, as the payload of a QUIC DATAGRAM frame: *id is the stream of its request,
+ * and its own payload is what follows the first *from bytes. Nothing is kept of it. Refused, in
+ * this order: H3_CONNECTION (of an earlier fault), H3_NO_DATAGRAMS (a side announced none: drop
+ * it), H3_CONNECTION (it is malformed: close the connection with `detail`), H3_AFTER_END (nothing
+ * more is received on its stream: drop it), H3_NOT_OPEN (its stream is not there yet, or the peer's
+ * settings have not come: drop it, or keep it for about a round trip and call again; *id is
+ * written). */
+static inline uint32_t h3_read_datagram(h3_endpoint *endpoint, const void *bytes, size_t len,
+                                        uint64_t *id, size_t *from, uint64_t *detail);
+
+/* A reader of capsules: its place in the data of one stream. Begin with all numbers 0, keep one
+ * for each stream that has capsules, and copy it as you like. Only h3_read_capsule writes it. */
+typedef struct {
+  uint64_t head_low, head_high, head_len; /* of a type and a length that are not whole */
+  uint64_t left;                          /* bytes of a value that are to come */
+  uint64_t is_at_end;                     /* whether H3_CAPSULE_END comes next */
+} h3_capsule_reader;
+
+/* What bytes of capsules tell. */
+enum h3_capsule_part {
+  H3_CAPSULE_PENDING = 0, /* nothing more: all bytes were used */
+  H3_CAPSULE_HEAD = 1,    /* a capsule begins: `capsule_type`, and `length` of its value */
+  H3_CAPSULE_VALUE = 2,   /* `length` bytes that were used are the next of its value */
+  H3_CAPSULE_END = 3      /* the capsule is whole: no byte was used */
+};
+
+typedef struct {
+  uint64_t part;         /* an h3_capsule_part */
+  uint64_t capsule_type; /* of H3_CAPSULE_HEAD, else 0 */
+  uint64_t length;       /* of H3_CAPSULE_HEAD and H3_CAPSULE_VALUE, else 0 */
+} h3_capsule;
+
+/* Reads on in the body of a stream that uses the capsule protocol (RFC 9297, section 3): what comes
+ * next, and in *used how many of the bytes it took. Call it again with the bytes that are left
+ * until it tells H3_CAPSULE_PENDING. A body may come in any pieces. Skip the values of capsules
+ * whose type you do not know (section 3.2). It needs no endpoint. Refused: H3_ARGUMENT. */
+static inline uint32_t h3_read_capsule(h3_capsule_reader *reader, const void *bytes, size_t len,
+                                       size_t *used, h3_capsule *capsule);
+
+/* *ends is 1 if the body may end here, else 0: a capsule is not whole, and the message is malformed
+ * (section 3.3): H3_CODE_MESSAGE_ERROR. Ask it at H3_END, after H3_CAPSULE_PENDING. Refused:
+ * H3_ARGUMENT. */
+static inline uint32_t h3_capsule_ends(const h3_capsule_reader *reader, uint32_t *ends);
+
+/* What stands in front of the value of a capsule, 2 to 16 bytes: they are written to `buffer`, and
+ * *n says how many. Send them and `length` bytes of a value as a body. Refused, with *n and the
+ * buffer not written, in this order: H3_ARGUMENT (a type or length not below 2^62), H3_ROOM. */
+static inline uint32_t h3_capsule_head(uint64_t capsule_type, uint64_t length, void *buffer,
+                                       size_t room, size_t *n);
+
 /* ---- priorities ---- */
 
 /* Reads the value of a `priority` field (RFC 9218, section 4): *urgency from 0, the most urgent, to
@@ -847,6 +924,11 @@ static inline uint64_t h3_decoder_id(int server) { return server ? 11 : 10; }
 uint32_t h3_raw_version(void);
 uint32_t h3_raw_priority_read(const uint8_t *value, size_t len, uint32_t *urgency,
                               uint32_t *incremental);
+uint32_t h3_raw_read_capsule(h3_capsule_reader *reader, const uint8_t *bytes, size_t len,
+                             size_t *used, h3_capsule *capsule);
+uint32_t h3_raw_capsule_ends(const h3_capsule_reader *reader, uint32_t *ends);
+uint32_t h3_raw_capsule_head(uint64_t capsule_type, uint64_t length, uint8_t *buffer, size_t room,
+                             size_t *n);
 void h3_raw_config_default(uint64_t *numbers, size_t count);
 uint32_t h3_raw_new(const uint64_t *numbers, size_t count, uint64_t *detail, h3_endpoint *out);
 void h3_raw_free(h3_endpoint endpoint);
@@ -889,6 +971,10 @@ uint32_t h3_raw_item_fields(h3_endpoint endpoint, h3_field_size *sizes, size_t m
                             size_t room, h3_endpoint *out);
 uint32_t h3_raw_item_bytes(h3_endpoint endpoint, size_t from, uint8_t *buffer, size_t room,
                            size_t *n, h3_endpoint *out);
+uint32_t h3_raw_datagram_head(h3_endpoint endpoint, uint64_t id, uint8_t *buffer, size_t room,
+                              size_t *n, uint64_t *detail, h3_endpoint *out);
+uint32_t h3_raw_read_datagram(h3_endpoint endpoint, const uint8_t *bytes, size_t len, uint64_t *id,
+                              size_t *from, uint64_t *detail, h3_endpoint *out);
 uint32_t h3_raw_stream(h3_endpoint endpoint, uint64_t id, h3_stream_state *state, h3_endpoint *out);
 uint32_t h3_raw_connection(h3_endpoint endpoint, h3_state *state, h3_endpoint *out);
 uint32_t h3_raw_peer_setting(h3_endpoint endpoint, uint64_t setting, uint64_t *value,
@@ -905,6 +991,23 @@ static inline uint32_t h3_priority_read(const void *value, size_t len, uint32_t 
                                         uint32_t *incremental) {
   if (!urgency || !incremental || (!value && len)) return H3_ARGUMENT;
   return h3_raw_priority_read(h3_in_(value), len, urgency, incremental);
+}
+
+static inline uint32_t h3_read_capsule(h3_capsule_reader *reader, const void *bytes, size_t len,
+                                       size_t *used, h3_capsule *capsule) {
+  if (!reader || !used || !capsule || (!bytes && len)) return H3_ARGUMENT;
+  return h3_raw_read_capsule(reader, h3_in_(bytes), len, used, capsule);
+}
+static inline uint32_t h3_capsule_ends(const h3_capsule_reader *reader, uint32_t *ends) {
+  if (!reader || !ends) return H3_ARGUMENT;
+  return h3_raw_capsule_ends(reader, ends);
+}
+static inline uint32_t h3_capsule_head(uint64_t capsule_type, uint64_t length, void *buffer,
+                                       size_t room, size_t *n) {
+  uint8_t nothing;
+  if (!n) return H3_ARGUMENT;
+  return h3_raw_capsule_head(capsule_type, length, buffer ? (uint8_t *)buffer : &nothing,
+                             buffer ? room : 0, n);
 }
 
 static inline void h3_config_default(h3_config *config) {
@@ -1084,6 +1187,22 @@ static inline uint32_t h3_item_bytes(h3_endpoint *endpoint, size_t from, void *b
   if (!n) return H3_ARGUMENT;
   return h3_raw_item_bytes(*endpoint, from, buffer ? (uint8_t *)buffer : &nothing,
                            buffer ? room : 0, n, endpoint);
+}
+static inline uint32_t h3_datagram_head(h3_endpoint *endpoint, uint64_t id, void *buffer,
+                                        size_t room, size_t *n, uint64_t *detail) {
+  uint64_t none; uint8_t nothing;
+  if (!endpoint || !endpoint->at) return H3_NO_ENDPOINT;
+  if (!n) return H3_ARGUMENT;
+  return h3_raw_datagram_head(*endpoint, id, buffer ? (uint8_t *)buffer : &nothing,
+                              buffer ? room : 0, n, detail ? detail : &none, endpoint);
+}
+static inline uint32_t h3_read_datagram(h3_endpoint *endpoint, const void *bytes, size_t len,
+                                        uint64_t *id, size_t *from, uint64_t *detail) {
+  uint64_t none;
+  if (!endpoint || !endpoint->at) return H3_NO_ENDPOINT;
+  if (!id || !from || (!bytes && len)) return H3_ARGUMENT;
+  return h3_raw_read_datagram(*endpoint, h3_in_(bytes), len, id, from, detail ? detail : &none,
+                              endpoint);
 }
 static inline uint32_t h3_stream(h3_endpoint *endpoint, uint64_t id, h3_stream_state *state) {
   if (!endpoint || !endpoint->at) return H3_NO_ENDPOINT;

@@ -159,6 +159,64 @@ struct outgoing {
   std::size_t past = 0;
 };
 
+/* What a datagram is that came. */
+struct datagram {
+  enum what {
+    is_for,   /* it is for the request on the stream `id`, with this payload, a part of the bytes that came */
+    is_early, /* the stream `id` is not there yet, or the peer's settings: drop it, or keep it for a round trip and read it again */
+    is_late,  /* nothing more is received on its stream: drop it */
+    is_off    /* one of the sides announced no datagrams: drop it */
+  };
+  what kind = is_off;
+  std::uint64_t id = 0;
+  bytes payload;
+};
+
+/* What stands in front of the payload of a datagram or of the value of a capsule, in at most 16 bytes. */
+struct head_bytes {
+  std::uint8_t room[16] = {};
+  std::size_t count = 0;
+
+  operator bytes() const noexcept { return bytes(room, count); }
+};
+
+/* Reads the capsules of one stream (RFC 9297, section 3.2), whose bytes come in any pieces. It takes no memory, and may be copied. */
+class capsule_reader {
+ public:
+  struct told {
+    h3_capsule_part part = H3_CAPSULE_PENDING;
+    std::uint64_t capsule_type = 0, length = 0; /* of H3_CAPSULE_HEAD */
+    bytes value;                                /* of H3_CAPSULE_VALUE: a part of the bytes that were given */
+  };
+
+  /* What comes next in bytes that follow, of which `piece` is what is left afterwards. Call it until it tells H3_CAPSULE_PENDING. */
+  told read(bytes &piece) noexcept {
+    std::size_t used = 0;
+    h3_capsule raw{};
+    told said;
+    h3_read_capsule(&raw_, piece.data(), piece.size(), &used, &raw);
+    said.part = static_cast<h3_capsule_part>(raw.part);
+    said.capsule_type = raw.capsule_type;
+    said.length = raw.length;
+    if (said.part == H3_CAPSULE_VALUE) said.value = bytes(piece.data(), used);
+    piece = bytes(piece.data() + used, piece.size() - used);
+    return said;
+  }
+  /* The data may end here. If not, a capsule is not whole, and the message is malformed (section 3.3). Ask it after H3_CAPSULE_PENDING. */
+  bool may_end() const noexcept {
+    std::uint32_t ends = 0;
+    return h3_capsule_ends(&raw_, &ends) == H3_OK && ends == 1;
+  }
+
+ private:
+  h3_capsule_reader raw_ = {};
+};
+
+/* What stands in front of the value of a capsule: send it, and so many bytes of a value, as a body. */
+inline result capsule_head(std::uint64_t capsule_type, std::uint64_t length, head_bytes &into) noexcept {
+  return {h3_capsule_head(capsule_type, length, into.room, sizeof into.room, &into.count), 0};
+}
+
 inline h3_config client_config() noexcept {
   h3_config config;
   h3_config_default(&config);
@@ -275,6 +333,29 @@ class endpoint {
     empty(into);
     if (std::uint32_t answer = h3_pull(&raw_, id, &raw); answer != H3_OK) return {answer, 0};
     return copy_item(raw, into);
+  }
+
+  /* ---- datagrams (RFC 9297) ---- */
+
+  /* What stands in front of the payload of a datagram for the request on a stream: send both as the payload of a QUIC DATAGRAM frame. */
+  result datagram_head(std::uint64_t id, head_bytes &into) noexcept {
+    return call(h3_datagram_head, id, into.room, sizeof into.room, &into.count);
+  }
+  /* What came as the payload of a QUIC DATAGRAM frame. Nothing of it is kept. H3_CONNECTION: close the connection with the detail. */
+  result read_datagram(bytes whole, datagram &into) noexcept {
+    std::size_t from = 0;
+    into = datagram{};
+    result said = call(h3_read_datagram, whole.data(), whole.size(), &into.id, &from);
+    switch (said.answer) {
+      case H3_OK:
+        into.kind = datagram::is_for;
+        into.payload = bytes(whole.data() + from, whole.size() - from);
+        return said;
+      case H3_NOT_OPEN: into.kind = datagram::is_early; return {};
+      case H3_AFTER_END: into.kind = datagram::is_late; return {};
+      case H3_NO_DATAGRAMS: return {};
+      default: return said;
+    }
   }
 
   /* ---- what can be read ---- */

@@ -24,7 +24,7 @@ const (
 	TooLarge        Answer = C.H3_TOO_LARGE         // the field section is larger than the peer takes; detail: its size
 	Critical        Answer = C.H3_CRITICAL          // the connection needs this stream
 	Ended           Answer = C.H3_ENDED             // the stream has ended
-	NotRequestID    Answer = C.H3_NOT_REQUEST_ID    // a server's GOAWAY names a request stream: a multiple of 4
+	NotRequestID    Answer = C.H3_NOT_REQUEST_ID    // a server's GOAWAY and a datagram name a request stream: a multiple of 4
 	Raised          Answer = C.H3_RAISED            // an earlier GOAWAY had a lower id; detail: that id
 	Memory          Answer = C.H3_MEMORY            // out of memory: nothing is lost, the same call may be made again
 	TableLimit      Answer = C.H3_TABLE_LIMIT       // Table is above 2^30 - 1
@@ -35,6 +35,7 @@ const (
 	FieldValue      Answer = C.H3_FIELD_VALUE       // a value is not one of its name's grammar
 	FieldCount      Answer = C.H3_FIELD_COUNT       // there are more different names than fit
 	Malformed       Answer = C.H3_MALFORMED         // a strict peer would call the message malformed; detail: the Malformation
+	NoDatagrams     Answer = C.H3_NO_DATAGRAMS      // a side announced no HTTP datagrams, or the peer's settings have not come
 	Rejected        Answer = C.H3_REJECTED          // the request is rejected, nothing was delivered; detail: CodeRequestRejected
 	Argument        Answer = C.H3_ARGUMENT          // an argument is out of range
 	NoEndpoint      Answer = C.H3_NO_ENDPOINT       // the endpoint was closed
@@ -69,6 +70,7 @@ var refusals = map[Answer]string{
 	FieldName:       "invalid field name",
 	FieldValue:      "invalid field value",
 	FieldCount:      "too many fields",
+	NoDatagrams:     "a side announced no HTTP datagrams",
 	Rejected:        "the request is rejected",
 	Argument:        "an argument is out of range",
 	NoEndpoint:      "the endpoint was closed",
@@ -145,8 +147,9 @@ const (
 // String is the malformation's name in h3.h.
 func (m Malformation) String() string { return C.GoString(C.h3_malformation_text(C.uint64_t(m))) }
 
-// Codes of RFC 9114, section 8.1, that a program names.
+// Codes of RFC 9114, section 8.1, and of RFC 9297, section 5.2, that a program names.
 const (
+	DatagramError     = C.H3_CODE_DATAGRAM_ERROR
 	NoError           = C.H3_CODE_NO_ERROR
 	InternalError     = C.H3_CODE_INTERNAL_ERROR
 	ExcessiveLoad     = C.H3_CODE_EXCESSIVE_LOAD

@@ -125,26 +125,53 @@ field_list field_list_at(void *place, const nghttp3_nv *fields, size_t count);
 bool priority_field_parse(priority *to, const uint8_t *value, size_t length);
 
 /* streams.c */
-bool is_request(int64_t id);
-stream *stream_find(nghttp3_conn *connection, int64_t id);
+stream *stream_find_own(nghttp3_conn *connection, int64_t id);
 stream *stream_add(nghttp3_conn *connection, int64_t id);
 void stream_init(stream *s, int64_t id, uint64_t endpoint_id);
 void stream_clear(stream *s);
 void stream_free(nghttp3_conn *connection, stream *s);
-void stream_hold(stream *s);
-void stream_release(nghttp3_conn *connection, stream *s);
 bool stream_has_work(const stream *s);
 void stream_schedule(nghttp3_conn *connection, stream *s);
 void stream_unschedule(nghttp3_conn *connection, stream *s);
-void stream_set_waiting(nghttp3_conn *connection, stream *s, bool is_waiting);
 void stream_set_priority(nghttp3_conn *connection, stream *s, priority to);
 bool reserve_scratch(nghttp3_conn *connection, size_t size);
+
+/* Each packet of a body needs what follows: so it stands here, without a call. */
+
+/* A client opens the streams 0, 4, 8, .. (RFC 9000, section 2.1). */
+static inline bool is_request(int64_t id) { return id >= 0 && id % 4 == 0; }
+
+/* Which place of the table a request stream has. There are 0, 16, 32, .. places: a power of 2. */
+static inline size_t place_in_table(size_t places, int64_t id) { return ((uint64_t)id >> 2) & (places - 1); }
+
+/* A request stream, or a local unidirectional stream that is bound to this id; else NULL. */
+static inline stream *stream_find(nghttp3_conn *connection, int64_t id) {
+  if (!is_request(id)) return stream_find_own(connection, id);
+  if (connection->places == 0) return NULL;
+  stream *s = connection->table[place_in_table(connection->places, id)];
+  while (s && s->id != id) s = s->next;
+  return s;
+}
+
+/* A callback of the application may close the stream that it was called for. */
+static inline void stream_hold(stream *s) { s->holders++; }
+
+static inline void stream_release(nghttp3_conn *connection, stream *s) {
+  if (--s->holders == 0 && s->is_closed) stream_free(connection, s);
+}
+
+static inline void stream_set_waiting(nghttp3_conn *connection, stream *s, bool is_waiting) {
+  if (is_waiting == s->is_waiting) return;
+  if (is_waiting) TAILQ_INSERT_TAIL(&connection->waiting, s, waiting);
+  else TAILQ_REMOVE(&connection->waiting, s, waiting);
+  s->is_waiting = is_waiting;
+}
 
 /* endpoint.c: how bytes enter and leave the endpoint */
 int endpoint_take(nghttp3_conn *connection, stream *s);
 int endpoint_send_body(nghttp3_conn *connection, stream *s, const nghttp3_vec *body);
 int endpoint_next(nghttp3_conn *connection, stream *s, input *in, h3_item *item);
-int endpoint_body(nghttp3_conn *connection, const input *in, const h3_item *item, const uint8_t **bytes);
+int endpoint_copied_body(nghttp3_conn *connection, const h3_item *item, const uint8_t **bytes);
 int endpoint_deliver(nghttp3_conn *connection, int64_t id, const uint8_t *bytes, size_t length, bool has_fin);
 int append_copy(stream *s, const uint8_t *bytes, size_t length);
 

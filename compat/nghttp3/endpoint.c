@@ -82,9 +82,9 @@ int endpoint_send_body(nghttp3_conn *connection, stream *s, const nghttp3_vec *b
 
 /* ---- what enters ---- */
 
-static bool is_pause(const h3_item *item) { return item->kind == H3_PENDING || item->kind == H3_WAITING; }
+static inline bool is_pause(const h3_item *item) { return item->kind == H3_PENDING || item->kind == H3_WAITING; }
 
-static int read_on(nghttp3_conn *connection, stream *s, input *in, bool is_end, h3_item *item) {
+static inline int read_on(nghttp3_conn *connection, stream *s, input *in, bool is_end, h3_item *item) {
   size_t used = 0;
   uint64_t detail = 0;
   uint32_t answer = h3_read(&connection->endpoint, s->endpoint_id, in->bytes, in->length, is_end, &used, item, &detail);
@@ -103,18 +103,15 @@ static int read_on(nghttp3_conn *connection, stream *s, input *in, bool is_end, 
 /* The next item of a request stream, of what came before and of `in`, which then begins after what was used. The end comes after all items
  * of the bytes: so a body that it cuts short is passed on as far as it came, in whichever pieces. */
 int endpoint_next(nghttp3_conn *connection, stream *s, input *in, h3_item *item) {
-  bool is_end = in->has_fin && in->length == 0 && !s->may_be_held;
-  int error = read_on(connection, s, in, is_end, item);
-  return !error && is_pause(item) && in->has_fin && !is_end ? read_on(connection, s, in, true, item) : error;
+  for (bool is_end = in->has_fin && in->length == 0 && !s->may_be_held;; is_end = true) {
+    int error = read_on(connection, s, in, is_end, item);
+    if (error || is_end || !in->has_fin || !is_pause(item)) return error;
+  }
 }
 
-/* The bytes of an item that is a piece of a body: where they lie in what came, or a copy until the next call of this file. */
-int endpoint_body(nghttp3_conn *connection, const input *in, const h3_item *item, const uint8_t **bytes) {
+/* The bytes of a piece of a body that the endpoint holds: a copy until the next call of this file. */
+int endpoint_copied_body(nghttp3_conn *connection, const h3_item *item, const uint8_t **bytes) {
   size_t length;
-  if (item->kind == H3_BODY_GIVEN) {
-    *bytes = in->given + item->number;
-    return 0;
-  }
   if (!reserve_scratch(connection, item->len)) return NGHTTP3_ERR_NOMEM;
   *bytes = connection->scratch;
   return h3_item_bytes(&connection->endpoint, 0, connection->scratch, item->len, &length) == H3_OK ? 0 : NGHTTP3_ERR_H3_INTERNAL_ERROR;

@@ -77,11 +77,13 @@ static int tell_end_of_fields(nghttp3_conn *connection, stream *s, uint32_t kind
 }
 
 /* The application grants credit for the bytes that recv_data gets. */
-static int tell_body(nghttp3_conn *connection, stream *s, const input *in, const h3_item *item) {
+static inline int tell_body(nghttp3_conn *connection, stream *s, const input *in, const h3_item *item) {
   const uint8_t *bytes;
+  int error = 0;
   s->owed -= item->len < s->owed ? item->len : s->owed;
   if (!connection->callbacks.recv_data || item->len == 0) return 0;
-  int error = endpoint_body(connection, in, item, &bytes);
+  if (item->kind == H3_BODY_GIVEN) bytes = in->given + item->number;
+  else error = endpoint_copied_body(connection, item, &bytes);
   return error ? error : CALLBACK(connection, recv_data, s->id, bytes, item->len, connection->user_data, s->user_data);
 }
 
@@ -91,8 +93,7 @@ static int tell_item(nghttp3_conn *connection, stream *s, const input *in, const
     case H3_HEAD:
     case H3_INTERIM:
     case H3_TRAILER: return tell_fields(connection, s, item);
-    case H3_BODY:
-    case H3_BODY_GIVEN: return tell_body(connection, s, in, item);
+    case H3_BODY: return tell_body(connection, s, in, item);
     case H3_END: s->is_read_shut = true; return CALLBACK(connection, end_stream, s->id, connection->user_data, s->user_data);
     case H3_TOO_LARGE_HEAD: return refuse_message(connection, s, NGHTTP3_H3_EXCESSIVE_LOAD);
     case H3_FAULT_MALFORMED: return refuse_message(connection, s, h3_error_code(H3_FAULT_MALFORMED, item->number, connection->is_server));
@@ -109,32 +110,36 @@ static bool is_all(const stream *s, const input *in, uint32_t kind) {
   return (is_section(kind) || kind == H3_BODY_GIVEN) && in->length == 0 && !in->has_fin && !s->may_be_held;
 }
 
+/* Does the application get nothing more of the stream? */
+static bool is_shut(const stream *s) { return s->is_read_shut || s->is_closed; }
+
 /* Passes all items that are there, of what came before and of `in`. */
 static int tell_items(nghttp3_conn *connection, stream *s, input *in) {
   uint32_t before = H3_PENDING; /* the kind of the item before */
   bool is_last = false;
-  int error = 0;
-  while (!error && !is_last && !s->is_read_shut && !s->is_closed) {
+  while (!is_shut(s)) {
     h3_item item;
-    error = endpoint_next(connection, s, in, &item);
+    int error = endpoint_next(connection, s, in, &item);
     if (!error && is_section(before)) error = tell_end_of_fields(connection, s, before, item.kind == H3_END);
-    if (error || s->is_read_shut || s->is_closed) break;
+    if (error || is_shut(s)) return error;
     before = item.kind;
     stream_set_waiting(connection, s, item.kind == H3_WAITING);
-    error = tell_item(connection, s, in, &item, &is_last);
-    if (error || is_last || s->is_read_shut || s->is_closed || !is_all(s, in, item.kind)) continue;
-    return is_section(item.kind) ? tell_end_of_fields(connection, s, item.kind, 0) : 0;
+    error = item.kind == H3_BODY_GIVEN ? tell_body(connection, s, in, &item) : tell_item(connection, s, in, &item, &is_last);
+    if (error || is_last) return error;
+    if (!is_shut(s) && is_all(s, in, item.kind)) return is_section(item.kind) ? tell_end_of_fields(connection, s, item.kind, 0) : 0;
   }
-  return error;
+  return 0;
 }
 
 /* ---- credit ---- */
 
 /* The bytes for which credit is due now: all but those after a head that waits for the peer's encoder. */
-static size_t take_credit(nghttp3_conn *connection, stream *s) {
+static inline size_t take_credit(nghttp3_conn *connection, stream *s) {
   size_t due = s->owed, kept = 0;
   h3_stream_state state;
-  if (s->is_waiting && h3_stream(&connection->endpoint, s->endpoint_id, &state) == H3_OK)
+  s->owed = 0;
+  if (!s->is_waiting) return due;
+  if (h3_stream(&connection->endpoint, s->endpoint_id, &state) == H3_OK)
     kept = state.unread < due ? (size_t)state.unread : due;
   s->owed = kept;
   return due - kept;

@@ -3,27 +3,16 @@
 #include <string.h>
 #include "connection.h"
 
-/* A client opens the streams 0, 4, 8, .. (RFC 9000, section 2.1). */
-bool is_request(int64_t id) { return id >= 0 && id % 4 == 0; }
-
 /* ---- the table ---- */
 
-static stream **place_of(stream **table, size_t places, int64_t id) { return table + ((uint64_t)id >> 2) % places; }
+static stream **place_of(stream **table, size_t places, int64_t id) { return table + place_in_table(places, id); }
 
-static stream *find_own(nghttp3_conn *connection, int64_t id) {
+/* The local unidirectional stream that is bound to this id; else NULL. */
+stream *stream_find_own(nghttp3_conn *connection, int64_t id) {
   stream *own[] = {&connection->control, &connection->encoder, &connection->decoder};
   for (int i = 0; i < 3; i++)
     if (id >= 0 && own[i]->id == id) return own[i];
   return NULL;
-}
-
-/* A request stream, or a local unidirectional stream that is bound to this id; else NULL. */
-stream *stream_find(nghttp3_conn *connection, int64_t id) {
-  if (!is_request(id)) return find_own(connection, id);
-  if (connection->places == 0) return NULL;
-  stream *s = *place_of(connection->table, connection->places, id);
-  while (s && s->id != id) s = s->next;
-  return s;
 }
 
 static bool grow(nghttp3_conn *connection) {
@@ -77,13 +66,6 @@ void stream_free(nghttp3_conn *connection, stream *s) {
   free(s);
 }
 
-/* A callback of the application may close the stream that it was called for. */
-void stream_hold(stream *s) { s->holders++; }
-
-void stream_release(nghttp3_conn *connection, stream *s) {
-  if (--s->holders == 0 && s->is_closed) stream_free(connection, s);
-}
-
 /* ---- the order among streams (RFC 9218, section 10) ---- */
 
 /* May bytes or the end of the stream be sent, or its body be asked for? */
@@ -108,12 +90,6 @@ void stream_set_priority(nghttp3_conn *connection, stream *s, priority to) {
   stream_unschedule(connection, s);
   s->priority = to;
   stream_schedule(connection, s);
-}
-
-void stream_set_waiting(nghttp3_conn *connection, stream *s, bool is_waiting) {
-  if (is_waiting && !s->is_waiting) TAILQ_INSERT_TAIL(&connection->waiting, s, waiting);
-  if (!is_waiting && s->is_waiting) TAILQ_REMOVE(&connection->waiting, s, waiting);
-  s->is_waiting = is_waiting;
 }
 
 bool reserve_scratch(nghttp3_conn *connection, size_t size) {

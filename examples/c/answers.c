@@ -138,7 +138,11 @@ static void on_head(http3_request *request, const h3_item *head) {
       {.name = "if-modified-since", .value = asked.if_modified_since, .room = sizeof asked.if_modified_since, .optional = true}};
   if (work->begun) return; /* a trailer section, which is ignored */
   work->begun = true;
-  bool is_read = head->kind != H3_TOO_LARGE_HEAD && http3_values(request->connection, head, wanted, sizeof wanted / sizeof *wanted);
+  http3_list *list = head->kind == H3_TOO_LARGE_HEAD ? NULL : http3_fields(request->connection, head);
+  if (!list && head->kind != H3_TOO_LARGE_HEAD) return http3_close(request->connection, H3_CODE_INTERNAL_ERROR);
+  bool is_read = list && http3_find(list, wanted, sizeof wanted / sizeof *wanted);
+  if (list) http3_prefer(request, list);
+  free(list);
   access_begin(&work->entry, *asked.method ? asked.method : "-", *asked.path ? asked.path : "-");
   if (head->kind == H3_TOO_LARGE_HEAD) return refuse(request, "431", "the fields are too large\n");
   if (wanted[0].too_long) return refuse(request, "501", "GET, HEAD and POST are known\n");

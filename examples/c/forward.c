@@ -20,13 +20,28 @@ static bool is_of_one_hop(const http3_line *line) {
   return false;
 }
 
-/* The fields of a list that go on, and `more` of others. */
-static http3_list *pass(const http3_list *list, const http3_field *more, size_t count) {
+/* Fields that no sender puts in a trailer section (RFC 9110, section 6.5.1): a server that did is not imitated. */
+static bool is_for_heads(const http3_line *line) {
+  static const char *const names[] = {
+      "authorization", "proxy-authorization", "www-authenticate", "proxy-authenticate", "cookie", "set-cookie",
+      "cache-control", "expect", "max-forwards", "pragma", "range", "if-match", "if-none-match", "if-modified-since",
+      "if-unmodified-since", "if-range", "age", "date", "expires", "location", "retry-after", "vary",
+      "content-encoding", "content-type", "content-range", "trailer"};
+  for (size_t i = 0; i < sizeof names / sizeof *names; i++)
+    if (http3_is(line, names[i])) return true;
+  return false;
+}
+
+/* A server sends no content-length with 204, also not 0 (RFC 9110, section 8.6). */
+static bool is_length(const http3_line *line) { return http3_is(line, "content-length"); }
+
+/* The fields of a list that go on, and `more` of others. `stays` tells those that do not. */
+static http3_list *pass(const http3_list *list, const http3_field *more, size_t count, bool (*stays)(const http3_line *)) {
   http3_line *lines = malloc((http3_count(list) + count) * sizeof *lines);
   size_t found = 0;
   if (!lines) return NULL;
   for (http3_at at = {0}; http3_next(list, &at, &lines[found]);)
-    if (!is_of_one_hop(&lines[found])) found++;
+    if (!is_of_one_hop(&lines[found]) && !(stays && stays(&lines[found]))) found++;
   for (; count > 0; more++, count--) lines[found++] = (http3_line){more->name, more->value, strlen(more->name), strlen(more->value)};
   http3_list *passed = http3_list_of_lines(lines, found);
   free(lines);
@@ -39,15 +54,18 @@ http3_list *forward_request(const http3_list *list, const char *client) {
   http3_field more[] = {{"via", via}, {"forwarded", forwarded}, {"te", "trailers"}};
   http3_find(list, &wanted, 1);
   snprintf(forwarded, sizeof forwarded, "for=\"%s\";proto=https", client);
-  return pass(list, more, wanted.found && strcmp(te, "trailers") == 0 ? 3 : 2);
+  return pass(list, more, wanted.found && strcmp(te, "trailers") == 0 ? 3 : 2, NULL);
 }
 
 http3_list *forward_response(const http3_list *list) {
+  char status[8];
+  http3_wanted wanted = {.name = ":status", .value = status, .room = sizeof status};
   const http3_field more = {"via", via};
-  return pass(list, &more, 1);
+  bool is_empty = http3_find(list, &wanted, 1) && strcmp(status, "204") == 0;
+  return pass(list, &more, 1, is_empty ? is_length : NULL);
 }
 
-http3_list *forward_trailer(const http3_list *list) { return pass(list, NULL, 0); }
+http3_list *forward_trailer(const http3_list *list) { return pass(list, NULL, 0, is_for_heads); }
 
 bool forward_is_loop(const http3_list *list) {
   http3_line line;

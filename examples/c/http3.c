@@ -133,8 +133,15 @@ static void cut_off(http3_request *request, uint64_t code) {
 
 /* ---- what came ---- */
 
+/* Of a section that is too large nobody knows the `priority`: its answer is short, and sent before others. */
+static void hurry(http3_request *request) {
+  quic_connection *quic = request->connection->quic;
+  if (!request->closed && !quic_prefer(quic, (int64_t)request->entry.id, 0, false)) quic_close(quic, H3_CODE_INTERNAL_ERROR);
+}
+
 static void tell_section(http3_request *request, const h3_item *item) {
   http3 *h = request->connection;
+  if (h->setup->server && item->kind == H3_TOO_LARGE_HEAD) hurry(request);
   http3_list *list = h->log && item->kind != H3_TOO_LARGE_HEAD ? http3_fields(h, item) : NULL;
   qlog_section(h->log, false, request->entry.id, list);
   free(list);
@@ -164,6 +171,7 @@ static void tell_kept(http3_request *request, const h3_item *item) {
  * and have some time for it. */
 static void tell_too_long(http3_request *request) {
   http3 *h = request->connection;
+  hurry(request);
   quic_allow(h->quic, (int64_t)request->entry.id, HELD_LIMIT);
   request->stop_at = quic_time() + SECTION_GRACE;
   h->setup->events->head(request, &(h3_item){.kind = H3_TOO_LARGE_HEAD});
@@ -426,65 +434,59 @@ static bool move(http3 *h, uint64_t id, const uint8_t *bytes, size_t count, bool
   return false;
 }
 
-/* The program writes the next bytes of a body of http3_body_of where QUIC keeps them. false: it cannot, or there is no memory. */
+/* The program writes the next bytes of a body of http3_body_of where QUIC keeps them. false: it cannot, or there is no memory. A packet is written
+ * now: the stream is reset after it. */
 static bool move_body(http3_request *request, size_t count, bool end) {
   http3 *h = request->connection;
   uint64_t id = request->entry.id;
   uint8_t *place = quic_send_here(h->quic, (int64_t)id, count);
   if (place && h->setup->events->read(request, place, count)) return !end || move(h, id, NULL, 0, true);
-  if (place) http3_give_up(request, H3_CODE_INTERNAL_ERROR);
-  else quic_close(h->quic, H3_CODE_INTERNAL_ERROR);
+  if (!place) quic_close(h->quic, H3_CODE_INTERNAL_ERROR);
+  request->unreadable = true;
+  quic_wake(h->quic, 0);
   return false;
 }
 
-/* Moves what waits on a stream to QUIC, as far as it has room, and the end after it, once. Returns whether anything was moved. The request is
- * NULL if the stream is not that of one. */
-static bool move_out(http3 *h, uint64_t id, http3_request *request) {
+/* Moves the next piece of what waits on a stream to QUIC, as far as it has room, and the end after it, once. The request is NULL if the stream is
+ * not that of one. false: the piece cannot be had. */
+static bool move_piece(http3 *h, uint64_t id, http3_request *request) {
   uint8_t bytes[PIECE];
-  for (bool moved = false;; moved = true) {
-    size_t room = quic_room(h->quic, (int64_t)id), count, past;
-    uint32_t end;
-    if (room > PIECE) room = PIECE; /* what QUIC keeps is freed piece by piece */
-    if (h3_outgoing(&h->endpoint, id, bytes, room, &count, &past, &end) != H3_OK) return moved;
-    if (past > room - count) past = room - count, end = 0;
-    if (count == 0 && past == 0 && !end) return moved;
-    if (!move(h, id, bytes, count, end && past == 0) || (past > 0 && !move_body(request, past, end))) return false;
-    h3_advance(&h->endpoint, id, count + past);
-    if (!end) continue;
-    h3_end_taken(&h->endpoint, id); /* h3_next_to_send names the stream no longer */
-    if (request) request->sent = true;
-    return true;
-  }
+  size_t room = quic_room(h->quic, (int64_t)id), count, past;
+  uint32_t end;
+  if (room > PIECE) room = PIECE; /* what QUIC keeps is freed piece by piece */
+  if (h3_outgoing(&h->endpoint, id, bytes, room, &count, &past, &end) != H3_OK) return true;
+  if (past > room - count) past = room - count, end = 0;
+  if (count == 0 && past == 0 && !end) return true;
+  if (!move(h, id, bytes, count, end && past == 0) || (past > 0 && !move_body(request, past, end))) return false;
+  h3_advance(&h->endpoint, id, count + past);
+  if (!end) return quic_offer(h->quic, (int64_t)id); /* perhaps there is more */
+  h3_end_taken(&h->endpoint, id); /* h3_next_to_send names the stream no longer */
+  if (request) request->sent = true;
+  return true;
 }
 
-/* The connection's own streams, before all others: the peer's heads may wait for them. */
-static void move_own(http3 *h) {
-  move_out(h, h3_control_id(h->setup->server), NULL);
-  move_out(h, h3_encoder_id(h->setup->server), NULL);
-  move_out(h, h3_decoder_id(h->setup->server), NULL);
-}
-
-/* All streams on which bytes or an end wait. Answers whether anything was moved. */
-static bool move_all(http3 *h) {
-  bool moved = false;
-  for (uint64_t id = 0; h3_next_to_send(&h->endpoint, id, &id) == H3_OK; id++) {
-    http3_request *request = find(h, id);
-    moved |= move_out(h, id, request);
-    if (request && request->sending) request->unsent = http3_waiting(request);
-  }
+static bool more(void *owner, int64_t stream) {
+  http3 *h = owner;
+  http3_request *request = find(h, (uint64_t)stream);
+  bool moved = move_piece(h, (uint64_t)stream, request);
+  if (request && request->sending) request->unsent = http3_waiting(request);
   return moved;
 }
 
-/* Asks for more of the bodies that are being sent. Answers whether there are such. */
-static bool ask_for_bodies(http3 *h) {
-  bool asked = false;
-  http3_request *request;
-  TAILQ_FOREACH(request, &h->requests, order) {
-    if (!h->setup->events->room || http3_room(request) == 0) continue;
-    h->setup->events->room(request);
-    asked = true;
+/* QUIC learns of all streams on which bytes or an end wait, but for those that it has forgotten. */
+static void offer_all(http3 *h) {
+  for (uint64_t id = 0; h3_next_to_send(&h->endpoint, id, &id) == H3_OK; id++) {
+    const http3_request *request = find(h, id);
+    if (request && request->closed) continue;
+    if (!quic_offer(h->quic, (int64_t)id)) return quic_close(h->quic, H3_CODE_INTERNAL_ERROR);
   }
-  return asked;
+}
+
+/* Asks for more of the bodies that are being sent. */
+static void ask_for_bodies(http3 *h) {
+  http3_request *request;
+  TAILQ_FOREACH(request, &h->requests, order)
+    if (h->setup->events->room && http3_room(request) > 0) h->setup->events->room(request);
 }
 
 /* A connection that takes no more requests is closed when nothing is left to be done. All is acknowledged then, but its reader may not have it
@@ -509,19 +511,21 @@ static void stop_in_time(http3_request *request) {
   quic_stop(request->connection->quic, (int64_t)request->entry.id, request->has_head ? H3_CODE_NO_ERROR : H3_CODE_EXCESSIVE_LOAD);
 }
 
-/* Hands all that waits to QUIC, and more of the bodies, as long as QUIC has room. */
+/* What was paused goes on, and a request is given up whose body could not be read. */
+static void resume(http3_request *request) {
+  if (request->unreadable) http3_give_up(request, H3_CODE_INTERNAL_ERROR);
+  request->unreadable = false;
+  if (!request->resumed) return;
+  request->resumed = false;
+  release(request);
+}
+
 static void fill(void *owner) {
   http3 *h = owner;
-  bool asked;
   http3_request *resumed;
-  TAILQ_FOREACH(resumed, &h->requests, order) {
-    if (!resumed->resumed) continue;
-    resumed->resumed = false;
-    release(resumed);
-  }
-  move_own(h);
-  do asked = ask_for_bodies(h);
-  while (move_all(h) && asked);
+  TAILQ_FOREACH(resumed, &h->requests, order) resume(resumed);
+  ask_for_bodies(h);
+  offer_all(h);
   for (http3_request *request = TAILQ_FIRST(&h->requests), *next; request; request = next) {
     next = TAILQ_NEXT(request, order);
     if (request->closed && request->settled) drop(request);
@@ -547,7 +551,8 @@ static void *opened(quic_connection *quic, void *user) {
   config.extended_connect = setup->sessions > 0 || setup->tunnels;
   config.max_webtransport_sessions = setup->sessions;
   bool made = h3_new(&h->endpoint, &config, NULL) == H3_OK;
-  for (int i = 0; made && i < 3; i++) made = quic_open(quic, true) == (int64_t)h3_control_id(setup->server) + 4 * i;
+  for (int64_t id = (int64_t)h3_control_id(setup->server), i = 0; made && i < 3; i++, id += 4) /* the peer's heads may wait for them */
+    made = quic_open(quic, true) == id && quic_prefer(quic, id, TURNS_FIRST, false);
   if (!made) {
     h3_free(&h->endpoint);
     free(h);
@@ -570,7 +575,7 @@ static void closed(void *owner, const quic_ending *ending) {
   free(h);
 }
 
-const quic_events http3_over_quic = {opened, received, was_reset, was_stopped, stream_closed, fill, closed};
+const quic_events http3_over_quic = {opened, received, was_reset, was_stopped, stream_closed, fill, more, closed};
 
 void http3_leave(void *owner) {
   http3 *h = owner;
@@ -595,6 +600,18 @@ http3_request *http3_open(http3 *h, bool *going_away) {
   http3_request *request = quic_open(h->quic, false) == (int64_t)id ? add(h, id) : NULL;
   if (!request) quic_close(h->quic, H3_CODE_INTERNAL_ERROR);
   return request;
+}
+
+void http3_prefer(http3_request *request, const http3_list *list) {
+  quic_connection *quic = request->connection->quic;
+  uint32_t urgency, incremental;
+  if (request->closed || !http3_priority(list, &urgency, &incremental)) return;
+  if (!quic_prefer(quic, (int64_t)request->entry.id, (int)urgency, incremental)) quic_close(quic, H3_CODE_INTERNAL_ERROR);
+}
+
+bool http3_has_to_wait(const http3_request *request, uint64_t silence) {
+  const quic_connection *quic = request->connection->quic;
+  return request->unsent > 0 && quic_is_read(quic, (int64_t)request->entry.id) && quic_silence(quic) < silence;
 }
 
 bool http3_interim(http3_request *request, const http3_list *list) {

@@ -4,6 +4,7 @@
 #define EXAMPLES_HTTP3_H
 #include "quic.h"
 #include "table.h"
+#include "turns.h"
 #include <h3.h>
 #include <sys/queue.h>
 
@@ -24,6 +25,7 @@ typedef struct http3_request {
   bool waiting;   /* its header section needs what the peer's encoder stream has not brought yet */
   bool paused;    /* the program takes nothing of it now */
   bool resumed;   /* it takes more since the last turn */
+  bool unreadable; /* `read` failed: it is reset in the next turn */
   bool sending;   /* the head was sent, the end was not */
   bool sent;      /* QUIC has all of it, and its end */
   bool has_head;  /* a header section came */
@@ -116,6 +118,9 @@ size_t http3_count(const http3_list *);
 bool http3_next(const http3_list *, http3_at *, http3_line *);
 /* Whether a field has this name. */
 bool http3_is(const http3_line *, const char *name);
+/* What the fields `priority` of a request say (RFC 9218, section 4), or the defaults: an urgency, and whether it is incremental. false: the request
+ * came through a proxy, so others on this connection may be of other clients. Then it says nothing (section 13.1). */
+bool http3_priority(const http3_list *, uint32_t *urgency, uint32_t *incremental);
 /* The values of fields of a list, of each the first one. false: one that is not optional is missing, or too long. */
 bool http3_find(const http3_list *, http3_wanted *wanted, size_t count);
 /* The same of the header section that came last. false also: out of memory. */
@@ -127,6 +132,11 @@ bool http3_values(http3 *, const h3_item *head, http3_wanted *wanted, size_t cou
 bool http3_head(http3_request *, const http3_list *);
 /* Sends a header section that is sent but once. */
 bool http3_head_of(http3_request *, const http3_field *fields, size_t count);
+/* A server's answer is sent in the order that the request's header section asks for (RFC 9218, section 10; turns.h). If this is not called, or if
+ * the request came through a proxy, it has the usual urgency, and takes turns with others. */
+void http3_prefer(http3_request *, const http3_list *head);
+/* Whether a body stands still since others are sent before it: the peer granted credit for it, and was not silent for so many milliseconds. */
+bool http3_has_to_wait(const http3_request *, uint64_t silence);
 /* Sends an interim response: the header section comes later. false: refused. */
 bool http3_interim(http3_request *, const http3_list *);
 /* Sends a trailer section, after which only the end comes. false: refused. */

@@ -64,6 +64,23 @@ bool http3_find(const http3_list *list, http3_wanted *wanted, size_t count) {
   return found;
 }
 
+bool http3_priority(const http3_list *list, uint32_t *urgency, uint32_t *incremental) {
+  char value[256];
+  size_t count = 0;
+  http3_line line;
+  for (http3_at at = {0}; http3_next(list, &at, &line);) {
+    if (http3_is(&line, "via") || http3_is(&line, "forwarded")) return false;
+    if (!http3_is(&line, "priority") || count + 2 + line.value_count > sizeof value) continue;
+    if (count > 0) value[count++] = ',', value[count++] = ' ';
+    memcpy(value + count, line.value, line.value_count);
+    count += line.value_count;
+  }
+  *urgency = 3; /* RFC 9218, section 4.1 and 4.2 */
+  *incremental = 0;
+  h3_priority_read(value, count, urgency, incremental); /* one that is no dictionary is ignored, and nothing is written */
+  return true;
+}
+
 /* Reads the section that came last into a list that has room for it. */
 static bool read_item(h3_endpoint *endpoint, http3_list *list) {
   return h3_item_fields(endpoint, list->sizes, list->count, (char *)list_bytes(list), list->len) == H3_OK;

@@ -4,7 +4,8 @@
 enum {
   BUSY = 50,     /* requests of a connection from which on another one is made */
   IDLE = 20000,  /* milliseconds after which a connection that nobody uses is closed: sooner than the server's QUIC would */
-  AGAIN = 1000   /* milliseconds after which another one is tried, if the server was not to be reached */
+  AGAIN = 1000,  /* milliseconds after which another one is tried, if the server was not to be reached */
+  KEEP_ALIVE = 5 /* seconds of silence after which a PING is sent */
 };
 
 /* One connection. Empty: all but `user` of the setup is zero. */
@@ -82,6 +83,7 @@ static bool make_one(size_t i) {
   quic_limits_default(&limits);
   limits.stream_window = setup.window;
   limits.window = setup.window * QUIC_STREAMS;
+  limits.keep_alive = KEEP_ALIVE; /* all answers may wait for their clients (RFC 9114, section 5.1) */
   upstreams[i] = (upstream){0};
   sockets[i] = quic_connect(setup.address, setup.port, setup.host, &identity, &limits, &http3_over_quic, &setups[i]);
   return sockets[i];

@@ -1,25 +1,18 @@
 /* proxy [OPTION..] ADDRESS PORT CERTIFICATE KEY TO_ADDRESS TO_PORT TO_NAME: a reverse proxy, HTTP/3 in and HTTP/3 out. What comes at ADDRESS
  * and PORT goes to the server at TO_ADDRESS and TO_PORT, whose certificate has to have the name TO_NAME.
- *
- *   --trust FILE         whom to trust, instead of the system's authorities (PEM)
- *   --pool N             at most so many connections to the server (4; at most 16)
- *   --timeout SECONDS    a request on which nothing moves for so long is given up: 504, or a reset (30)
- *   --window KIB         what the server may send of an answer whose client does not read: so much is kept (128)
- *   --connections N      at most so many of clients at once (10,000)
- *   --drain SECONDS      what was begun has so long at the end (60)
- *   --tunnels            CONNECT-UDP goes through (RFC 9298), by capsules
+ * --help has the options.
  *
  * Bodies go through as they come: the reader of each sets its pace, and a window on each side is all that is kept. A request that the server did not
  * process (GOAWAY, H3_REQUEST_REJECTED), or whose connection was lost before an answer if it may be repeated, is sent again.
  * SIGTERM and SIGINT: GOAWAY on each connection; what was begun goes on until it is over, or --drain. The second signal ends it.
- * SIGUSR1: counts, to standard error. */
+ * SIGHUP: reads the certificates again, for new connections, and opens the log again. SIGUSR1: counts, to standard error. */
+#include "access.h"
 #include "date.h"
 #include "ending.h"
 #include "forward.h"
+#include "operated.h"
 #include "pool.h"
 #include "report.h"
-#include <getopt.h>
-#include <signal.h>
 #include <stdio.h>
 #include <stdlib.h>
 #include <string.h>
@@ -41,6 +34,7 @@ typedef struct exchange {
   bool body_lost; /* more of the body went than is kept */
   unsigned tries;
   uint64_t moved_at; /* when something moved last */
+  access_entry entry;
 } exchange;
 
 typedef TAILQ_HEAD(exchanges, exchange) exchanges;
@@ -90,6 +84,7 @@ static void answer(exchange *exchange, const char *status) {
   wait_no_more(exchange);
   leave_back(exchange);
   exchange->answered = exchange->over = true;
+  exchange->entry.status = (unsigned)atoi(status);
   if (http3_head_of(exchange->front, fields, 4)) http3_finish(exchange->front);
   else http3_give_up(exchange->front, H3_CODE_INTERNAL_ERROR);
   http3_ignore(exchange->front);
@@ -105,6 +100,7 @@ static void fail(exchange *exchange, const char *status, uint64_t code) {
   wait_no_more(exchange);
   leave_back(exchange);
   exchange->over = true;
+  exchange->entry.failed = h3_code_text(code);
   /* a client may send a rejected request again: not one that has a part of an answer */
   http3_give_up(exchange->front, code == H3_CODE_REQUEST_REJECTED ? H3_CODE_INTERNAL_ERROR : code);
 }
@@ -163,15 +159,19 @@ static void front_over(void *user, const quic_ending *ending) { (void)user, (voi
 
 /* A new request: its fields go on, or (a status) an answer says why not. */
 static const char *read_request(exchange *exchange, const http3_list *list) {
-  char method[16], hops[16] = "", protocol[16] = "", peer[QUIC_PLACE];
+  char method[16] = "-", path[4096] = "-", hops[16] = "", protocol[16] = "", peer[QUIC_PLACE];
   http3_wanted wanted[] = {{.name = ":method", .value = method, .room = sizeof method},
+                           {.name = ":path", .value = path, .room = sizeof path, .optional = true},
                            {.name = "max-forwards", .value = hops, .room = sizeof hops, .optional = true},
                            {.name = ":protocol", .value = protocol, .room = sizeof protocol, .optional = true}};
-  if (!http3_find(list, wanted, 3) || strcmp(method, "TRACE") == 0) return "501";
+  bool is_known = http3_find(list, wanted, 4);
+  access_begin(&exchange->entry, method, path);
+  if (!is_known || strcmp(method, "TRACE") == 0) return "501";
   exchange->is_tunnel = takes_tunnels && strcmp(protocol, "connect-udp") == 0;
   if (strcmp(method, "CONNECT") == 0 && !exchange->is_tunnel) return "501";
   if (strcmp(method, "OPTIONS") == 0 && strcmp(hops, "0") == 0) return "204"; /* RFC 9110, section 7.6.2 */
   if (forward_is_loop(list)) return "508";
+  http3_prefer(exchange->front, list);
   http3_peer(exchange->front->connection, peer);
   exchange->head = forward_request(list, peer);
   return exchange->head ? NULL : "500";
@@ -186,6 +186,7 @@ static void front_head(http3_request *front, const h3_item *item) {
     TAILQ_INSERT_TAIL(&all, exchange, order);
   }
   if (exchange->over) return;
+  if (is_new && item->kind == H3_TOO_LARGE_HEAD) access_begin(&exchange->entry, "-", "-");
   if (item->kind == H3_TOO_LARGE_HEAD) return is_new ? answer(exchange, "431") : fail(exchange, "431", H3_CODE_EXCESSIVE_LOAD);
   http3_list *list = http3_fields(front->connection, item);
   if (!list) return fail(exchange, "500", H3_CODE_INTERNAL_ERROR);
@@ -219,8 +220,8 @@ static void front_end(http3_request *front) {
 /* The client gave up, or sent what it must not: it has its reset already. */
 static void front_failed(http3_request *front, const h3_item *item) {
   exchange *exchange = front->data;
-  (void)item;
   if (!exchange->front) return;
+  if (!exchange->over) exchange->entry.failed = item ? http3_why(item) : "stopped";
   wait_no_more(exchange);
   leave_back(exchange);
   exchange->over = true;
@@ -243,6 +244,8 @@ static void front_freed(http3_request *front) {
   wait_no_more(exchange);
   leave_back(exchange);
   forget_request(exchange);
+  if (!front->sent && !exchange->entry.failed) exchange->entry.failed = "cut";
+  access_end(&exchange->entry, front->connection);
   TAILQ_REMOVE(&all, exchange, order);
 }
 
@@ -270,6 +273,7 @@ static void back_head(http3_request *back, const h3_item *item) {
   if (!sent) return fail(exchange, "502", H3_CODE_INTERNAL_ERROR);
   if (item->kind != H3_HEAD) return;
   exchange->answered = true;
+  exchange->entry.status = (unsigned)item->status;
   forget_request(exchange);
 }
 
@@ -278,6 +282,7 @@ static void back_body(http3_request *back, const uint8_t *bytes, size_t count) {
   if (!exchange) return;
   moved(exchange);
   if (!http3_body(exchange->front, bytes, count)) return fail(exchange, "502", H3_CODE_INTERNAL_ERROR);
+  exchange->entry.sent += count;
   if (http3_room(exchange->front) == 0) http3_pause(back);
 }
 
@@ -325,23 +330,11 @@ static void back_freed(http3_request *back) {
 
 /* ---- the program ---- */
 
-static volatile sig_atomic_t asked_for_counts;
-
-static void on_signal(int signal) {
-  (void)signal;
-  asked_for_counts = 1;
-}
-
-static void show_counts(quic_socket *front) {
-  quic_counts quic = quic_counted(front);
+static void show_requests(void) {
   const exchange *exchange;
   size_t count = 0;
-  asked_for_counts = 0;
   TAILQ_FOREACH(exchange, &all, order) count++;
-  fprintf(stderr, "connections %zu open, %llu taken, %llu refused; requests %zu under way; bytes %llu in, %llu out\n", quic_count(front),
-          (unsigned long long)quic.accepted, (unsigned long long)quic.refused, count, (unsigned long long)quic.bytes_in,
-          (unsigned long long)quic.bytes_out);
-  report_usage();
+  fprintf(stderr, "requests %zu under way\n", count);
 }
 
 /* Those that wait have their try; if the server was not to be reached, they have their answer. */
@@ -354,12 +347,12 @@ static void look_at_waiting(bool is_reached) {
   }
 }
 
-/* Gives up those on which nothing moved for too long. */
+/* Gives up those on which nothing moved for too long, but for answers that wait until the client has those that come before. */
 static void look_at_time(void) {
   exchange *exchange;
   while ((exchange = TAILQ_FIRST(&all)) && quic_time() - exchange->moved_at >= timeout) {
     moved(exchange);
-    fail(exchange, "504", H3_CODE_REQUEST_CANCELLED);
+    if (!http3_has_to_wait(exchange->front, timeout)) fail(exchange, "504", H3_CODE_REQUEST_CANCELLED);
   }
 }
 
@@ -377,38 +370,40 @@ static void run(quic_socket *front, uint64_t drain) {
     quic_turn_all(sockets, 1 + POOL_MOST, TAILQ_EMPTY(&waiting) ? 100 : 20);
     look_at_waiting(pool_tend(!TAILQ_EMPTY(&waiting)));
     look_at_time();
-    report_sweep();
-    if (asked_for_counts) show_counts(front);
+    operated_tick(front, show_requests);
   }
 }
 
-typedef struct {
-  unsigned long long pool, timeout, window, connections, drain;
-  const char *trusted;
-  bool tunnels;
-} options;
+enum { WORDS = 7, TUNNELS = 1024 };
 
-/* The options, before the seven words. */
-static bool read_options(int count, char **arguments, options *options) {
-  static const struct option known[] = {{"trust", 1, 0, 't'},       {"pool", 1, 0, 'p'},  {"timeout", 1, 0, 's'}, {"window", 1, 0, 'w'},
-                                        {"connections", 1, 0, 'c'}, {"drain", 1, 0, 'd'}, {"tunnels", 0, 0, 'u'}, {0, 0, 0, 0}};
-  for (int option; (option = getopt_long(count, arguments, "+", known, NULL)) != -1;) {
-    unsigned long long *number = option == 'p'   ? &options->pool
-                                 : option == 's' ? &options->timeout
-                                 : option == 'w' ? &options->window
-                                 : option == 'c' ? &options->connections
-                                 : option == 'd' ? &options->drain
-                                                 : NULL;
-    char *end = NULL;
-    if (option == 't') options->trusted = optarg;
-    if (option == 'u') options->tunnels = true;
-    if (option == 't' || option == 'u') continue;
-    if (!number || *optarg < '0' || *optarg > '9') return false;
-    *number = strtoull(optarg, &end, 10);
-    if (*end) return false;
+static const char *words[WORDS]; /* address, port, certificate, key; of the server: address, port, name */
+static struct {
+  unsigned long long pool, timeout, window;
+  const char *trusted;
+} options = {.pool = 4, .timeout = 30, .window = 128};
+
+static const struct argp_option known[] = {
+    {"trust", 't', "FILE", 0, "whom to trust, instead of the system's authorities (PEM)", 0},
+    {"pool", 'p', "N", 0, "at most so many connections to the server (4; at most 16)", 0},
+    {"timeout", 's', "SECONDS", 0, "a request on which nothing moves for so long is given up: 504, or a reset (30)", 0},
+    {"window", 'w', "KIB", 0, "what the server may send of an answer whose client does not read: so much is kept (128)", 0},
+    {"tunnels", TUNNELS, NULL, 0, "CONNECT-UDP goes through (RFC 9298), by capsules", 0},
+    {0}};
+
+static void read_between(struct argp_state *state, const char *text, unsigned long long *number, unsigned long long least, unsigned long long most) {
+  operated_number(state, text, number);
+  if (*number < least || *number > most) argp_error(state, "not from %llu to %llu: %s", least, most, text);
+}
+
+static error_t read_option(int key, char *text, struct argp_state *state) {
+  switch (key) {
+  case 't': options.trusted = text; return 0;
+  case 'p': read_between(state, text, &options.pool, 1, POOL_MOST); return 0;
+  case 's': read_between(state, text, &options.timeout, 1, 1000000); return 0;
+  case 'w': read_between(state, text, &options.window, 16, 65536); return 0;
+  case TUNNELS: takes_tunnels = true; return 0;
+  default: return operated_words(key, text, state, words, WORDS);
   }
-  return optind + 7 == count && options->pool > 0 && options->pool <= POOL_MOST && options->timeout > 0 && options->window >= 16 &&
-         options->window <= 65536;
 }
 
 static const http3_events FRONT = {.ready = front_ready, .head = front_head, .body = front_body, .end = front_end, .failed = front_failed,
@@ -416,32 +411,33 @@ static const http3_events FRONT = {.ready = front_ready, .head = front_head, .bo
 static const http3_events BACK = {.ready = back_ready, .head = back_head, .body = back_body, .end = back_end, .failed = back_failed,
                                   .stopped = back_stopped, .room = back_room, .freed = back_freed};
 
-int main(int count, char **arguments) {
-  options options = {.pool = 4, .timeout = 30, .window = 128, .connections = 10000, .drain = 60};
-  if (!read_options(count, arguments, &options)) {
-    fprintf(stderr, "proxy [--trust FILE] [--pool N] [--timeout SECONDS] [--window KIB] [--connections N] [--drain SECONDS] [--tunnels] "
-                    "ADDRESS PORT CERTIFICATE KEY TO_ADDRESS TO_PORT TO_NAME\n");
-    return 2;
-  }
-  char **words = arguments + optind;
-  http3_setup setup = {.server = true, .tunnels = options.tunnels, .requests = 100000, .data = sizeof(exchange), .events = &FRONT};
-  quic_pair pair = {words[2], words[3]};
-  quic_identity identity = {.pairs = &pair, .count = 1};
-  quic_limits limits;
-  quic_limits_default(&limits);
-  limits.connections = (size_t)options.connections;
-  timeout = 1000 * options.timeout;
-  takes_tunnels = options.tunnels;
-  ending_await();
-  sigaction(SIGUSR1, &(struct sigaction){.sa_handler = on_signal}, NULL);
-  forward_begin();
-  pool_begin(&(pool_setup){words[4], words[5], words[6], options.trusted, (size_t)options.pool, 1024 * options.window, &BACK});
-  quic_socket *socket = quic_listen(words[0], words[1], &identity, &limits, &http3_over_quic, &setup);
+static int serve(void) {
+  http3_setup setup = {.server = true, .tunnels = takes_tunnels, .requests = 100000, .data = sizeof(exchange), .qlog = chosen.qlog,
+                       .events = &FRONT};
+  quic_socket *socket = operated_listen(words[0], words[1], &http3_over_quic, &setup);
   if (!socket) return 1;
   printf("proxy at %s port %u, of %s port %s\n", words[0], quic_port(socket), words[4], words[5]);
   fflush(stdout);
-  run(socket, options.drain);
+  run(socket, chosen.drain);
   quic_free(socket);
-  pool_end();
   return 0;
+}
+
+const char *argp_program_version = "proxy of Beanwhile " H3_VERSION_TEXT;
+
+int main(int count, char **arguments) {
+  static const struct argp_child children[] = {{&operated_options, 0, NULL, 0}, {0}};
+  static const struct argp parser = {known, read_option, "ADDRESS PORT CERTIFICATE KEY TO_ADDRESS TO_PORT TO_NAME",
+                                     "Passes requests to the server at TO_ADDRESS and TO_PORT, and its answers back, HTTP/3 on both sides.\v"
+                                     "SIGTERM ends it when what was begun is over, a second one at once. SIGHUP reads the certificates and opens the "
+                                     "log again. SIGUSR1 writes counts.",
+                                     children, NULL, NULL};
+  operated_read(&parser, count, arguments);
+  timeout = 1000 * options.timeout;
+  forward_begin();
+  pool_begin(&(pool_setup){words[4], words[5], words[6], options.trusted, (size_t)options.pool, 1024 * options.window, &BACK});
+  int status = operated_begin(words[2], words[3]) ? serve() : 1;
+  operated_end();
+  pool_end();
+  return status;
 }

@@ -32,6 +32,8 @@ typedef struct {
   void (*was_stopped)(void *owner, int64_t stream);                        /* STOP_SENDING came, and more was to be sent: QUIC has reset its side */
   void (*stream_closed)(void *owner, int64_t stream);                      /* both sides are done, all is acknowledged */
   void (*fill)(void *owner);                                               /* packets will be written: what is to be sent? */
+  bool (*more)(void *owner, int64_t stream);                               /* a stream of quic_offer has its turn: its next piece, by quic_send.
+                                                                            * Other calls here have to wait. false: nothing more of it can be sent */
   void (*closed)(void *owner, const quic_ending *ending);                  /* the last call; the owner frees itself */
 } quic_events;
 
@@ -55,6 +57,7 @@ typedef struct {
   uint64_t window;        /* the same on all streams of a connection */
   uint64_t kept;          /* bytes of a connection that wait for acknowledgment; beyond it 16 KiB for each stream that has none */
   uint64_t idle;          /* seconds of silence after which a connection ends */
+  uint64_t keep_alive;    /* of a client: seconds of silence after which it sends PING, so that the connection does not end; 0: it sends none */
   bool one_by_one;        /* each packet by a system call of its own, as a capture wants them */
 } quic_limits;
 
@@ -109,6 +112,13 @@ int64_t quic_open(quic_connection *, bool unidirectional);
 /* How many bytes may be given to a stream now. It is 0 if too many wait for their acknowledgment, if the peer has granted no credit for
  * more, or if sending has ended. */
 size_t quic_room(const quic_connection *, int64_t stream);
+/* Whether the peer has granted credit for more of a stream. */
+bool quic_is_read(const quic_connection *, int64_t stream);
+/* There is more to be sent on a stream: `more` is asked for it when the stream has its turn. false: out of memory. */
+bool quic_offer(quic_connection *, int64_t stream);
+/* The order in which streams are sent (turns.h): TURNS_FIRST, or an urgency. Before, a stream has the usual urgency and is incremental. false: out
+ * of memory. */
+bool quic_prefer(quic_connection *, int64_t stream, int urgency, bool incremental);
 /* Gives bytes to be sent, copied, and with `end` the end of the stream. false: out of memory, nothing was taken. */
 bool quic_send(quic_connection *, int64_t stream, const uint8_t *bytes, size_t count, bool end);
 /* The same with no copy: the next `count` bytes (not 0) are those that the caller writes here, before any other call. NULL: out of memory. */

@@ -191,8 +191,7 @@ static quic_connection *make_connection(quic_socket *socket, const char *host) {
   connection->wake_at = UINT64_MAX;
   connection->credentials = socket->credentials;
   connection->credentials->users++;
-  TAILQ_INIT(&connection->ready);
-  TAILQ_INIT(&connection->blocked);
+  turns_begin(&connection->turns);
   LIST_INSERT_HEAD(&socket->connections, connection, others);
   socket->count++;
   socket->open++;
@@ -328,6 +327,7 @@ bool quic_start(quic_socket *socket, const ngtcp2_path *path, const char *host) 
       ngtcp2_conn_client_new(&connection->conn, &to, &from, path, NGTCP2_PROTO_VER_V1, &CALLBACKS, &settings, &params, NULL,
                              connection) == 0) {
     ngtcp2_conn_set_tls_native_handle(connection->conn, connection->session);
+    if (socket->limits.keep_alive > 0) ngtcp2_conn_set_keep_alive_timeout(connection->conn, socket->limits.keep_alive * NGTCP2_SECONDS);
     return true;
   }
   connection->conn = NULL;

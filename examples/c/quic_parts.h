@@ -7,6 +7,7 @@
 #include "table.h"
 #include "timers.h"
 #include "tls.h"
+#include "turns.h"
 #include <sys/queue.h>
 #include <sys/socket.h>
 
@@ -17,13 +18,11 @@ enum {
   ID_PLACES = 4096 /* of a socket's connection ids */
 };
 
-typedef TAILQ_HEAD(queue, stream) queue;
-
 /* One stream that is open: what is sent on it. */
 typedef struct stream {
   entry entry;
-  queue *queue; /* of the connection's, in which it stands: NULL if nothing of it is to be sent */
-  TAILQ_ENTRY(stream) turn;
+  turn turn;    /* in no list if nothing of it is to be sent */
+  bool offered; /* the owner has more for it */
   buffer out;
 } stream;
 
@@ -47,11 +46,11 @@ struct quic_connection {
   ngtcp2_crypto_conn_ref ref;
   void *owner;
   table streams;
-  queue ready;            /* streams that have something for a packet, in turn */
-  queue blocked;          /* those of which nothing more goes into a packet in this round */
+  turns turns;            /* streams that have something for a packet; blocked are those of which nothing more goes into one in this round */
   uint64_t kept, untaken; /* bytes in the buffers of all streams, and those of them that QUIC has not taken */
   bool close_asked, gone, told, shook; /* `shook`: the handshake is done */
   bool more;              /* could go out, but for what a burst may have, or the socket */
+  bool asking;            /* the owner gives more of a stream whose turn it is */
   bool due;               /* it stands among those that are due */
   ngtcp2_ccerr close;
   quic_ending ending;

@@ -5,6 +5,7 @@
 #include <string.h>
 
 enum {
+  USUAL = 3,               /* the urgency of streams of which the owner says nothing (RFC 9218, section 4.1): they take turns */
   KEPT_LIMIT = 256 * 1024, /* bytes of a stream that may wait for their acknowledgment */
   FIRST_PIECE = 16 * 1024  /* of a stream that has none, however many the others have */
 };
@@ -16,19 +17,13 @@ stream *quic_find(const quic_connection *connection, int64_t id) { return table_
 static stream *find_or_add(quic_connection *connection, int64_t id) {
   stream *found = quic_find(connection, id);
   if (found || !(found = malloc(sizeof *found))) return found;
-  *found = (stream){0};
+  *found = (stream){.turn = {.of = found, .id = (uint64_t)id, .urgency = USUAL, .incremental = true}};
   table_add(&connection->streams, &found->entry, (uint64_t)id);
   return found;
 }
 
-/* The stream stands at the end of a queue, or (NULL) in none. */
-static void line_up(stream *stream, queue *queue) {
-  if (stream->queue) TAILQ_REMOVE(stream->queue, stream, turn);
-  stream->queue = queue;
-  if (queue) TAILQ_INSERT_TAIL(queue, stream, turn);
-}
-
-static bool has_more(const stream *stream) {
+/* Something of the stream is here, for a packet. */
+static bool has_bytes(const stream *stream) {
   return stream->out.taken < stream->out.given || (stream->out.ended && !stream->out.end_taken);
 }
 
@@ -40,7 +35,8 @@ static void taken(quic_connection *connection, stream *stream, uint64_t count) {
 
 /* Nothing more of the stream goes out. What was sent is kept until the stream is closed. */
 static void abandon(quic_connection *connection, stream *stream) {
-  line_up(stream, NULL);
+  turns_remove(&connection->turns, &stream->turn);
+  stream->offered = false;
   taken(connection, stream, stream->out.given - stream->out.taken);
   stream->out.ended = stream->out.end_taken = true;
 }
@@ -78,12 +74,31 @@ size_t quic_room(const quic_connection *connection, int64_t id) {
   return (size_t)least(most - kept, credit(connection, id, stream ? stream->out.given - stream->out.taken : 0));
 }
 
+bool quic_is_read(const quic_connection *connection, int64_t id) {
+  return !connection->gone && ngtcp2_conn_get_max_stream_data_left(connection->conn, id) > 0;
+}
+
 /* So many bytes were given to a stream, or its end. */
 static void given(quic_connection *connection, stream *stream, size_t count) {
   connection->kept += count;
   connection->untaken += count;
-  quic_due(connection);
-  if (!stream->queue && has_more(stream)) line_up(stream, &connection->ready);
+  if (!connection->asking) quic_due(connection);
+  if (has_bytes(stream)) turns_add(&connection->turns, &stream->turn);
+}
+
+bool quic_offer(quic_connection *connection, int64_t id) {
+  stream *stream = find_or_add(connection, id);
+  if (!stream) return false;
+  if (stream->out.ended) return true;
+  stream->offered = true;
+  turns_add(&connection->turns, &stream->turn);
+  return true;
+}
+
+bool quic_prefer(quic_connection *connection, int64_t id, int urgency, bool incremental) {
+  stream *stream = find_or_add(connection, id);
+  if (stream) turns_prefer(&connection->turns, &stream->turn, urgency, incremental);
+  return stream;
 }
 
 bool quic_send(quic_connection *connection, int64_t id, const uint8_t *bytes, size_t count, bool end) {
@@ -190,17 +205,31 @@ static ngtcp2_ssize write_stream(quic_connection *connection, stream *stream, ng
  * place, or it has none. Returns whether this was an error of this stream alone. */
 static bool next_turn(quic_connection *connection, stream *stream, ngtcp2_ssize done, bool was_taken) {
   switch (done) {
-  case NGTCP2_ERR_STREAM_DATA_BLOCKED: line_up(stream, &connection->blocked); return true;
+  case NGTCP2_ERR_STREAM_DATA_BLOCKED: turns_block(&connection->turns, &stream->turn); return true;
   case NGTCP2_ERR_STREAM_NOT_FOUND: abandon(connection, stream); return true;
   case NGTCP2_ERR_STREAM_SHUT_WR: /* STOP_SENDING came: ngtcp2 has reset the stream, and says so here alone */
     abandon(connection, stream);
     if (!connection->close_asked) connection->socket->events->was_stopped(connection->owner, (int64_t)stream->entry.id);
     return true;
   default:
-    if (!has_more(stream)) line_up(stream, NULL);
-    else if (done > 0 && was_taken) line_up(stream, &connection->ready);
+    if (!has_bytes(stream) && !stream->offered) turns_remove(&connection->turns, &stream->turn);
+    else if (done > 0 && was_taken) turns_pass(&connection->turns, &stream->turn);
     return false;
   }
+}
+
+/* The stream whose turn it is. One of which nothing is here gets its next piece from the owner. */
+static stream *next_stream(quic_connection *connection) {
+  for (turn *turn; (turn = turns_next(&connection->turns));) {
+    stream *stream = turn->of;
+    if (has_bytes(stream)) return stream;
+    connection->asking = stream->offered && !connection->close_asked;
+    stream->offered = false;
+    if (connection->asking && !connection->socket->events->more(connection->owner, (int64_t)turn->id)) abandon(connection, stream);
+    connection->asking = false;
+    if (!has_bytes(stream)) turns_remove(&connection->turns, turn);
+  }
+  return NULL;
 }
 
 void quic_write_packets(quic_connection *connection) {
@@ -209,9 +238,9 @@ void quic_write_packets(quic_connection *connection) {
   ngtcp2_tstamp time = quic_now(); /* of all packets of a burst */
   size_t total = 0, burst = ngtcp2_conn_get_send_quantum(connection->conn);
   connection->more = !quic_flush(connection->socket);
-  for (stream *stream; (stream = TAILQ_FIRST(&connection->blocked));) line_up(stream, &connection->ready);
+  turns_unblock(&connection->turns);
   while (!connection->more) {
-    stream *stream = TAILQ_FIRST(&connection->ready);
+    stream *stream = next_stream(connection);
     uint64_t before = stream ? stream->out.taken : 0;
     ngtcp2_path_storage_zero(&path);
     ngtcp2_ssize done = write_stream(connection, stream, &path.path, batch->bytes + batch->count, time);

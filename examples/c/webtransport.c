@@ -1,6 +1,7 @@
 /* webtransport ADDRESS PORT CERTIFICATE KEY: a server of WebTransport sessions (draft-ietf-webtrans-http3-02), over HTTP/3. A session is taken
  * on any path. Each stream of it is answered, when it has ended, with the count and the SHA-256 of its bytes: a bidirectional one on
- * itself, a unidirectional one on one of the server's. Datagrams are dropped.
+ * itself, a unidirectional one on one of the server's. A session ends with its CONNECT request, or by the capsule that closes it. Datagrams
+ * are dropped.
  *
  * SIGTERM and SIGINT: GOAWAY on each connection, and what was begun ends. The second signal cuts it off. */
 #include "digest.h"
@@ -17,13 +18,17 @@ enum {
 };
 
 static const uint64_t BUFFERED_STREAM_REJECTED = 0x3994bd84, SESSION_GONE = 0x170d7b68; /* section 8.5 of the draft */
+static const uint64_t CLOSE_SESSION = 0x2843;                                           /* a type of capsules, section 5 of the draft */
 
 /* The CONNECT request of a session, or a stream of one. */
 typedef struct work {
   TAILQ_ENTRY(work) order;
   http3_request *request;
-  uint64_t session; /* the id of its CONNECT request */
-  digest digest;    /* of a stream: none when it was answered */
+  uint64_t session;           /* the id of its CONNECT request */
+  digest digest;              /* of a stream: none when it was answered */
+  h3_capsule_reader capsules; /* of a CONNECT request */
+  bool is_closing;            /* the capsule that closes the session comes */
+  bool is_over;
 } work;
 
 static TAILQ_HEAD(works, work) works = TAILQ_HEAD_INITIALIZER(works); /* of all connections */
@@ -60,12 +65,15 @@ static void on_head(http3_request *request, const h3_item *head) {
   if (!add(request, request->entry.id) || !http3_head_of(request, fields, 2)) http3_give_up(request, H3_CODE_INTERNAL_ERROR);
 }
 
-/* The session is over, and so are its streams. */
-static void end_session(const work *session) {
+/* The session is over, and so are its streams. A code: its request was no valid message. */
+static void end_session(work *session, uint64_t code) {
   const work *work;
+  if (session->is_over) return;
+  session->is_over = true;
   TAILQ_FOREACH(work, &works, order)
     if (work->digest.hash && is_of(work, session->request->connection, session->session)) http3_give_up(work->request, SESSION_GONE);
-  http3_finish(session->request);
+  if (code) http3_give_up(session->request, code);
+  else http3_finish(session->request);
 }
 
 /* ---- streams ---- */
@@ -83,10 +91,25 @@ static void on_session(http3_request *request, uint64_t session) {
   if (!digest_begin(&work->digest)) http3_give_up(request, H3_CODE_INTERNAL_ERROR);
 }
 
-/* What comes on a CONNECT request are capsules, which are passed over. */
+/* What comes on a CONNECT request are capsules (RFC 9297): of unknown types they are skipped, and one type closes the session. */
+static void read_capsules(work *session, const uint8_t *bytes, size_t count) {
+  h3_capsule capsule;
+  size_t used;
+  do {
+    if (h3_read_capsule(&session->capsules, bytes, count, &used, &capsule) != H3_OK) return;
+    if (capsule.part == H3_CAPSULE_HEAD) session->is_closing = capsule.capsule_type == CLOSE_SESSION;
+    if (capsule.part == H3_CAPSULE_END && session->is_closing) end_session(session, 0);
+    bytes += used, count -= used;
+  } while (capsule.part != H3_CAPSULE_PENDING);
+}
+
+static bool is_session(const work *work) { return work->session == work->request->entry.id; }
+
 static void on_body(http3_request *request, const uint8_t *bytes, size_t count) {
   work *work = request->data;
-  if (work) digest_add(&work->digest, bytes, count);
+  if (!work) return;
+  if (is_session(work)) read_capsules(work, bytes, count);
+  else digest_add(&work->digest, bytes, count);
 }
 
 static void answer(const work *work, const char *text) {
@@ -101,14 +124,17 @@ static void on_end(http3_request *request) {
   work *work = request->data;
   char text[DIGEST_TEXT];
   if (!work) return;
-  if (digest_end(&work->digest, text)) answer(work, text);
-  else if (work->session == request->entry.id) end_session(work);
+  if (digest_end(&work->digest, text)) return answer(work, text);
+  if (!is_session(work)) return;
+  uint32_t ends_here = 0;
+  h3_capsule_ends(&work->capsules, &ends_here);
+  end_session(work, ends_here ? 0 : H3_CODE_MESSAGE_ERROR); /* RFC 9297, section 3.3 */
 }
 
 static void on_failed(http3_request *request, const h3_item *item) {
-  const work *work = request->data;
+  work *work = request->data;
   report("stream %llu failed: %s, %s", (unsigned long long)request->entry.id, h3_kind_text(item->kind), http3_why(item));
-  if (work && work->session == request->entry.id) end_session(work);
+  if (work && is_session(work)) end_session(work, 0);
 }
 
 /* ---- the program ---- */

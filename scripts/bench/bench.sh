@@ -36,7 +36,7 @@ build_bench() {
 }
 
 build_exchange() {
-  bash scripts/dev/peer.sh
+  bash scripts/dev/packages.sh peer
   bash scripts/c/lib.sh >&2
   make --no-print-directory -s -C bench out/exchange out/long
 }

@@ -4,7 +4,7 @@
 set -euo pipefail
 cd "$(dirname "$0")/../.."
 
-bash scripts/dev/peer.sh
+bash scripts/dev/packages.sh peer
 log=$(mktemp)
 trap 'rm -f "$log"' EXIT
 echo "proving and building crates/h3_bench and what it stands on: some minutes the first time" >&2

@@ -1,9 +1,9 @@
 #!/usr/bin/env bash
-# Prints how many instructions an exchange takes, ours beside nghttp3's, over the folder LIB (default build/c): valgrind's callgrind counts 700 exchanges
-# and 200 on one connection without a dynamic table, and a five-hundredth of what lies between is one; of bodies of a MiB and more 12 and 2. KINDS
-# names some kinds of bench/exchange_kinds.c, a line each (default: all). The counts of a build are the same in each run and
-# on each machine; they say nothing of caches. FUNCTIONS=N: also the N functions that take most of ours, each without those that it calls. A library by
-# `UNTESTED=1 make lib-unproved` counts as a proved one does.
+# Prints how many instructions an exchange takes, ours beside nghttp3's, over the folder LIB (default build/c): valgrind's callgrind counts
+# 700 exchanges and 200, on one connection without a dynamic table or, where the kind says so, each on its own. A five-hundredth of what
+# lies between is one; of bodies of a MiB and more 12 and 2. KINDS names some kinds of bench/exchange_kinds.c, a line each (default: all).
+# The counts of a build are the same in each run and on each machine; they say nothing of caches. FUNCTIONS=N: also the N functions that
+# take most of ours, each without those that it calls. A library by `UNTESTED=1 make lib-unproved` counts as a proved one does.
 set -euo pipefail
 cd "$(dirname "$0")/../.."
 

@@ -3,7 +3,7 @@
 # seconds over the library in that folder, build/c where none is named. A run begins with the stored inputs and those that earlier runs found
 # (in FOLDER/fuzz). One line 'ok fuzz NAME' or 'failed fuzz NAME' for each; an input that fails stays in FOLDER/fuzz and is named. Where clang
 # or its runtime is missing, one line 'skipped'. `make lib-unproved COVERAGE=1` builds a library that tells which of its branches an input
-# takes, so that far more is found: FOLDER is build/c-coverage then.
+# takes, so that far more is found: FOLDER is build/c-coverage then. With SEED=1 it makes the same choices each time.
 set -uo pipefail
 cd "$(dirname "$0")/../.."
 
@@ -23,7 +23,7 @@ fuzz() { # NAME LONGEST FLAGS..
   local name=$1 longest=$2
   shift 2
   mkdir -p "$out/$name.found"
-  local log=$out/$name.log limits=(-max_total_time="$seconds" -max_len="$longest" -artifact_prefix="$out/$name.")
+  local log=$out/$name.log limits=(-max_total_time="$seconds" -max_len="$longest" -rss_limit_mb=2000 -seed="${SEED:-0}" -artifact_prefix="$out/$name.")
   if ! "$cxx" "${flags[@]}" "$@" "-I$lib/beanwhile" -o "$out/$name" "tests/fuzz/$name.cc" "-L$lib" -lbeanwhile_h3 -lbeanwhile_h3_shim; then
     echo "failed fuzz $name: it was not compiled"
   elif "$out/$name" "${limits[@]}" "$out/$name.found" "tests/fuzz/$name" > "$log" 2>&1; then

@@ -2,13 +2,13 @@
 # C programs over build/c (scripts/c/lib.sh), by the machine's C compiler alone: the calls of crates/h3_cases and hostile lists of calls
 # through the header, each allocation refused in turn, large input with none refused, two endpoints under random schedules, what is held of
 # a stream and of small pieces, unknown frames, long instructions, wrong arguments, buffers that no call uses later, bytes that are read where they lie, bodies that the caller holds, pulled
-# lists, and the program of docs/GUIDE.md. Once as they are, and once with the sanitizers of addresses, leaks and undefined behaviour where the compiler has them
+# lists, datagrams and capsules, and the program of docs/GUIDE.md. Once as they are, and once with the sanitizers of addresses, leaks and undefined behaviour where the compiler has them
 # (large input, memory: once). Then h3.hpp, by C++17 and C++20; the binary interface (scripts/c/abi.py); how programs find the library
 # (scripts/c/test-install.sh); the packages for Go, Rust and Python (scripts/c/test-bindings.sh), and what `make dist` packs
 # (scripts/dist/test-packed.sh). One line 'ok NAME' or 'failed NAME'
 # for each; the last is the sum. With LIB=FOLDER the library in that folder is taken, as that of `make lib-unproved`, and none is built.
 # Beside these: lists between two endpoints with the defaults, frames above the limit, cancellations, early and in floods, what `detail`
-# says, COUNT=60000 pairs of random programs (in C++), and a short run of the fuzzers (scripts/c/fuzz.sh).
+# says, what is done on ends that are drained, COUNT=60000 pairs of random programs (in C++), and a short run of the fuzzers (scripts/c/fuzz.sh).
 set -uo pipefail
 cd "$(dirname "$0")/../.."
 
@@ -116,6 +116,8 @@ checks() {
   compile excess excess "${wrapped[@]}"
   compile cancellations cancellations "${wrapped[@]}"
   compile shutdown shutdown
+  compile drained drained -Wl,--wrap=malloc,--wrap=realloc
+  compile datagrams datagrams
   compile lists lists
   compile in_memory in_memory
   compile ../../examples/quickstart quickstart "-I$lib" # includes <beanwhile/h3.h>, as its page says
@@ -140,6 +142,8 @@ checks() {
     run excess "$out/excess"
     run cancellations "$out/cancellations"
     run shutdown "$out/shutdown"
+    run drained "$out/drained" 0 10000
+    run datagrams "$out/datagrams"
     programs
     run lists "$out/lists"
     printed "$out/in_memory" tests/c/in_memory.stdout "in_memory: the lines of docs/GUIDE.md"
@@ -157,6 +161,7 @@ checks() {
     compile details details_checked "${flags[@]}"
     compile lists lists_checked "${flags[@]}"
     compile shutdown shutdown_checked "${flags[@]}"
+    compile datagrams datagrams_checked "${flags[@]}"
     compile in_memory in_memory_checked "${flags[@]}"
     compile ../../examples/quickstart quickstart_checked "-I$lib" "${flags[@]}"
     if [ "$bad" -eq 0 ]; then
@@ -170,11 +175,12 @@ checks() {
       run "details with sanitizers" "$out/details_checked"
       run "lists with sanitizers" "$out/lists_checked"
       run "shutdown with sanitizers" "$out/shutdown_checked"
+      run "datagrams with sanitizers" "$out/datagrams_checked"
       printed "$out/in_memory_checked" tests/c/in_memory.stdout "in_memory with sanitizers"
     printed "$out/quickstart_checked" examples/quickstart.stdout "quickstart with sanitizers"
     fi
   fi
-  bash scripts/c/fuzz.sh 5 "$lib" || bad=1
+  SEED=1 bash scripts/c/fuzz.sh 20 "$lib" || bad=1
   if command -v "$cxx" > /dev/null; then
     for version in 17 20; do cplusplus "$version"; done
     cplusplus 20 -fsanitize=address,undefined -fno-sanitize-recover=all

@@ -10,7 +10,8 @@ import sys
 import python_binding
 
 TYPES = {"u8": "uint8_t", "u32": "uint32_t", "u64": "uint64_t", "usize": "size_t", "Handle": "h3_endpoint", "FieldSize": "h3_field_size",
-         "PulledItem": "h3_item", "StreamState": "h3_stream_state", "ConnectionState": "h3_state"}
+         "PulledItem": "h3_item", "StreamState": "h3_stream_state", "ConnectionState": "h3_state", "ReaderState": "h3_capsule_reader",
+         "CapsuleTold": "h3_capsule"}
 ALLOCATOR = "Global"  # takes no bytes, so C passes nothing for it
 
 
@@ -59,13 +60,14 @@ def c_structs(text):
 
 def crate_structs():
     found = {}
-    for path in sorted(glob.glob("crates/h3_c/src/*.rt")):
+    for path in sorted(glob.glob("crates/h3_c/src/*.rt") + glob.glob("crates/h3_capsule/src/*.rt")):
         for name, body in re.findall(r"#\[repr\(C\)\]\n(?:#\[[^\n]*\n)*pub struct (\w+) \{\n(.*?)^\}", open(path).read(), re.M | re.S):
             found[name] = [(TYPES[kind], field) for field, kind in re.findall(r"pub (\w+): (\w+),", body)]
     return found
 
 
-RUST = {"FieldSize": "h3_field_size", "RawItem": "h3_item", "RawStream": "h3_stream_state", "RawConnection": "h3_state"}
+RUST = {"FieldSize": "h3_field_size", "RawItem": "h3_item", "RawStream": "h3_stream_state", "RawConnection": "h3_state",
+        "RawReader": "h3_capsule_reader", "RawCapsule": "h3_capsule"}
 BINDING = "bindings/rust/src"
 
 
@@ -148,7 +150,8 @@ def snake(name):
 
 
 NAMES = {"H3_OUT_OF_MEMORY": "H3_MEMORY"}
-WITHOUT = ("h3_version", "h3_config_default", "h3_new", "h3_priority_read")  # are called where there is no endpoint
+# are called where there is no endpoint
+WITHOUT = ("h3_version", "h3_config_default", "h3_new", "h3_priority_read", "h3_read_capsule", "h3_capsule_ends", "h3_capsule_head")
 bad = 0
 
 
@@ -165,7 +168,7 @@ def main():
     tell(made and not wrong, f"its {len(declared)} declarations are the exports of h3_c", wrong)
     here, there = c_structs(header), crate_structs()
     wrong = [(it, there[it], here.get(TYPES[it])) for it in sorted(there) if it != "Handle" and there[it] != here.get(TYPES[it])]
-    tell(len(there) == 5 and here["h3_endpoint"] == [] and not wrong, "its structs are those that cross", wrong)
+    tell(len(there) == 7 and here["h3_endpoint"] == [] and not wrong, "its structs are those that cross", wrong)
     wrong = config(here["h3_config"])
     tell(not wrong, "the numbers of h3_config are those that are read and written", wrong)
     wrong = [it for enum in ("h3_answer", "h3_kind", "h3_malformation") for it in texts(header, enum)]

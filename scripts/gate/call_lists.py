@@ -1,14 +1,8 @@
-"""Lists of calls of an endpoint by chance, and where two models of one endpoint answer a list otherwise: scripts/gate/connection_model.py, whose
-author knew the definitions, and scripts/gate/independent_model.py, whose author did not.
-
-`answered` makes a quarter of its lists as scripts/gate/connection_cases.py does. Half are bytes that a peer may have written (`calls_of`), more or
-less with pieces that it must not write, cut anywhere, some of them changed. A quarter are sends (`sends_of`), with a decoder stream that mostly
-follows."""
-import collections
+"""Lists of calls of an endpoint by chance: bytes that a peer may have written (`calls_of`), more or less with pieces that it must not write, cut
+anywhere, some of them changed; and sends (`sends_of`), with a decoder stream that mostly follows."""
 import random
 
 import connection_cases
-import connection_model
 import independent_model
 from independent_model import CLIENT, SERVER
 from independent_qpack import Sender, integer, string, varint
@@ -253,7 +247,7 @@ def from_decoder(rng, sender, ids):
 
 
 def sends_of(seed, side):
-    """What the encoder chooses: many heads of few fields, a small table, and a decoder stream that mostly follows. The second model is asked
+    """What the encoder chooses: many heads of few fields, a small table, and a decoder stream that mostly follows. The model is asked
     along, so that the decoder stream may follow."""
     rng = random.Random(seed * 2 + (side == CLIENT))
     bit, ids, limits = 1 if side == CLIENT else 0, list(range(0, 4 * rng.choice([3, 10]), 4)), (1000, 220, 2)
@@ -282,24 +276,3 @@ def sends_of(seed, side):
         getattr(guide, call[0])(*call[1:])
     own = 1 - bit
     return limits, todo + [("outgoing", id) for id in ids + [6 + own, 10 + own]] + [("show",)]
-
-
-def answered(seed, side):
-    """limits, and pairs of a call and the first model's answer"""
-    if seed % 4 == 0:
-        return connection_cases.case(seed, side)
-    limits, todo = sends_of(seed, side) if seed % 4 == 2 else calls_of(seed, side)
-    end = connection_model.Endpoint(side, *limits, connection_cases.FINAL)
-    return limits, [(call, getattr(end, call[0])(*call[1:])) for call in todo]
-
-
-def difference(side, limits, done, seen=None):
-    """the place of the first call that the second model answers otherwise, and its answer; `seen` counts the answers"""
-    seen = collections.Counter() if seen is None else seen
-    end = independent_model.Endpoint(side, *limits)
-    for place, (call, answer) in enumerate(done):
-        own = end.pull(call[1], answer) if call[0] == "pull" else getattr(end, call[0])(*call[1:])
-        if tuple(own) != tuple(answer):
-            return place, own
-        seen[" ".join([call[0]] + [str(a) for a in own[:1]] + [f"{a:#x}" if isinstance(a, int) else a for a in own[1:4] if own[0] in ("Fault", "Connection", "Closed")])] += 1
-    return None

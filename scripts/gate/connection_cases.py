@@ -1,6 +1,6 @@
 #!/usr/bin/env python3
-"""Hostile lists of calls for crates/h3_connection_rows: what scripts/gate/connection_model.py and scripts/gate/independent_model.py answer to them,
-as closed equations. The lists are those of scripts/gate/call_lists.py, some of which are made here.
+"""Hostile lists of calls for crates/h3_connection_rows: what scripts/gate/independent_model.py answers to them, as closed equations. A quarter of the
+lists are made here, the others by scripts/gate/call_lists.py.
 
     python3 scripts/gate/connection_cases.py [CASES A SIDE] [FIRST SEED] [CRATE]
 
@@ -13,7 +13,8 @@ import re
 import sys
 
 sys.path.insert(0, os.path.dirname(os.path.abspath(__file__)))
-from connection_model import CLIENT, SERVER, Endpoint, Unsure, integer, string, varint  # noqa: E402
+from independent_model import CLIENT, SERVER, Endpoint, Unsure  # noqa: E402
+from independent_qpack import integer, varint  # noqa: E402
 
 PER_FILE = 5
 REQUEST = [(b":method", b"GET"), (b":scheme", b"https"), (b":authority", b"a.b"), (b":path", b"/")]
@@ -74,17 +75,17 @@ def message_bytes(rng, peer, id, side):
         return rng.choice([b"\x0d\1\0", b"\3\1\0", b"\4\0", b"\7\1\4", b"\5\1\0", b"\2\0", b"\1\2\0\0\0\1a", b"\0\1a"])
     sent = fields_for(rng, side) if rng.random() < 0.75 else spoiled_fields(rng, side)
     section, instructions = peer.sender.encode(id, sent)
-    peer.own[peer.ids[1]] += b"".join(instructions)
+    peer.own[peer.ids[1]] += instructions
     data = b"\1" + varint(len(section)) + section
     if side == SERVER and sent and sent[0][1][:1] == b"1":
-        section, instructions = peer.sender.encode(id, [(b":status", b"200")])
+        section, _ = peer.sender.encode(id, [(b":status", b"200")])
         data += b"\1" + varint(len(section)) + section
     for _ in range(rng.randrange(3)):
         body = bytes(rng.choice(b"abc") for _ in range(rng.randrange(4)))
         data += rng.choice([b"", b"", b"\x21\1x"]) + b"\0" + varint(len(body)) + body
     if rng.random() < 0.3:
         section, instructions = peer.sender.encode(id, [rng.choice(EXTRA + [(b":path", b"/")])])
-        peer.own[peer.ids[1]] += b"".join(instructions)
+        peer.own[peer.ids[1]] += instructions
         data += b"\1" + varint(len(section)) + section
     return data
 
@@ -123,10 +124,10 @@ def calls(seed, side, spoiled=0.17):
     rng = random.Random(seed * 2 + (side == CLIENT))
     other = SERVER if side == CLIENT else CLIENT
     section, capacity, blocked = rng.choice([41, 60, 200, 1000, 1000]), rng.choice([0, 31, 64, 64, 100, 220, 400]), rng.randrange(4)
-    end = Endpoint(side, section, capacity, blocked, FINAL)
-    peer = Endpoint(other, 1000, 0, 0, FINAL)
+    end = Endpoint(side, section, capacity, blocked)
+    peer = Endpoint(other, 1000, 0, 0)
     if rng.random() < 0.8:
-        peer.sender.capacity, peer.sender.limit = capacity, rng.choice([blocked, blocked, blocked, blocked + 1])
+        peer.sender.table.capacity, peer.sender.limit = capacity, rng.choice([blocked, blocked, blocked, blocked + 1])
         if capacity:
             peer.own[peer.ids[1]] += integer(5, 1, capacity)
     ids = [0, 4, 8]
@@ -180,8 +181,10 @@ def calls(seed, side, spoiled=0.17):
 
 def case(seed, side):
     """the limits, and pairs of a call and its answer"""
-    limits, todo = calls(seed, side)
-    end = Endpoint(side, *limits, FINAL)
+    from call_lists import calls_of, sends_of  # it takes `mutated` from here
+
+    limits, todo = calls(seed, side) if seed % 4 == 0 else sends_of(seed, side) if seed % 4 == 2 else calls_of(seed, side)
+    end = Endpoint(side, *limits)
     return limits, [(call, getattr(end, call[0])(*call[1:])) for call in todo]
 
 
@@ -238,7 +241,7 @@ def answer_text(call, a):
     return f"Refused (refusal.{kind} {a[1]})" if len(a) > 1 else f"Refused refusal.{kind}"
 
 
-HEAD = """-- Hostile lists of calls of a {side}, with what both models of scripts/ answer to them. Made by scripts/gate/connection_cases.py.
+HEAD = """-- Hostile lists of calls of a {side}, with what the model of scripts/ answers to them. Made by scripts/gate/connection_cases.py.
 use Rattle.std.specs.Prelude.{{List, [], ◌∷◌, codes, Some, None}}
 use Rattle.h3_proto.specs.declared.stream.Side.TheVariants.{{{Side}}}
 use Rattle.h3_connection.specs.declared.event.Item.TheVariants as item
@@ -291,16 +294,11 @@ def emit(crate, side, number, cases):
 
 
 def made(side, count, seed):
-    from call_lists import answered, difference, independent_model  # it takes `case` from here
-
     out = []
     while len(out) < count:
         try:
-            limits, done = answered(seed, side)
-            if difference(side, limits, done):
-                sys.exit(f"{side}, list {seed}: the models differ")
-            out.append((seed, (limits, done)))
-        except (Unsure, independent_model.Unsure):
+            out.append((seed, case(seed, side)))
+        except Unsure:
             pass
         seed += 1
     return out
@@ -323,6 +321,5 @@ def main():
         write(path, text + "".join(lines))
 
 
-FINAL = True
 if __name__ == "__main__":
     main()

@@ -12,17 +12,13 @@ import os
 import re
 import sys
 
-ROOT = os.path.dirname(os.path.dirname(os.path.dirname(os.path.realpath(__file__))))
+from texts import ROOT, read, say, write
 
-
-def read(path):
-    with open(path, encoding="utf-8", errors="replace") as file:
-        return file.read()
 
 
 def listed():
     """the crates in the order of crates.txt, each with the names of its line"""
-    lines = (line.split("#")[0] for line in read(f"{ROOT}/crates.txt").split("\n"))
+    lines = (line.split("#")[0] for line in read("crates.txt").split("\n"))
     return {line.split(":")[0].split()[0]: line.split(":")[1].split() for line in lines if ":" in line}
 
 
@@ -49,22 +45,13 @@ def unused(crates):
 
 def drop_unused():
     """writes crates.txt without the names that a crate does not use"""
-    lines = read(f"{ROOT}/crates.txt").split("\n")
+    lines = read("crates.txt").split("\n")
     for at, line in enumerate(lines):
         head, mark, names = line.partition(":")
         if mark and not line.startswith("#"):
             words = words_of(head.split()[0])
             lines[at] = head + mark + "".join(f" {it}" for it in names.split() if it in words)
-    with open(f"{ROOT}/crates.txt", "w", encoding="utf-8") as file:
-        file.write("\n".join(lines))
-
-
-def say(wrong, good, bad):
-    for it in wrong:
-        print(f"failed {bad}: {it}")
-    if not wrong:
-        print(f"ok {good}")
-    return not wrong
+    write("crates.txt", "\n".join(lines))
 
 
 def main():

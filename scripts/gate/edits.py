@@ -1,12 +1,15 @@
 """edits.py CRATE: does each edit in the crate's refused/ and must-fail/ apply, so that each of its `old:` texts stands in its file exactly once,
-and does each in refused/ name one function? Where the search cannot tell that one is refused (scripts/gate/refused.py), a line `judged: WHY`
-says in a sentence why no proof of that body can exist, and a line `witness: INPUT` which run shows it, or `unseen: WHY` why none does
-(scripts/gate/witnesses.py). Says how many edits are well, and ends with an error, after a line for each that is not, where there is one."""
+and does each in refused/ name one function that is there? Where the search cannot tell that one is refused (scripts/gate/refused.py), a line
+`judged: WHY` says in a sentence why no proof of that body can exist, and the next line is `witness: INPUT`, the run that shows it
+(scripts/gate/witnesses.py), or `unseen: WHY`, why none can. Says how many edits are well, and ends with an error, after a line for each that is
+not, where there is one. Without a crate it says how many edits there are, and what refuses them."""
+import functools
 import pathlib
 import re
 import sys
 
 
+ROOT = pathlib.Path(__file__).resolve().parents[2]
 WORDS = 6  # that a judgement has at least
 
 
@@ -43,15 +46,35 @@ def edits_of(crate):
     return [it for folder in ("refused", "must-fail") for it in sorted(crate.glob(f"{folder}/*"))]
 
 
+def summary():
+    """how many edits there are in all crates, and what refuses them, in the words of the pages"""
+    texts = [it.read_text() for it in ROOT.glob("crates/*/refused/*.edit")]
+    judged, shown = (sum(bool(re.search(form, it, re.M)) for it in texts) for form in (r"^judged:", r"^witness:"))
+    return f"{len(texts)} edits: {len(texts) - judged} by the prover, {shown} by a run, {judged - shown} by a reader"
+
+
+@functools.cache
+def names_of(crate):
+    """the names of the crate's functions and laws"""
+    return {name for it in crate.glob("src/**/*.rt") for name in re.findall(r"\b(?:fn|law|lemma) (\w+)", it.read_text())}
+
+
 def problem(edit, crate):
     text = edit.read_text()
-    if edit.parent.name == "refused" and len(re.findall(r"(?m)^function: \S+$", text)) != 1:
+    named = re.findall(r"(?m)^function: (\S+)$", text)
+    if edit.parent.name == "refused" and len(named) != 1:
         return f"{edit}: one line 'function: NAME' says whose contract refuses it"
+    if edit.parent.name == "refused" and named[0].split("::")[-1] not in names_of(crate):
+        return f"{edit}: the crate has no function {named[0]}"
     judged = re.findall(r"(?m)^judged:(.*)$", text)
     if len(judged) > 1 or any(not it.startswith(" ") or len(it.split()) < WORDS for it in judged):
         return f"{edit}: a line 'judged: WHY' has one sentence, and stands once at most"
-    if len(re.findall(r"(?m)^(?:witness|unseen):", text)) > len(re.findall(r"(?m)^judged:.*\n(?:witness|unseen): \S", text)):
-        return f"{edit}: one line 'witness: INPUT' or 'unseen: WHY' stands behind the line 'judged: WHY'"
+    shown = re.findall(r"(?m)^(?:witness|unseen):", text)
+    if len(judged) != len(shown) or len(shown) != len(re.findall(r"(?m)^judged:.*\n(?:witness|unseen): \S", text)):
+        return f"{edit}: one line 'witness: INPUT' or 'unseen: WHY' is next to the line 'judged: WHY'"
+    at = re.findall(r"(?m)^witness: ([^, \n]+)", text)
+    if at and not (ROOT / at[0]).exists():
+        return f"{edit}: there is no input {at[0]}"
     try:
         edited(edit, crate)
     except NotApplied as why:
@@ -60,6 +83,9 @@ def problem(edit, crate):
 
 
 def main():
+    if len(sys.argv) == 1:
+        print(summary())
+        return
     crate = pathlib.Path(sys.argv[1])
     edits = edits_of(crate)
     wrong = [f"{it}: not a name of an edit" for it in edits if not re.fullmatch(r"[A-Za-z0-9_-][A-Za-z0-9_.-]*\.edit", it.name)]

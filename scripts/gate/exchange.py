@@ -4,7 +4,7 @@
     python3 scripts/gate/exchange.py PROGRAM
 
 makes a script of it, with tables of 4,096 bytes and 100 streams that may wait, runs the program on it and holds each line that it
-writes against what scripts/gate/connection_model.py answers. So how many bytes each delivery carries comes from the model. Each stream has
+writes against what scripts/gate/independent_model.py answers. So how many bytes each delivery carries comes from the model. Each stream has
 to give its head, its 7,000 bytes, in whatever pieces, and its end; no answer may tell of refused memory. It prints one line, 'ok
 exchange' or 'failed exchange'. Without PROGRAM it prints the script.
 """
@@ -13,7 +13,7 @@ import subprocess
 import sys
 
 sys.path.insert(0, os.path.dirname(os.path.abspath(__file__)))
-from connection_model import CLIENT, SERVER, Endpoint  # noqa: E402
+from independent_model import CLIENT, SERVER, Endpoint  # noqa: E402
 
 REQUESTS, BATCH, BODY, PULLS = 500, 20, 7000, 5
 LIMITS = (1000, 4096, 100)

@@ -26,7 +26,7 @@ PARTS = (
     ("## The endpoints that are returned", ("RunsInWorld",)),
     ("## The same answers by two endpoints", ("RunsTo", "AnswersEach", "new_ends")),
     ("## What each call leaves", ("RunsByCalls",)),
-    ("## If a side is strict", ("RunsUntilFault", "RunsFaultless", "FindsNoFault", "ServerKnows", "JudgesStrictly")),
+    ("## If a side is strict", ("RunsUntilFault", "RunsFaultless", "FindsNoFault", "ServerKnows", "AsksForStrict", "EarlyAreTaken")),
     ("## If allocations fail", None),
 )
 # Behind these the values of the code: a heading, and from which types of the signature its rows come, and from those that which parts list.

@@ -5,26 +5,19 @@
                                                CRATE' a crate. A second: for whoever moves a definition, long before a check comes to it
     python3 scripts/gate/imports.py --unused   lists the names that a file imports and does not use
     python3 scripts/gate/imports.py --write    takes these out of the files
-    python3 scripts/gate/imports.py --mend     takes a name that its file does not have from the one file of that crate that has it: after a merge, where a
-                                               definition was moved on one side and cited on the other
 
 A crate's name behind these words: of that crate alone. Names that the check writes (`declared`, the goals of a function) and those of std and of the kit are not looked up."""
 import collections
-import glob
 import os
 import re
 import sys
 
-ROOT = os.path.dirname(os.path.dirname(os.path.dirname(os.path.realpath(__file__))))
+from texts import ROOT, read, write
+
 IMPORT = re.compile(r"^([ \t]*)((?:pub )?(?:ghost )?use) ([\w.]+)\.\{([^}]*)\}(;?)[ \t]*\n", re.M)
 ITEM = re.compile(r"^(?:[ \t]+|)(?:(?:abbrev|unfoldable|pub|record|data|ruleset) )+(\S+)", re.M)
 CASE = re.compile(r"^[ \t]+(\S+) :", re.M)
 WRITTEN = re.compile(r"\.(?:declared|contracts|TheSendSync|Statement)\b|\.(?:Goals|Given|Code|Invariants)$")
-
-
-def read(path):
-    with open(path, encoding="utf-8") as file:
-        return file.read()
 
 
 def files(crate):
@@ -82,31 +75,6 @@ def missing(crate):
                 yield f"{os.path.relpath(path, ROOT)}: {module} has no {', '.join(lost)}"
 
 
-def homes(crate, name, own):
-    """the modules of a crate's definitions, and for itself of its proofs, that have an item of that name"""
-    for part in ("specs", "proofs") if own else ("specs",):
-        for path in sorted(glob.glob(f"{ROOT}/crates/{crate}/{part}/*.antt")):
-            if name in set(ITEM.findall(without_comments(path, read(path)))):
-                yield f"Rattle.{crate}.{part}.{os.path.basename(path)[: -len('.antt')]}"
-
-
-def mended(path, text, crate):
-    """the text with each lost name taken from the one module that has it"""
-    for found in reversed(list(IMPORT.finditer(text))):
-        lost, names, lines = lost_of(found[3], found[4]), names_of(found[4]), {}
-        for name in lost:
-            there = list(homes(found[3].split(".")[1], name.split(" as ")[0], found[3].split(".")[1] == crate))
-            if len(there) == 1:
-                lines.setdefault(there[0], []).append(name)
-                names.remove(name)
-            else:
-                print(f"{os.path.relpath(path, ROOT)}: {name} stands in {len(there)} modules: {' '.join(there)}")
-        if lines:
-            all_lines = {found[3]: names, **lines} if names else lines
-            text = text[: found.start()] + "".join(f"{found[1]}{found[2]} {at}.{{{', '.join(it)}}}{found[5]}\n" for at, it in all_lines.items()) + text[found.end() :]
-    return text
-
-
 def unused(path, text):
     """the imports of a file that name something unused, each with these names"""
     body = IMPORT.sub("", without_comments(path, text))
@@ -137,26 +105,17 @@ def written(path, text):
 
 def main():
     words = [it for it in sys.argv[1:] if it.startswith("--")]
-    crates = re.findall(r"^(\w+)[^\n:]*:", read(f"{ROOT}/crates.txt"), re.M)
+    crates = re.findall(r"^(\w+)[^\n:]*:", read("crates.txt"), re.M)
     chosen = [it for it in sys.argv[1:] if it not in words] or crates
     bad = False
     for crate in chosen:
-        if words == ["--mend"]:
-            for path in files(crate):
-                text = mended(path, read(path), crate)
-                if text != read(path):
-                    print(f"{os.path.relpath(path, ROOT)}: mended")
-                    with open(path, "w", encoding="utf-8") as file:
-                        file.write(text)
-            continue
         if words:
             for path in files(crate):
                 text = read(path)
                 for found, _, lost in unused(path, text):
                     print(f"{os.path.relpath(path, ROOT)}: {found[3]}: {', '.join(lost)}")
                 if words == ["--write"] and written(path, text) != text:
-                    with open(path, "w", encoding="utf-8") as file:
-                        file.write(written(path, text))
+                    write(path, written(path, text))
             continue
         lost = list(missing(crate))
         print(f"failed {crate}: imports of names that are not there" if lost else f"ok {crate}: each name that it imports is there")

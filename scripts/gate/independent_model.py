@@ -1,7 +1,7 @@
 """One endpoint of an HTTP/3 connection, client or server, as a plain class: RFC 9114 and RFC 9204 over RFC 9000's streams.
 
-Its author read none of the definitions, none of the code and not scripts/gate/connection_model.py: only the RFCs and the rules of this project
-that choose where they leave a choice. scripts/gate/hostile_calls.py asks both models and the program the same questions.
+Its author read none of the definitions and none of the code: only the RFCs and the rules of this project that choose where they leave a
+choice. scripts/gate/hostile_calls.py asks it and the program the same questions.
 
 A call is answered by a tuple: `("done",)`, `("opened", id)`, `("waits", bytes)`, `("shown", limits, sending, receiving, waiting)`, the name
 of a refusal with what it carries, or what a pull hands out.
@@ -343,8 +343,9 @@ class Endpoint:
         """takes so many bytes of what waits"""
         if id in self.own:
             self.own[id] = self.own[id][count:]
-        else:
+        elif id in self.outgoing_streams:
             self.outgoing_streams[id].waits = self.outgoing_streams[id].waits[count:]
+        return ("done",)
 
     def is_finished(self, id):
         """a stream that was reset is not"""

@@ -1,8 +1,7 @@
 """QPACK and the numbers below it, for scripts/gate/independent_model.py: RFC 9204, with RFC 7541 (integers, Huffman code) and RFC 9000 (16).
 
-Nothing here was taken from the definitions, the code or the other model of this repository, but for the static table: the RFCs and the rules of
-this project that go past them (how the sender chooses, what a reader lets pass) are all that was read. The text of the static table is that of
-scripts/gate/connection_model.py, so that both models agree on it shows nothing.
+Nothing here was taken from the definitions or the code: the RFCs and the rules of this project that go past them (how the sender chooses, what a
+reader lets pass) are all that was read.
 """
 
 MOST = 2**64 - 1

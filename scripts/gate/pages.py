@@ -2,7 +2,7 @@
 """Are the pages of this repository as a reader needs them?
 
     python3 scripts/gate/pages.py           compares: one line 'ok ..' or 'failed ..' for each of these
-    python3 scripts/gate/pages.py --write   wraps the paragraphs that have a line that is too long, and writes the counts of edits into README anew
+    python3 scripts/gate/pages.py --write   writes the counts of edits anew
 
 - No link of a page is dead: neither its file nor its heading.
 - No line of a page is longer than 140 characters (in rows of tables the targets of links are not counted, and the tables of WIDE_TABLES may be
@@ -13,22 +13,22 @@
 - Each record of docs/decisions begins with its decision in bold, and has at most LONGEST_RECORD lines.
 - docs/C_API.md has each call of include/h3.h, and names none that is not there.
 - scripts/README.md has each file of scripts/.
-- README and docs/PROVED.md say how many edits must be refused, how many of them the prover refuses by itself, and how many a reader judged;
-  PROVED also says how many of those a run shows."""
+- README, docs/PROVED.md and docs/GATE.md say how many edits there are, and what refuses them, as scripts/gate/edits.py counts them."""
 import os
 import re
 import sys
-import textwrap
 
-ROOT = os.path.dirname(os.path.dirname(os.path.dirname(os.path.realpath(__file__))))
+import edits
+from texts import ROOT, read, say, write
+
 WHOLE = ["docs/RFC.md", "bench/RESULTS.md", "bench/COSTS.md"]  # one table each, or nearly
 WIDE_TABLES = ["docs/ARCHITECTURE.md", "docs/DIFFERENCES.md", "crates/h3_cases/README.md", "crates/h3_examples/README.md", "crates/h3_script/README.md",
-               "crates/h3_session/README.md", "docs/model/connection.md", "SECURITY.md", "docs/C_API.md"]
+               "crates/h3_session/README.md", "docs/model/connection.md", "SECURITY.md", "docs/C_API.md", "docs/GATE.md"]
 LONGEST = 140
 MOST_LINES = {"README.md": 80, "docs/QUICKSTART.md": 330}  # a quick start has a whole file in each of four languages
 MOST_OF_OTHERS = 300
 SNIPPETS = ["README.md", "docs/QUICKSTART.md", "docs/GUIDE.md", "docs/C_API.md", "crates/h3_session/README.md"]
-COUNTING = ["README.md", "docs/PROVED.md"]
+COUNTING = ["README.md", "docs/PROVED.md", "docs/GATE.md"]
 LANGUAGES = {"c", "rust", "go", "mermaid"}
 INDEX = "scripts/README.md"
 LONGEST_RECORD = 25
@@ -36,11 +36,6 @@ LINK = re.compile(r"\[((?:[^\[\]]|\[[^\]]*\])*)\]\(([^()\s]+)\)")
 FENCE = re.compile(r"^( *)```(\w*)\n(.*?)^\1```$", re.M | re.S)
 QUOTED = re.compile(r"^<!-- from \S+ -->\n\n?```\w*\n.*?^```$", re.M | re.S)
 LEFT_OUT = {".git", "out", "build", "__pycache__"}
-
-
-def read(path):
-    with open(os.path.join(ROOT, path), encoding="utf-8") as file:
-        return file.read()
 
 
 def files(folder):
@@ -87,7 +82,7 @@ def long_lines(page):
     for number, line in enumerate(text.split("\n"), 1):
         shown = LINK.sub(r"[\1]", line) if line.startswith("|") else line
         if len(shown) > LONGEST and not (line.startswith("|") and page in WIDE_TABLES):
-            yield f"{page}:{number} has {len(shown)} characters (python3 scripts/gate/pages.py --write)"
+            yield f"{page}:{number} has {len(shown)} characters"
 
 
 def too_many_lines(page):
@@ -97,33 +92,6 @@ def too_many_lines(page):
     most = MOST_LINES.get(page, MOST_OF_OTHERS)
     if text.count("\n") > most:
         yield f"{page} has {text.count(chr(10))} lines, more than {most}"
-
-
-def wrapped(text):
-    """a page, of which paragraphs and items of lists that have a line that is too long are wrapped anew"""
-    out, part, in_code = [], [], False
-
-    def end_part():
-        if any(len(line) > LONGEST for line in part):
-            mark = re.match(r" *(?:(?:[-*]|\d+\.) +)?", part[0])[0]
-            words = " ".join(line.strip() for line in part)[len(mark.strip()) :].strip()
-            out.extend(textwrap.wrap(words, LONGEST - 2, initial_indent=mark, subsequent_indent=" " * len(mark), break_long_words=False, break_on_hyphens=False))
-        else:
-            out.extend(part)
-        part.clear()
-
-    for line in text.split("\n"):
-        is_fence = line.strip().startswith("```")
-        if in_code or is_fence or not line.strip() or line.startswith(("|", "#", "<")) or (line.startswith("    ") and not part):
-            end_part()
-            out.append(line)
-            in_code ^= is_fence
-            continue
-        if re.match(r" *([-*]|\d+\.) ", line):
-            end_part()
-        part.append(line)
-    end_part()
-    return "\n".join(out)
 
 
 def stands_in(block, lines):
@@ -162,31 +130,23 @@ def not_in_index():
             yield path
 
 
-def counts(page):
-    """what a page says of the edits that must be refused: a form of its words, and the number in it"""
-    edits = [it for it in files("crates") if "/refused/" in it and it.endswith(".edit")]
-    judged = [it for it in edits if re.search(r"^judged:", read(it), re.M)]
-    witnessed = [it for it in edits if re.search(r"^witness:", read(it), re.M)]
-    by_itself = (r"(prover\s+refuses\s+)\d+(\s+by\s+itself)", len(edits) - len(judged))
-    if page == "README.md":
-        return ((r"(contracts: )\d+( wrong\s+edits)", len(edits)), by_itself, (r"(for\s+the\s+other\s+)\d+(\s+a\s+reader)", len(judged)))
-    return ((r"(There are )\d+(\s+edits\s+of)", len(edits)), by_itself, (r"(reader judged )\d+(\W)", len(judged)),
-            (r"(run shows )\d+( of these)", len(witnessed)))
+def form_of(summary):
+    """the summary of edits with any numbers, and wrapped in any way"""
+    return re.compile(re.sub(r"\d+", r"\\d+", re.escape(summary)).replace("\\ ", r"\s+"))
 
 
-def counted(page, text):
-    for form, count in counts(page):
-        text = re.sub(form, rf"\g<1>{count}\g<2>", text)
-    return text
+def with_counts(found):
+    """the same text, broken into the same lines, with the numbers of the summary"""
+    numbers = iter(re.findall(r"\d+", edits.summary()))
+    return re.sub(r"\d+", lambda _: next(numbers), found[0])
 
 
 def miscounted():
-    """where the pages of COUNTING say another number of edits than there are"""
+    """which of the pages of COUNTING say another number of edits than there are"""
     for page in COUNTING:
-        for form, count in counts(page):
-            found = re.search(form, read(page))
-            if found is None or found[0] != f"{found[1]}{count}{found[2]}":
-                yield f"{page}: there are {count}, and it says '{found and found[0]}' (python3 scripts/gate/pages.py --write)"
+        found = form_of(edits.summary()).search(read(page))
+        if found is None or found[0].split() != edits.summary().split():
+            yield f"{page}: {edits.summary()}, and it says '{found and found[0]}' (python3 scripts/gate/pages.py --write)"
 
 
 def without_frame():
@@ -218,23 +178,11 @@ def api():
     yield from (f"h3.h has no {it}" for it in sorted(named - set(re.findall(r"\w+", header))))
 
 
-def say(wrong, good, what):
-    for it in wrong:
-        print(f"failed {what}: {it}")
-    if not wrong:
-        print(f"ok {good}")
-    return not wrong
-
-
 def main():
     pages = [it for it in files(".") if it.endswith(".md")]
     if sys.argv[1:] == ["--write"]:
-        for page in pages:
-            text = read(page)
-            new = text if page in WHOLE else wrapped(counted(page, text) if page in COUNTING else text)
-            if new != text:
-                with open(os.path.join(ROOT, page), "w", encoding="utf-8") as file:
-                    file.write(new)
+        for page in COUNTING:
+            write(page, form_of(edits.summary()).sub(with_counts, read(page)))
         return
     links = sum(count_of_links(read(it)) for it in pages)
     fine = say([it for page in pages for it in dead_links(page, read(page))], f"pages: {links} links of {len(pages)} pages lead somewhere", "pages, a dead link")
@@ -244,7 +192,7 @@ def main():
     found = [snippets(page) for page in pages]
     wrong = [it for _, them in found for it in them]
     fine &= say(wrong, f"pages: {sum(count for count, _ in found)} snippets stand in their files", "pages, a snippet")
-    fine &= say(list(miscounted()), f"{' and '.join(COUNTING)} count the edits", "pages, a count of edits")
+    fine &= say(list(miscounted()), f"{', '.join(COUNTING)} count the edits", "pages, a count of edits")
     fine &= say(list(without_frame()), "docs: each page says what it is for, and which page comes next", "docs")
     fine &= say(list(bad_records()), f"docs/decisions: each record begins with its decision, and has at most {LONGEST_RECORD} lines", "docs/decisions")
     fine &= say(list(api()), "docs/C_API.md has each call of include/h3.h", "docs/C_API.md")

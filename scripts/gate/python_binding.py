@@ -11,7 +11,7 @@ sys.dont_write_bytecode = True
 from beanwhile_h3 import config, errors, items, raw  # noqa: E402
 
 STRUCTS = {"h3_endpoint": raw.Handle, "h3_field_size": raw.FieldSize, "h3_item": raw.RawItem, "h3_stream_state": raw.RawStream,
-           "h3_state": raw.RawConnection}
+           "h3_state": raw.RawConnection, "h3_capsule_reader": raw.RawReader, "h3_capsule": raw.RawCapsule}
 NUMBERS = {"uint32_t": ctypes.c_uint32, "uint64_t": ctypes.c_uint64, "size_t": ctypes.c_size_t}
 
 

@@ -6,20 +6,15 @@
 
 The refusals of a call are the answers that its comment names behind "Refused", and H3_NONE. "Refused as h3_X" stands for those of that call.
 The defaults are those of the definition by which h3_config_default is proved. SECURITY.md has them in its table of limits, too."""
-import os
 import re
 import sys
 
-ROOT = os.path.dirname(os.path.dirname(os.path.dirname(os.path.realpath(__file__))))
+from texts import read, say, write
+
 PAGE, HEADER, DEFAULTS = "docs/C_API.md", "include/h3.h", "crates/h3_c/specs/Configs.antt"
 TABLE = re.compile(r"(<!-- refusals.py writes from here -->\n).*?(<!-- to here -->)", re.S)
 CALL = re.compile(r"/\*((?:(?!\*/).)*)\*/\n(?:/\*(?:(?!\*/).)*\*/\n)*static inline uint32_t (h3_(?!version)\w+)\(", re.S)
 EVERYWHERE = {"H3_NO_ENDPOINT"}
-
-
-def read(path):
-    with open(os.path.join(ROOT, path), encoding="utf-8") as file:
-        return file.read()
 
 
 def answers(header):
@@ -79,14 +74,6 @@ def wrong_defaults(page, header):
             yield f"{name} is {number} by default, and it says {said[name]}"
 
 
-def say(wrong, good):
-    for it in wrong:
-        print(f"failed {PAGE}: {it}")
-    if not wrong:
-        print(f"ok {PAGE}: {good}")
-    return not wrong
-
-
 def wrong_limits():
     """the defaults of the table of limits in SECURITY.md that are not those of the definition"""
     table = re.search(r"## The limits of an endpoint\n(.*?)\n## ", read("SECURITY.md"), re.S)[1]
@@ -101,13 +88,11 @@ def main():
     page, header = read(PAGE), read(HEADER)
     new = TABLE.sub(lambda it: it[1] + table(header) + it[2], page)
     if sys.argv[1:] == ["--write"]:
-        with open(os.path.join(ROOT, PAGE), "w", encoding="utf-8") as file:
-            file.write(new)
-        return
+        return write(PAGE, new)
     count = len(refusals(header))
     stale = [] if new == page else ["its refusals are not those of h3.h (python3 scripts/gate/refusals.py --write)"]
-    fine = say(stale, f"the refusals of {count} calls as h3.h has them")
-    fine &= say([*wrong_defaults(page, header), *wrong_limits()], f"each number of h3_config, and {len(defaults())} defaults as they are proved")
+    fine = say(stale, f"{PAGE}: the refusals of {count} calls as h3.h has them", PAGE)
+    fine &= say([*wrong_defaults(page, header), *wrong_limits()], f"{PAGE}: each number of h3_config, and {len(defaults())} defaults as they are proved", PAGE)
     sys.exit(0 if fine else 1)
 
 

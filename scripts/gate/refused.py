@@ -20,16 +20,14 @@ Where a goal that had an answer has another name now, or the edit adds a way, no
 what the check tries by itself are left out from the start, since a search tells more of why a goal is open. One that is a search with a list of lemmas
 by name, and nothing of the body, is no misfit where it fails, but a search that failed. Misfits of edits that are judged are not tried again.
 
-Here many edits are tried by one check, where `rt ci` tries each by a check of its own: a check has edits of distinct bodies, and asks for these functions alone. Further
-edits of one body are made in copies of its function (scripts/gate/copies.py), and functions that no edit of the check touches are stubs, since `rt ci` proves them
-(scripts/gate/stubs.py). A proof rests on the body of its own function and on what others state, which no edit of a body changes: so a goal of a function that is not
-proved then is so for the function's own edit, and every function that no edit touches must be proved or a stub, but for the proofs of those that it calls. A
-function of which the check says no more than that it calls one that is not proved is tried again by itself. The misfits of a crate have one further check, and
-the functions as they are stand in it as copies. An edit of anything but one body (a constant, a clause, a definition) has a check to itself.
+Many edits are tried by one check: of distinct bodies, in copies of a function (scripts/gate/copies.py), over stubs of functions that no edit of it touches
+(scripts/gate/stubs.py); docs/decisions/tests.md says why that is sound. A function of which the check says no more than that it calls one that is not proved is
+tried again by itself. The misfits of a crate have one further check, and the functions as they are stand in it as copies. An edit of anything but one body (a
+constant, a clause, a definition) has a check to itself.
 
-The libraries below a crate are those that `rt ci` left, or what `rt lib` makes. With --beside, `rt ci` is running and writes to the file LOG: a crate's edits
-are tried once it says that those below are proved, and those that a reader judged are left out, since they cost most and a search tells least of them. With --unedited no edit is made: is each function that an edit names, and each copy, proved as it is over the
-stubs?"""
+The libraries below a crate are those that `rt ci` left, or what `rt lib` makes. With --beside, `rt ci` is running and writes to the file LOG: a crate's edits are
+tried once it says that those below are proved, and judged ones are left to runs. With --unedited no edit is made: is each function that an edit names, and each
+copy, proved as it is over the stubs?"""
 import collections
 import concurrent.futures
 import copy

@@ -41,19 +41,21 @@ static int is_refused(size_t size) {
   if (place == INSIDE && begins && size == (size_t)ends) place = BEHIND;
   if (place != INSIDE) return 0;
   calls++;
-  int is = calls >= first && calls <= last && (share == 100 || is_drawn());
-  refused += is;
-  return is;
+  return calls >= first && calls <= last && (share == 100 || is_drawn());
+}
+static void *counted(void *block, size_t size) {
+  refused += !block && size;
+  return block;
 }
 void *malloc(size_t size) {
   static void *(*next)(size_t);
   if (!next) next = dlsym(RTLD_NEXT, "malloc");
-  return is_refused(size) ? NULL : next(size);
+  return counted(is_refused(size) ? NULL : next(size), size);
 }
 void *realloc(void *old, size_t size) {
   static void *(*next)(void *, size_t);
   if (!next) next = dlsym(RTLD_NEXT, "realloc");
-  return is_refused(size) ? NULL : next(old, size);
+  return counted(is_refused(size) ? NULL : next(old, size), size);
 }
 __attribute__((destructor)) static void tell(void) { dprintf(9, "%ld %ld", calls, refused); }
 """
@@ -75,7 +77,7 @@ class Refused:
 
 @dataclass(frozen=True)
 class Ran:
-    """what a program wrote, its status, how many calls for memory were numbered and how many of them refused"""
+    """what a program wrote, its status, how many calls for memory were numbered, and how many were refused, here or by the system"""
 
     wrote: bytes
     status: int
@@ -97,12 +99,12 @@ class Refusing:
     def __exit__(self, *_):
         self.folder.cleanup()
 
-    def run(self, program, given, plan=Refused(), window=(0, 0)):
+    def run(self, program, given, plan=Refused(), window=(0, 0), seconds=SECONDS):
         told, tell = os.pipe()
         os.set_inheritable(tell, True)
         numbers = (plan.first, plan.last, plan.share, plan.seed, *window)
         env = {"LD_PRELOAD": self.shim, "REFUSED": " ".join(map(str, numbers))}
-        how = {"input": given, "stdout": subprocess.PIPE, "stderr": subprocess.DEVNULL, "env": env, "timeout": SECONDS, "check": False}
+        how = {"input": given, "stdout": subprocess.PIPE, "stderr": subprocess.DEVNULL, "env": env, "timeout": seconds, "check": False}
         it = subprocess.run([program], preexec_fn=lambda: os.dup2(tell, 9), pass_fds=(9, tell), **how)
         os.close(tell)
         said = os.read(told, 100).split()

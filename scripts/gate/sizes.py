@@ -6,51 +6,19 @@
 runs the program on scripts, and the program of cases on calls: bodies of 64 KiB and 16 MiB, heads of 64 KiB and of 1,000 fields, 10,000
 streams at once, 100,000 insertions, deliveries of 1 MiB on each kind of stream, a schedule of more than 100,000 events in a script of more than
 4 MiB. Each line has to be the one that was worked out here from the standards' encodings, so an endpoint that finds no memory for large
-input fails. Calls for memory are counted on the way, by a few lines of C: a run in which one was refused fails too, since it shows nothing. It
-prints a line 'ok NAME' or 'failed NAME' for each script and for the calls. Where no C compiler is there nothing is counted.
+input fails. Calls for memory are counted on the way (refusing.py): a run in which one was refused fails too, since it shows nothing. It
+prints a line 'ok NAME' or 'failed NAME' for each script and for the calls.
 """
 import os
-import shutil
 import subprocess
 import sys
-import tempfile
 
 sys.path.insert(0, os.path.dirname(os.path.abspath(__file__)))
-from connection_model import Sender, integer, string, varint  # noqa: E402
+from independent_qpack import Sender, integer, string, varint  # noqa: E402
+from refusing import Refusing  # noqa: E402
 
 KIB, MIB = 1 << 10, 1 << 20
 LONG = 100  # of a line that is printed
-
-COUNTING = r"""
-#define _GNU_SOURCE
-#include <dlfcn.h>
-#include <stddef.h>
-#include <stdio.h>
-#include <stdlib.h>
-
-static long calls, refused;
-
-static void *counted(void *block, size_t size) {
-  calls++;
-  refused += !block && size;
-  return block;
-}
-/* a program asks these two for memory */
-void *malloc(size_t size) {
-  static void *(*next)(size_t);
-  if (!next) next = dlsym(RTLD_NEXT, "malloc");
-  return counted(next(size), size);
-}
-void *realloc(void *old, size_t size) {
-  static void *(*next)(void *, size_t);
-  if (!next) next = dlsym(RTLD_NEXT, "realloc");
-  return counted(next(old, size), size);
-}
-__attribute__((destructor)) static void tell(void) {
-  FILE *file = fopen(getenv("COUNTS"), "w");
-  if (file) { fprintf(file, "%ld %ld\n", calls, refused); fclose(file); }
-}
-"""
 
 
 class Lines:
@@ -271,25 +239,13 @@ def calls(x, streams, insertions, body):
 # ---- runs
 
 
-def ran(program, given, counter):
-    """what it wrote, its status, and how many calls for memory there were and were refused"""
-    with tempfile.TemporaryDirectory() as folder:
-        env = {"LD_PRELOAD": counter, "COUNTS": f"{folder}/counts"} if counter else {}
-        it = subprocess.run([program], input=given, stdout=subprocess.PIPE, env=env, timeout=300)
-        counts = [1, 0]
-        if counter:
-            with open(f"{folder}/counts") as file:
-                counts = [int(word) for word in file.read().split()]
-        return it.stdout, it.returncode, counts
-
-
-def differences(x, wrote, status, counts):
+def differences(x, ran):
     """what is not as it has to be, first things first"""
-    lines = wrote.split(b"\n")[:-1]
-    if counts[1] or not counts[0]:
-        yield f"{counts[1]} of {counts[0]} calls for memory were refused"
-    if status:
-        yield f"status {status}"
+    lines = ran.wrote.split(b"\n")[:-1]
+    if ran.refused or not ran.calls:
+        yield f"{ran.refused} of {ran.calls} calls for memory were refused"
+    if ran.status:
+        yield f"status {ran.status}"
     if len(lines) != len(x.wanted):
         yield f"{len(lines)} lines, and not {len(x.wanted)}"
     for number, (found, wanted) in enumerate(zip(lines, x.wanted)):
@@ -297,37 +253,31 @@ def differences(x, wrote, status, counts):
             yield f"answer {number + 1}: {found[:LONG]!r}, and not {wanted[:LONG]!r}"
 
 
-def check(name, program, x, counter):
-    given = x.text()
+def check(refusing, name, program, x):
+    given, told = x.text(), ""
     try:
-        wrote, status, counts = ran(program, given, counter)
-        wrong = list(differences(x, wrote, status, counts))
+        ran = refusing.run(program, given, seconds=300)
+        wrong = list(differences(x, ran))
+        told = f"{len(x.wanted):,} answers to {len(given):,} bytes, {ran.calls:,} calls for memory and none refused"
     except subprocess.TimeoutExpired:
-        wrong, counts = ["it did not end within five minutes"], [0, 0]
-    counted = f"{counts[0]:,} calls for memory and none refused" if counter else "calls for memory not counted"
-    told = f"{len(x.wanted):,} answers to {len(given):,} bytes, {counted}"
+        wrong = ["it did not end within five minutes"]
     print(f"failed sizes, {name}: {wrong[0]}" if wrong else f"ok sizes, {name}: {told}", flush=True)
     return bool(wrong)
 
 
 def main():
     program, cases = map(os.path.abspath, sys.argv[1:3])
-    with tempfile.TemporaryDirectory() as folder:
-        counter = f"{folder}/counter.so" if shutil.which("cc") else None
-        if counter:
-            with open(f"{folder}/counter.c", "w") as file:
-                file.write(COUNTING)
-            subprocess.run(["cc", "-O1", "-shared", "-fPIC", "-o", counter, f"{folder}/counter.c", "-ldl"], check=True)
-        fields = [(b"x-%04d" % n, b"%08d" % n) for n in range(1000)]
-        of_calls = Lines()
-        calls(of_calls, 10_000, 100_000, b"0123456789abcdef" * (MIB // 16))
+    fields = [(b"x-%04d" % n, b"%08d" % n) for n in range(1000)]
+    of_calls = Lines()
+    calls(of_calls, 10_000, 100_000, b"0123456789abcdef" * (MIB // 16))
+    with Refusing() as refusing:
         return max([
-            check("bodies of 64 KiB, heads of 64 KiB", program, exchange(64 * KIB, [(b"x-a", b"v" * 64 * KIB)], [(b"x-b", b"w" * 64 * KIB)]), counter),
-            check("bodies of 16 MiB, heads of 1,000 fields", program, exchange(16 * MIB, fields, fields), counter),
-            check("10,000 streams", program, many_streams(10_000), counter),
-            check("150,000 GOAWAYs", program, many_goaways(150_000), counter),
-            check("100,000 insertions", program, many_insertions(2_000, 50), counter),
-            check("calls", cases, of_calls, counter),
+            check(refusing, "bodies of 64 KiB, heads of 64 KiB", program, exchange(64 * KIB, [(b"x-a", b"v" * 64 * KIB)], [(b"x-b", b"w" * 64 * KIB)])),
+            check(refusing, "bodies of 16 MiB, heads of 1,000 fields", program, exchange(16 * MIB, fields, fields)),
+            check(refusing, "10,000 streams", program, many_streams(10_000)),
+            check(refusing, "150,000 GOAWAYs", program, many_goaways(150_000)),
+            check(refusing, "100,000 insertions", program, many_insertions(2_000, 50)),
+            check(refusing, "calls", cases, of_calls),
         ])
 
 

@@ -1,10 +1,6 @@
 #!/usr/bin/env bash
-# The gate: the checks of this repository (scripts/gate/check-*.sh), which take a minute and a half and each print one line 'ok NAME' or
-# 'failed NAME' for each thing that they check; then `rt ci` and beside it, with what it leaves of the processors, the edits of
-# crates/*/refused, each crate's once the libraries below it are proved (scripts/gate/refused.py), but those with a line `judged:`, which cost most
-# and which `make refused` tries by hand, before a contract changes; and then the programs that rt ci built: a large
-# exchange, large input, scripts, insertions and whole runs with memory refused, input and output that fail, and hostile calls of an endpoint. Where one
-# of these fails the gate ends there. The last line is the sum. The C programs of tests/c have a command of their own (make test-c), which CI runs next: it builds the library over what rt ci has proved.
+# The gate, whose steps docs/GATE.md lists: the checks; `rt ci`, and beside it the edits that the prover refuses; the programs that rt ci built; and the
+# edits that runs show. Where one of these fails the gate ends there. The last line is the sum.
 set -uo pipefail
 cd "$(dirname "$0")/../.."
 
@@ -106,6 +102,9 @@ if [ "$failed" -eq 0 ]; then
   count python3 scripts/gate/hostile_calls.py crates/h3_cases/out/h3_cases
   count python3 scripts/gate/strict_messages.py crates/h3_cases/out/h3_cases
   count python3 scripts/gate/wide_scripts.py crates/h3_cases/out/h3_cases
+  began=$SECONDS
+  count python3 scripts/gate/witnesses.py
+  printf '%7d s  the edits that runs show\n' $((SECONDS - began)) >> "$times"
 fi
 
 if [ -s "$times" ]; then

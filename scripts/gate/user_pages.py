@@ -17,8 +17,9 @@ import subprocess
 import sys
 import tempfile
 
-ROOT = os.path.dirname(os.path.dirname(os.path.dirname(os.path.realpath(__file__))))
-PAGES = ["README.md", "CONTRIBUTING.md", "SECURITY.md", "CHANGELOG.md", "docs/INSTALL.md", "docs/QUICKSTART.md", "docs/GUIDE.md", "docs/C_API.md",
+from texts import ROOT, read, say
+
+PAGES = ["README.md", "CONTRIBUTING.md", "SECURITY.md", "CHANGELOG.md", "docs/INSTALL.md", "docs/QUICKSTART.md", "docs/GUIDE.md", "docs/C_API.md", "docs/DATAGRAMS.md",
          "docs/RFC.md", "docs/DIFFERENCES.md", "docs/PERFORMANCE.md", "bindings/go/README.md", "bindings/rust/README.md", "bindings/python/README.md",
          "examples/c/README.md", "examples/go/README.md", "examples/rust/README.md", "examples/PEERS.md", "compat/nghttp3/README.md",
          "bench/COSTS.md", "bench/LOAD.md"]
@@ -28,11 +29,6 @@ NEEDS_MORE = re.compile(r"^#include \"(?!h3\.h)|<(?:ngtcp2|gnutls)", re.M)  # th
 BLOCK = re.compile(r"(?:<!-- (from|start) (\S+) -->\n\n?)?^```(\w*)\n(.*?)^```$", re.M | re.S)
 INDENTED = re.compile(r"(?:\A|(?<=\n\n))((?:    \S[^\n]*\n(?:\n(?=    \S))?)+)", re.M)
 NO_COMMANDS = re.compile(r"\s*(?:\[|\(|require |replace |[\w-]+ = )")
-
-
-def read(path):
-    with open(os.path.join(ROOT, path), encoding="utf-8") as file:
-        return file.read()
 
 
 def run(*words, **more):
@@ -160,14 +156,6 @@ def speed():
     least, most = (round(100 * (1 - 1 / it)) for it in (min(ratios), max(ratios)))
     words = f"take {least} to {most} % less processor time than with nghttp3"
     return [] if words in " ".join(read("README.md").split()) else [f"README.md: by docs/PERFORMANCE.md requests '{words}'"]
-
-
-def say(wrong, good):
-    for it in wrong:
-        print(f"failed {it}")
-    if not wrong:
-        print(f"ok {good}")
-    return not wrong
 
 
 def main():

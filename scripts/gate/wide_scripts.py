@@ -19,7 +19,7 @@ import sys
 
 sys.path.insert(0, os.path.dirname(os.path.abspath(__file__)))
 import independent_talk  # noqa: E402
-from independent_qpack import BY_LENGTH  # noqa: E402
+from independent_qpack import BY_LENGTH, integer  # noqa: E402
 
 ROOT = os.path.dirname(os.path.dirname(os.path.dirname(os.path.realpath(__file__))))
 GET = ":method=GET :scheme=https :authority=a.b :path=/"
@@ -107,15 +107,6 @@ def early_cancellations(program):
     for place in range(2000):
         rows += [("open c", f"stream {4 * place}"), (f"cancel c {4 * place}", "ok")]
     return answers(program, "two defaults: 2,000 requests that are canceled before the settings came", rows + [("carry c 10", "ok")] + BEGIN[1:] + request(8000))
-
-
-def integer(bits, pattern, number):
-    """RFC 9204, section 4.1.1"""
-    most = 2**bits - 1
-    out, number = [pattern << bits | min(number, most)], number - most
-    while number >= 128:
-        out, number = out + [number % 128 + 128], number // 128
-    return bytes(out + [number] if number >= 0 else out)
 
 
 def far_cancellations(program):

@@ -13,7 +13,7 @@ import variants  # noqa: E402
 
 ROOT, BUILD = variants.ROOT, variants.BUILD
 LISTS, SCHEDULES = 200, 40
-SHORT = 700  # bytes of a script to which memory is refused in a search
+REFUSED_TALK = {"tests/talk/again.talk", "examples/request.talk"}  # scripts in which memory is refused in a search
 REFUSES = ["-Wl,--wrap=malloc,--wrap=realloc"]
 FREES = ["-Wl,--wrap=malloc,--wrap=realloc,--wrap=free"]
 # programs in C that judge by themselves: the flags that each is linked with, and its arguments
@@ -22,9 +22,10 @@ IN_C = {
     "tests/c/small_pieces.c": (FREES, []), "tests/c/unknown.c": (FREES, []), "tests/c/instructions.c": ([], []), "tests/c/arguments.c": ([], ["unproved"]),
     "tests/c/limits.c": ([], []), "tests/c/priority.c": ([], []), "tests/c/given.c": ([], []), "tests/c/read.c": ([], ["0", "300"]),
     "tests/c/past.c": ([], ["1", "200"]), "tests/c/details.c": ([], []), "tests/c/defaults.c": ([], []), "tests/c/excess.c": (FREES, []),
-    "tests/c/cancellations.c": (FREES, []), "tests/c/shutdown.c": ([], []), "tests/c/lists.c": ([], []), "tests/witness/far.c": ([], []),
+    "tests/c/cancellations.c": (FREES, []), "tests/c/shutdown.c": ([], []), "tests/c/datagrams.c": ([], []),
+    "tests/c/lists.c": ([], []), "tests/witness/far.c": ([], []), "tests/witness/lacking.c": (REFUSES, []),
 }
-CALLS, PRINTED, REFUSED, LAYERS = "tests/c/calls.c", "tests/c/in_memory.c", "tests/witness/refused.c", "tests/witness/layers"
+CALLS, PRINTED, REFUSED, LAYERS = "tests/c/calls.c", "tests/c/in_memory.c", "tests/witness/refused.c", "tests/witness/layers.rattle"
 
 
 @dataclasses.dataclass(frozen=True)
@@ -60,16 +61,17 @@ def of_cases():
     yield from scripts("cases", "tests/wide")
     messages = [line for row in strict_messages.rows() for line in strict_messages.calls(row)[0]]
     yield Input("tests/strict/messages.tsv", (f"{BUILD}/cases",), lines(messages))
+    yield Input("tests/witness/refused.in", (f"{BUILD}/cases",), text_of("tests/witness/refused.in"), is_refused=True)
     for side in (hostile_calls.CLIENT, hostile_calls.SERVER):
         made = hostile_calls.lists(side, LISTS, 1)
         asked, told = ([line for it in made for line in it[which]] for which in (0, 1))
         yield Input(f"scripts/gate/hostile_calls.py {side.lower()}", (f"{BUILD}/cases",), lines(asked), lines(told))
-    yield Input(LAYERS, (f"{BUILD}/layers",), b"", text_of(f"{LAYERS}.stdout"))
+    yield Input(LAYERS, (f"{BUILD}/layers",), b"", text_of("tests/witness/layers.stdout"), is_refused=True)
 
 
 def of_talk():
     yield stored("talk", "crates/h3_talk/stdin", "crates/h3_talk/stdout")
-    yield from (dataclasses.replace(it, is_refused=len(it.given) < SHORT) for it in scripts("talk", "examples", "tests/talk"))
+    yield from (dataclasses.replace(it, is_refused=it.name in REFUSED_TALK) for it in scripts("talk", "examples", "tests/talk"))
     for seed in range(1, SCHEDULES + 1):
         yield Input(f"scripts/gate/memory_schedules.py {seed}", (f"{BUILD}/talk",), lines(memory_schedules.schedule(seed)))
 
@@ -81,8 +83,9 @@ def rows():
     return tuple(b"".join(it[which] + b"\n" for it in kept) for which in (0, 1))
 
 
-def of_c():
+def of_c(of_calls):
     yield Input(CALLS, (variants.in_c(CALLS),), *rows())
+    yield from (dataclasses.replace(it, name=f"{CALLS} {it.name}", words=(variants.in_c(CALLS),)) for it in of_calls)
     yield Input(PRINTED, (variants.in_c(PRINTED),), b"", text_of("tests/c/in_memory.stdout"))
     yield Input(REFUSED, (variants.in_c(REFUSED),), is_refused=True)
     for path, (_, arguments) in IN_C.items():
@@ -98,4 +101,6 @@ def compile_c(rt):
 
 def every():
     """all of them, by their names"""
-    return {it.name: it for made in (of_cases(), of_talk(), of_c()) for it in made}
+    cases = [*of_cases()]
+    of_calls = [it for it in cases if ".py" in it.name or ".tsv" in it.name]  # all of their lines are calls
+    return {it.name: it for made in (cases, of_talk(), of_c(of_calls)) for it in made}

@@ -5,13 +5,13 @@ An edit of crates/*/refused with a line `judged:` has a line `witness: INPUT` wh
 (scripts/gate/witness_inputs.py) whose answer the wrong body changes. Behind the input may stand what else is measured or done:
 
   witness: tests/talk/order.talk
-  witness: crates/h3_cases/stdin, memory             how often memory is asked for, or how much
+  witness: crates/h3_cases/stdin, memory             how often memory is asked for, how much, or how much is held at most
   witness: tests/talk/order.talk, refusing 7-9       the seventh to the ninth call for memory is refused; where calls have moved since, others may show it
 
-An edit that a program could run and that no run shows has a line `unseen: WHY` in its place. All of these are in one build beside the
-right bodies (scripts/gate/variants.py). For each crate a line 'ok CRATE: ..' says how many its
-witnesses show, and for each that is not shown, does not compile, or whose input is gone or answered otherwise by the right bodies, there
-is a line 'failed CRATE/EDIT: ..'. The last says how many edits there are, and what refuses them: at most READERS may rest on a reader.
+An edit that no run shows has a line `unseen: WHY` in its place. All that a program runs are in one build beside the right bodies
+(scripts/gate/variants.py). For each crate a line 'ok CRATE: ..' says how many its witnesses show. There is a line 'failed CRATE/EDIT: ..' for
+each that does not compile, has no such line, or whose witness is gone, does not show it, or is answered otherwise by the right bodies. The last
+line says how many edits there are, and what refuses them: at most READERS may rest on a reader.
 
 --find looks for a witness of each edit that has none, or one that no longer shows it, and writes it into the edit."""
 import collections
@@ -23,12 +23,12 @@ import subprocess
 import sys
 import tempfile
 
+import edits
 import kit
-import refused
 import variants
 import witness_inputs
 
-READERS = 80  # at most so many edits rest on a reader
+READERS = 50  # at most so many edits rest on a reader
 LANES = 2
 MEMORY = "memory"
 EVER = 10**9  # behind the last call for memory of a run
@@ -52,7 +52,7 @@ def ended(process):
 
 
 def told_in(path):
-    """the numbers of the bodies that were asked for, and the calls for memory with their bytes; none of a program that did not come to its end"""
+    """the numbers of the bodies that were asked for, and the calls for memory with their bytes and the most held; none of a program that did not come to its end"""
     if not os.path.exists(path):
         return set(), None
     with open(path, encoding="ascii") as it:
@@ -86,7 +86,7 @@ def difference(given, right, wrong, how):
         return "it does not end"
     if how == MEMORY:
         both = right.memory, wrong.memory
-        return f"calls for memory and bytes: {both[0]} become {both[1]}" if both[0] != both[1] else None
+        return f"calls for memory, bytes and the most held: {both[0]} become {both[1]}" if both[0] != both[1] else None
     if right.status != wrong.status:
         return f"status {right.status} becomes {wrong.status}"
     if right.wrote != wrong.wrote and not given.is_test:
@@ -133,8 +133,7 @@ def judge(runs, variant, void):
     if variant.number in void:
         return False, f"it does not compile: {void[variant.number]}"
     if not edit.witness:
-        is_said = bool(edit.unseen) or not variant.parts
-        return is_said, None if is_said else "no run shows it: let 'make witnessed FIND=1' find a witness, or say in a line 'unseen: WHY' why there is none"
+        return bool(edit.unseen), None if edit.unseen else "no run shows it: let 'make witnessed FIND=1' find a witness, or say in a line 'unseen: WHY' why there is none"
     if not variant.parts:
         return False, f"it has a witness, and no run can have it: {variant.why}"
     shown = runs.shown(variant, edit.witness)
@@ -175,13 +174,10 @@ def say(is_well, text):
     return is_well
 
 
-def count(rt, made):
+def count(made):
     """how many edits there are, and what refuses them; are those that rest on a reader few?"""
-    every = sum(len(refused.edits_of(it)) for it in kit.crates_of(rt, variants.ROOT))
-    by_run = sum(bool(it.edit.witness) for it in made)
-    by_reader = len(made) - by_run
-    text = f"{every} edits: {every - len(made)} by the prover, {by_run} by a run, {by_reader} by a reader"
-    return say(by_reader <= READERS, text + (f", and not above {READERS}" if by_reader <= READERS else f": more than {READERS}"))
+    by_reader = sum(not it.edit.witness for it in made)
+    return say(by_reader <= READERS, f"{edits.summary()}, {'and not above' if by_reader <= READERS else 'more than'} {READERS}")
 
 
 def refusals(runs):
@@ -196,7 +192,7 @@ def candidates(runs, variant, order):
     for; then one to which memory is refused."""
     asking = sorted((it for it in order if variant.number in runs.right(it).asked), key=lambda it: -runs.showed[it.name])
     yield from (it.name for it in asking)
-    yield from (f"{it.name}, {MEMORY}" for it in asking if runs.right(it).memory != (0, 0))
+    yield from (f"{it.name}, {MEMORY}" for it in asking if runs.right(it).memory and runs.right(it).memory[0])
     for given, which in refusals(runs):
         if variant.number in runs.right(given, which).asked:
             yield f"{given.name}, refusing {which}"
@@ -234,7 +230,8 @@ def find_all(runs, made, void):
     with concurrent.futures.ThreadPoolExecutor(LANES) as pool:
         for variant, found in zip(made, pool.map(one, made)):
             if found.partition(", ")[0] not in runs.inputs:
-                print(f"{variant.edit.label}: {found}", flush=True)
+                if variant.parts or not variant.edit.unseen:
+                    print(f"{variant.edit.label}: {found}", flush=True)
             elif found != variant.edit.witness:
                 write(variant.edit, found)
 
@@ -254,7 +251,7 @@ def main():
         find_all(runs, mine, void)
         return 0
     fine = check(runs, mine, void)
-    return 0 if count(rt, made) and fine else 1
+    return 0 if count(made) and fine else 1
 
 
 if __name__ == "__main__":

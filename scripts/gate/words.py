@@ -17,8 +17,8 @@ import re
 import sys
 
 import user_pages
+from texts import ROOT, read
 
-ROOT = os.path.dirname(os.path.dirname(os.path.dirname(os.path.realpath(__file__))))
 LIST = "CONTRIBUTING.md"
 HEADER = "include/h3.h"
 COVERED = [*user_pages.PAGES, HEADER]
@@ -35,11 +35,6 @@ COVERED += [f"docs/{it}/{page}" for it in PROVER_FOLDERS for page in sorted(os.l
 # folders whose comments are read, in files of these kinds
 SOURCES = [f"crates/{it}/src" for it in sorted(os.listdir(f"{ROOT}/crates"))] + ["bindings/go", "bindings/rust/src"]
 KINDS = (".rt", ".go", ".rs")
-
-
-def read(path):
-    with open(os.path.join(ROOT, path), encoding="utf-8") as file:
-        return file.read()
 
 
 def blank(text):

@@ -85,10 +85,10 @@ start() {
   last=$!
   pids+=("$last")
   for _ in $(seq 600); do # under valgrind, on a busy machine
-    if listens "$port" || ! kill -0 "$last" 2> /dev/null; then break; fi
+    if listens "$port"; then return; fi # the kernel's list may lack a port when it is read while it changes: once is enough
+    kill -0 "$last" 2> /dev/null || break
     sleep 0.1
   done
-  if listens "$port"; then return; fi
   cp "$work/$log" "$work/log"
   bad "a server that listens: $*"
 }

@@ -7,13 +7,14 @@ lib=${LIB:-$PWD/build/c}
 . scripts/interop/checks.sh
 . scripts/interop/programs.sh
 
-make_programs
+make_programs proxy
 make_checked
-for name in settings_first parts leave; do make_client "$name"; done
+for name in settings_first parts leave urgent; do make_client "$name"; done
 head -c 50000 "$big" > "$folder/part.bin"
+head -c 200000 "$big" > "$folder/many.bin"
 serve=$work/checked/serve
 hostile=("$work/hostile" "$cert")
-mapfile -t ports < <(python3 scripts/interop/ports.py 16)
+mapfile -t ports < <(python3 scripts/interop/ports.py 19)
 
 used() { echo $(($(cut -d' ' -f14,15 "/proc/$1/stat" | tr ' ' '+'))); }
 
@@ -25,7 +26,7 @@ misused() { # STATUS, TEXT, COMMAND..
   within 10 "$@" > "$work/got"
   [ $? -eq "$status" ] && grep -q -- "$text" "$work/log"
 }
-check "buffers and timers" works "$work/parts"
+check "buffers, timers, turns and priorities" works "$work/parts"
 check "serve: port 99999" misused 1 "not a port" "$serve" 127.0.0.1 99999 "$cert" "$key" "$folder"
 check "serve: --requests -5" misused 2 "not a number: -5" "$serve" --requests -5 127.0.0.1 "${ports[0]}" "$cert" "$key" "$folder"
 check "serve: a certificate that is not there" misused 1 "$work/none.pem" "$serve" 127.0.0.1 "${ports[0]}" "$work/none.pem" "$key" "$folder"
@@ -108,7 +109,7 @@ options_of() { "$@" 2>&1 | grep -oE -- '--[a-z-]+' | sort -u; } # COMMAND..: tho
 # shellcheck disable=SC2046
 check "serve: a manual page with all its options" described serve $(options_of "$serve" --help)
 # shellcheck disable=SC2046
-check "proxy: a manual page with all its options" described proxy $(options_of "$work/checked/proxy")
+check "proxy: a manual page with all its options" described proxy $(options_of "$work/checked/proxy" --help)
 is_ready() { # PORT: the service manager is told
   python3 - "$work/notify" "$serve" 127.0.0.1 "$1" "$cert" "$key" "$folder" > "$work/got" 2>> "$work/log" <<'PYTHON'
 import os, socket, subprocess, sys
@@ -129,7 +130,8 @@ certificate() { # NAME, FILE, FILE of the key
 }
 build certificate other.example "$work/other.pem" "$work/other_key.pem"
 mkdir "$work/qlog"
-serving "${ports[9]}" operated.log "$serve" --log "$work/access.log" --qlog "$work/qlog" --certificate "$work/other.pem,$work/other_key.pem"
+SSLKEYLOGFILE=$work/keys serving "${ports[9]}" operated.log "$serve" --log "$work/access.log" --qlog "$work/qlog" --idle 2 \
+  --certificate "$work/other.pem,$work/other_key.pem"
 operated=$last
 shows() { gives "$folder/hello.txt" "$work/checked/fetch" --address 127.0.0.1 --trust "$2" "https://$3:$1/hello.txt"; }
 check "serve: a second certificate, by its name" shows "${ports[9]}" "$work/other.pem" other.example
@@ -177,6 +179,24 @@ PYTHON
 }
 check "serve --qlog: the events of a request" events "$work/qlog"
 check "serve: counts at SIGUSR1" counts "$operated"
+check "serve, SSLKEYLOGFILE: a connection's keys, for Wireshark" grep -qE "^CLIENT_TRAFFIC_SECRET_0 [0-9a-f]{64} [0-9a-f]+$" "$work/keys"
+one_is_left() { # PROCESS
+  kill -USR1 "$1"
+  sleep 0.2
+  grep "^connections" "$work/operated.log" | tail -n 1 | tee -a "$work/log" | grep -q "^connections 1 open"
+}
+silent() { # PORT, PROCESS
+  "${hostile[@]}" "127.0.0.1:$1" pings 12 > "$work/silent" &
+  local client=$! status
+  await "$work/silent" there || return 1
+  timeout -s KILL 0.5 "$work/peer" slow "$cert" 1000 "$(url "$1" /big.bin)" > /dev/null & # in the background bash says nothing of its end
+  wait $!
+  ! one_is_left "$2" && sleep 2 && soon one_is_left "$2" && sleep 4 && one_is_left "$2"
+  status=$?
+  wait "$client"
+  return $status
+}
+check "serve --idle 2: a client that vanished is forgotten, and not one that pings" silent "${ports[9]}" "$operated"
 kill -TERM "$operated"
 check "serve: it ends, with a log" ended "$operated" 40
 
@@ -242,6 +262,27 @@ settings_come_first() { # PORT, PORT of a narrow way to it
 }
 start "${ports[5]}" narrow.log python3 scripts/interop/narrow.py "${ports[5]}" "${ports[4]}" 300000
 check "serve: SETTINGS come before the bodies, over 300 KB a second" settings_come_first "${ports[4]}" "${ports[5]}"
+
+# ---- what is urgent ----
+
+urgent_ms() { # PORT: the median of three
+  local _ times=()
+  for _ in 1 2 3; do
+    works "$work/urgent" "$1" "$cert" || return 1
+    times+=("$(cat "$work/got")")
+  done
+  printf '%s\n' "${times[@]}" | sort -n | sed -n 2p
+}
+urgent_as_soon() { # PORT of ours, PORT of the other, over narrow ways
+  local ours theirs
+  theirs=$(urgent_ms "$2") && ours=$(urgent_ms "$1") || return 1
+  echo "an urgent response of 50 KB after $ours ms, by gtlsserver after $theirs ms" | tee -a "$work/log"
+  [ $((10 * ours)) -le $((12 * theirs)) ]
+}
+start "${ports[16]}" gtls.log gtlsserver -q -d "$folder" 127.0.0.1 "${ports[16]}" "$key" "$cert"
+start "${ports[17]}" slow_ours.log python3 scripts/interop/narrow.py "${ports[17]}" "${ports[4]}" 500000
+start "${ports[18]}" slow_gtls.log python3 scripts/interop/narrow.py "${ports[18]}" "${ports[16]}" 500000
+check "serve: an urgent response beside 20 downloads over 500 KB a second, as soon as by gtlsserver" urgent_as_soon "${ports[17]}" "${ports[18]}"
 
 # ---- the end ----
 

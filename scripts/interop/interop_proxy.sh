@@ -11,7 +11,7 @@ make_programs proxy count
 make_checked
 for name in origin leave tunnel; do make_client "$name"; done
 head -c 50000 "$big" > "$folder/part.bin"
-mapfile -t ports < <(python3 scripts/interop/ports.py 17)
+mapfile -t ports < <(python3 scripts/interop/ports.py 22)
 
 proxy() { # PORT, LOG, PORT of the server, options
   local port=$1 log=$2 to=$3
@@ -84,6 +84,57 @@ proxy "${ports[8]}" proxy_none.log "${ports[9]}"
 third=$last
 check "proxy: no server gives 503" refuses "status 503" "${ours[@]}" "$(url "${ports[8]}" /)"
 
+# ---- what an operator asks for ----
+
+check "proxy --version" bash -c "'$work/checked/proxy' --version | grep -q '^proxy of Beanwhile [0-9]'"
+certificate() { # NAME
+  openssl req -x509 -newkey ec -pkeyopt ec_paramgen_curve:P-256 -nodes -keyout "$work/other_key.pem" -out "$work/other.pem" -days 13 \
+    -subj "/CN=$1" -addext "subjectAltName=DNS:$1" 2>> "$work/log"
+}
+build certificate other.example
+proxy "${ports[17]}" operated.log "${ports[0]}" --log "$work/access.log" --certificate "$work/other.pem,$work/other_key.pem"
+operated=$last
+shows() { gives "$folder/hello.txt" "$work/checked/fetch" --address 127.0.0.1 --trust "$work/other.pem" "https://$1:${ports[17]}/hello.txt"; }
+check "proxy: a second certificate, by its name" shows other.example
+reloaded() {
+  certificate new.example
+  mv "$work/access.log" "$work/access.1"
+  kill -HUP "$operated"
+  sleep 1
+  shows new.example
+}
+check "proxy: SIGHUP shows new certificates" reloaded
+LINE='^[0-9TZ:-]{20} 127\.0\.0\.1:[0-9]+ "GET /hello\.txt" 200 6 [0-9]+ ms -$'
+check "proxy: a line for each request" soon grep -qE "$LINE" "$work/access.log"
+check "proxy: the log before SIGHUP stays" grep -qE "$LINE" "$work/access.1"
+counts() {
+  kill -USR1 "$operated"
+  soon grep -qE "^connections [0-9]+ open, 2 taken, .* 2xx 2, 3xx 0" "$work/operated.log"
+}
+check "proxy: counts at SIGUSR1" counts
+kill -TERM "$operated"
+check "proxy: it ends, with a log" ended "$operated" 20
+
+# ---- answers that wait for others ----
+
+head -c 1500000 "$big" > "$folder/wait.bin"
+cat "$folder/wait.bin" "$folder/wait.bin" "$folder/wait.bin" > "$work/thrice"
+proxy "${ports[18]}" proxy_waits.log "${ports[0]}" --timeout 2
+fifth=$last
+start "${ports[19]}" narrow.log python3 scripts/interop/narrow.py "${ports[19]}" "${ports[18]}" 500000
+running "${ports[20]}" short.log "$work/checked/serve" --idle 7 127.0.0.1 "${ports[20]}" "$cert" "$key" "$folder"
+short=$last
+proxy "${ports[21]}" proxy_pings.log "${ports[20]}"
+sixth=$last
+head -c 1000000 "$big" > "$folder/still.bin"
+stands_still() { # PORT: its reader grants 128 KiB each 8.7 s, and nothing in between (quic-go: a quarter of 512 KiB)
+  PEER_SECONDS=150 within 150 "$work/peer" slow "$cert" 15000 "$(url "$1" /still.bin)" > "$work/got"
+  cmp -s "$work/got" "$folder/still.bin"
+}
+check "proxy: a reader that stands still longer than the server's --idle 7" stands_still "${ports[21]}"
+check "proxy --timeout 2: three answers of 1.5 MB one after another, over 500 KB a second" gives "$work/thrice" "${ours[@]}" --count 3 --parallel 3 \
+  "$(url "${ports[19]}" /wait.bin)"
+
 # ---- a reader that reads nothing ----
 
 running "${ports[10]}" proxy_plain.log "$work/plain/proxy" --trust "$cert" --drain 5 127.0.0.1 "${ports[10]}" "$cert" "$key" 127.0.0.1 "${ports[0]}" localhost
@@ -142,7 +193,7 @@ proxy "${ports[13]}" proxy_restarts.log "${ports[12]}"
 process=$last
 check "proxy: its server ends under 1,000 requests, and starts again: none is lost" restarts "${ports[13]}" "${ports[12]}" "$server"
 kill -TERM "$process" "$last"
-kill -TERM "$first" "$second" "$third" "$fourth" "$plain"
-for process in $first $second $third $fourth $plain; do check "proxy: it ends" ended "$process" 40; done
-for log in proxy proxy_gtls proxy_go proxy_origin proxy_none proxy_tunnels proxy_leaves proxy_restarts origin serve ends restarted; do check "proxy: no leak and no error of memory, $log" is_silent "$log.log"; done
+kill -TERM "$first" "$second" "$third" "$fourth" "$fifth" "$sixth" "$plain" "$short"
+for process in $first $second $third $fourth $fifth $sixth $plain $short; do check "proxy: it ends" ended "$process" 40; done
+for log in operated proxy_waits proxy_pings short proxy proxy_gtls proxy_go proxy_origin proxy_none proxy_tunnels proxy_leaves proxy_restarts origin serve ends restarted; do check "proxy: no leak and no error of memory, $log" is_silent "$log.log"; done
 [ "$failed" -eq 0 ]

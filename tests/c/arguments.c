@@ -43,6 +43,8 @@ static void of_none(h3_endpoint *e) {
   IS(h3_shutdown(e, &detail), H3_NO_ENDPOINT);
   IS(h3_first_unseen(e, &id), H3_NO_ENDPOINT);
   IS(h3_is_drained(e, &fin), H3_NO_ENDPOINT);
+  IS(h3_datagram_head(e, 0, b, 4, &n, &detail), H3_NO_ENDPOINT);
+  IS(h3_read_datagram(e, "ab", 2, &id, &n, &detail), H3_NO_ENDPOINT);
   IS(h3_next_to_send(e, 0, &id), H3_NO_ENDPOINT);
   IS(h3_end_taken(e, 0), H3_NO_ENDPOINT);
   IS(h3_outgoing(e, 0, b, 4, &n, NULL, &fin), H3_NO_ENDPOINT);

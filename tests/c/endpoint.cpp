@@ -204,6 +204,50 @@ void refusals() {
   WANT(client.open(wrong).answer == H3_BLOCKED_LIMIT && !client);
 }
 
+void datagrams() {
+  h3_config ours = client_config(), theirs = server_config();
+  ours.datagram = theirs.datagram = 1;
+  endpoint client, server;
+  WANT(client.open(ours) && server.open(theirs));
+  carry(client, server, 1000);
+  carry(server, client, 1000);
+  std::uint64_t id;
+  WANT(client.open_request(id));
+  WANT(client.send_head(id, {{":method", "GET"}, {":scheme", "https"}, {":authority", "localhost"}, {":path", "/"}}));
+  carry(client, server, 1000);
+  head_bytes head;
+  WANT(client.datagram_head(id, head) && head.count == 1 && head.room[0] == 0);
+  WANT(client.datagram_head(4, head).answer == H3_NOT_OPEN);
+  const std::uint8_t hi[] = {0x40, 0x00, 'h', 'i'}, early[] = {1}, cut[] = {0x40};
+  datagram came;
+  WANT(server.read_datagram(hi, came) && came.kind == datagram::is_for && came.id == 0 && came.payload.size() == 2 && came.payload.data() == hi + 2);
+  WANT(server.read_datagram(early, came) && came.kind == datagram::is_early && came.id == 4);
+  WANT(client.finish(id));
+  carry(client, server, 1000);
+  WANT(server.read_datagram(bytes(hi, 4), came) && came.kind == datagram::is_late);
+  result refused = server.read_datagram(cut, came);
+  WANT(refused.answer == H3_CONNECTION && refused.detail == H3_CODE_DATAGRAM_ERROR);
+  WANT(client.open(client_config()) && client.read_datagram(hi, came) && came.kind == datagram::is_off);
+}
+
+void capsules() {
+  const std::uint8_t all[] = {0x68, 0x43, 0x06, 0, 0, 0, 7, 'b', 'y', 0x17, 0x00};
+  head_bytes head;
+  WANT(capsule_head(0x2843, 6, head) && head.count == 3 && std::equal(head.room, head.room + 3, all));
+  WANT(capsule_head(std::uint64_t{1} << 62, 0, head).answer == H3_ARGUMENT);
+  for (std::size_t at = 0; at <= sizeof all; at++) {
+    capsule_reader reader;
+    std::size_t heads = 0, ends = 0, value = 0;
+    for (bytes piece : {bytes(all, at), bytes(all + at, sizeof all - at)})
+      for (auto told = reader.read(piece); told.part != H3_CAPSULE_PENDING; told = reader.read(piece)) {
+        if (told.part == H3_CAPSULE_HEAD) WANT(told.capsule_type == (heads++ ? 0x17u : 0x2843u));
+        if (told.part == H3_CAPSULE_VALUE) value += told.value.size();
+        if (told.part == H3_CAPSULE_END) ends++;
+      }
+    WANT(heads == 2 && ends == 2 && value == 6 && reader.may_end());
+  }
+}
+
 }  // namespace
 
 int main() {
@@ -211,5 +255,7 @@ int main() {
   for (std::size_t packet : {2, 100, 1200, 100000}) bodies_in_place(packet);
   ownership();
   refusals();
+  datagrams();
+  capsules();
   std::printf("ok h3.hpp: C++ %ld\n", static_cast<long>(__cplusplus));
 }

@@ -358,7 +358,37 @@ static void of_a_priority(void) {
   let_go();
 }
 
+static void of_a_capsule(void) {
+  h3_capsule_reader *reader = ROOM(h3_capsule_reader);
+  h3_capsule *capsule = ROOM(h3_capsule);
+  size_t *used = ROOM(size_t);
+  uint32_t *ends = room_for(4, 4);
+  memset(reader, 0, sizeof *reader);
+  IS(h3_read_capsule(reader, given("\x00\x02hi", 4), 4, used, capsule), H3_OK);
+  HOLDS(capsule->part == H3_CAPSULE_HEAD && capsule->length == 2 && *used == 2);
+  IS(h3_capsule_ends(reader, ends), H3_OK);
+  HOLDS(*ends == 0);
+  IS(h3_capsule_head(0x2843, 6, room_for(3, 1), 3, used), H3_OK);
+  HOLDS(*used == 3);
+  let_go();
+}
+
+static void of_a_datagram(void) {
+  h3_endpoint made = new_end(0, 1);
+  uint64_t *id = ROOM(uint64_t), *detail = ROOM(uint64_t);
+  size_t *n = ROOM(size_t);
+  IS(h3_read_datagram(&made, given("\x00hi", 3), 3, id, n, detail), H3_NO_DATAGRAMS);
+  let_go();
+  n = ROOM(size_t);
+  detail = ROOM(uint64_t);
+  IS(h3_datagram_head(&made, 0, room_for(8, 1), 8, n, detail), H3_NO_DATAGRAMS);
+  let_go();
+  h3_free(&made);
+}
+
 int main(void) {
+  of_a_capsule();
+  of_a_datagram();
   of_cuts();
   of_an_exchange();
   of_a_priority();

@@ -13,7 +13,7 @@ static void of_values(void) {
       {"i=?0", 3, 0},       {"u=8", 3, 0},         {"u=-1", 3, 0},          {"u=1.0", 3, 0},          {"u=\"1\"", 3, 0},
       {"u", 3, 0},          {"u=5;x=2, i", 5, 1},  {"a=(1 2);q, u=2", 2, 0}, {"a=:YQ==:, u=2", 2, 0}, {"a=\"x,u=1\", u=2", 2, 0},
       {"*a=b/c:d,u=2", 2, 0}, {"u=1,u=7", 7, 0},   {"u=1,u=9", 3, 0},       {"i=1", 3, 0},            {" u=1", 1, 0},
-      {"u=1 ", 1, 0},       {"u=1\t", 1, 0},       {"u=1,\ti", 1, 1},
+      {"u=1 ", 1, 0},       {"u=1\t", 1, 0},       {"u=1,\ti", 1, 1},       {"u=1,u=a", 3, 0},        {"uv=1", 3, 0},
   };
   for (size_t i = 0; i < sizeof of / sizeof *of; i++) {
     uint32_t urgency = 9, incremental = 9;
@@ -46,6 +46,6 @@ int main(void) {
   of_values();
   of_no_dictionaries();
   of_arguments();
-  if (!bad) puts("ok priority: 38 values of the field, as RFC 9218 and RFC 8941 have them");
+  if (!bad) puts("ok priority: 40 values of the field, as RFC 9218 and RFC 8941 have them");
   return bad;
 }

@@ -335,6 +335,7 @@ static void places(void) {
   h3_config_default(&c);
   c.server = 1;
   c.strict = 0;
+  c.blocked = 0; /* no header section may wait, and none does */
   IS(h3_read(&server, 0, packet, 13, 0, &used, &item, NULL), H3_NO_ENDPOINT);
   IS(h3_new(&server, &c, NULL), H3_OK);
   IS(h3_read(&server, (uint64_t)1 << 62, packet, 13, 0, &used, &item, NULL), H3_ARGUMENT);
@@ -355,6 +356,19 @@ static void places(void) {
   HOLDS(used == 0 && item.kind == H3_END);
   IS(h3_read(&server, 0, "x", 1, 0, &used, &item, NULL), H3_AFTER_END);
   HOLDS(used == 0);
+  /* the end came within a payload */
+  IS(h3_read(&server, 4, packet, 13, 0, &used, &item, NULL), H3_OK);
+  IS(h3_read(&server, 4, packet + 9, 4, 0, &used, &item, NULL), H3_OK);
+  HOLDS(used == 4 && item.kind == H3_BODY_GIVEN);
+  IS(h3_deliver_end(&server, 4, NULL), H3_OK);
+  IS(h3_read(&server, 4, "llo", 3, 0, &used, &item, NULL), H3_AFTER_END);
+  HOLDS(used == 0);
+  /* the type of DATA came before: it has the length 0, and after it come the type and length of HEADERS */
+  IS(h3_read(&server, 8, packet, 9, 0, &used, &item, NULL), H3_OK);
+  IS(h3_read(&server, 8, "\x00", 1, 0, &used, &item, NULL), H3_OK);
+  HOLDS(used == 1 && item.kind == H3_PENDING);
+  IS(h3_read(&server, 8, "\x00\x01\x61", 3, 0, &used, &item, NULL), H3_OK);
+  HOLDS(used == 3 && item.kind == H3_PENDING);
   h3_free(&server);
 }
 

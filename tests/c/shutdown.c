@@ -181,6 +181,37 @@ static void of_ids(void) {
   drop();
 }
 
+/* The packets of one of three requests are late: the other two are done, and the server is not drained. It named 12, so that one
+ * may come, and no other connection will be asked for it (RFC 9114, section 5.2). */
+static void of_a_late_request(uint64_t late) {
+  make(1);
+  for (int i = 0; i < 3; i++) ask();
+  carry_own();
+  for (uint64_t id = 0; id <= 8; id += 4) {
+    if (id == late) continue;
+    carry_to_end(CLIENT, id);
+    pull_whole(SERVER, id);
+    answer(id);
+    carry_own();
+    carry_to_end(SERVER, id);
+    pull_whole(CLIENT, id);
+  }
+  IS(h3_shutdown(&ends[SERVER], NULL), H3_OK);
+  WRITES(SERVER, "\x07\x01\x0c");
+  carry_own();
+  HOLDS(unseen(SERVER) == 12 && !drained(SERVER));
+  carry_to_end(CLIENT, late);
+  HOLDS(!drained(SERVER));
+  pull_whole(SERVER, late);
+  answer(late);
+  HOLDS(!drained(SERVER));
+  carry_own();
+  carry_to_end(SERVER, late);
+  HOLDS(drained(SERVER));
+  pull_whole(CLIENT, late);
+  drop();
+}
+
 /* where a program does not ask for it a later request is taken as any; and the greatest id of all */
 static void of_choices(void) {
   uint64_t detail = 0;
@@ -267,6 +298,8 @@ int main(void) {
   add_field(&response, ":status", "200");
   of_two_requests();
   of_ids();
+  of_a_late_request(0);
+  of_a_late_request(4);
   of_choices();
   of_a_thousand();
   if (!bad) puts("ok shutdown: two GOAWAY frames, requests that are rejected, when an end is drained, and 1,000 requests of which none is lost");

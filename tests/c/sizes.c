@@ -395,6 +395,26 @@ static void priorities(void) {
   WANT(h3_priority_read(piece, MIB, &urgency, &incremental) == H3_OK && urgency == 1 && incremental == 0, "a long priority field", 0, urgency);
 }
 
+/* a capsule whose value has 1 MiB, and datagrams of 1 MiB */
+static void capsules(void) {
+  h3_capsule_reader reader = {0};
+  h3_capsule capsule;
+  size_t n, used;
+  uint32_t ends_here;
+  uint64_t id, detail;
+  DONE(h3_capsule_head(0, MIB, piece, 16, &n), "h3_capsule_head", 0);
+  DONE(h3_read_capsule(&reader, piece, n, &used, &capsule), "h3_read_capsule", 0);
+  DONE(h3_read_capsule(&reader, body, MIB + 1, &used, &capsule), "h3_read_capsule", 0);
+  WANT(capsule.part == H3_CAPSULE_VALUE && capsule.length == MIB && used == MIB, "another value", 0, used);
+  DONE(h3_read_capsule(&reader, body, 1, &used, &capsule), "h3_read_capsule", 0);
+  DONE(h3_capsule_ends(&reader, &ends_here), "h3_capsule_ends", 0);
+  WANT(capsule.part == H3_CAPSULE_END && ends_here == 1, "a capsule has no end", 0, capsule.part);
+  make();
+  WANT(h3_datagram_head(&ends[0], 0, piece, 8, &n, &detail) == H3_NO_DATAGRAMS, "datagrams that were not announced", 0, detail);
+  WANT(h3_read_datagram(&ends[0], piece, MIB, &id, &n, &detail) == H3_NO_DATAGRAMS, "a datagram that was not announced", 0, detail);
+  drop();
+}
+
 int main(void) {
   piece = malloc(BODY + MIB);
   body = malloc(BODY);
@@ -409,6 +429,7 @@ int main(void) {
     reads();
     read_messages();
     priorities();
+    capsules();
     WANT(!refused && allocations > 100000 * (by_length + 1), "allocations were refused, or not counted", (uint64_t)by_length, 0);
   }
   free(piece);

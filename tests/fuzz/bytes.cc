@@ -4,12 +4,14 @@
 //   after a fault of the connection each pull and each delivery tells its code
 // and at the end both received the same of each stream, up to a fault of the connection: then the endpoint that got pieces received
 // no less. (With a dynamic table a faulty peer may drop entries that a section waits for, and what comes of it depends on the pieces: then
-// they are not compared.)
+// they are not compared. Bytes of the decoder stream that come before the settings wait for them: then a fault of the control stream behind
+// its settings and one of these bytes may come in either order, so the codes are not compared.)
 #include <h3.h>
 
 #include <cstdio>
 #include <cstdlib>
 #include <map>
+#include <set>
 #include <string>
 #include <vector>
 
@@ -60,6 +62,8 @@ class Reader {
   }
 
   bool has_fault() const { return has_fault_; }
+  // one of two streams may be the decoder stream
+  bool may_have_waited() const { return early_.size() > 1; }
   uint64_t code() const { return code_; }
   std::map<uint64_t, Received> received;
 
@@ -91,7 +95,14 @@ class Reader {
     if (answer == H3_OK || answer == H3_CONNECTION) came_[id] += size;
     told(answer, code);
     pull_all();
+    if (id & 2 && !has_settings()) early_.insert(id);
     shows(id);
+  }
+
+  bool has_settings() {
+    h3_state state;
+    need(h3_connection(&end_, &state) == H3_OK, "no state");
+    return state.has_settings;
   }
 
   void shows(uint64_t id) {
@@ -154,6 +165,7 @@ class Reader {
 
   h3_endpoint end_ = H3_NONE_YET;
   bool in_pieces_, has_fault_ = false;
+  std::set<uint64_t> early_; // unidirectional streams of which bytes came before the settings
   uint64_t code_ = 0;
   std::map<uint64_t, uint64_t> came_;
   std::map<uint64_t, std::string> last_;
@@ -172,7 +184,8 @@ h3_config config_of(uint8_t byte) {
 }
 
 void compare(Reader &whole, Reader &pieces) {
-  need(whole.has_fault() == pieces.has_fault() && whole.code() == pieces.code(), "another fault of the connection in pieces");
+  need(whole.has_fault() == pieces.has_fault(), "a fault of the connection in pieces alone, or in none");
+  need(pieces.may_have_waited() || whole.code() == pieces.code(), "another fault of the connection in pieces");
   for (auto &[id, of_stream] : whole.received) {
     const std::string &text = of_stream.text, &other = pieces.received[id].text;
     need(whole.has_fault() ? other.compare(0, text.size(), text) == 0 : other == text, "other items in pieces");

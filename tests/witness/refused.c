@@ -5,7 +5,7 @@
 #include <string.h>
 
 static h3_endpoint end = H3_NONE_YET;
-static uint64_t detail;
+static uint64_t detail, kept_ids = 1000;
 
 #define GET "01080000d1d7500161c1"
 #define INSERTS "3fbd01c00f7777772e6578616d706c652e636f6dc10c2f73616d706c652f70617468" /* RFC 9204, appendix B.2 */
@@ -19,7 +19,7 @@ static void begin(const char *name, int server, uint64_t table, uint64_t blocked
   h3_config config;
   h3_config_default(&config);
   config.server = (uint32_t)server, config.table = table, config.blocked = blocked, config.strict = (uint32_t)strict;
-  config.max_field_section_size = 1000, config.unfinished_limit = 0;
+  config.max_field_section_size = 1000, config.unfinished_limit = 0, config.kept_ids = kept_ids;
   h3_free(&end);
   printf("# %s\n", name);
   told("new", 0, h3_new(&end, &config, &detail));
@@ -76,6 +76,16 @@ static void tables(void) {
          (unsigned long long)it.peer_table, (unsigned long long)it.peer_blocked);
 }
 
+static void read_in_place(uint64_t id, const char *digits, uint32_t fin) {
+  uint8_t bytes[64];
+  size_t n = 0, used = 0;
+  unsigned byte;
+  h3_item item = {0};
+  for (; digits[0] && sscanf(digits, "%2x", &byte) == 1; digits += 2) bytes[n++] = (uint8_t)byte;
+  told("read", id, h3_read(&end, id, bytes, n, fin, &used, &item, &detail));
+  printf("read %llu: %zu, %u %u %llu %zu %zu\n", (unsigned long long)id, used, item.kind, item.status, (unsigned long long)item.number, item.fields, item.len);
+}
+
 static void sections(void) {
   begin("sections that are bad", 1, 220, 2, 0);
   deliver(0, "0109000021618" "4ffffffff"), pull(0), pull(0);
@@ -105,6 +115,38 @@ static void sending(void) {
   told("body", 0, h3_send_body(&end, 0, "abc", 3, &detail)), out(0), state(0);
   send(0, 1, "x-a", "1"), out(7), out(0), told("finish", 0, h3_finish(&end, 0, &detail)), out(0), state(0);
   told("reset", 4, h3_reset(&end, 4, &detail)), state(4), tables();
+}
+
+static void acknowledged(void) {
+  begin("settings and a GOAWAY in one delivery", 1, 220, 2, 0);
+  deliver(2, "0004050140500702" "070100"), tables(), deliver(10, "03"), deliver(0, GET), pull(0), tables();
+  send(0, 0, "x-a", "1"), out(7), out(0), deliver(10, "80"), deliver(10, "80"), tables();
+}
+
+/* stream 8 was canceled, and no id is kept: from there on downwards all count as canceled, but stream 0, a section of which is not acknowledged */
+static void canceled(void) {
+  static const h3_field_size interim[] = {{7, 3}, {3, 1}};
+  kept_ids = 0;
+  begin("a canceled stream", 1, 220, 2, 0);
+  deliver(2, "0004050140500702"), deliver(10, "03"), deliver(0, GET), deliver(4, GET), deliver(8, GET), pull(0), pull(4), pull(8);
+  told("interim", 0, h3_send_head(&end, 0, interim, 2, ":status103x-a1", 14, &detail)), send(0, 0, "x-a", "1"), deliver(10, "48"), deliver(10, "80");
+  send(8, 0, "x-a", "1"), send(4, 0, "x-a", "1"), send(0, 1, "x-a", "1"), out(7), out(8), out(4), out(0), deliver(10, "80"), deliver(10, "80"), tables();
+}
+
+/* one stream more was canceled than ids are kept: those below the least count as canceled */
+static void many_canceled(void) {
+  uint8_t bytes[3 * 1002];
+  size_t n = 0;
+  kept_ids = 1001;
+  begin("many canceled streams", 1, 220, 2, 0);
+  deliver(2, "0004050140500702"), deliver(10, "03"), deliver(0, GET), pull(0);
+  for (unsigned id = 400; id < 400 + 4 * 1002; id += 4) { /* RFC 9204, section 4.4.2 */
+    bytes[n++] = 0x7f;
+    if (id - 63 > 127) bytes[n++] = (uint8_t)((id - 63) | 0x80);
+    bytes[n++] = (uint8_t)(id - 63 > 127 ? (id - 63) >> 7 : id - 63);
+  }
+  told("deliver", 10, h3_deliver(&end, 10, bytes, n, &detail)), send(0, 0, "x-a", "1"), out(7), out(0), tables();
+  kept_ids = 1000;
 }
 
 static void unsent(void) {
@@ -139,8 +181,50 @@ static void over(void) {
   for (uint64_t id = 0; id < 24; id += 4) state(id), pull(id);
 }
 
+static void reading(void) {
+  begin("bytes that are read", 1, 220, 2, 0);
+  read_in_place(0, GET, 0), read_in_place(0, "0005616263", 0), state(0), read_in_place(0, "6465", 1), read_in_place(0, "", 1), read_in_place(0, "66", 0), state(0);
+  read_in_place(4, GET "210161" "000161", 0), read_in_place(4, "", 0), pull(4), state(4);
+}
+
+static void faults(void) {
+  begin("faults behind what is kept", 1, 220, 3, 0);
+  deliver(4, "000161"), deliver(2, "00" "0400" "0400"), deliver(0, GET), pull(0), pull(4), state(0), deliver(8, GET), pull(8);
+}
+
+static void empty(void) {
+  begin("a section without lines", 1, 220, 2, 0);
+  deliver(0, "01020000"), pull(0), pull(0);
+}
+
+static void far(void) {
+  uint64_t id = 99;
+  begin("streams that are far, and a frame that is too long", 1, 220, 2, 0);
+  deliver(0, GET), told("unseen", id, h3_first_unseen(&end, &id)), deliver(2048, GET), told("unseen", id, h3_first_unseen(&end, &id));
+  printf("unseen %llu\n", (unsigned long long)id), state(2048), deliver(16002, "21aa"), state(16002), deliver(2, "00044fff"), state(2);
+}
+
+static void ready(void) {
+  begin("streams that are ready", 1, 220, 3, 0);
+  for (uint64_t id = 0; id < 12; id += 4) {
+    uint64_t next = 99;
+    deliver(id, GET), pull(id), send(id, 0, "x-a", "1"), told("body", id, h3_send_body(&end, id, "abc", 3, &detail)), send(id, 1, "x-b", "2");
+    for (uint64_t from = 0; h3_next_to_send(&end, from, &next) == H3_OK && next >= from; from = next + 1) printf("next %llu\n", (unsigned long long)next);
+  }
+}
+
+static void tries(void) {
+  begin("how often sections were tried", 1, 220, 3, 0);
+  deliver(2, "000400"), deliver(0, "010403811011"), deliver(4, "010403811011"), deliver(8, "010403811011"), pull(0), pull(4), deliver(6, "023fbd01"), pull(4);
+  for (uint64_t id = 0; id < 12; id += 4) {
+    told("cancel", id, h3_cancel(&end, id, &detail)), told("gone", id, h3_deliver_reset(&end, id, 7, &detail)), told("reset", id, h3_reset(&end, id, &detail)), pull(id);
+  }
+  state(0), state(4), state(8);
+}
+
 int main(void) {
   sections(), unidirectional(), sending(), unsent(), waiting(), kept(), over();
+  reading(), faults(), ready(), tries(), acknowledged(), canceled(), many_canceled(), empty(), far();
   h3_free(&end);
   return 0;
 }

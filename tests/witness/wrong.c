@@ -1,14 +1,18 @@
 /* Which wrong body runs (scripts/gate/variants.py): that whose number WRONG is, the right ones where it is none. At the end the file that TOLD names has the numbers
-   of those that were asked for, and last how often memory was asked for, and how many bytes in all. WRAPPED, it counts these, and refuses the calls for memory
-   that REFUSE=FIRST-LAST names, counted from 1. */
+   of those that were asked for, and last how often memory was asked for, how many bytes in all, and how many were held at most. WRAPPED, it counts these, and
+   refuses the calls for memory that REFUSE=FIRST-LAST names, counted from 1. */
+#include <malloc.h>
 #include <stdio.h>
 #include <stdlib.h>
 
 #define MOST 4096
+#ifndef PROGRAM
+#define PROGRAM 0
+#endif
 
-long wrong_number;
+long wrong_number, wrong_program = PROGRAM; /* a program of scripts/gate/variants.py */
 char wrong_asked[MOST];
-static long first, last, calls, bytes;
+static long first, last, calls, bytes, most_held;
 
 __attribute__((constructor)) static void begin(void) {
   const char *number = getenv("WRONG"), *refused = getenv("REFUSE");
@@ -22,13 +26,16 @@ __attribute__((destructor)) static void end(void) {
   if (!file) return;
   for (int number = 0; number < MOST; number++)
     if (wrong_asked[number]) fprintf(file, "%d ", number);
-  fprintf(file, "\n%ld %ld\n", calls, bytes);
+  fprintf(file, "\n%ld %ld %ld\n", calls, bytes, most_held);
   fclose(file);
 }
 
 #ifdef WRAPPED
 void *__real_malloc(size_t size);
 void *__real_realloc(void *old, size_t size);
+void __real_free(void *block);
+
+static long held;
 
 static int is_refused(size_t size) {
   calls++;
@@ -36,6 +43,22 @@ static int is_refused(size_t size) {
   return first <= calls && calls <= last;
 }
 
-void *__wrap_malloc(size_t size) { return is_refused(size) ? NULL : __real_malloc(size); }
-void *__wrap_realloc(void *old, size_t size) { return is_refused(size) ? NULL : __real_realloc(old, size); }
+static void *is_held(void *block) {
+  held += (long)malloc_usable_size(block);
+  if (held > most_held) most_held = held;
+  return block;
+}
+
+void *__wrap_malloc(size_t size) { return is_refused(size) ? NULL : is_held(__real_malloc(size)); }
+
+void *__wrap_realloc(void *old, size_t size) {
+  if (is_refused(size)) return NULL;
+  held -= (long)malloc_usable_size(old);
+  return is_held(__real_realloc(old, size));
+}
+
+void __wrap_free(void *block) {
+  held -= (long)malloc_usable_size(block);
+  __real_free(block);
+}
 #endif

@@ -24,6 +24,20 @@ bytes carried in place of QUIC:
 `beanwhile_h3.bench` has a pair of endpoints whose bytes are cut at random, and what makes hostile bytes."""
 
 from .config import Config
+from .datagrams import (
+    Capsule,
+    CapsuleEnd,
+    CapsuleHead,
+    CapsuleReader,
+    CapsuleValue,
+    Datagram,
+    DatagramEarly,
+    DatagramFor,
+    DatagramLate,
+    DatagramOff,
+    capsule,
+    capsule_head,
+)
 from .endpoint import Endpoint
 from .errors import Answer, Code, ConnectionFault, Malformation, OutOfMemory, Refused
 from .items import (
@@ -54,10 +68,20 @@ __all__ = [
     "Body",
     "BodyGiven",
     "Canceled",
+    "Capsule",
+    "CapsuleEnd",
+    "CapsuleHead",
+    "CapsuleReader",
+    "CapsuleValue",
     "Code",
     "Config",
     "ConnectionFault",
     "ConnectionState",
+    "Datagram",
+    "DatagramEarly",
+    "DatagramFor",
+    "DatagramLate",
+    "DatagramOff",
     "End",
     "Endpoint",
     "Fault",
@@ -82,6 +106,8 @@ __all__ = [
     "Trailer",
     "Version",
     "Waiting",
+    "capsule",
+    "capsule_head",
     "local_ids",
 ]
 

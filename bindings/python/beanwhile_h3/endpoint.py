@@ -9,6 +9,7 @@ from typing import Self
 
 from . import raw
 from .config import NUMBERS, Config
+from .datagrams import Datagram, DatagramEarly, DatagramFor, DatagramLate, DatagramOff
 from .errors import Answer, Malformation, Refused, refused
 from .items import (
     Body,
@@ -36,6 +37,7 @@ from .state import ConnectionState, PeerLimits, StreamState
 Bytes = bytes | bytearray | memoryview
 
 _FIRST_ROOM = 1 << 16
+_DATAGRAM_HEAD = 8
 
 
 def _as_bytes(data: Bytes) -> bytes:
@@ -376,6 +378,32 @@ class Endpoint:
         buffer, count = ctypes.create_string_buffer(max(item.len, 1)), c_size_t()
         self._plain_call("h3_raw_item_bytes", 0, buffer, item.len, byref(count))
         return buffer.raw[: count.value]
+
+    # ---- datagrams ----
+
+    def datagram(self, id: int, payload: Bytes) -> bytes:
+        """An HTTP datagram for the request on a stream (RFC 9297, section 2.1), to be sent as the payload of a QUIC DATAGRAM frame.
+
+        Raises `Answer.CLOSED`, `NOT_REQUEST_ID`, `NO_DATAGRAMS`, `NOT_OPEN`, `ENDED` (sending on the stream was finished or reset)."""
+        head, count = ctypes.create_string_buffer(_DATAGRAM_HEAD), c_size_t()
+        self._call("h3_raw_datagram_head", _number(id), head, _DATAGRAM_HEAD, byref(count))
+        return head.raw[: count.value] + payload
+
+    def read_datagram(self, data: Bytes) -> Datagram:
+        """What came as the payload of a QUIC DATAGRAM frame. Nothing of it is kept.
+
+        Raises `ConnectionFault`: it is malformed, or the connection had a fault before."""
+        whole, id, start, detail = _as_bytes(data), c_uint64(), c_size_t(), c_uint64()
+        answer = self._answer("h3_raw_read_datagram", whole, len(whole), byref(id), byref(start), byref(detail))
+        if answer == Answer.OK:
+            return DatagramFor(id.value, whole[start.value :])
+        if answer == Answer.NOT_OPEN:
+            return DatagramEarly(id.value)
+        if answer == Answer.AFTER_END:
+            return DatagramLate()
+        if answer == Answer.NO_DATAGRAMS:
+            return DatagramOff()
+        raise refused(answer, detail.value)
 
     # ---- what can be read ----
 

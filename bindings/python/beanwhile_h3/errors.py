@@ -53,6 +53,7 @@ class Answer(_Numbers):
     ROOM = 26
     MALFORMED = 27
     UNFINISHED_LIMIT = 28
+    NO_DATAGRAMS = 29
     REJECTED = 30
     ARGUMENT = 32
     NO_ENDPOINT = 33
@@ -84,8 +85,9 @@ class Malformation(_Numbers):
 
 
 class Code(enum.IntEnum):
-    """Error codes of RFC 9114, section 8.1, and of RFC 9204, section 6."""
+    """Error codes of RFC 9114, section 8.1, of RFC 9204, section 6, and of RFC 9297, section 5.2."""
 
+    DATAGRAM_ERROR = 0x33
     NO_ERROR = 0x100
     GENERAL_PROTOCOL_ERROR = 0x101
     INTERNAL_ERROR = 0x102
@@ -133,6 +135,7 @@ _TEXTS = {
     Answer.FIELD_VALUE: "invalid field value",
     Answer.FIELD_COUNT: "too many different field names",
     Answer.UNFINISHED_LIMIT: "`unfinished_limit` is below four times what is announced",
+    Answer.NO_DATAGRAMS: "this side or the peer announced no HTTP datagrams",
     Answer.REJECTED: "the request is rejected, {detail:#x}",
     Answer.ARGUMENT: "an argument is out of range",
     Answer.NO_ENDPOINT: "the endpoint was closed",

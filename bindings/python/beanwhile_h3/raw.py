@@ -86,6 +86,26 @@ class RawConnection(ctypes.Structure):
     ]
 
 
+class RawReader(ctypes.Structure):
+    """`h3_capsule_reader`"""
+
+    head_low: int
+    head_high: int
+    head_len: int
+    left: int
+    is_at_end: int
+    _fields_ = [("head_low", c_uint64), ("head_high", c_uint64), ("head_len", c_uint64), ("left", c_uint64), ("is_at_end", c_uint64)]
+
+
+class RawCapsule(ctypes.Structure):
+    """`h3_capsule`"""
+
+    part: int
+    capsule_type: int
+    length: int
+    _fields_ = [("part", c_uint64), ("capsule_type", c_uint64), ("length", c_uint64)]
+
+
 # `bytes` go in as they are, without a copy: they end with a byte of 0, so there is a pointer if they are empty too
 BYTES = c_char_p
 BUFFER = POINTER(c_char)
@@ -106,6 +126,9 @@ GIVES_ID = (c_uint32, [Handle, U64_OUT, U64_OUT, OUT])
 DECLARATIONS: dict[str, tuple[Any, list[Any]]] = {
     "h3_raw_version": (c_uint32, []),
     "h3_raw_priority_read": (c_uint32, [BYTES, c_size_t, U32_OUT, U32_OUT]),
+    "h3_raw_read_capsule": (c_uint32, [POINTER(RawReader), BYTES, c_size_t, SIZE_OUT, POINTER(RawCapsule)]),
+    "h3_raw_capsule_ends": (c_uint32, [POINTER(RawReader), U32_OUT]),
+    "h3_raw_capsule_head": (c_uint32, [c_uint64, c_uint64, BUFFER, c_size_t, SIZE_OUT]),
     "h3_raw_config_default": (None, [U64_OUT, c_size_t]),
     "h3_raw_new": (c_uint32, [U64_OUT, c_size_t, U64_OUT, OUT]),
     "h3_raw_free": (None, [Handle]),
@@ -134,6 +157,8 @@ DECLARATIONS: dict[str, tuple[Any, list[Any]]] = {
     "h3_raw_read": (c_uint32, [Handle, c_uint64, BYTES, c_size_t, c_uint32, SIZE_OUT, POINTER(RawItem), U64_OUT, OUT]),
     "h3_raw_item_fields": (c_uint32, [Handle, SIZES, c_size_t, BUFFER, c_size_t, OUT]),
     "h3_raw_item_bytes": (c_uint32, [Handle, c_size_t, BUFFER, c_size_t, SIZE_OUT, OUT]),
+    "h3_raw_datagram_head": (c_uint32, [Handle, c_uint64, BUFFER, c_size_t, SIZE_OUT, U64_OUT, OUT]),
+    "h3_raw_read_datagram": (c_uint32, [Handle, BYTES, c_size_t, U64_OUT, SIZE_OUT, U64_OUT, OUT]),
     "h3_raw_stream": (c_uint32, [Handle, c_uint64, POINTER(RawStream), OUT]),
     "h3_raw_connection": (c_uint32, [Handle, POINTER(RawConnection), OUT]),
     "h3_raw_peer_setting": FINDS_NUMBER,

@@ -1,4 +1,5 @@
 use crate::config::Config;
+use crate::datagram::{Datagram, HeadBytes};
 use crate::error::{Error, Fault, Malformation};
 use crate::fields::{in_a_row, Fields};
 use crate::item::{Came, Head, Item, Next, Pause};
@@ -120,7 +121,21 @@ impl Endpoint {
         self.send_list(raw::h3_raw_send_head, id, fields)
     }
 
-    /// Sends a trailer section as the list that it is given as.
+    /// Sends a trailer section as the list that it is given as:
+    ///
+    /// ```
+    /// # use beanwhile_h3::{Config, Endpoint, Error};
+    /// # fn main() -> Result<(), Error> {
+    /// let mut client = Endpoint::new(&Config::client())?;
+    /// let id = client.open_request()?;
+    /// client.send_head(id, &[(":method", "POST"), (":scheme", "https"), (":authority", "localhost"), (":path", "/")])?;
+    /// client.send_body(id, b"body")?;
+    /// client.send_trailer(id, &[("digest", "x=1")])?;
+    /// client.finish(id)?;
+    /// assert!(client.stream(id)?.waiting > 0);
+    /// # Ok(())
+    /// # }
+    /// ```
     ///
     /// # Errors
     ///
@@ -193,6 +208,17 @@ impl Endpoint {
 
     /// The first step of a shutdown (RFC 9114, section 5.2): a GOAWAY with the greatest id. The peer opens no further request once it
     /// came, and all that it sent until then is processed.
+    ///
+    /// ```
+    /// # use beanwhile_h3::{Config, Endpoint, Error};
+    /// # fn main() -> Result<(), Error> {
+    /// let mut server = Endpoint::new(&Config::server())?;
+    /// server.shutdown_notice()?; // a round trip later:
+    /// server.shutdown()?;
+    /// assert_eq!(server.first_unseen(), 0); // no request came
+    /// # Ok(())
+    /// # }
+    /// ```
     ///
     /// # Errors
     ///
@@ -418,6 +444,39 @@ impl Endpoint {
         self.call(|handle, _, out| unsafe { raw::h3_raw_item_bytes(handle, 0, bytes.as_mut_ptr(), count, &mut copied, out) })?;
         bytes.truncate(copied);
         Ok(bytes)
+    }
+
+    /// What stands in front of the payload of an HTTP datagram for the request on a stream, in 1 to 8 bytes: send both as the payload of a
+    /// QUIC DATAGRAM frame (RFC 9297, section 2.1).
+    ///
+    /// # Errors
+    ///
+    /// [`Error::Closed`], [`Error::NotRequestId`], [`Error::NoDatagrams`], [`Error::NotOpen`], [`Error::Ended`] (sending on the stream was
+    /// finished or reset), [`Error::Argument`] (the id is 2^62 or more).
+    pub fn datagram_head(&mut self, id: u64) -> Result<HeadBytes, Error> {
+        let mut head = HeadBytes::new();
+        let (at, room) = (head.bytes.as_mut_ptr(), head.bytes.len());
+        self.call(|handle, detail, out| unsafe { raw::h3_raw_datagram_head(handle, id, at, room, &mut head.len, detail, out) })?;
+        Ok(head)
+    }
+
+    /// What came as the payload of a QUIC DATAGRAM frame. Nothing of it is kept.
+    ///
+    /// # Errors
+    ///
+    /// [`Error::Connection`]: it is malformed, or the connection had a fault before: close the connection with this code.
+    pub fn read_datagram<'a>(&mut self, bytes: &'a [u8]) -> Result<Datagram<'a>, Error> {
+        let (mut id, mut from) = (0, 0);
+        let read = self.call(|handle, detail, out| unsafe {
+            raw::h3_raw_read_datagram(handle, bytes.as_ptr(), bytes.len(), &mut id, &mut from, detail, out)
+        });
+        match read {
+            Ok(()) => Ok(Datagram::For { id, payload: &bytes[from..] }),
+            Err(Error::NotOpen) => Ok(Datagram::Early(id)),
+            Err(Error::AfterEnd) => Ok(Datagram::Late),
+            Err(Error::NoDatagrams) => Ok(Datagram::Off),
+            Err(error) => Err(error),
+        }
     }
 
     /// What is to be seen of a stream.

@@ -1,7 +1,9 @@
 use std::fmt;
 
-/// Codes of RFC 9114, section 8.1, that a program names.
+/// Codes of RFC 9114, section 8.1, and of RFC 9297, section 5.2, that a program names.
 pub mod code {
+    /// A datagram or capsule could not be parsed.
+    pub const DATAGRAM_ERROR: u64 = 0x33;
     /// The connection or stream is closed with no error.
     pub const NO_ERROR: u64 = 0x100;
     /// An internal error.
@@ -52,7 +54,7 @@ pub enum Error {
     Critical,
     /// The stream has ended.
     Ended,
-    /// A server's GOAWAY names a request stream: a multiple of 4.
+    /// A server's GOAWAY and a datagram name a request stream: a multiple of 4.
     NotRequestId,
     /// An earlier GOAWAY had this lower id.
     Raised(u64),
@@ -74,6 +76,8 @@ pub enum Error {
     FieldCount,
     /// A strict peer would call the message malformed, for this reason. It was not sent.
     Malformed(Malformation),
+    /// This side or the peer announced no HTTP datagrams, or the peer's settings have not come.
+    NoDatagrams,
     /// The request is rejected, and nothing was delivered: end its stream both ways with this code.
     Rejected(u64),
     /// An argument is out of range.
@@ -111,6 +115,7 @@ impl Error {
             24 => Error::FieldCount,
             27 => Error::Malformed(Malformation::of(detail)),
             28 => Error::UnfinishedLimit,
+            29 => Error::NoDatagrams,
             30 => Error::Rejected(detail),
             32 => Error::Argument,
             other => Error::Other(other),
@@ -157,6 +162,7 @@ impl fmt::Display for Error {
             Error::Memory => "out of memory",
             Error::TableLimit => "the table is above its limit",
             Error::BlockedLimit => "the count of blocked streams is above its limit",
+            Error::NoDatagrams => "this side or the peer announced no HTTP datagrams",
             Error::UnfinishedLimit => "the limit on what is unfinished is below four times what is announced",
             Error::FieldName => "invalid field name",
             Error::FieldValue => "invalid field value",
@@ -182,7 +188,15 @@ pub enum Fault {
 }
 
 impl Fault {
-    /// The code that a server or a client ends the stream with (RFC 9114, sections 4.1.1 and 4.1.2).
+    /// The code that a server or a client ends the stream with (RFC 9114, sections 4.1.1 and 4.1.2):
+    ///
+    /// ```
+    /// use beanwhile_h3::{code, Fault, Malformation};
+    ///
+    /// let is_server = true;
+    /// assert_eq!(Fault::Malformed(Malformation::BadPath).code(is_server), code::MESSAGE_ERROR);
+    /// assert_eq!(Fault::Malformed(Malformation::NoHead).code(is_server), code::REQUEST_INCOMPLETE);
+    /// ```
     pub fn code(&self, server: bool) -> u64 {
         match self {
             Fault::Malformed(Malformation::NoHead) if server => code::REQUEST_INCOMPLETE,

@@ -48,6 +48,7 @@
 #![warn(missing_docs)]
 
 mod config;
+mod datagram;
 mod endpoint;
 mod error;
 mod fields;
@@ -59,6 +60,7 @@ mod raw;
 mod state;
 
 pub use config::Config;
+pub use datagram::{capsule_head, Capsule, CapsuleReader, Datagram, HeadBytes};
 pub use endpoint::Endpoint;
 pub use error::{code, Error, Fault, Malformation};
 pub use fields::{Field, Fields, FieldsIter};
@@ -68,7 +70,11 @@ pub use item::{Came, Head, Item, Next, Pause};
 pub use priority::Priority;
 pub use state::{ConnectionState, PeerLimits, StreamState, Version};
 
-/// The ids of the local control, encoder and decoder stream.
+/// The ids of the local control, encoder and decoder stream, if they are the first unidirectional streams that this side opens:
+///
+/// ```
+/// assert_eq!(beanwhile_h3::own_ids(true), [3, 7, 11]);
+/// ```
 pub fn own_ids(server: bool) -> [u64; 3] {
     if server {
         [3, 7, 11]

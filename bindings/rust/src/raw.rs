@@ -50,10 +50,31 @@ pub(crate) struct RawConnection {
     pub(crate) has_settings: u32,
 }
 
+#[repr(C)]
+#[derive(Debug, Default, Clone, Copy)]
+pub(crate) struct RawReader {
+    pub(crate) head_low: u64,
+    pub(crate) head_high: u64,
+    pub(crate) head_len: u64,
+    pub(crate) left: u64,
+    pub(crate) is_at_end: u64,
+}
+
+#[repr(C)]
+#[derive(Default)]
+pub(crate) struct RawCapsule {
+    pub(crate) part: u64,
+    pub(crate) capsule_type: u64,
+    pub(crate) length: u64,
+}
+
 #[rustfmt::skip]
 extern "C" {
     pub(crate) fn h3_raw_version() -> u32;
     pub(crate) fn h3_raw_priority_read(value: *const u8, len: usize, urgency: *mut u32, incremental: *mut u32) -> u32;
+    pub(crate) fn h3_raw_read_capsule(reader: *mut RawReader, bytes: *const u8, len: usize, used: *mut usize, capsule: *mut RawCapsule) -> u32;
+    pub(crate) fn h3_raw_capsule_ends(reader: *const RawReader, ends: *mut u32) -> u32;
+    pub(crate) fn h3_raw_capsule_head(capsule_type: u64, length: u64, buffer: *mut u8, room: usize, n: *mut usize) -> u32;
     pub(crate) fn h3_raw_config_default(numbers: *mut u64, count: usize);
     pub(crate) fn h3_raw_new(numbers: *const u64, count: usize, detail: *mut u64, out: *mut Handle) -> u32;
     pub(crate) fn h3_raw_free(endpoint: Handle);
@@ -82,6 +103,8 @@ extern "C" {
     pub(crate) fn h3_raw_read(endpoint: Handle, id: u64, bytes: *const u8, len: usize, fin: u32, used: *mut usize, item: *mut RawItem, detail: *mut u64, out: *mut Handle) -> u32;
     pub(crate) fn h3_raw_item_fields(endpoint: Handle, sizes: *mut FieldSize, most: usize, bytes: *mut u8, room: usize, out: *mut Handle) -> u32;
     pub(crate) fn h3_raw_item_bytes(endpoint: Handle, from: usize, buffer: *mut u8, room: usize, n: *mut usize, out: *mut Handle) -> u32;
+    pub(crate) fn h3_raw_datagram_head(endpoint: Handle, id: u64, buffer: *mut u8, room: usize, n: *mut usize, detail: *mut u64, out: *mut Handle) -> u32;
+    pub(crate) fn h3_raw_read_datagram(endpoint: Handle, bytes: *const u8, len: usize, id: *mut u64, from: *mut usize, detail: *mut u64, out: *mut Handle) -> u32;
     pub(crate) fn h3_raw_stream(endpoint: Handle, id: u64, state: *mut RawStream, out: *mut Handle) -> u32;
     pub(crate) fn h3_raw_connection(endpoint: Handle, state: *mut RawConnection, out: *mut Handle) -> u32;
     pub(crate) fn h3_raw_peer_setting(endpoint: Handle, setting: u64, value: *mut u64, out: *mut Handle) -> u32;

@@ -21,7 +21,7 @@ def opened(library, case, say):
     connection = Connection(library, case.side == "server", say)
     if case.side == "client":
         is_tunnel = case.method == b"CONNECT"
-        fields = [(b":method", case.method), *([(b":authority", b"a.b")] if is_tunnel else GET[1:])]
+        fields = [(b":method", case.method), *([(b":authority", b"a.b:443")] if is_tunnel else GET[1:])]
         assert connection.request(0, fields, connection.reader(lambda _: WOULDBLOCK) if is_tunnel else None) == 0
         while True:
             _, stream, _, data = connection.write()

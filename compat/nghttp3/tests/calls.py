@@ -1,12 +1,12 @@
 #!/usr/bin/env python3
-"""calls.py: the calls that need no connection, asked the same of both libraries: errors, checks of names and values, the `priority`
-field."""
+"""calls.py: the calls that need no peer, asked the same of both libraries: errors, checks of names and values, the `priority` field, and
+messages that a client submits against a rule for senders."""
 import os
 import random
 import sys
 
 from differences import judge
-from library import IS_VERSION_1, Settings, Vector, libraries
+from library import END, IS_VERSION_1, NO_END_STREAM, Connection, Settings, Vector, error_name, libraries
 
 PRIORITIES = [
     b"u=1", b"i", b"u=1, i", b"u=1,i=?0", b"i=?1", b"u=8", b"u=-1", b"u=0;a=1", b'u="1"', b"x=(1 2);q, u=2", b"u=1.5", b"u=1,", b",u=1",
@@ -37,6 +37,18 @@ def defaults(library):
     return [getattr(settings, name) for name, _ in Settings._fields_]
 
 
+def submitted(library, fields, trailer=()):
+    """what submit_request answers, and if there is a trailer what submit_trailers answers behind the body"""
+    client = Connection(library, False, lambda *_: None)
+    answers = [client.request(0, fields, client.reader(lambda _: ([b"body"], END | NO_END_STREAM)))]
+    if trailer:
+        while (step := client.write())[1] >= 0:
+            library.add_write_offset(client.at, step[1], len(step[3]))
+        answers.append(client.trail(0, trailer))
+    client.free()
+    return " ".join(error_name(it) for it in answers)
+
+
 def questions():
     """(name, what is asked of a library)"""
     yield "version", lambda it: (it.version(0)[0].age, it.version(0)[0].number, bool(it.version(1 << 24)))
@@ -57,6 +69,11 @@ def questions():
         values = [value for value in values if not set(value) & set(b"@%:")]
     for value in [*PRIORITIES, *values]:
         yield f"parse_priority({value!r})", lambda it, value=value: it.parse_priority(value)
+    post = [(b":method", b"POST"), (b":scheme", b"https"), (b":authority", b"a.b"), (b":path", b"/")]
+    yield "CONNECT", lambda it: submitted(it, [(b":method", b"CONNECT"), (b":authority", b"a.b:1")])
+    yield "CONNECT without a port", lambda it: submitted(it, [(b":method", b"CONNECT"), (b":authority", b"a.b")])
+    yield "a trailer", lambda it: submitted(it, post, [(b"x-a", b"1")])
+    yield "a trailer with cookie", lambda it: submitted(it, post, [(b"cookie", b"1")])
 
 
 CONTROL = {f"check_header_value({bytes([byte])!r})" for byte in [*range(9), *range(10, 32), 127]}

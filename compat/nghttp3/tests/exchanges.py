@@ -7,14 +7,16 @@ import sys
 from library import END, IS_VERSION_1, NO_END_STREAM, WOULDBLOCK, Connection, check, libraries, pairs
 
 NAMES = [b"accept", b"user-agent", b"cookie", b"x-a", b"x-b", b"x-long", b"content-type", b"cache-control", b"referer"]
+# what a trailer may have: a sender leaves out of it what says how a message is framed, routed, secured, formatted or cached (RFC 9110, 6.5.1)
+TRAILER_NAMES = [name for name in NAMES if name not in (b"cookie", b"content-type", b"cache-control")]
 IDLE_STEPS = 400  # in a row, after which a run is over
 LENGTHS_OF_VALUES = (0, 1, 3, 9, 40, 300)
 LENGTHS_OF_PIECES = (1, 5, 63, 64, 100, 1000, 5000, 20000)
 
 
-def random_fields(chance, count):
+def random_fields(chance, count, names=NAMES):
     values = (bytes(chance.choice(b"abcdefgh0123 ") for _ in range(chance.choice(LENGTHS_OF_VALUES))).strip() for _ in range(count))
-    return [(chance.choice(NAMES), value) for value in values]
+    return [(chance.choice(names), value) for value in values]
 
 
 def random_body(chance):
@@ -30,7 +32,7 @@ class Message:
         if self.pieces and chance.random() < 0.5:
             self.head.append((b"content-length", b"%d" % self.length()))
         self.interim = list(interim)
-        self.trailer = random_fields(chance, 2) if chance.random() < 0.3 else None
+        self.trailer = random_fields(chance, 2, TRAILER_NAMES) if chance.random() < 0.3 else None
         self.is_trailer_first = chance.random() < 0.5
 
     def length(self):

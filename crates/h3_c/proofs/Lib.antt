@@ -7,3 +7,4 @@ pub mod Values
 pub mod RowLaws
 pub mod Reading
 pub mod Shown
+pub mod Datagrams

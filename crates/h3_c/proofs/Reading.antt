@@ -4,7 +4,7 @@ use Rattle.std.specs.Prelude.{nat_lt, ◌^◌, Ok}
 use Rattle.std.proofs.lemmas.Bool.{eqb-true}
 use Rattle.h3_connection.specs.ReceivingContracts.{Delivers}
 use Rattle.h3_connection.specs.State.{EndpointState}
-use Rattle.h3_session.specs.Shutdown.{is_rejected_in}
+use Rattle.h3_connection.specs.Shutdown.{is_rejected_in}
 use Rattle.h3_connection.specs.declared.event.Pull.TheVariants as pull
 use Rattle.h3_incoming.specs.FieldsPulls.{pull_of}
 use Rattle.h3_incoming.specs.declared.fields.FieldsItem.TheVariants as listed

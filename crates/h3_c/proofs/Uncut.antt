@@ -9,7 +9,7 @@ use Rattle.h3_connection.specs.State.{EndpointState, StandsFor}
 use Rattle.h3_connection.specs.declared.event.DeliverError.{DeliverError}
 use Rattle.h3_connection.specs.declared.event.Refusal.{Refusal}
 use Rattle.h3_connection.specs.declared.event.Refusal.TheVariants as refusal
-use Rattle.h3_session.specs.Shutdown.{is_rejected_in}
+use Rattle.h3_connection.specs.Shutdown.{is_rejected_in}
 use Rattle.h3_session.specs.Lacking.{RefusesBodies, RefusesDeliveries, delivery_error}
 use Rattle.h3_session.specs.declared.endpoint.lists.FieldsError.{FieldsError}
 use Rattle.h3_session.specs.declared.endpoint.lists.FieldsError.TheVariants as error

@@ -1,5 +1,5 @@
 -- What an endpoint is made of.
-use Rattle.std.specs.Prelude.{◌≡◌, ◌≤◌, ◌<◌, ◌*◌, ◌-◌, ◌^◌, ◌&&◌, ◌==◌, ℕ, Bool, max, nat_le, nat_lt, not, if◌then◌else◌, List, [], ◌∷◌, length, slice_get, Option, Some, None, unwrap_or, Result, Ok, Err}
+use Rattle.std.specs.Prelude.{◌≡◌, ◌≤◌, ◌<◌, ◌*◌, ◌-◌, ◌^◌, ◌&&◌, ◌==◌, ℕ, Bool, false, max, nat_le, nat_lt, not, if◌then◌else◌, List, [], ◌∷◌, length, slice_get, Option, Some, None, unwrap_or, Result, Ok, Err}
 use Rattle.h3_proto.specs.Config.{announced}
 use Rattle.h3_proto.specs.declared.config.Config.{Config}
 use Rattle.h3_proto.specs.declared.stream.Side.{Side}
@@ -109,7 +109,7 @@ config_of given =
         encoder_table = given.encoder_table;
         economical_table = is_on given.economical_table;
         unfinished_limit = limit_of_given given;
-        extensions = record { kept_ids = given.kept_ids; requests_rejected = is_on given.reject_requests };
+        extensions = record { kept_ids = given.kept_ids; requests_rejected = is_on given.reject_requests; any_protocol = false };
       };
     }
 

@@ -10,7 +10,7 @@ use Rattle.h3_connection.specs.State.{StandsFor}
 use Rattle.h3_connection.specs.declared.event.Refusal.{Refusal}
 use Rattle.h3_session.specs.Copied.{CopiesTo}
 use Rattle.h3_session.specs.NextRequest.{next_request}
-use Rattle.h3_session.specs.Shutdown.{is_rejected_in}
+use Rattle.h3_connection.specs.Shutdown.{is_rejected_in}
 use Rattle.h3_session.specs.declared.endpoint.lists.FieldsError.{FieldsError}
 use Rattle.h3_c.specs.declared.items.PulledItem.{PulledItem}
 use Rattle.h3_c.specs.declared.numbers.Told.{Told}

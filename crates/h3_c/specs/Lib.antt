@@ -1,4 +1,5 @@
 pub mod Configs
+pub mod Datagrams
 pub mod Ending
 pub mod Exported
 pub mod Given

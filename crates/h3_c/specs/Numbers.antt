@@ -10,6 +10,8 @@ use Rattle.h3_connection.specs.declared.event.Refusal.{Refusal}
 use Rattle.h3_connection.specs.declared.event.Refusal.TheVariants as refusal
 use Rattle.h3_connection.specs.declared.setup.NewError.{NewError}
 use Rattle.h3_connection.specs.declared.setup.NewError.TheVariants as new_error
+use Rattle.h3_session.specs.declared.endpoint.datagrams.DatagramError.{DatagramError}
+use Rattle.h3_session.specs.declared.endpoint.datagrams.DatagramError.TheVariants as datagram_error
 use Rattle.h3_session.specs.declared.endpoint.lists.FieldsError.{FieldsError}
 use Rattle.h3_session.specs.declared.endpoint.lists.FieldsError.TheVariants as fields_error
 use Rattle.h3_c.specs.Items.{malformation_number}
@@ -120,3 +122,12 @@ abbrev pub list_told : {X : Type 0} → Result X FieldsError → Told
 list_told (Ok done) = ok
 list_told (Err (fields_error.Refused r)) = refusal_told r
 list_told (Err (fields_error.Malformed why)) = malformed_told why
+
+-- `H3_NO_DATAGRAMS`
+abbrev pub no_datagrams : Told
+no_datagrams = number 29 0
+
+-- why a datagram may not be sent
+abbrev pub datagram_told : DatagramError → Told
+datagram_told (datagram_error.Refused r) = refusal_told r
+datagram_told datagram_error.NoDatagrams = no_datagrams

@@ -1,7 +1,7 @@
 -- What the exports promise that shut a connection down.
 use Rattle.std.specs.Prelude.{◌≡◌, ℕ}
 use Rattle.h3_connection.specs.ReadingContracts.{Shows}
-use Rattle.h3_session.specs.Shutdown.{ShowsFirstUnseen, is_drained}
+use Rattle.h3_connection.specs.Shutdown.{ShowsFirstUnseen, is_drained}
 use Rattle.h3_c.specs.declared.numbers.Told.{Told}
 use Rattle.h3_c.specs.Numbers.{ok}
 use Rattle.h3_c.specs.Seen.{Seen}

@@ -15,6 +15,7 @@ use h3_session::endpoint::Endpoint;
 use std::alloc::Global;
 use std::marker::Model;
 
+mod datagrams;
 mod ending;
 mod heads;
 mod items;

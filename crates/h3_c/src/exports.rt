@@ -1,5 +1,7 @@
 //! What C calls (`include/h3.h`). Each call on an endpoint takes a handle that an earlier one wrote, and writes the handle for the next.
 
+mod capsules;
+mod datagrams;
 mod ending;
 mod heads;
 mod items;

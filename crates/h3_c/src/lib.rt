@@ -3,6 +3,7 @@
 //! A handle is one pointer. An export takes it by value and writes it back; the header does this in one name.
 #![tactic(auto)]
 
+mod capsules;
 mod config;
 mod connection;
 mod exports;

@@ -1,13 +1,13 @@
 //! The numbers that C sees: `enum h3_answer` of the header.
 ghost use Rattle.std.specs.Prelude.{◌≡◌};
-ghost use Rattle.h3_c.specs.Numbers.{refusal_told, call_told, body_told, delivery_told, list_told, malformed_told, setting_of, new_told, told_or_memory};
+ghost use Rattle.h3_c.specs.Numbers.{refusal_told, call_told, body_told, datagram_told, delivery_told, list_told, malformed_told, setting_of, new_told, told_or_memory};
 
 use crate::items::malformation_number;
 use bytes::Bytes;
 use h3_connection::event::{DeliverError, Malformation, Refusal};
 use h3_connection::setup::NewError;
 use h3_proto::frame::SettingsError;
-use h3_session::endpoint::FieldsError;
+use h3_session::endpoint::{DatagramError, FieldsError};
 
 /// What a call answers: a number, and the code, id or size that it names, else 0.
 #[derive(Clone, Copy)]
@@ -43,6 +43,12 @@ pub(crate) const NONE: Told = Told {
 /// `H3_ROOM`.
 pub(crate) const ROOM: Told = Told {
     number: 26,
+    detail: 0,
+};
+
+/// `H3_NO_DATAGRAMS`.
+pub(crate) const NO_DATAGRAMS: Told = Told {
+    number: 29,
     detail: 0,
 };
 
@@ -175,6 +181,16 @@ pub(crate) fn delivered(call: &Result<(), DeliverError>) -> Told
         Err(DeliverError::Refused(refusal)) => refused(*refusal),
         Err(DeliverError::OutOfMemory(_)) => MEMORY,
         Err(DeliverError::Kept) => plain(5),
+    }
+}
+
+/// Why a datagram may not be sent.
+pub(crate) fn unsent(e: DatagramError) -> Told
+    ensures { result ≡ datagram_told e }
+{
+    match e {
+        DatagramError::Refused(refusal) => refused(refusal),
+        DatagramError::NoDatagrams => NO_DATAGRAMS,
     }
 }
 

@@ -87,8 +87,8 @@ fn size_of(field: &FieldRef<'_>) -> FieldSize
     }
 }
 
-// Copies all names and values to the front of a buffer.
-fn put_row(row: &[u8], bytes: &mut [u8])
+/// Copies all of these bytes to the front of a buffer.
+pub(crate) fn put_row(row: &[u8], bytes: &mut [u8])
     requires { length row.now ≤ length bytes.old }
     ensures { bytes.new ≡ row.now ++ drop (length row.now) bytes.old }
 {

@@ -7,7 +7,7 @@ use Rattle.h3_capsule.specs.declared.capsule.Capsule.TheVariants.{Head, Pending}
 use Rattle.h3_capsule.specs.Capsule.{Answer, head_of, in_value, in_head, one_more}
 use Rattle.h3_capsule.specs.Capsule.Place.{InHead}
 
-most : (v : ℕ) (octets : List ℕ) → IsEncoding v octets → length octets ≤ 8
+pub most : (v : ℕ) (octets : List ℕ) → IsEncoding v octets → length octets ≤ 8
 most v octets (one f) = rw f.count (lit≤ tt)
 most v octets (two f) = rw f.count (lit≤ tt)
 most v octets (four f) = rw f.count (lit≤ tt)

@@ -3,6 +3,7 @@ ghost use Rattle.std.specs.Prelude.{◌≡◌, ◌<◌, ◌^◌, ◌++◌, [], l
 ghost use Rattle.h3_coding.specs.Writing.{AppendsFront, UsesRoom};
 ghost use Rattle.h3_capsule.specs.Capsule.{capsule_head, head_of, is_between, read_on, value_on, IsInValue};
 ghost use Rattle.h3_capsule.specs.Capsule.Place.{InHead};
+ghost use Rattle.h3_capsule.specs.ReaderStates.{place_of_state};
 
 use crate::head_bytes::HeadBytes;
 use bytes::BufMut;
@@ -20,6 +21,22 @@ pub enum Capsule {
     End,
     /// All bytes were taken, and nothing more can be told of them.
     Pending,
+}
+
+/// A reader as numbers, so that a program can keep it as plain memory. All zero is a reader at the beginning of the data.
+#[repr(C)]
+#[derive(Clone, Copy)]
+pub struct ReaderState {
+    /// The first eight bytes of a type and length that are not whole, the lowest first.
+    pub head_low: u64,
+    /// The bytes after them.
+    pub head_high: u64,
+    /// How many of these came. More than 15 are as 15.
+    pub head_len: u64,
+    /// How many bytes of a value are to come.
+    pub left: u64,
+    /// Not 0 if the end of a capsule is to be told.
+    pub is_at_end: u64,
 }
 
 /// A reader of capsules, which takes their bytes in any pieces. It keeps the bytes of a type and length that are not whole, and no other.
@@ -69,6 +86,20 @@ pub fn write_head<B: BufMut>(buf: &mut B, kind: u64, value_length: u64) -> Resul
     buf.write_var(value_length)
 }
 
+/// The same as `write_head`, in bytes of its own.
+#[tactic(auto, using(crate::proofs::Lengths::of_capsule))]
+pub fn head(kind: u64, value_length: u64) -> HeadBytes
+    requires kind { kind < 2 ^ 62 }
+    requires value_length { value_length < 2 ^ 62 }
+    ensures { result ≡ capsule_head kind value_length }
+{
+    let mut head = HeadBytes::new();
+    match write_head(&mut head, kind, value_length) {
+        Ok(()) => head,
+        Err(_) => unreachable!(),
+    }
+}
+
 impl CapsuleReader {
     /// A reader at the beginning of the data.
     pub fn new() -> Self
@@ -78,6 +109,34 @@ impl CapsuleReader {
             head: HeadBytes::new(),
             left: 0,
             is_at_end: false,
+        }
+    }
+
+    /// The reader of a state, whatever its numbers are.
+    #[tactic(auto, unfolding(crate::specs::ReaderStates::place_of_state))]
+    pub fn of_state(state: ReaderState) -> Self
+        ensures { result ≡ place_of_state state }
+    {
+        let head_len = state.head_len.min(15) as usize;
+        CapsuleReader {
+            head: HeadBytes::of_words(state.head_low, state.head_high, head_len),
+            left: state.left,
+            is_at_end: state.is_at_end != 0,
+        }
+    }
+
+    /// Its state, of which `of_state` makes it again.
+    #[tactic(auto, unfolding(crate::specs::ReaderStates::place_of_state))]
+    pub fn state(&self) -> ReaderState
+        ensures { place_of_state result ≡ self.now }
+    {
+        let (head_low, head_high) = self.head.words();
+        ReaderState {
+            head_low,
+            head_high,
+            head_len: self.head.len() as u64,
+            left: self.left,
+            is_at_end: self.is_at_end as u64,
         }
     }
 

@@ -3,6 +3,7 @@ ghost use Rattle.std.specs.Prelude.{◌≡◌, ◌+◌, ◌%◌, ◌^◌, ◌<�
 ghost use Rattle.h3_coding.specs.Writing.{UsesRoom};
 ghost use Rattle.h3_capsule.specs.Datagram.{datagram_of, datagram_head};
 
+use crate::head_bytes::HeadBytes;
 use bytes::BufMut;
 use h3_coding::coding::{BufExt, BufMutExt, WriteRefused};
 
@@ -35,4 +36,18 @@ pub fn write_head<B: BufMut>(buf: &mut B, id: u64) -> Result<(), WriteRefused>
     ensures room { UsesRoom result (B.spare buf.old) (B.spare buf.new) (length (datagram_head id)) }
 {
     buf.write_var(id / 4)
+}
+
+/// The same as `write_head`, in bytes of its own.
+#[tactic(auto, using(crate::proofs::Lengths::of_datagram))]
+pub fn head(id: u64) -> HeadBytes
+    requires below { id < 2 ^ 62 }
+    requires kind { id % 4 ≡ 0 }
+    ensures { result ≡ datagram_head id }
+{
+    let mut head = HeadBytes::new();
+    match write_head(&mut head, id) {
+        Ok(()) => head,
+        Err(_) => unreachable!(),
+    }
 }

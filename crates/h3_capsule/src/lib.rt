@@ -3,5 +3,5 @@
 
 pub mod capsule;
 pub mod datagram;
-mod head_bytes;
+pub mod head_bytes;
 pub mod laws;

@@ -44,3 +44,6 @@ pub mod NoContent
 pub mod WellSent
 pub mod SentAsSaid
 pub mod PeerReadings
+pub mod SentOff
+pub mod LeavesDone
+pub mod DrainedStays

@@ -5,6 +5,7 @@ use Rattle.std.proofs.lemmas.Grind.{common_steps}
 use Rattle.h3_field.specs.Field.{section_size}
 use Rattle.h3_header.specs.Head.{Head, head_fields, has_pseudo}
 use Rattle.h3_messages.specs.Content.{is_exceeded, left_behind, may_end}
+use Rattle.h3_messages.specs.OwnMessageLaws.{own_request_content, own_response_content}
 use Rattle.h3_messages.specs.declared.content.Content.{Content}
 use Rattle.h3_messages.specs.declared.content.Content.TheVariants.{Exactly, Exceeded}
 use Rattle.h3_proto.specs.declared.stream.Side.TheVariants.{Client, Server}
@@ -158,5 +159,5 @@ heads_say e id head strict done =
     ∙ ap (λ b. if b then content else o.content) (takes e id head after done)
 
 pub peers_expect : PeersExpectAsMuch
-peers_expect Client awaited fields = refl
-peers_expect Server awaited fields = refl
+peers_expect Client awaited fields = own_request_content fields
+peers_expect Server awaited fields = own_response_content awaited fields

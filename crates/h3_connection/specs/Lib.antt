@@ -19,6 +19,7 @@ pub mod LimitedListeningLaws
 pub mod LimitedReading
 pub mod StreamSets
 pub mod StreamSetLaws
+pub mod StreamTestLaws
 pub mod Arrivals
 pub mod Skipping
 pub mod SkippingLaws
@@ -64,6 +65,10 @@ pub mod Isolation
 pub mod CallCuts
 pub mod UnknownStreams
 pub mod Shown
+pub mod FirstRequests
+pub mod FirstRequestLaws
+pub mod Shutdown
+pub mod Draining
 pub mod StandsLaws
 pub mod StrictSends
 pub mod SentContent

@@ -21,8 +21,9 @@ use Rattle.h3_connection.specs.Codes.{decompression_failed}
 use Rattle.h3_connection.specs.StreamSets.{Streams, stream_at, set_stream}
 use Rattle.h3_connection.specs.StrictSending.{broken_head, broken_trailer, early_trailer, passes_content}
 use Rattle.h3_connection.specs.Incoming.{Incoming, awaiting}
-use Rattle.h3_messages.specs.Content.{awaited_by, content_behind_response, content_of_request, may_end}
+use Rattle.h3_messages.specs.Content.{awaited_by, may_end}
 use Rattle.h3_messages.specs.Messages.{value_of}
+use Rattle.h3_messages.specs.OwnMessages.{content_of_own_request, content_of_own_response}
 use Rattle.h3_messages.specs.declared.content.Content.{Content}
 use Rattle.h3_messages.specs.declared.content.Content.TheVariants.{Tunnel, Unsaid}
 use Rattle.h3_connection.specs.declared.setup.Announced.{Announced}
@@ -120,14 +121,14 @@ awaiting_at streams id expected (Some i) = set_stream streams id (awaiting i exp
 abbrev pub content_of_unasked : List Field → Content
 content_of_unasked fields = if slice_index (value_of (codes ":status") fields) 0 == 50 then Tunnel else Unsaid
 
--- How much content follows a head (RFC 9114, section 4.1.2): that of a request says it, and that of a response where it is known what was
--- asked
+-- How much content follows a head that is sent (RFC 9114, section 4.1.2): that of a request says it, and that of a response where it is known
+-- what was asked
 abbrev pub content_of_response_to : Option Content → List Field → Content
 content_of_response_to None fields = content_of_unasked fields
-content_of_response_to (Some awaited) fields = content_behind_response awaited fields
+content_of_response_to (Some awaited) fields = content_of_own_response awaited fields
 
 abbrev pub content_of_own : Side → Option Content → List Field → Content
-content_of_own Client known fields = content_of_request fields
+content_of_own Client known fields = content_of_own_request fields
 content_of_own Server known fields = content_of_response_to known fields
 
 -- A server knows what was asked once it read the request's head

@@ -2,6 +2,7 @@
 use Rattle.std.specs.Prelude.{◌≡◌, ℕ, ◌+◌, ◌≤◌, true, List, length, Some, None}
 use Rattle.h3_field.specs.Field.{Field}
 use Rattle.h3_header.specs.Head.{Head, head_fields}
+use Rattle.h3_messages.specs.OwnMessages.{IsSentOf}
 use Rattle.h3_messages.specs.declared.content.Content.{Content}
 use Rattle.h3_messages.specs.declared.content.Content.TheVariants.{Exactly}
 use Rattle.h3_proto.specs.declared.stream.Side.{Side}
@@ -37,6 +38,7 @@ HeadsSayTheirContent =
     (e : EndpointHistory) (id : ℕ) (head : Head) → e.announced.choices.strict_messages ≡ true → (send_head e id head).0 ≡ None
     → left_to_send (send_head e id head).1 id ≡ content_of_own e.side (known_of (stream_at e.incoming id)) (head_fields head)
 
--- It is as much as a strict peer expects behind it.
+-- It is as much as a strict peer expects behind it, or none where the peer takes any: none is sent with TRACE (RFC 9110, 9.3.8) and with 205
+-- (15.3.6).
 abbrev pub PeersExpectAsMuch : Type 0
-PeersExpectAsMuch = (side : Side) (awaited : Content) (fields : List Field) → content_of_own side (Some awaited) fields ≡ content_of_head (other side) awaited fields
+PeersExpectAsMuch = (side : Side) (awaited : Content) (fields : List Field) → IsSentOf (content_of_own side (Some awaited) fields) (content_of_head (other side) awaited fields)

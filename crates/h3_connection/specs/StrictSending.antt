@@ -1,10 +1,10 @@
 -- Which rule of well-formed messages a list breaks that an endpoint is to send, where it asks for strict messages: as the other side would judge it
--- (RFC 9114, sections 4.1.2 and 4.2 to 4.5). One that asks for none sends any list.
+-- (RFC 9114, sections 4.1.2 and 4.2 to 4.5), and by the rules that bind a sender alone. One that asks for none sends any list.
 use Rattle.std.specs.Prelude.{ℕ, Bool, true, false, List, ◌∷◌, if◌then◌else◌, option_map, Option, Some, None}
 use Rattle.h3_field.specs.Field.{Field}
 use Rattle.h3_messages.specs.Content.{is_exceeded, left_behind, may_end, takes_trailer}
 use Rattle.h3_messages.specs.declared.content.Content.{Content}
-use Rattle.h3_messages.specs.Messages.{violation_of_request, violation_of_response, violation_of_trailer}
+use Rattle.h3_messages.specs.OwnMessages.{violation_of_own_request, violation_of_own_response, violation_of_own_trailer}
 use Rattle.h3_messages.specs.declared.violation.Violation.{Violation}
 use Rattle.h3_proto.specs.Config.{is_enabled}
 use Rattle.h3_proto.specs.declared.stream.Side.{Side}
@@ -24,15 +24,15 @@ peer_connects (Some pairs) = is_enabled 8 pairs
 
 -- a client sends heads of requests, and a server those of responses
 abbrev pub violation_of_own_head : Side → Option (List (ℕ × ℕ)) → List Field → Option Violation
-violation_of_own_head Client settings fields = violation_of_request (peer_connects settings) fields
-violation_of_own_head Server settings fields = violation_of_response fields
+violation_of_own_head Client settings fields = violation_of_own_request (peer_connects settings) fields
+violation_of_own_head Server settings fields = violation_of_own_response fields
 
 abbrev pub broken_head : Side → Announced → Option (List (ℕ × ℕ)) → List Field → Option Malformation
 broken_head side own settings fields =
     if own.choices.strict_messages then option_map malformation_by (violation_of_own_head side settings fields) else None
 
 abbrev pub broken_trailer : Announced → List Field → Option Malformation
-broken_trailer own fields = if own.choices.strict_messages then option_map malformation_by (violation_of_trailer fields) else None
+broken_trailer own fields = if own.choices.strict_messages then option_map malformation_by (violation_of_own_trailer fields) else None
 
 -- so many bytes more are more content than the head says (RFC 9114, section 4.1.2)
 abbrev pub passes_content : Content → ℕ → Bool

@@ -4,6 +4,8 @@ use Rattle.std.specs.Prelude.{not, ◌&&◌, ◌||◌, codes, option_map, if◌t
 use Rattle.std.specs.List.{list_any}
 use Rattle.h3_field.specs.Field.{Field}
 use Rattle.h3_messages.specs.Messages.{first_broken, violation_of_request, violation_of_response, violation_of_trailer, holds, pseudo_first, only_pseudo_of, request_names, repeats_pseudo, has_connection_field, is_te_wrong, is_length_wrong, is_protocol_wrong, is_connect, is_connect_wrong, misses_pseudo, is_scheme_wrong, is_authority_wrong, is_path_wrong, has_space_around}
+use Rattle.h3_messages.specs.OwnMessageLaws.{own_request_unbroken, own_response_unbroken, own_trailer_unbroken}
+use Rattle.h3_messages.specs.OwnMessages.{violation_of_own_request, violation_of_own_response, violation_of_own_trailer}
 use Rattle.h3_messages.specs.declared.violation.Violation.{Violation}
 use Rattle.h3_messages.specs.declared.violation.Violation.TheVariants.{PseudoOrder, RepeatedPseudo, WrongPseudo, MissingPseudo, ConnectionField, Protocol, Connect, Scheme, Authority, Path, ContentLength, Value}
 use Rattle.h3_proto.specs.declared.stream.Side.{Side}
@@ -78,13 +80,14 @@ pub head_taken : (side : Side) (own peer : Announced) (settings : Option (List (
     → broken_head side own settings fields ≡ None → broken_rule (other side) peer BeforeHead fields ≡ None
 head_taken Client own peer settings fields strict knows e =
     no_rule peer.choices.strict_messages (violation_of_request (connects peer) fields)
-    (request_taken (peer_connects settings) (connects peer) fields knows (told own.choices.strict_messages (violation_of_request (peer_connects settings) fields) strict e))
+    (request_taken (peer_connects settings) (connects peer) fields knows
+    (own_request_unbroken (peer_connects settings) fields (told own.choices.strict_messages (violation_of_own_request (peer_connects settings) fields) strict e)))
 head_taken Server own peer settings fields strict knows e =
-    no_rule peer.choices.strict_messages (violation_of_response fields) (told own.choices.strict_messages (violation_of_response fields) strict e)
+    no_rule peer.choices.strict_messages (violation_of_response fields) (own_response_unbroken fields (told own.choices.strict_messages (violation_of_own_response fields) strict e))
 
 pub trailer_taken : (reader : Side) (own peer : Announced) (fields : List Field) → own.choices.strict_messages ≡ true → broken_trailer own fields ≡ None → broken_rule reader peer InBody fields ≡ None
 trailer_taken reader own peer fields strict e =
-    no_rule peer.choices.strict_messages (violation_of_trailer fields) (told own.choices.strict_messages (violation_of_trailer fields) strict e)
+    no_rule peer.choices.strict_messages (violation_of_trailer fields) (own_trailer_unbroken fields (told own.choices.strict_messages (violation_of_own_trailer fields) strict e))
 
 -- A call that its rules do not refuse.
 pub not_closed : (closed : Option ℕ) (o : Option Refusal) → closed_or closed o ≡ None → o ≡ None

@@ -80,15 +80,15 @@ pub enum Malformation {
     RepeatedPseudo,
     /// A connection-specific field, or a `te` that is not `trailers` in a request (RFC 9114, section 4.2).
     ConnectionField,
-    /// `content-length` is no number, comes twice, or may not come with this status (RFC 9110, section 8.6).
+    /// `content-length` is no number, comes twice, or may not come with this status or method (RFC 9110, sections 8.6, 9.3.8 and 15.3.6).
     ContentLength,
     /// `:protocol` without CONNECT, or when extended CONNECT was not announced (RFC 8441, section 4; RFC 9220, section 3).
     Protocol,
-    /// CONNECT without `:authority`, or plain CONNECT with `:scheme` or `:path` (RFC 9114, section 4.4).
+    /// Plain CONNECT without a port in `:authority`, or with `:scheme` or `:path` (RFC 9114, section 4.4; RFC 9110, section 9.3.6).
     Connect,
     /// `:method`, `:scheme` or `:path` is missing in a request, or `:status` in a response (RFC 9114, sections 4.3.1 and 4.3.2).
     MissingPseudo,
-    /// `:scheme` is empty, or does not begin with a letter (RFC 3986, section 3.1).
+    /// `:scheme` is empty, does not begin with a letter, or has another byte than letters, digits, `+`, `-` and `.` (RFC 3986, section 3.1).
     Scheme,
     /// The authority is missing, empty or has userinfo; `host` is no authority, comes twice, or is unlike `:authority` (RFC 9114, section
     /// 4.3.1; RFC 9110, section 7.2).
@@ -97,7 +97,7 @@ pub enum Malformation {
     Path,
     /// Status 101, which HTTP/3 does not support (RFC 9114, section 4.5).
     Status,
-    /// A field that is not for trailers (RFC 9110, section 6.5.1).
+    /// A field that is not for trailers (RFC 9110, section 6.5.1). Of what is sent more are refused than of what is received.
     TrailerField,
     /// A HEADERS frame is longer than the endpoint's limit on what is unfinished (RFC 9114, section 10.5). Only an endpoint with that limit
     /// reports it, whether its messages are strict or not.

@@ -125,6 +125,18 @@ pub fn the_end_stays()
         (pull (endpoint_after (endpoint_after (new_endpoint side own) before) (PullStream id ∷ between)) id).0 ≡ answer.Item item.End }
 {}
 
+ghost use Rattle.std.specs.Prelude.{true};
+ghost use Rattle.h3_connection.specs.Draining.{is_served, NoneComes};
+ghost use Rattle.h3_connection.specs.Shutdown.{is_drained};
+
+/// A connection that is drained stays drained (RFC 9114, section 5.2), whatever is called and whatever comes, over every list of calls of any
+/// endpoint. Nothing is left to be done but that a further GOAWAY of its own is taken, if it sends one. A server has to ask that requests
+/// from its GOAWAY on are rejected (`Config::with_requests_rejected`), and its caller to leave these out.
+pub fn drained_stays()
+    ensures served { (e : EndpointHistory) (calls : List Call) → NoneComes e.side e calls → is_served e ≡ true → is_served (endpoint_after e calls) ≡ true }
+    ensures drained { (e : EndpointHistory) (calls : List Call) → NoneComes e.side e calls → (endpoint_after e calls).own.goaways ≡ e.own.goaways → is_drained e ≡ true → is_drained (endpoint_after e calls) ≡ true }
+{}
+
 ghost use Rattle.h3_connection.specs.Delivering.{delivery_refusal, unidirectional_at, with_unidirectional};
 ghost use Rattle.h3_connection.specs.Endpoint.Kind.{PeerUnidirectional};
 ghost use Rattle.h3_connection.specs.Unidirectional.{role_after};
@@ -249,9 +261,9 @@ pub fn strict_endpoints_send_no_broken_list()
 ghost use Rattle.h3_connection.specs.SentContent.{HeadsSayTheirContent, PeersExpectAsMuch, SendsAsMuchAsSaid};
 
 /// The content that a strict endpoint sends is as long as its header section said (RFC 9114, section 4.1.2). No more is sent, and the end,
-/// and a trailer, go out after exactly as much. After a header section that it sends, as much is to be sent as a strict peer expects there.
-/// Of a response this holds if the server delivered the header section of its request before. If it did not, no length is held against what
-/// it sends, and no trailer goes out after 2xx.
+/// and a trailer, go out after exactly as much. After a header section that it sends, as much is to be sent as a strict peer expects there,
+/// or nothing if the peer takes any: after TRACE and after 205 (RFC 9110, 9.3.8 and 15.3.6). Of a response this holds if the server delivered
+/// the header section of its request before. If it did not, no length is held against what it sends, and no trailer goes out after 2xx.
 pub fn strict_endpoints_send_as_much_content_as_was_said()
     ensures heads { HeadsSayTheirContent }
     ensures peers { PeersExpectAsMuch }

@@ -656,7 +656,7 @@ content_counted =
     PullStream 8 ∷
     PullStream 8 ∷
     PullStream 8 ∷
-    Deliver 12 (hex (codes "01060000cf500161000268690106000021780131")) ∷
+    Deliver 12 (hex (codes "01080000cf5003613a31000268690106000021780131")) ∷
     PullStream 12 ∷
     PullStream 12 ∷
     PullStream 12 ∷
@@ -678,7 +678,7 @@ content_counted_answers =
     Pulled (pulls.Item (item.Body (hex (codes "6869")))) ∷
     Pulled (pulls.Fault (fault.Stream (stream_fault.Malformed malformation.ContentLength))) ∷
     Done ∷
-    Pulled (pulls.Item (item.Head (head (field (codes ":method") (codes "CONNECT") ∷ field (codes ":authority") (codes "a") ∷ [])))) ∷
+    Pulled (pulls.Item (item.Head (head (field (codes ":method") (codes "CONNECT") ∷ field (codes ":authority") (codes "a:1") ∷ [])))) ∷
     Pulled (pulls.Item (item.Body (hex (codes "6869")))) ∷
     Pulled (pulls.Fault (fault.Connection 0x105)) ∷
     []
@@ -725,7 +725,7 @@ response_content_counted =
     PullStream 16 ∷
     PullStream 16 ∷
     OpenRequest ∷
-    SendHead 20 (head (field (codes ":method") (codes "CONNECT") ∷ field (codes ":authority") (codes "a") ∷ [])) ∷
+    SendHead 20 (head (field (codes ":method") (codes "CONNECT") ∷ field (codes ":authority") (codes "a:1") ∷ [])) ∷
     Deliver 20 (hex (codes "01060000d95401350002686901060000217801310000")) ∷
     PullStream 20 ∷
     PullStream 20 ∷

@@ -85,7 +85,7 @@ request_uncounted_answers =
 abbrev pub tunnel_and_reset : List Call
 tunnel_and_reset =
     OpenRequest ∷
-    SendHead 0 (head (field (codes ":method") (codes "CONNECT") ∷ field (codes ":authority") (codes "a") ∷ [])) ∷
+    SendHead 0 (head (field (codes ":method") (codes "CONNECT") ∷ field (codes ":authority") (codes "a:1") ∷ [])) ∷
     SendBody 0 (codes "ab") ∷
     trailer_on 0 ∷
     Finish 0 ∷
@@ -141,7 +141,7 @@ response_counted =
     status_of 8 (codes "304") (codes "2") ∷
     SendBody 8 (codes "ab") ∷
     Finish 8 ∷
-    Deliver 12 (hex (codes "01060000cf500161")) ∷
+    Deliver 12 (hex (codes "01080000cf5003613a31")) ∷
     PullStream 12 ∷
     status_of 12 (codes "200") (codes "2") ∷
     SendBody 12 (codes "abc") ∷
@@ -173,7 +173,7 @@ response_counted_answers =
     not_as_said ∷
     Done ∷
     Done ∷
-    Pulled (pulls.Item (item.Head (head (field (codes ":method") (codes "CONNECT") ∷ field (codes ":authority") (codes "a") ∷ [])))) ∷
+    Pulled (pulls.Item (item.Head (head (field (codes ":method") (codes "CONNECT") ∷ field (codes ":authority") (codes "a:1") ∷ [])))) ∷
     Done ∷
     Done ∷
     Done ∷

@@ -1,4 +1,4 @@
--- Hostile lists of calls of a server, with what both models of scripts/ answer to them. Made by scripts/gate/connection_cases.py.
+-- Hostile lists of calls of a server, with what the model of scripts/ answers to them. Made by scripts/gate/connection_cases.py.
 use Rattle.std.specs.Prelude.{List, [], ◌∷◌, codes, Some, None}
 use Rattle.h3_proto.specs.declared.stream.Side.TheVariants.{Server}
 use Rattle.h3_connection.specs.declared.event.Item.TheVariants as item

@@ -15,7 +15,7 @@ use Rattle.h3_header.proofs.PathLemmas.{IsPathAndQuery-or_slash, IsPathInput-or_
 use Rattle.h3_header.proofs.MapLemmas.{Reading, Reading-none, Reading-one, Reading-append, regular_fields-unmarked, Reading-map}
 
 -- a head by its parts, with no regular field yet
-abbrev parts : Option (List ℕ) → Option (List ℕ) → Option (List ℕ) → Option (List ℕ) → Option ℕ → Option (List ℕ) → Head
+abbrev pub parts : Option (List ℕ) → Option (List ℕ) → Option (List ℕ) → Option (List ℕ) → Option ℕ → Option (List ℕ) → Head
 parts m s a p n t = record { method = m; scheme = s; authority = a; path = p; status = n; protocol = t; regular = [] }
 
 read_method : (m : Option (List ℕ)) → IfSome m IsToken
@@ -65,18 +65,26 @@ same_path : (p : Option (List ℕ)) → option_map or_slash (option_map or_slash
 same_path None = refl
 same_path (Some t) = ap Some (or_slash-or_slash t)
 
-Reading-back : (q : Pseudo) (m : Entries FieldValue) → IsValidPseudo q → IsValidMap m
-    → Reading (trailer_head []) (head_fields (head_of_parts q m)) (as_read (head_of_parts q m))
-Reading-back q m valid map =
+-- all of them but `:protocol`
+pub Reading-front : (q : Pseudo) → IsValidPseudo q
+    → Reading (trailer_head [])
+    (optional_field (codes ":method") q.method ++ optional_field (codes ":scheme") q.scheme ++ optional_field (codes ":authority") q.authority
+    ++ optional_field (codes ":path") (option_map or_slash q.path) ++ optional_field (codes ":status") (option_map code_digits q.status))
+    (parts q.method q.scheme q.authority (option_map or_slash q.path) q.status None)
+Reading-front q valid =
     Reading-append _ _ _ _ _
-    (Reading-append _ _ _ _ _
-    (Reading-append _ _ _ _ _
     (Reading-append _ _ _ _ _
     (Reading-append _ _ _ _ _
     (Reading-append _ _ _ _ _ (read_method q.method valid.method) (read_scheme q.method q.scheme valid.scheme))
     (read_authority q.method q.scheme q.authority valid.authority))
     (read_path q.method q.scheme q.authority q.path valid.path))
-    (read_status q.method q.scheme q.authority (option_map or_slash q.path) q.status valid.status))
+    (read_status q.method q.scheme q.authority (option_map or_slash q.path) q.status valid.status)
+
+Reading-back : (q : Pseudo) (m : Entries FieldValue) → IsValidPseudo q → IsValidMap m
+    → Reading (trailer_head []) (head_fields (head_of_parts q m)) (as_read (head_of_parts q m))
+Reading-back q m valid map =
+    Reading-append _ _ _ _ _
+    (Reading-append _ _ _ _ _ (Reading-front q valid)
     (read_protocol q.method q.scheme q.authority (option_map or_slash q.path) q.status q.protocol valid.protocol))
     (Reading-map (parts q.method q.scheme q.authority (option_map or_slash q.path) q.status q.protocol) m map.map map.fields)
 

@@ -10,7 +10,7 @@ use Rattle.http_header.specs.HeaderMap.{Entry, Entries, append, value_count}
 use Rattle.h3_field.specs.Field.{Field}
 use Rattle.h3_header.specs.BadPart.{bad_part, bad_part_at, refusal_of, AreGood, IsHeadUnlessMany}
 use Rattle.h3_header.specs.Head.{Head, trailer_head}
-use Rattle.h3_header.specs.HeadRead.{IsHead, IsNone, Name, Value, TooMany, is_name_at, is_value_at, is_full_at, refusal_at, unless_refused, read_from, head_of}
+use Rattle.h3_header.specs.HeadRead.{IsHead, IsNone, Name, Value, TooMany, is_name_at, is_value_at, is_full_at, refusal_at, unless_refused, read_from, head_of, head_of_any, head_by}
 use Rattle.h3_header.specs.HeadTests.{contains_key, is_full_of_values}
 use Rattle.h3_header.specs.Reads.{kind_of, with_kind, with_field}
 use Rattle.h3_header.specs.declared.headers.judge.BadPart.{BadPart}
@@ -78,8 +78,8 @@ bad_by false value full p e = let same : part.Name ≡ p = cc in ap (λ q. Some 
 bad_by true false full p e = let same : part.Value ≡ p = cc in ap (λ q. Some (refusal_of q)) same
 bad_by true true full p e = absurd (cc)
 
-refused : (at : FieldKind) (h : Head) (f : Field) (p : BadPart) → bad_part_at at f ≡ Some p → refusal_at at h f ≡ Some (refusal_of p)
-refused at h f p e = bad_by (is_name_at at f.name) (is_value_at at f.value) (is_full_at at h f) p e
+refused : (any : Bool) (at : FieldKind) (h : Head) (f : Field) (p : BadPart) → bad_part_at any at f ≡ Some p → refusal_at any at h f ≡ Some (refusal_of p)
+refused any at h f p e = bad_by (is_name_at at f.name) (is_value_at any at f.value) (is_full_at at h f) p e
 
 good_by : (name value full : Bool) → (if not name then Some part.Name else (if not value then Some part.Value else None)) ≡ None → full ≡ false
     → (if not name then Some Name else (if not value then Some Value else (if full then Some TooMany else None))) ≡ None
@@ -88,66 +88,72 @@ good_by true false full e room = absurd (cc)
 good_by true true false e room = refl
 good_by true true true e room = absurd (cc)
 
-taken : (at : FieldKind) (h : Head) (f : Field) (n : ℕ) → HasPlaces h (suc n) → bad_part_at at f ≡ None → refusal_at at h f ≡ None
-taken at h f n p e = good_by (is_name_at at f.name) (is_value_at at f.value) (is_full_at at h f) e (not_full at h f n p)
+taken : (any : Bool) (at : FieldKind) (h : Head) (f : Field) (n : ℕ) → HasPlaces h (suc n) → bad_part_at any at f ≡ None → refusal_at any at h f ≡ None
+taken any at h f n p e = good_by (is_name_at at f.name) (is_value_at any at f.value) (is_full_at at h f) e (not_full at h f n p)
+
+-- the value of a list is what it reads as
+pub by_reading : (any : Bool) (fields : List Field) → head_by any fields ≡ read_from any (trailer_head []) fields
+unfolding head_of head_of_any
+by_reading true fields = refl
+by_reading false fields = refl
 
 -- among the first n fields, the first bad one is at index i
-first_from : (h : Head) (fields : List Field) (n i : ℕ) (d : Field) (p : BadPart) → HasPlaces h n → i < length (take n fields)
-    → All (λ f. bad_part f ≡ None) (take i (take n fields)) → bad_part (get_or (take n fields) i d) ≡ Some p → read_from h fields ≡ IsNone (refusal_of p)
-first_from h [] zero i d p room lt good bad = absurd (omega (arith, lt))
-first_from h [] (suc n) i d p room lt good bad = absurd (omega (arith, lt))
-first_from h (f ∷ fields) zero i d p room lt good bad = absurd (omega (arith, lt))
-first_from h (f ∷ fields) (suc n) zero d p room lt good bad =
-    ap (λ o. unless_refused o (read_from (with_field h f) fields)) (refused (kind_of f.name) h f p bad)
-first_from h (f ∷ fields) (suc n) (suc i) d p room lt good bad =
-    ap (λ o. unless_refused o (read_from (with_field h f) fields)) (taken (kind_of f.name) h f n room (good 0 d (omega arith)))
-    ∙ first_from (with_field h f) fields n i d p (one_less (kind_of f.name) h f n room) (omega (arith, lt)) (λ k e less. good (suc k) e (omega (arith, less))) bad
+first_from : (any : Bool) (h : Head) (fields : List Field) (n i : ℕ) (d : Field) (p : BadPart) → HasPlaces h n → i < length (take n fields)
+    → All (λ f. bad_part any f ≡ None) (take i (take n fields)) → bad_part any (get_or (take n fields) i d) ≡ Some p → read_from any h fields ≡ IsNone (refusal_of p)
+first_from any h [] zero i d p room lt good bad = absurd (omega (arith, lt))
+first_from any h [] (suc n) i d p room lt good bad = absurd (omega (arith, lt))
+first_from any h (f ∷ fields) zero i d p room lt good bad = absurd (omega (arith, lt))
+first_from any h (f ∷ fields) (suc n) zero d p room lt good bad =
+    ap (λ o. unless_refused o (read_from any (with_field h f) fields)) (refused any (kind_of f.name) h f p bad)
+first_from any h (f ∷ fields) (suc n) (suc i) d p room lt good bad =
+    ap (λ o. unless_refused o (read_from any (with_field h f) fields)) (taken any (kind_of f.name) h f n room (good 0 d (omega arith)))
+    ∙ first_from any (with_field h f) fields n i d p (one_less (kind_of f.name) h f n room) (omega (arith, lt)) (λ k e less. good (suc k) e (omega (arith, less))) bad
 
-pub first_bad : (fields : List Field) (i : ℕ) (d : Field) (p : BadPart) → i < length (take 24576 fields)
-    → All (λ f. bad_part f ≡ None) (take i (take 24576 fields)) → bad_part (get_or (take 24576 fields) i d) ≡ Some p → head_of fields ≡ IsNone (refusal_of p)
-unfolding head_of
-first_bad fields i d p lt good bad = first_from (trailer_head []) fields 24576 i d p (record { names = omega arith; values = omega arith }) lt good bad
+pub first_bad : (any : Bool) (fields : List Field) (i : ℕ) (d : Field) (p : BadPart) → i < length (take 24576 fields)
+    → All (λ f. bad_part any f ≡ None) (take i (take 24576 fields)) → bad_part any (get_or (take 24576 fields) i d) ≡ Some p → head_by any fields ≡ IsNone (refusal_of p)
+first_bad any fields i d p lt good bad = by_reading any fields ∙ first_from any (trailer_head []) fields 24576 i d p (record { names = omega arith; values = omega arith }) lt good bad
 
-pub bad_found : (fields few : List Field) (i : ℕ) (d : Field) (p : BadPart) → few ≡ take 24576 fields → i < length few
-    → All (λ f. bad_part f ≡ None) (take i few) → bad_part (get_or few i d) ≡ Some p → head_of fields ≡ IsNone (refusal_of p)
-bad_found fields few i d p is lt good bad =
-    first_bad fields i d p (subst (λ l. i < length l) is lt) (subst (λ l. All (λ f. bad_part f ≡ None) (take i l)) is good) (subst (λ l. bad_part (get_or l i d) ≡ Some p) is bad)
+pub bad_found : (any : Bool) (fields few : List Field) (i : ℕ) (d : Field) (p : BadPart) → few ≡ take 24576 fields → i < length few
+    → All (λ f. bad_part any f ≡ None) (take i few) → bad_part any (get_or few i d) ≡ Some p → head_by any fields ≡ IsNone (refusal_of p)
+bad_found any fields few i d p is lt good bad =
+    first_bad any fields i d p (subst (λ l. i < length l) is lt) (subst (λ l. All (λ f. bad_part any f ≡ None) (take i l)) is good) (subst (λ l. bad_part any (get_or l i d) ≡ Some p) is bad)
 
-pub few_refused : (fields : List Field) (i : ℕ) (f : Field) (p : BadPart) → length fields ≤ 24576 → i < length fields → All (λ f. bad_part f ≡ None) (take i fields)
-    → bad_part (get_or fields i f) ≡ Some p → head_of fields ≡ IsNone (refusal_of p)
-few_refused fields i f p few lt good bad = bad_found fields fields i f p (sym (take_all 24576 fields few)) lt good bad
+pub few_refused : (any : Bool) (fields : List Field) (i : ℕ) (f : Field) (p : BadPart) → length fields ≤ 24576 → i < length fields → All (λ f. bad_part any f ≡ None) (take i fields)
+    → bad_part any (get_or fields i f) ≡ Some p → head_by any fields ≡ IsNone (refusal_of p)
+few_refused any fields i f p few lt good bad = bad_found any fields fields i f p (sym (take_all 24576 fields few)) lt good bad
 
-pub bad_at : (fields : List Field) (i : ℕ) (f : Field) (p : BadPart) → i < 24576 → All (λ f. bad_part f ≡ None) (take i fields) → slice_get fields i ≡ Some f
-    → bad_part f ≡ Some p → head_of fields ≡ IsNone (refusal_of p)
-bad_at fields i f p low good at bad =
-    first_bad fields i f p (omega (arith, length-take 24576 fields, slice_get_within fields i f at, low))
-    (subst (λ l. All (λ f. bad_part f ≡ None) l) (sym (take-take i 24576 fields (omega (arith, low)))) good)
-    (subst (λ f. bad_part f ≡ Some p) (sym (get_or-take 24576 fields i f low ∙ get_or_from_slice_get fields i f f at)) bad)
+pub bad_at : (any : Bool) (fields : List Field) (i : ℕ) (f : Field) (p : BadPart) → i < 24576 → All (λ f. bad_part any f ≡ None) (take i fields) → slice_get fields i ≡ Some f
+    → bad_part any f ≡ Some p → head_by any fields ≡ IsNone (refusal_of p)
+bad_at any fields i f p low good at bad =
+    first_bad any fields i f p (omega (arith, length-take 24576 fields, slice_get_within fields i f at, low))
+    (subst (λ l. All (λ f. bad_part any f ≡ None) l) (sym (take-take i 24576 fields (omega (arith, low)))) good)
+    (subst (λ f. bad_part any f ≡ Some p) (sym (get_or-take 24576 fields i f low ∙ get_or_from_slice_get fields i f f at)) bad)
 
 -- where the fields that were seen are all, or are so many
-pub none_found : (fields : List Field) (i : ℕ) → ((k : ℕ) → k < 24576 → k < length fields → k < i) → All (λ f. bad_part f ≡ None) (take i fields) → AreGood fields
-none_found fields i all good = λ k d less.
+pub none_found : (any : Bool) (fields : List Field) (i : ℕ) → ((k : ℕ) → k < 24576 → k < length fields → k < i) → All (λ f. bad_part any f ≡ None) (take i fields) → AreGood any fields
+none_found any fields i all good = λ k d less.
     let low : k < 24576 = omega (arith, length-take 24576 fields, less) in
     let inside : k < length fields = omega (arith, length-take 24576 fields, less) in
     let before : k < i = all k low inside in
-    subst (λ f. bad_part f ≡ None) (get_or-take i fields k d before ∙ sym (get_or-take 24576 fields k d low)) (good k d (omega (arith, length-take i fields, before, inside)))
+    subst (λ f. bad_part any f ≡ None) (get_or-take i fields k d before ∙ sym (get_or-take 24576 fields k d low)) (good k d (omega (arith, length-take i fields, before, inside)))
 
 -- with room for all of them, fields that are good make a head
-good_from : (h : Head) (fields : List Field) (n : ℕ) → HasPlaces h n → length fields ≤ n → All (λ f. bad_part f ≡ None) fields → (k : Head) × (read_from h fields ≡ IsHead k)
-good_from h [] n room few good = (h, refl)
-good_from h (f ∷ fields) zero room few good = absurd (omega (arith, few))
-good_from h (f ∷ fields) (suc n) room few good =
-    let later = good_from (with_field h f) fields n (one_less (kind_of f.name) h f n room) (omega (arith, few)) (λ k e less. good (suc k) e (omega (arith, less))) in
-    (later.0, ap (λ o. unless_refused o (read_from (with_field h f) fields)) (taken (kind_of f.name) h f n room (good 0 f (omega arith))) ∙ later.1)
+good_from : (any : Bool) (h : Head) (fields : List Field) (n : ℕ) → HasPlaces h n → length fields ≤ n → All (λ f. bad_part any f ≡ None) fields → (k : Head) × (read_from any h fields ≡ IsHead k)
+good_from any h [] n room few good = (h, refl)
+good_from any h (f ∷ fields) zero room few good = absurd (omega (arith, few))
+good_from any h (f ∷ fields) (suc n) room few good =
+    let later = good_from any (with_field h f) fields n (one_less (kind_of f.name) h f n room) (omega (arith, few)) (λ k e less. good (suc k) e (omega (arith, less))) in
+    (later.0, ap (λ o. unless_refused o (read_from any (with_field h f) fields)) (taken any (kind_of f.name) h f n room (good 0 f (omega arith))) ∙ later.1)
 
-few_are_head : (fields : List Field) → length fields ≤ 24576 → AreGood fields → (k : Head) × (head_of fields ≡ IsHead k)
-unfolding head_of
-few_are_head fields few good =
-    good_from (trailer_head []) fields 24576 (record { names = omega arith; values = omega arith }) few (subst (λ l. All (λ f. bad_part f ≡ None) l) (take_all 24576 fields few) good)
+few_are_head : (any : Bool) (fields : List Field) → length fields ≤ 24576 → AreGood any fields → (k : Head) × (head_by any fields ≡ IsHead k)
+few_are_head any fields few good =
+    let all : All (λ f. bad_part any f ≡ None) fields = subst (λ l. All (λ f. bad_part any f ≡ None) l) (take_all 24576 fields few) good in
+    let found = good_from any (trailer_head []) fields 24576 (record { names = omega arith; values = omega arith }) few all in
+    (found.0, by_reading any fields ∙ found.1)
 
-by_count : (fields : List Field) (b : Bool) → nat_lt 24576 (length fields) ≡ b → AreGood fields → IsHeadUnlessMany fields
-by_count fields true many good = λ why none. ltb-true _ _ many
-by_count fields false many good = λ why none. absurd (let head = few_are_head fields (ltb-false _ _ many) good in let never : IsNone why ≡ IsHead head.0 = sym none ∙ head.1 in cc)
+by_count : (any : Bool) (fields : List Field) (b : Bool) → nat_lt 24576 (length fields) ≡ b → AreGood any fields → IsHeadUnlessMany any fields
+by_count any fields true many good = λ why none. ltb-true _ _ many
+by_count any fields false many good = λ why none. absurd (let head = few_are_head any fields (ltb-false _ _ many) good in let never : IsNone why ≡ IsHead head.0 = sym none ∙ head.1 in cc)
 
-pub good_unless_many : (fields : List Field) → AreGood fields → IsHeadUnlessMany fields
-good_unless_many fields good = by_count fields (nat_lt 24576 (length fields)) refl good
+pub good_unless_many : (any : Bool) (fields : List Field) → AreGood any fields → IsHeadUnlessMany any fields
+good_unless_many any fields good = by_count any fields (nat_lt 24576 (length fields)) refl good

@@ -18,7 +18,7 @@ use http_header::HeaderMap;
 use http_uri::Uri;
 pub use iter::HeaderIter;
 use iter::RegularIter;
-pub use judge::{BadPart, MOST_NAMES, field_kind, first_bad_part};
+pub use judge::{BadPart, MOST_NAMES, MOST_PROTOCOL_BYTES, field_kind, first_bad_part};
 pub use kind::FieldKind;
 use pseudo::{Pseudo, RequestParts};
 use std::alloc::{AllocError, Global};

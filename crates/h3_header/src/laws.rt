@@ -1,5 +1,5 @@
 //! Laws on headers and their field lists, each the contract of a function.
-ghost use Rattle.std.specs.Prelude.{◌≡◌, ◌<◌, ◌≤◌, ℕ, codes, ◌∷◌, IfOk, IfErr, List, [], All, length, take, get_or, Some, None};
+ghost use Rattle.std.specs.Prelude.{◌≡◌, ◌<◌, ◌≤◌, ℕ, Bool, true, false, codes, ◌∷◌, IfOk, IfErr, List, [], All, length, take, get_or, Some, None};
 ghost use Rattle.std.specs.List.{AllByRecursion};
 ghost use Rattle.h3_field.specs.Field.{Field};
 ghost use Rattle.h3_field.specs.ReadBack.{IsFieldOfBytes};
@@ -7,10 +7,14 @@ ghost use Rattle.h3_header.specs.BadPart.{bad_part, refusal_of, IsHeadUnlessMany
 ghost use Rattle.h3_header.specs.declared.headers.judge.BadPart.{BadPart};
 ghost use Rattle.http_header.specs.FieldValue.{FieldValue};
 ghost use Rattle.http_header.specs.HeaderMap.{Entries};
+ghost use Rattle.h3_header.specs.AnyProtocol.{IsValidAny, asked, asking};
 ghost use Rattle.h3_header.specs.Connect.{connect_head};
 ghost use Rattle.h3_header.specs.Head.{Head, head_fields, regular_fields, trailer_head};
-ghost use Rattle.h3_header.specs.HeadRead.{HeadRefusal, IsHead, IsNone, head_of, told};
-ghost use Rattle.h3_header.specs.Reads.{IsHeadOf, RefusesOne, head_of_fields};
+ghost use Rattle.h3_header.specs.HeadRead.{HeadRefusal, IsHead, IsNone, Value, head_by, head_of, told};
+ghost use Rattle.h3_header.specs.Parts.{head_of_parts};
+ghost use Rattle.h3_header.specs.Reads.{IsHeadOf, RefusesOne, head_of_fields, kind_of};
+ghost use Rattle.h3_header.specs.declared.headers.kind.FieldKind.TheVariants as kind;
+ghost use Rattle.h3_header.specs.declared.headers.pseudo.Pseudo.{Pseudo};
 ghost use Rattle.h3_header.specs.declared.headers.error.HeaderError.{HeaderError};
 ghost use Rattle.h3_header.specs.ReadsBack.{ReadsBack, as_read};
 
@@ -41,10 +45,10 @@ pub fn round_trip(alloc: Global, header: &Header) -> Result<Header, HeaderError>
 }
 
 /// A list of so few fields that a map has room for all their names is judged field by field. The first of which anything is malformed
-/// refuses it, and if nothing is malformed of any it is a header section's.
+/// refuses it, and if nothing is malformed of any it is a header section's, whether any protocol is taken or the two names alone.
 pub fn fields_are_judged_alone()
-    ensures refused { (fields : List Field) (i : ℕ) (f : Field) (part : BadPart) → length fields ≤ 24576 → i < length fields → All (λ f. bad_part f ≡ None) (take i fields) → bad_part (get_or fields i f) ≡ Some part → head_of fields ≡ IsNone (refusal_of part) }
-    ensures head { (fields : List Field) → All (λ f. bad_part f ≡ None) (take 24576 fields) → IsHeadUnlessMany fields }
+    ensures refused { (any : Bool) (fields : List Field) (i : ℕ) (f : Field) (part : BadPart) → length fields ≤ 24576 → i < length fields → All (λ f. bad_part any f ≡ None) (take i fields) → bad_part any (get_or fields i f) ≡ Some part → head_by any fields ≡ IsNone (refusal_of part) }
+    ensures head { (any : Bool) (fields : List Field) → All (λ f. bad_part any f ≡ None) (take 24576 fields) → IsHeadUnlessMany any fields }
 {}
 
 /// What a field list is read as is a value: its header section, or the first refusal, memory aside. What the value says is so.
@@ -53,6 +57,27 @@ pub fn lists_are_their_value()
     ensures refused { (fields : List Field) (e : HeaderError) (why : HeadRefusal) → RefusesOne (trailer_head []) fields e → told e ≡ Some why → head_of fields ≡ IsNone why }
     ensures is_head { (fields : List Field) (h : Head) → head_of fields ≡ IsHead h → IsHeadOf fields h }
     ensures is_refused { (fields : List Field) (e : HeaderError) (why : HeadRefusal) → head_of fields ≡ IsNone why → told e ≡ Some why → RefusesOne (trailer_head []) fields e }
+{}
+
+/// What the choice of any protocol changes. A list without `:protocol` reads alike with it and without it. A list that is a header section
+/// with the two names is the same one with any token. And each header section with a token of at most 31 bytes as its protocol is what its
+/// own fields read as.
+pub fn any_protocol_changes_protocols_alone()
+    ensures others { (fields : List Field) → AllByRecursion (λ f. kind_of f.name ≡ kind.Protocol → ⊥) fields → head_by true fields ≡ head_of fields }
+    ensures stays { (fields : List Field) (h : Head) → head_of fields ≡ IsHead h → head_by true fields ≡ IsHead h }
+    ensures tokens_read_back { (p : Pseudo) (m : Entries FieldValue) → IsValidAny p m → head_by true (head_fields (head_of_parts p m)) ≡ IsHead (as_read (head_of_parts p m)) }
+{}
+
+/// What a `:protocol` by itself reads as if any is taken (RFC 8441, 4; a token is that of RFC 9110, 5.6.2), and if the two names alone are.
+pub fn protocols_read_as_worked()
+    ensures websocket { asked true (codes "websocket") ≡ IsHead (asking (codes "websocket")) }
+    ensures websocket_off { asked false (codes "websocket") ≡ IsNone Value }
+    ensures name_off { asked false (codes "webtransport") ≡ IsHead (asking (codes "webtransport")) }
+    ensures empty { asked true (codes "") ≡ IsNone Value }
+    ensures spaced { asked true (codes "web socket") ≡ IsNone Value }
+    ensures slashed { asked true (codes "a/b") ≡ IsNone Value }
+    ensures longest { asked true (codes "abcdefghijklmnopqrstuvwxyzabcde") ≡ IsHead (asking (codes "abcdefghijklmnopqrstuvwxyzabcde")) }
+    ensures too_long { asked true (codes "abcdefghijklmnopqrstuvwxyzabcdef") ≡ IsNone Value }
 {}
 
 /// What `Header::connect` sends: `:method` and `:authority`, and after them the regular fields (RFC 9114, 4.4). So it has no `:scheme`,

@@ -9,5 +9,6 @@ pub mod laws;
 
 pub use ext::{InvalidProtocol, Protocol};
 pub use headers::{
-    BadPart, FieldKind, Header, HeaderError, HeaderIter, MOST_NAMES, field_kind, first_bad_part,
+    BadPart, FieldKind, Header, HeaderError, HeaderIter, MOST_NAMES, MOST_PROTOCOL_BYTES,
+    field_kind, first_bad_part,
 };

@@ -27,7 +27,7 @@ use Rattle.h3_connection.specs.StrictSending.{broken_head, violation_of_own_head
 use Rattle.h3_connection.specs.Sending as sender
 use Rattle.h3_connection.specs.declared.event.Malformation.{Malformation}
 use Rattle.h3_connection.specs.declared.setup.Announced.{Announced}
-use Rattle.h3_messages.specs.Messages.{violation_of_trailer}
+use Rattle.h3_messages.specs.OwnMessages.{violation_of_own_trailer}
 use Rattle.h3_header.specs.Head.{Head as Fields, head_fields, has_pseudo}
 use Rattle.h3_proto.specs.declared.stream.Side.TheVariants.{Client, Server}
 use Rattle.h3_connection.specs.Pulling.{is_client, is_for, is_interim}
@@ -119,7 +119,7 @@ no_broken_head setup w side e fields plain h =
 
 no_broken_trailer : (setup : Setup) (w : World) (side : Side) (e : EndpointHistory) (fields : List Field) → IsPlain (announced_at setup side) → StandsAt setup w side e → broken_trailer e.announced fields ≡ None
 no_broken_trailer setup w side e fields plain h =
-    ap (λ b. let rule : Option Malformation = if b then option_map malformation_by (violation_of_trailer fields) else None in rule) (ap (λ (a : Announced). a.choices.strict_messages) h.announced ∙ plain.0)
+    ap (λ b. let rule : Option Malformation = if b then option_map malformation_by (violation_of_own_trailer fields) else None in rule) (ap (λ (a : Announced). a.choices.strict_messages) h.announced ∙ plain.0)
 
 -- a head with a status from 100 to 199 is no request
 only_client : (reader : Side) (head : Fields) → is_for reader head ≡ true → is_interim head.status ≡ true → is_client reader ≡ true

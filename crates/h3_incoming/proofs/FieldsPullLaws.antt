@@ -1,5 +1,5 @@
 -- What is told of a head or trailer that is kept as its list.
-use Rattle.std.proofs.Common.{◌≡◌, List, Some, refl, ap, ◌∙◌}
+use Rattle.std.proofs.Common.{◌≡◌, false, List, Some, refl, ap, ◌∙◌}
 use Rattle.std.specs.Prelude.{Option, None, IfSome, Result, Ok, Err, IfOk, OnOk, OnErr}
 use Rattle.h3_field.specs.Field.{Field}
 use Rattle.h3_header.specs.Head.{Head}
@@ -38,7 +38,7 @@ status_is fields o law is =
     reads_head (head_of fields) o is _ (λ h head same. ap (λ (p : Outline). p.status) same ∙ ap (λ (q : Head). q.status) (law fields h head).1)
 
 -- so it is no list that is malformed
-pub never_malformed : (fields : List Field) (o : Outline) → read.Head o ≡ list_read (head_of fields) → IsHeadUnlessMany fields
+pub never_malformed : (fields : List Field) (o : Outline) → read.Head o ≡ list_read (head_of fields) → IsHeadUnlessMany false fields
 never_malformed fields o is = λ why none. let wrong : read.Head o ≡ list_read (IsNone why) = is ∙ ap list_read none in absurd (cc)
 
 pub ok_as : {E : Type 0} (result : Result ListRead E) (r s : ListRead) → IfOk result (λ q. q ≡ r) → r ≡ s → IfOk result (λ q. q ≡ s)

@@ -44,8 +44,8 @@ method_alone h is = by (is_some h.status) (is_some h.method) is
     by true method is = absurd (cc)
 
 -- the value of a field of which nothing is malformed may stand there
-pub value_is_good : (at : FieldKind) (f : Field) → bad_part_at at f ≡ None → is_value_at at f.value ≡ true
-value_is_good at f is = by (is_name_at at f.name) (is_value_at at f.value) is
+pub value_is_good : (at : FieldKind) (f : Field) → bad_part_at false at f ≡ None → is_value_at false at f.value ≡ true
+value_is_good at f is = by (is_name_at at f.name) (is_value_at false at f.value) is
   where
     by : (name value : Bool) → (if not name then Some part.Name else (if not value then Some part.Value else None)) ≡ None → value ≡ true
     by true true is = refl
@@ -87,11 +87,11 @@ pub last_outline : (fields : List Field) (i : ℕ) (o start : Outline) → lengt
 last_outline fields i o start past before = sym (ap (fold outlined o) (drop_all i fields past)) ∙ before
 
 -- Of so few fields none is malformed, where the walk came to their end.
-pub all_good : (fields : List Field) (i : ℕ) → length fields ≤ i → length fields ≤ 24576 → All (λ f. bad_part f ≡ None) (take i fields) → AreGood fields
-all_good fields i past few good = subst (All (λ f. bad_part f ≡ None)) (take_all i fields past ∙ sym (take_all 24576 fields few)) good
+pub all_good : (fields : List Field) (i : ℕ) → length fields ≤ i → length fields ≤ 24576 → All (λ f. bad_part false f ≡ None) (take i fields) → AreGood false fields
+all_good fields i past few good = subst (All (λ f. bad_part false f ≡ None)) (take_all i fields past ∙ sym (take_all 24576 fields few)) good
 
 -- So they read as a head, and this is its outline.
-pub short_head : (fields : List Field) → ((fs : List Field) (h : Head) → head_of fs ≡ IsHead h → IsHeadOf fs h) → length fields ≤ 24576 → IsHeadUnlessMany fields
+pub short_head : (fields : List Field) → ((fs : List Field) (h : Head) → head_of fs ≡ IsHead h → IsHeadOf fs h) → length fields ≤ 24576 → IsHeadUnlessMany false fields
     → read.Head (fold outlined empty_outline fields) ≡ list_read (head_of fields)
 short_head fields law few unless = by (head_of fields) refl
   where

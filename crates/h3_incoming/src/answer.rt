@@ -91,7 +91,7 @@ pub trait Answer: Drop {
         ensures head { OnOk result ((h : Head) → head_of fields ≡ IsHead h → told self.new ≡ pull.Item (message_at side place h)) }
         ensures list { OnOk result ((h : Head) → head_of fields ≡ IsHead h → IfSome (listed self.new) (λ l. l ≡ fields)) }
         ensures memory { OnErr result (asks fields) }
-        ensures good { OnErr result (IsHeadUnlessMany fields) };
+        ensures good { OnErr result (IsHeadUnlessMany false fields) };
 
     /// Whether header and trailer sections are kept as their lists, of which no `Header` is made.
     fn keeps_lists() -> bool;
@@ -228,7 +228,7 @@ fn give_header(
     ensures read { IfOk result (λ r. r ≡ list_read (head_of fields.now)) }
     ensures head { OnOk result ((h : Head) → head_of fields.now ≡ IsHead h → out.new ≡ pull.Item (message_at side place h)) }
     ensures memory { OnErr result (RefusesOne (trailer_head []) fields.now HeaderError.OutOfMemory) }
-    ensures good { OnErr result (IsHeadUnlessMany fields.now) }
+    ensures good { OnErr result (IsHeadUnlessMany false fields.now) }
 {
     h3_header::laws::lists_are_their_value();
     match Header::of_fields(alloc, fields) {

@@ -1,5 +1,5 @@
 //! The answer of a pull whose header and trailer sections are the lists of fields that came, with no `Header` made of them.
-ghost use Rattle.std.specs.Prelude.{◌≡◌, ◌<◌, length, IfOk, IfSome, OnOk, OnErr, None};
+ghost use Rattle.std.specs.Prelude.{◌≡◌, ◌<◌, false, length, IfOk, IfSome, OnOk, OnErr, None};
 ghost use Rattle.h3_header.specs.BadPart.{IsHeadUnlessMany};
 ghost use Rattle.h3_header.specs.Head.{Head};
 ghost use Rattle.h3_header.specs.HeadRead.{IsHead, head_of};
@@ -56,13 +56,6 @@ impl FieldList {
         ensures { result.now ≡ self.now }
     {
         self.fields.as_slice()
-    }
-
-    /// The fields, to keep.
-    pub fn into_fields(self) -> Vec<HeaderField>
-        ensures { result.items ≡ self }
-    {
-        self.fields
     }
 
     /// The status of a response's header section, as its `Header` has it. It takes no look at the fields.
@@ -182,7 +175,7 @@ fn give_fields(
     ensures head { OnOk result ((h : Head) → head_of fields.now ≡ IsHead h → pull_of out.new ≡ pull.Item (message_at side place h)) }
     ensures list { OnOk result ((h : Head) → head_of fields.now ≡ IsHead h → IfSome (list_of out.new) (λ l. l ≡ fields.now)) }
     ensures memory { OnErr result (0 < length fields.now) }
-    ensures good { OnErr result (IsHeadUnlessMany fields.now) }
+    ensures good { OnErr result (IsHeadUnlessMany false fields.now) }
 {
     h3_header::laws::lists_are_their_value();
     match read_unless(known, alloc, &fields.fields()) {

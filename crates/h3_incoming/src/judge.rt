@@ -1,5 +1,5 @@
 //! What a decoded field section is at its place of a message (RFC 9114, sections 4.1 to 4.3).
-ghost use Rattle.std.specs.Prelude.{◌≡◌, ◌<◌, ◌≤◌, ℕ, Bool, List, Some, None, IfOk, OnErr, option_map, codes};
+ghost use Rattle.std.specs.Prelude.{◌≡◌, ◌<◌, ◌≤◌, ℕ, Bool, false, List, Some, None, IfOk, OnErr, option_map, codes};
 ghost use Rattle.h3_field.specs.Field.{Field};
 ghost use Rattle.h3_field.specs.Instruction.{DecoderInstruction};
 ghost use Rattle.h3_qpack.specs.DecoderState.{DecoderState};
@@ -113,7 +113,7 @@ fn judge_fields<O: Answer>(
     ensures item { IfOk result (λ j. HasItem j (O.told out.new)) }
     ensures list { IfOk result (λ j. HasList j (O.listed out.new) fields) }
     ensures memory { OnErr result (O.asks fields) }
-    ensures good { OnErr result (IsHeadUnlessMany fields) }
+    ensures good { OnErr result (IsHeadUnlessMany false fields) }
 {
     let keeps_lists = O::keeps_lists();
     let read = read_at(

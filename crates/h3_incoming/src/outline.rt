@@ -1,5 +1,5 @@
 //! What a list of fields reads as: the fields are read where they lie.
-ghost use Rattle.std.specs.Prelude.{◌≡◌, ◌≤◌, ◌<◌, [], All, true, Some, None, IfOk, IfSome, OnErr, length, fold, option_map, is_some};
+ghost use Rattle.std.specs.Prelude.{◌≡◌, ◌≤◌, ◌<◌, false, [], All, true, Some, None, IfOk, IfSome, OnErr, length, fold, option_map, is_some};
 ghost use Rattle.h3_header.specs.BadPart.{bad_part, refusal_of, AreGood};
 ghost use Rattle.h3_header.specs.Head.{trailer_head};
 ghost use Rattle.h3_header.specs.BadPart.{IsHeadUnlessMany};
@@ -105,7 +105,7 @@ impl Outline {
 
     // With one field more, of that kind, of which nothing is malformed.
     fn with(self, kind: FieldKind, field: &FieldRef<'_>) -> Outline
-        requires { is_value_at kind field.now.value ≡ true }
+        requires { is_value_at false kind field.now.value ≡ true }
         ensures { result ≡ outlined_by kind self field.now }
     {
         match kind {
@@ -172,7 +172,7 @@ fn read_short(fields: &Fields<'_>) -> ListRead
     let mut outline = Outline::empty();
     'fields: for place in 0..fields.len() {
         let field = fields.get(place);
-        match field_kind(&field) {
+        match field_kind(&field, false) {
             Ok(kind) => outline = outline.with(kind, &field),
             Err(part) => return ListRead::Malformed(malformation_by(part)),
         }
@@ -185,7 +185,7 @@ fn read_short(fields: &Fields<'_>) -> ListRead
 #[inline(always)]
 pub fn read_survey(survey: &Survey<'_>) -> Option<ListRead>
     requires few { length survey.now.fields.now ≤ 24576 }
-    requires good { AreGood survey.now.fields.now }
+    requires good { AreGood false survey.now.fields.now }
     ensures { IfSome result (λ read. read ≡ list_read (head_of survey.now.fields.now)) }
 {
     h3_header::laws::lists_are_their_value();
@@ -205,7 +205,7 @@ pub fn read_survey(survey: &Survey<'_>) -> Option<ListRead>
 #[inline(always)]
 fn first_status(survey: &Survey<'_>) -> Option<StatusCode>
     requires few { length survey.now.fields.now ≤ 24576 }
-    requires good { AreGood survey.now.fields.now }
+    requires good { AreGood false survey.now.fields.now }
     ensures { result ≡ first_status survey.now.fields.now }
 {
     match survey.status() {
@@ -246,7 +246,7 @@ fn has_method(header: &Header) -> bool
 // The status that three digits are.
 #[tactic(auto, using(crate::proofs::Outlines::is_status))]
 fn status_of(digits: &[u8]) -> Option<StatusCode>
-    requires { is_value_at kind.Status digits.now ≡ true }
+    requires { is_value_at false kind.Status digits.now ≡ true }
     ensures { result ≡ Some (status_number digits.now) }
 {
     match StatusCode::from_bytes(digits) {
@@ -270,12 +270,12 @@ pub fn malformation_by(part: BadPart) -> Malformation
 pub(crate) fn read_refused(fields: &Fields<'_>, error: &HeaderError) -> Result<ListRead, AllocError>
     ensures ok { IfOk result (λ r. (why : HeadRefusal) × Tells fields.now error.now why × (r ≡ read.Malformed (malformation_of why))) }
     ensures memory { OnErr result (told error.now ≡ None) }
-    ensures good { OnErr result (IsHeadUnlessMany fields.now) }
+    ensures good { OnErr result (IsHeadUnlessMany false fields.now) }
 {
     if let Some(why) = malformation(error) {
         return Ok(ListRead::Malformed(why));
     }
-    match first_bad_part(fields) {
+    match first_bad_part(fields, false) {
         Some(part) => Ok(ListRead::Malformed(malformation_by(part))),
         None => Err(AllocError),
     }

@@ -77,7 +77,7 @@ fn read_once(
     ensures response { result.strict.response ≡ response_at side announced.now place known fields.now }
 {
     let mut seen = Seen::new();
-    match seen.take_good(fields) {
+    match seen.take_good(fields, false) {
         Ok(()) => {
             let survey = Survey::of(fields, &seen);
             OneRead {

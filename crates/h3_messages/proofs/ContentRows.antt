@@ -1,20 +1,20 @@
 -- Worked rows of content, computed by the definitions.
 use Rattle.std.specs.Prelude.{◌≡◌, true, false, [], ◌∷◌, codes, refl}
-use Rattle.h3_messages.specs.Content.{asked_by, content_of_request, content_of_response, left_behind, is_exceeded, may_end, takes_trailer}
+use Rattle.h3_messages.specs.Content.{asked_by, content_of_request, content_behind_response, left_behind, is_exceeded, may_end, takes_trailer}
 use Rattle.h3_messages.specs.declared.content.Content.TheVariants.{Unsaid, Exactly, NoContent, Tunnel, Exceeded}
-use Rattle.h3_messages.specs.declared.content.Asked.TheVariants.{Head, Connect, Other}
+use Rattle.h3_messages.specs.declared.content.Asked.TheVariants.{Other}
 use Rattle.h3_messages.proofs.Written.{field}
 
-pub length_5 : content_of_response Other (field (codes ":status") (codes "200") ∷ field (codes "content-length") (codes "5") ∷ []) ≡ Exactly 5
+pub length_5 : content_behind_response Unsaid (field (codes ":status") (codes "200") ∷ field (codes "content-length") (codes "5") ∷ []) ≡ Exactly 5
 length_5 = refl
 
-pub head_has_none : content_of_response Head (field (codes ":status") (codes "200") ∷ field (codes "content-length") (codes "5") ∷ []) ≡ NoContent
+pub head_has_none : content_behind_response NoContent (field (codes ":status") (codes "200") ∷ field (codes "content-length") (codes "5") ∷ []) ≡ NoContent
 head_has_none = refl
 
-pub connect_is_tunnel : content_of_response Connect (field (codes ":status") (codes "200") ∷ field (codes "content-length") (codes "5") ∷ []) ≡ Tunnel
+pub connect_is_tunnel : content_behind_response Tunnel (field (codes ":status") (codes "200") ∷ field (codes "content-length") (codes "5") ∷ []) ≡ Tunnel
 connect_is_tunnel = refl
 
-pub not_modified_has_none : content_of_response Other (field (codes ":status") (codes "304") ∷ field (codes "content-length") (codes "5") ∷ []) ≡ NoContent
+pub not_modified_has_none : content_behind_response Unsaid (field (codes ":status") (codes "304") ∷ field (codes "content-length") (codes "5") ∷ []) ≡ NoContent
 not_modified_has_none = refl
 
 pub request_unsaid : content_of_request (field (codes ":method") (codes "GET") ∷ field (codes ":scheme") (codes "https") ∷ field (codes ":authority") (codes "a") ∷ field (codes ":path") (codes "/") ∷ []) ≡ Unsaid
@@ -45,7 +45,7 @@ pub no_length : content_of_request (field (codes "content-length") (codes "5x") 
 no_length = refl
 
 -- a refused CONNECT is answered as any other: 9114 4.1.2
-pub refused_connect : content_of_response Connect (field (codes ":status") (codes "403") ∷ field (codes "content-length") (codes "5") ∷ []) ≡ Exactly 5
+pub refused_connect : content_behind_response Tunnel (field (codes ":status") (codes "403") ∷ field (codes "content-length") (codes "5") ∷ []) ≡ Exactly 5
 refused_connect = refl
 
 -- 9114 4.4

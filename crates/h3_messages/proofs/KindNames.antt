@@ -1,13 +1,12 @@
 -- Which name a field of a kind has.
-use Rattle.std.proofs.Common.{◌≡◌, ℕ, ◌==◌, true, false, List, slice_index, Some, None, ap, refl, ◌∙◌}
+use Rattle.std.proofs.Common.{◌≡◌, ℕ, ◌==◌, true, false, List, slice_index, Some, None, ap, refl, subst, ◌∙◌}
 use Rattle.h3_field.specs.Field.{Field}
-use Rattle.h3_header.specs.BadPart.{bad_part}
 use Rattle.h3_header.specs.HeadRead.{is_name_at}
 use Rattle.h3_header.specs.Reads.{kind_of}
 use Rattle.h3_header.specs.declared.headers.kind.FieldKind.{FieldKind}
 use Rattle.h3_header.specs.declared.headers.kind.FieldKind.TheVariants as kind
 use Rattle.h3_messages.specs.Known.{candidate, known_at, known_of}
-use Rattle.h3_messages.specs.KindLaws.{by_kind, name_is_good, name_is_plain}
+use Rattle.h3_messages.specs.KindLaws.{by_kind, name_is_plain}
 use Rattle.h3_messages.specs.Messages.{is_pseudo}
 use Rattle.h3_messages.specs.declared.known.Known.{Known}
 
@@ -32,5 +31,5 @@ kind_named f at known of is = named_at f.name known (is ∙ ap known_at of)
 pub kind_pseudo : (f : Field) (at : FieldKind) (known : Known) → at ≡ kind_of f.name → Some known ≡ known_at at → is_pseudo f ≡ true
 kind_pseudo f at known of is = colon_at f.name known (is ∙ ap known_at of)
 
-pub kind_regular : (f : Field) (at : FieldKind) → at ≡ kind_of f.name → bad_part f ≡ None → None ≡ known_at at → is_pseudo f ≡ false
-kind_regular f at of good is = plain_at f.name (name_is_good (kind_of f.name) f good) (is ∙ ap known_at of)
+pub kind_regular : (f : Field) (at : FieldKind) → at ≡ kind_of f.name → is_name_at at f.name ≡ true → None ≡ known_at at → is_pseudo f ≡ false
+kind_regular f at of good is = plain_at f.name (subst (λ k. is_name_at k f.name ≡ true) of good) (is ∙ ap known_at of)

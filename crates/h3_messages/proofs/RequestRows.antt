@@ -464,8 +464,8 @@ pub row_92 : violation_of_request true (field (codes ":method") (codes "CONNECT"
 unfolding violation_of_request
 row_92 = refl
 
--- CONNECT without port: 9114 4.4
-pub row_93 : violation_of_request true (field (codes ":method") (codes "CONNECT") ∷ field (codes ":authority") (codes "a") ∷ []) ≡ None
+-- CONNECT without port: 9110 9.3.6
+pub row_93 : violation_of_request true (field (codes ":method") (codes "CONNECT") ∷ field (codes ":authority") (codes "a") ∷ []) ≡ Some Connect
 unfolding violation_of_request
 row_93 = refl
 
@@ -555,12 +555,12 @@ unfolding violation_of_request
 row_111 = refl
 
 -- :protocol without authority: 8441 4
-pub row_112 : violation_of_request true (field (codes ":method") (codes "CONNECT") ∷ field (codes ":protocol") (codes "webtransport") ∷ field (codes ":scheme") (codes "https") ∷ field (codes ":path") (codes "/") ∷ []) ≡ Some Connect
+pub row_112 : violation_of_request true (field (codes ":method") (codes "CONNECT") ∷ field (codes ":protocol") (codes "webtransport") ∷ field (codes ":scheme") (codes "https") ∷ field (codes ":path") (codes "/") ∷ []) ≡ Some Authority
 unfolding violation_of_request
 row_112 = refl
 
 -- :protocol with host alone: 8441 4
-pub row_113 : violation_of_request true (field (codes ":method") (codes "CONNECT") ∷ field (codes ":protocol") (codes "webtransport") ∷ field (codes ":scheme") (codes "https") ∷ field (codes ":path") (codes "/") ∷ field (codes "host") (codes "a") ∷ []) ≡ Some Connect
+pub row_113 : violation_of_request true (field (codes ":method") (codes "CONNECT") ∷ field (codes ":protocol") (codes "webtransport") ∷ field (codes ":scheme") (codes "https") ∷ field (codes ":path") (codes "/") ∷ field (codes "host") (codes "a") ∷ []) ≡ None
 unfolding violation_of_request
 row_113 = refl
 
@@ -753,3 +753,83 @@ space_alone = refl
 pub empty_value : violation_of_request true (field (codes ":method") (codes "GET") ∷ field (codes ":scheme") (codes "https") ∷ field (codes ":authority") (codes "a") ∷ field (codes ":path") (codes "/") ∷ field (codes "x") (codes "") ∷ []) ≡ None
 unfolding violation_of_request
 empty_value = refl
+
+-- scheme h~tps: 3986 3.1
+pub row_213 : violation_of_request true (field (codes ":method") (codes "GET") ∷ field (codes ":scheme") (codes "h~tps") ∷ field (codes ":authority") (codes "a") ∷ field (codes ":path") (codes "/") ∷ []) ≡ Some Scheme
+unfolding violation_of_request
+row_213 = refl
+
+-- scheme a+b-c.d1: 3986 3.1
+pub row_214 : violation_of_request true (field (codes ":method") (codes "GET") ∷ field (codes ":scheme") (codes "a+b-c.d1") ∷ field (codes ":authority") (codes "a") ∷ field (codes ":path") (codes "/") ∷ []) ≡ None
+unfolding violation_of_request
+row_214 = refl
+
+-- CONNECT to a:: 9110 9.3.6
+pub row_215 : violation_of_request true (field (codes ":method") (codes "CONNECT") ∷ field (codes ":authority") (codes "a:") ∷ []) ≡ Some Connect
+unfolding violation_of_request
+row_215 = refl
+
+-- CONNECT to a:0: 9110 9.3.6
+pub row_216 : violation_of_request true (field (codes ":method") (codes "CONNECT") ∷ field (codes ":authority") (codes "a:0") ∷ []) ≡ Some Connect
+unfolding violation_of_request
+row_216 = refl
+
+-- CONNECT to a:1: 9110 9.3.6
+pub row_217 : violation_of_request true (field (codes ":method") (codes "CONNECT") ∷ field (codes ":authority") (codes "a:1") ∷ []) ≡ None
+unfolding violation_of_request
+row_217 = refl
+
+-- CONNECT to a:65535: 9110 9.3.6
+pub row_218 : violation_of_request true (field (codes ":method") (codes "CONNECT") ∷ field (codes ":authority") (codes "a:65535") ∷ []) ≡ None
+unfolding violation_of_request
+row_218 = refl
+
+-- CONNECT to a:65536: 9110 9.3.6
+pub row_219 : violation_of_request true (field (codes ":method") (codes "CONNECT") ∷ field (codes ":authority") (codes "a:65536") ∷ []) ≡ Some Connect
+unfolding violation_of_request
+row_219 = refl
+
+-- CONNECT to a:99999: 9110 9.3.6
+pub row_220 : violation_of_request true (field (codes ":method") (codes "CONNECT") ∷ field (codes ":authority") (codes "a:99999") ∷ []) ≡ Some Connect
+unfolding violation_of_request
+row_220 = refl
+
+-- CONNECT to a:0443: 3986 3.2.3
+pub row_221 : violation_of_request true (field (codes ":method") (codes "CONNECT") ∷ field (codes ":authority") (codes "a:0443") ∷ []) ≡ None
+unfolding violation_of_request
+row_221 = refl
+
+-- CONNECT to a:000443: 9110 9.3.6
+pub row_222 : violation_of_request true (field (codes ":method") (codes "CONNECT") ∷ field (codes ":authority") (codes "a:000443") ∷ []) ≡ Some Connect
+unfolding violation_of_request
+row_222 = refl
+
+-- CONNECT to a:x: 9110 9.3.6
+pub row_223 : violation_of_request true (field (codes ":method") (codes "CONNECT") ∷ field (codes ":authority") (codes "a:x") ∷ []) ≡ Some Connect
+unfolding violation_of_request
+row_223 = refl
+
+-- CONNECT to a:4x: 9110 9.3.6
+pub row_224 : violation_of_request true (field (codes ":method") (codes "CONNECT") ∷ field (codes ":authority") (codes "a:4x") ∷ []) ≡ Some Connect
+unfolding violation_of_request
+row_224 = refl
+
+-- CONNECT to [::1]: 9110 9.3.6
+pub row_225 : violation_of_request true (field (codes ":method") (codes "CONNECT") ∷ field (codes ":authority") (codes "[::1]") ∷ []) ≡ Some Connect
+unfolding violation_of_request
+row_225 = refl
+
+-- CONNECT to [::1]:443: 3986 3.2.2
+pub row_226 : violation_of_request true (field (codes ":method") (codes "CONNECT") ∷ field (codes ":authority") (codes "[::1]:443") ∷ []) ≡ None
+unfolding violation_of_request
+row_226 = refl
+
+-- :protocol, host unlike: 9114 4.3.1
+pub row_227 : violation_of_request true (field (codes ":method") (codes "CONNECT") ∷ field (codes ":protocol") (codes "webtransport") ∷ field (codes ":scheme") (codes "https") ∷ field (codes ":authority") (codes "a") ∷ field (codes ":path") (codes "/") ∷ field (codes "host") (codes "b") ∷ []) ≡ Some Authority
+unfolding violation_of_request
+row_227 = refl
+
+-- :protocol with a port without digits: 8441 4
+pub row_228 : violation_of_request true (field (codes ":method") (codes "CONNECT") ∷ field (codes ":protocol") (codes "webtransport") ∷ field (codes ":scheme") (codes "https") ∷ field (codes ":authority") (codes "a:x") ∷ field (codes ":path") (codes "/") ∷ []) ≡ None
+unfolding violation_of_request
+row_228 = refl

@@ -1,14 +1,12 @@
--- One step of a walk over a list: what the rest holds, by its first item and what follows.
-use Rattle.std.proofs.Common.{◌≡◌, ◌≢◌, ℕ, ◌+◌, ◌*◌, ◌-◌, ◌^◌, ◌<◌, Bool, true, false, cond, min, List, ◌∷◌, length, drop, get_or, bytes_eq, add-one, ap, drop-cons, refl, arith}
+-- One step of a walk, of a comparison and of a number.
+use Rattle.std.proofs.Common.{◌≡◌, ◌≢◌, ℕ, ◌+◌, ◌*◌, ◌-◌, ◌^◌, ◌<◌, Bool, true, false, min, List, length, drop, get_or, bytes_eq, add-one, ap, drop-cons, refl, arith}
+use Rattle.std.specs.Prelude.{◌&&◌, ◌||◌, ◌==◌}
 use Rattle.std.proofs.lemmas.Slice.Eq.{bytes_eq-Decides}
-use Rattle.h3_field.specs.Field.{Field}
-use Rattle.h3_messages.specs.Messages.{has_name, value_of}
+use Rattle.h3_messages.specs.Messages.{is_port, names_port}
 
-pub first_of_rest : {X : Type 0} (xs : List X) (i : ℕ) (d : X) → i < length xs → drop i xs ≡ get_or xs i d ∷ drop (i + 1) xs
-first_of_rest xs i d h = rw (add-one, drop-cons xs i d) refl
-
-pub value_of_rest : (name : List ℕ) (fields : List Field) (i : ℕ) (d : Field) → i < length fields → value_of name (drop i fields) ≡ cond (has_name name (get_or fields i d)) (get_or fields i d).value (value_of name (drop (i + 1) fields))
-value_of_rest name fields i d h = ap (value_of name) (first_of_rest fields i d h)
+-- what the rest of an authority names, by its first byte and what follows
+pub names_port_rest : (text : List ℕ) (i d : ℕ) → i < length text → names_port (drop i text) ≡ (((get_or text i d == 58) && is_port (drop (i + 1) text)) || names_port (drop (i + 1) text))
+names_port_rest text i d h = rw (add-one, drop-cons text i d) refl
 
 -- two texts of two lengths
 pub other_lengths : (a b : List ℕ) → (length a ≢ length b) → false ≡ bytes_eq a b

@@ -35,9 +35,6 @@ content_expected Connect status size = if slice_index status 0 == 50 then Tunnel
 content_expected Head status size = NoContent
 content_expected Other status size = content_of_status status size
 
-abbrev pub content_of_response : Asked → List Field → Content
-content_of_response asked fields = content_expected asked (value_of (codes ":status") fields) (value_of (codes "content-length") fields)
-
 -- What a client awaits in front of a response's head, by what its request asked. It is all that the client remembers of that
 abbrev pub awaited : Asked → Content
 awaited Head = NoContent

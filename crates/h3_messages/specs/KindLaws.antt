@@ -64,8 +64,8 @@ pub name_is_plain : (name : List ℕ) → is_header_name name ≡ true → (slic
 name_is_plain name is = first_is_plain name (right (nat_lt 0 (length name)) _ (left _ _ (left _ _ is)))
 
 -- the name of a field of which nothing is malformed may stand there
-pub name_is_good : (at : FieldKind) (f : Field) → bad_part_at at f ≡ None → is_name_at at f.name ≡ true
-name_is_good at f is = by (is_name_at at f.name) (is_value_at at f.value) is
+pub name_is_good : (any : Bool) (at : FieldKind) (f : Field) → bad_part_at any at f ≡ None → is_name_at at f.name ≡ true
+name_is_good any at f is = by (is_name_at at f.name) (is_value_at any at f.value) is
   where
     by : (name value : Bool) → (if not name then Some part.Name else (if not value then Some part.Value else None)) ≡ None → name ≡ true
     by true value is = refl

@@ -1,6 +1,6 @@
 -- Which field lists are well-formed messages (RFC 9114, sections 4.1.2 and 4.2 to 4.5; RFC 9220, section 3): the first rule that a list
 -- breaks, as it came, with its order and repeats. Names and values have the grammar of `HeadRead.head_of`, which is asked before.
-use Rattle.std.specs.Prelude.{ℕ, ◌+◌, ◌-◌, ◌*◌, ◌^◌, Bool, true, not, ◌&&◌, ◌||◌, List, [], ◌∷◌, map, fold, length, codes, bytes_eq, slice_index, nat_lt, ◌==◌, if◌then◌else◌, Option, Some, None}
+use Rattle.std.specs.Prelude.{ℕ, ◌+◌, ◌-◌, ◌*◌, ◌^◌, Bool, true, false, not, ◌&&◌, ◌||◌, List, [], ◌∷◌, map, fold, length, codes, bytes_eq, slice_index, nat_le, nat_lt, ◌==◌, if◌then◌else◌, Option, Some, None}
 use Rattle.std.specs.Char.{to_ascii_lowercase, is_ascii_digit, is_ascii_alphabetic}
 use Rattle.std.specs.List.{list_all, list_any, count_by}
 use Rattle.h3_field.specs.Field.{Field}
@@ -115,17 +115,32 @@ repeats_pseudo fields = list_any (λ name. repeats name fields) request_names
 abbrev pub is_protocol_wrong : Bool → List Field → Bool
 is_protocol_wrong extended_connect fields = holds (codes ":protocol") fields && not (extended_connect && is_connect fields)
 
--- :scheme and :path are omitted, and :authority contains the host and port to connect to (4.4). For :protocol, :authority is that of
--- the target (RFC 8441, 4)
+-- port = *DIGIT (RFC 3986, 3.2.3), a number of 16 bits (RFC 9293, 3.1). A server MUST reject a CONNECT that targets an empty or invalid
+-- port (RFC 9110, 9.3.6), as 0 is
+abbrev pub is_port : List ℕ → Bool
+is_port text = nat_le (length text) 5 && (list_all is_ascii_digit text && (nat_lt 0 (number_of text) && nat_lt (number_of text) 65536))
+
+-- A port stands behind the last colon of an authority that is outside of "[ ]": no byte of a port is one of these three
+abbrev pub names_port : List ℕ → Bool
+names_port [] = false
+names_port (b ∷ text) = ((b == 58) && is_port text) || names_port text
+
+-- :scheme and :path are omitted, and :authority contains the host and port to connect to (4.4). With :protocol these are as in other
+-- requests (RFC 8441, 4)
 abbrev pub is_connect_wrong : List Field → Bool
 is_connect_wrong fields =
-    is_connect fields
-    && (not (holds (codes ":authority") fields)
-    || (is_plain_connect fields && (holds (codes ":scheme") fields || holds (codes ":path") fields)))
+    is_plain_connect fields
+    && (holds (codes ":scheme") fields || (holds (codes ":path") fields || not (names_port (value_of (codes ":authority") fields))))
 
--- scheme = ALPHA *( .. ) (RFC 3986, 3.1)
+-- scheme = ALPHA *( ALPHA / DIGIT / "+" / "-" / "." ) (RFC 3986, 3.1)
+abbrev pub is_scheme_byte : ℕ → Bool
+is_scheme_byte b = is_ascii_alphabetic b || (is_ascii_digit b || ((b == 43) || ((b == 45) || (b == 46))))
+
+abbrev pub is_scheme : List ℕ → Bool
+is_scheme text = is_ascii_alphabetic (slice_index text 0) && list_all is_scheme_byte text
+
 abbrev pub is_scheme_wrong : List Field → Bool
-is_scheme_wrong fields = holds (codes ":scheme") fields && not (is_ascii_alphabetic (slice_index (value_of (codes ":scheme") fields) 0))
+is_scheme_wrong fields = holds (codes ":scheme") fields && not (is_scheme (value_of (codes ":scheme") fields))
 
 -- Host = uri-host [ ":" port ] (RFC 9110, 7.2), with no userinfo (4.3.1) and a host that is not empty (RFC 9110, 4.2.1)
 abbrev pub is_host : List ℕ → Bool
@@ -178,7 +193,7 @@ violation_of_request extended_connect fields = first_broken (
     (is_path_wrong fields, Path) ∷
     (list_any has_space_around fields, Value) ∷ [])
 
--- A server MUST NOT send content-length with a status of 1xx or 204 (RFC 9110, 8.6). With 204 the value 0 is let pass
+-- A server MUST NOT send content-length with a status of 1xx or 204 (RFC 9110, 8.6). With 204 a client takes the value 0
 abbrev pub is_length_misplaced : List Field → Bool
 is_length_misplaced fields =
     holds (codes "content-length") fields

@@ -1,10 +1,9 @@
 //! How much content a message has, and what comes of it (RFC 9114, 4.1.2; RFC 9110, 6.4.1, 8.6 and 9.3.6).
 ghost use Rattle.std.specs.Prelude.{◌≡◌, []};
-ghost use Rattle.h3_messages.specs.Content.{asked_by, asked_for, awaited, awaited_by, said, content_of_request, is_interim_status, is_without_content, content_of_status, content_expected, content_of_response, content_behind_status, content_behind_response, left_behind, is_exceeded, may_end, takes_trailer};
+ghost use Rattle.h3_messages.specs.Content.{asked_by, asked_for, awaited, said, is_interim_status, is_without_content, content_of_status, content_expected, content_behind_status, left_behind, is_exceeded, may_end, takes_trailer};
+ghost use Rattle.h3_messages.specs.OwnMessages.{or_nothing};
 
-use crate::fields::value_of;
 use crate::text::{byte_at, is_same, length_of};
-use h3_field::HeaderField;
 
 /// How much content is left to come after a header section.
 #[derive(Clone, Copy, Debug, PartialEq, Eq)]
@@ -48,14 +47,6 @@ impl Asked {
 }
 
 impl Content {
-    /// What a client awaits before the header section of the response to a request of these fields. It is all that the client's stream
-    /// remembers of that: `NoContent` after HEAD, `Tunnel` after CONNECT, and else `Unsaid`.
-    pub fn awaited_by(fields: &[HeaderField]) -> Content
-        ensures { result ≡ awaited_by fields.now }
-    {
-        Content::behind_asking(Asked::by(value_of(b":method", fields)))
-    }
-
     // What is awaited after a request that asks this.
     pub(crate) fn behind_asking(request: Asked) -> Content
         ensures { result ≡ awaited request }
@@ -78,39 +69,27 @@ impl Content {
         }
     }
 
-    /// The content after the header section of a response, before which this was awaited. An interim one leaves it as it is.
-    pub fn behind_response(self, fields: &[HeaderField]) -> Content
-        ensures { result ≡ content_behind_response self fields.now }
-    {
-        let status = value_of(b":status", fields);
-        let size = value_of(b"content-length", fields);
-        behind_status(self, status, size)
-    }
-
-    /// The same of one of which only the status is known.
+    /// The content after the header section of a response of which only the status is known, before which this was awaited. An interim one
+    /// leaves it as it is.
     pub fn behind_status(self, status: &[u8]) -> Content
         ensures { result ≡ content_behind_status self status.now [] }
     {
         behind_status(self, status, b"")
     }
 
-    /// The content after the header section of a request: a tunnel's for CONNECT, else as much as `content-length` says.
-    pub fn of_request(fields: &[HeaderField]) -> Content
-        ensures { result ≡ content_of_request fields.now }
+    /// No content if none may be sent and nothing says how much is.
+    pub(crate) fn or_nothing(self, is_none: bool) -> Content
+        ensures { result ≡ or_nothing self is_none }
     {
-        if is_same(value_of(b":method", fields), b"CONNECT") {
-            return Content::Tunnel;
+        match self {
+            Content::Unsaid => {
+                if is_none {
+                    return Content::Exactly(0);
+                }
+                Content::Unsaid
+            }
+            Content::Exactly(_) | Content::NoContent | Content::Tunnel | Content::Exceeded => self,
         }
-        said(value_of(b"content-length", fields))
-    }
-
-    /// The content after the header section of a final response to a request of this method.
-    pub fn of_response(asked: Asked, fields: &[HeaderField]) -> Content
-        ensures { result ≡ content_of_response asked fields.now }
-    {
-        let status = value_of(b":status", fields);
-        let size = value_of(b"content-length", fields);
-        content_expected(asked, status, size)
     }
 
     /// What is left after DATA of so many bytes (RFC 9114, 4.1.2).

@@ -6,11 +6,11 @@
 #![tactic(auto)]
 
 pub mod content;
-mod fields;
 pub mod head;
 mod host;
 mod known;
 mod name_set;
+pub mod own;
 mod pseudo;
 mod regular;
 mod request;
@@ -23,14 +23,10 @@ mod text;
 pub mod violation;
 
 pub use content::{Asked, Content, is_interim_status};
-pub use head::{
-    AnyResponseRead, RequestRead, ResponseRead, any_response_by, read_any_response, read_request,
-    read_response, request_by, response_by,
-};
+pub use head::{RequestRead, ResponseRead, request_by, response_by};
+pub use own::{OwnResponseRead, own_request_by, own_response_by, own_trailer_violation};
 pub use request::request_violation;
-pub use response::{
-    response_violation, trailer_violation, trailer_violation_by, trailer_violation_of,
-};
+pub use response::{response_violation, trailer_violation, trailer_violation_by};
 pub use response_said::ResponseSaid;
 pub use seen::Seen;
 pub use survey::Survey;

@@ -8,7 +8,7 @@ use crate::pseudo::{has_request_pseudo_only, repeats_pseudo};
 use crate::regular::{has_connection_field, is_length_wrong};
 use crate::seen::Seen;
 use crate::survey::Survey;
-use crate::text::{byte_at, has_byte, is_same, is_word};
+use crate::text::{byte_at, has_byte, is_same, is_scheme, is_word, names_port};
 use crate::violation::Violation;
 use h3_field::{Fields, HeaderField};
 
@@ -94,17 +94,14 @@ fn is_protocol_wrong(survey: &Survey, extended_connect: bool) -> bool
     survey.holds(Known::Protocol) && !(extended_connect && is_connect(survey))
 }
 
-/// Whether a CONNECT lacks `:authority`, or has what a plain one may not (RFC 9114, 4.4).
+/// Whether a plain CONNECT has `:scheme` or `:path`, or no `:authority` with a port (RFC 9114, 4.4; RFC 9110, 9.3.6).
 fn is_connect_wrong(survey: &Survey) -> bool
     ensures { result ≡ is_connect_wrong survey.now.fields.now }
 {
-    if !is_connect(survey) {
-        return false;
-    }
-    if !survey.holds(Known::Authority) {
-        return true;
-    }
-    is_plain_connect(survey) && (survey.holds(Known::Scheme) || survey.holds(Known::Path))
+    is_plain_connect(survey)
+        && (survey.holds(Known::Scheme)
+            || survey.holds(Known::Path)
+            || !names_port(survey.value_of(Known::Authority)))
 }
 
 /// Whether `:method`, `:scheme` or `:path` is missing (RFC 9114, 4.3.1).
@@ -117,11 +114,11 @@ fn misses_pseudo(survey: &Survey) -> bool
     !(survey.holds(Known::Scheme) && survey.holds(Known::Path)) && !is_plain_connect(survey)
 }
 
-/// Whether `:scheme` does not begin with a letter (RFC 3986, 3.1).
+/// Whether `:scheme` is there, and no scheme (RFC 3986, 3.1).
 fn is_scheme_wrong(survey: &Survey) -> bool
     ensures { result ≡ is_scheme_wrong survey.now.fields.now }
 {
-    survey.holds(Known::Scheme) && !byte_at(survey.value_of(Known::Scheme), 0).is_ascii_alphabetic()
+    survey.holds(Known::Scheme) && !is_scheme(survey.value_of(Known::Scheme))
 }
 
 /// Whether an http or https request has neither `:authority` nor `host` (RFC 9114, 4.3.1).

@@ -78,16 +78,10 @@ fn is_length_misplaced(survey: &Survey) -> bool
 pub fn trailer_violation(fields: &[HeaderField]) -> Option<Violation>
     ensures { result ≡ violation_of_trailer fields.now }
 {
-    trailer_violation_of(&Fields::of(fields))
-}
-
-/// The first rule that a trailer breaks whose fields lie in a list or in a block, or none.
-pub fn trailer_violation_of(fields: &Fields<'_>) -> Option<Violation>
-    ensures { result ≡ violation_of_trailer fields.now }
-{
+    let fields = Fields::of(fields);
     let mut seen = Seen::new();
-    seen.take_all(fields);
-    trailer_violation_by(&Survey::of(fields, &seen))
+    seen.take_all(&fields);
+    trailer_violation_by(&Survey::of(&fields, &seen))
 }
 
 /// The same of one over which the walk was made.

@@ -1,12 +1,13 @@
-//! What the header section of a response says of the content after it, whatever its request asked (RFC 9114, 4.1.2; RFC 9110, 6.4.1,
-//! 8.6 and 9.3.6).
+//! What the header section of a response that is sent says of the content after it, whatever its request asked (RFC 9114, 4.1.2; RFC 9110,
+//! 6.4.1, 8.6, 9.3.6 and 15.3.6).
 ghost use Rattle.std.specs.Prelude.{◌≡◌, List, if◌then◌else◌};
 ghost use Rattle.h3_field.specs.Field.{Field};
-ghost use Rattle.h3_messages.specs.Content.{content_behind_response};
+ghost use Rattle.h3_messages.specs.OwnMessages.{content_of_own_response};
 ghost use Rattle.h3_messages.specs.ResponseSaid.{response_said, said_by};
 ghost use Rattle.h3_messages.specs.declared.content.Content.TheVariants.{Tunnel};
 
 use crate::content::{Asked, Content, content_of_status, is_interim_status};
+use crate::own::is_reset_content;
 use crate::text::byte_at;
 
 /// What the header section of a response says of the content after it.
@@ -28,13 +29,13 @@ impl ResponseSaid {
         ResponseSaid {
             is_interim: is_interim_status(status),
             opens_tunnel: byte_at(status, 0) == b'2',
-            content: content_of_status(status, size),
+            content: content_of_status(status, size).or_nothing(is_reset_content(status)),
         }
     }
 
-    /// The content after such a header section, before which this was awaited, as `Content::behind_response` tells it.
+    /// The content after such a header section, before which this was awaited.
     pub fn behind(self, awaited: Content) -> Content
-        ensures { (fields : List Field) → self ≡ response_said fields → result ≡ content_behind_response awaited fields }
+        ensures { (fields : List Field) → self ≡ response_said fields → result ≡ content_of_own_response awaited fields }
     {
         if self.is_interim {
             return awaited;

@@ -1,7 +1,7 @@
 //! What the fields that came so far hold of all that the rules ask.
 ghost use Rattle.std.specs.Prelude.{◌≡◌, ◌<◌, ◌≤◌, ◌==◌, ◌||◌, ◌&&◌, not, codes, [], length, slice_index_or, if◌then◌else◌, true, false, Some, None, OnOk, IfErr};
-ghost use Rattle.h3_header.specs.BadPart.{bad_part, refusal_of, AreGood};
-ghost use Rattle.h3_header.specs.HeadRead.{IsNone, head_of};
+ghost use Rattle.h3_header.specs.BadPart.{refusal_of, AreGood};
+ghost use Rattle.h3_header.specs.HeadRead.{IsNone, head_by, is_name_at};
 ghost use Rattle.h3_header.specs.Reads.{kind_of};
 ghost use Rattle.h3_messages.specs.Known.{place, known_of};
 ghost use Rattle.h3_messages.specs.Messages.{is_pseudo, is_word};
@@ -83,19 +83,20 @@ impl<'a> Seen<'a> {
     }
 
     /// Takes each field of the list, if nothing is malformed of any by itself, or else answers the first part that is. No field was taken
-    /// before. The kind that this tells of a field is the name of a pseudo-header field, which is compared with no other.
+    /// before. `:protocol` may be any token of at most 31 bytes, or one of the two names alone. The kind that this tells of a field is the
+    /// name of a pseudo-header field, which is compared with no other.
     #[inline(never)]
-    pub fn take_good(&mut self, fields: &Fields<'a>) -> Result<(), BadPart>
+    pub fn take_good(&mut self, fields: &Fields<'a>, any_protocol: bool) -> Result<(), BadPart>
         requires none { IsSeen [] self.old }
         requires few { length fields.now ≤ 24576 }
         ensures seen { OnOk result (IsSeen fields.now self.new) }
-        ensures good { OnOk result (AreGood fields.now) }
-        ensures err { IfErr result (λ part. head_of fields.now ≡ IsNone (refusal_of part)) }
+        ensures good { OnOk result (AreGood any_protocol fields.now) }
+        ensures err { IfErr result (λ part. head_by any_protocol fields.now ≡ IsNone (refusal_of part)) }
     {
         h3_header::laws::fields_are_judged_alone();
         'fields: for place in 0..fields.len() {
             let field = fields.get(place);
-            match field_kind(&field) {
+            match field_kind(&field, any_protocol) {
                 Ok(kind) => self.take_of(kind, &field),
                 Err(part) => return Err(part),
             }
@@ -103,11 +104,11 @@ impl<'a> Seen<'a> {
         Ok(())
     }
 
-    // One field more, of this kind.
+    // One field more, of this kind, whose name may stand there.
     #[inline(always)]
     fn take_of(&mut self, kind: FieldKind, field: &FieldRef<'a>)
         requires kind { kind ≡ kind_of field.now.name }
-        requires good { bad_part field.now ≡ None }
+        requires good { is_name_at kind field.now.name ≡ true }
         ensures { TakesField field.now self.old self.new }
     {
         match Known::of_kind(kind) {

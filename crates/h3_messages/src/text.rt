@@ -2,7 +2,7 @@
 ghost use Rattle.std.specs.Prelude.{◌≡◌, ◌-◌, ◌^◌, ◌||◌, ◌==◌, bytes_eq, length, min, nat_lt, slice_index, if◌then◌else◌, Some, None};
 ghost use Rattle.std.specs.Char.{is_ascii_digit};
 ghost use Rattle.std.specs.List.{list_all, list_any};
-ghost use Rattle.h3_messages.specs.Messages.{is_word, is_space, is_length, number_of};
+ghost use Rattle.h3_messages.specs.Messages.{is_word, is_space, is_length, is_port, is_scheme, is_scheme_byte, names_port, number_of};
 
 // No stream carries as many bytes (RFC 9000, 4.5).
 const LENGTH_LIMIT: u64 = 1 << 62;
@@ -103,4 +103,57 @@ pub(crate) fn says_more_than_none(digits: &[u8]) -> bool
     ensures { result ≡ nat_lt 0 (number_of digits.now) }
 {
     number_of(digits) > 0
+}
+
+/// Whether the byte may stand in a scheme after its first one (RFC 3986, 3.1).
+fn is_scheme_byte(byte: u8) -> bool
+    ensures { result ≡ is_scheme_byte byte }
+{
+    byte.is_ascii_alphabetic()
+        || byte.is_ascii_digit()
+        || byte == b'+'
+        || byte == b'-'
+        || byte == b'.'
+}
+
+fn are_scheme_bytes(text: &[u8]) -> bool
+    ensures { result ≡ list_all is_scheme_byte text.now }
+{
+    'bytes: for byte in text {
+        if !is_scheme_byte(*byte) {
+            return false;
+        }
+    }
+    true
+}
+
+/// Whether the text is a scheme (RFC 3986, 3.1).
+pub(crate) fn is_scheme(text: &[u8]) -> bool
+    ensures { result ≡ is_scheme text.now }
+{
+    byte_at(text, 0).is_ascii_alphabetic() && are_scheme_bytes(text)
+}
+
+// Whether the text is the port of a CONNECT request: a number of 16 bits other than 0 (RFC 9110, 9.3.6).
+fn is_port(text: &[u8]) -> bool
+    ensures { result ≡ is_port text.now }
+{
+    if text.len() > 5 || !are_digits(text) {
+        return false;
+    }
+    let number = number_of(text);
+    number > 0 && number < 65_536
+}
+
+/// Whether an authority ends in a port (RFC 9110, 9.3.6).
+#[tactic(auto, using(crate::proofs::Steps::names_port_rest))]
+pub(crate) fn names_port(text: &[u8]) -> bool
+    ensures { result ≡ names_port text.now }
+{
+    'places: for place in 0..text.len() {
+        if text[place] == b':' && is_port(&text[place + 1..]) {
+            return true;
+        }
+    }
+    false
 }

@@ -15,9 +15,9 @@ pub enum Violation {
     ConnectionField,
     /// `:protocol` without CONNECT, or if extended CONNECT was not announced (RFC 8441, 4; RFC 9220, 3).
     Protocol,
-    /// CONNECT without `:authority`, or plain CONNECT with `:scheme` or `:path` (RFC 9114, 4.4).
+    /// Plain CONNECT without a port in `:authority`, or with `:scheme` or `:path` (RFC 9114, 4.4; RFC 9110, 9.3.6).
     Connect,
-    /// `:scheme` is empty, or does not begin with a letter (RFC 3986, 3.1).
+    /// `:scheme` is empty, does not begin with a letter, or has another byte than letters, digits, `+`, `-` and `.` (RFC 3986, 3.1).
     Scheme,
     /// The authority is missing, empty or has userinfo; `host` is no authority, comes twice, or is unlike `:authority`
     /// (RFC 9114, 4.3.1; RFC 9110, 7.2).
@@ -26,9 +26,9 @@ pub enum Violation {
     Path,
     /// Status 101, which HTTP/3 does not support (RFC 9114, 4.5).
     Status,
-    /// `content-length` is no number, comes twice, or may not come with this status (RFC 9110, 8.6).
+    /// `content-length` is no number, comes twice, or may not come with this status or method (RFC 9110, 8.6, 9.3.8 and 15.3.6).
     ContentLength,
-    /// A field that is not for trailers (RFC 9110, 6.5.1).
+    /// A field that is not for trailers (RFC 9110, 6.5.1). A sender has more of them than a receiver.
     TrailerField,
     /// A value starts or ends with white space (RFC 9114, 10.3; RFC 9113, 8.2.1).
     Value,

@@ -43,18 +43,6 @@ impl EncodedSection {
         Ok(block)
     }
 
-    /// The section that was written after the first 9 bytes of a block; none if it has fewer.
-    pub fn behind_room(block: Vec<u8>) -> Option<EncodedSection>
-        ensures some { IfSome result (λ section. section ≡ drop 9 block.items) }
-        ensures none { IfNone result (length block.items < 9) }
-    {
-        if block.len() < HEAD_ROOM {
-            return None;
-        }
-        let block = FrameBytes::of(block);
-        Some(EncodedSection { block })
-    }
-
     /// Empties a block but for 9 bytes, after which a section is to be written. One that has fewer takes memory once, with room for so many
     /// bytes of it.
     pub fn begin(block: &mut Vec<u8>, size: usize) -> Result<(), AllocError>

@@ -7,6 +7,7 @@ pub mod Listed
 pub mod Places
 pub mod Pulls
 pub mod Seeking
+pub mod Seen
 pub mod Sendable
 pub mod Received
 pub mod Ways

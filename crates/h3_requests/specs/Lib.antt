@@ -18,6 +18,7 @@ pub mod ReadingBodies
 pub mod Refused
 pub mod Row
 pub mod RowLending
+pub mod Seen
 pub mod Stored
 pub mod UnderWayLending
 pub mod Words

@@ -6,6 +6,7 @@ use Rattle.h3_connection.specs.StreamSets.{Streams}
 use Rattle.h3_requests.specs.Counted.{AreCounted}
 use Rattle.h3_requests.specs.Waiting.{has_place, is_waiting}
 use Rattle.h3_requests.specs.HasBytes.{has_bytes, has_end, may_end}
+use Rattle.h3_requests.specs.Seen.{AreSeen}
 use Rattle.h3_requests.specs.declared.waiting.WaitingStreams.{WaitingStreams}
 use Rattle.h3_requests.specs.declared.ready.ReadyStreams.{ReadyStreams}
 
@@ -32,7 +33,8 @@ pub record AreEnding (e : WaitingStreams) (streams : Streams RequestState) : Typ
   pub placed : (q : ℕ) → may_end (kept_at streams q) ≡ true → has_place e q ≡ true
 
 -- What is kept beside the streams is what they say.
-pub record AreKept (counts : Blocked) (s : ReadyStreams) (streams : Streams RequestState) : Type 0 where
+pub record AreKept (counts : Blocked) (s : ReadyStreams) (seen : ℕ) (streams : Streams RequestState) : Type 0 where
   pub counted : AreCounted counts streams
   pub ready : AreReady s streams
   pub ends : AreEnding s.ends streams
+  pub seen_at_least : AreSeen seen streams

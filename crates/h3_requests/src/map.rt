@@ -65,6 +65,13 @@ impl StreamMap {
         }
     }
 
+    // Whether the stream of that id is there.
+    pub(crate) fn contains(&self, id: StreamId) -> bool
+        ensures { result ≡ is_some (kept_at (streams_in self.now) id) }
+    {
+        self.get_alike(id).is_some()
+    }
+
     // One like the stream of that id, if it is over and not under way again.
     pub(crate) fn get_over(&self, id: StreamId) -> Option<RequestStream>
         ensures value { result ≡ over_at self.now id }

@@ -72,15 +72,6 @@ impl WaitingStreams {
         }
     }
 
-    /// Whether a request stream has a place.
-    pub(crate) fn has_place(&self, id: StreamId) -> bool
-        ensures { result ≡ has_place self.now id }
-    {
-        let number = id.into_inner();
-        let word = self.words.get(word_of(number));
-        number % STEP == 0 && (word.places >> (number / STEP % WORD)) % 2 == 1
-    }
-
     /// Whether a request stream has a place in a word that is found with no search.
     pub(crate) fn has_near_place(&self, id: StreamId) -> bool
         ensures { result ≡ true → has_place self.now id ≡ true }

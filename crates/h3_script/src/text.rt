@@ -1,7 +1,6 @@
 //! The lines that answers are printed as.
 ghost use Rattle.std.specs.Prelude.{◌≡◌, ◌++◌, string_bytes, IfOk, OnOk};
 ghost use Rattle.std.specs.Fmt.{decimal};
-ghost use Rattle.h3_connection.specs.FaultTexts.{malformation_name};
 ghost use Rattle.h3_script.specs.Lines.{answer_line, pull_line, item_line, section_line, field_word, limits_words, lossy, refusal_text, shown_line, tables_words, with_behind};
 ghost use Rattle.h3_header.specs.Head.{head_fields};
 
@@ -73,13 +72,6 @@ fn refusal_parts(refusal: Refusal) -> (&'static str, Behind)
         Refusal::Raised(id) => ("Raised", Behind::Number(id)),
         Refusal::OutOfMemory => ("OutOfMemory", Behind::Nothing),
     }
-}
-
-/// The name of a malformation.
-pub fn malformation_name(why: Malformation) -> &'static str
-    ensures { result.now ≡ malformation_name why }
-{
-    why.name()
 }
 
 /// A fault as text: its own `Display`.

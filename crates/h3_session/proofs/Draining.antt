@@ -1,6 +1,6 @@
 -- A connection is shut down: what is named, rejected and left to be done is known by what is stored.
-use Rattle.std.proofs.Common.{arith, ◌≡◌, ◌<◌, ◌≤◌, ◌+◌, ◌^◌, ◌∙◌, ℕ, Bool, true, false, List, [], ◌∷◌, length, if◌then◌else◌, refl, sym, ap, subst}
-use Rattle.std.specs.Prelude.{◌≢◌, ◌==◌, ◌&&◌, ◌||◌, ◌-◌, not, nat_le, nat_lt, Option, Some, None, IfSome, is_some, option_map, unwrap_or}
+use Rattle.std.proofs.Common.{arith, ◌≡◌, ◌<◌, ◌≤◌, ◌+◌, ◌^◌, ◌∙◌, ℕ, zero, suc, Bool, true, false, List, [], ◌∷◌, length, if◌then◌else◌, refl, sym, ap, subst}
+use Rattle.std.specs.Prelude.{◌≢◌, ◌==◌, ◌*◌, ◌&&◌, ◌||◌, ◌-◌, not, nat_le, nat_lt, Option, Some, None, IfSome, is_some, option_map, unwrap_or}
 use Rattle.std.specs.List.{list_all}
 use Rattle.std.proofs.lemmas.Grind.{common_steps}
 use Rattle.h3_proto.specs.declared.stream.Side.{Side}
@@ -20,14 +20,16 @@ use Rattle.h3_connection.specs.Sending.{closed_or, does, goaway, outgoing_at, un
 use Rattle.h3_connection.specs.SendingContracts.{DoesOrRefuses}
 use Rattle.h3_connection.specs.State.{EndpointState, RequestState, StandsFor, kept_at}
 use Rattle.h3_connection.specs.StreamSets.{Streams, stream_at}
+use Rattle.h3_connection.specs.StreamTestLaws.{all_pass}
 use Rattle.h3_connection.specs.declared.event.Refusal.{Refusal}
 use Rattle.h3_connection.specs.declared.event.Refusal.TheVariants as refusal
 use Rattle.h3_outgoing.specs.HistoryLaws.{end_waiting, sent_off}
 use Rattle.h3_requests.specs.Done.{is_unfinished}
 use Rattle.h3_requests.specs.Greatest.{IsGreatest, IsOneOf}
+use Rattle.h3_connection.specs.FirstRequests.{count_below, first_pass}
 use Rattle.h3_requests.specs.HasBytes as stored
 use Rattle.h3_outgoing.specs.Sent as sent
-use Rattle.h3_session.specs.Shutdown.{above_greatest, bounded, first_above, first_unseen, goaway_below, goaway_once, greater, is_done, is_drained, is_named, is_rejected, is_rejected_by, is_rejected_in, last_taken, takes_no_more, ShowsFirstUnseen}
+use Rattle.h3_connection.specs.Shutdown.{above_greatest, are_seen_below, bounded, first_above, first_unseen, goaway_below, goaway_once, greater, is_done, is_drained, is_named, is_rejected, is_rejected_by, is_rejected_in, last_taken, takes_no_more, ShowsFirstUnseen}
 use Rattle.h3_session.proofs.SendingCalls.{same_itself}
 use Rattle.h3_session.proofs.Taking.{found, request_waits}
 
@@ -268,13 +270,7 @@ done_by s e id (Some r) h was some = done_there s e id r h was
 pub done_seen : (s : EndpointState) (e : EndpointHistory) (id : ℕ) → StandsFor s e → is_some (stream_at e.incoming id) ≡ true → is_done e id ≡ not (is_unfinished (kept_at s.requests id))
 done_seen s e id h some = done_by s e id (kept_at s.requests id) h refl (sym (was_seen s e id h) ∙ some)
 
--- all of some streams pass a test, or one does not
-all_pass : {X : Type 0} (test : ℕ → Bool) (streams : Streams X) → ((q : ℕ) → is_some (stream_at streams q) ≡ true → test q ≡ true) → list_all (λ s. test s.0) streams ≡ true
-all_pass test [] all = refl
-all_pass test ((id, x) ∷ streams) all =
-    rw (all id (ap (λ b. is_some (if b then Some x else stream_at streams id)) (itself id)))
-    (all_pass test streams (λ q there. all q (still_found (id == q) x (stream_at streams q) there)))
-
+-- one of some streams does not pass a test
 and_false : (b : Bool) → (b && false) ≡ false
 and_false true = refl
 and_false false = refl
@@ -311,9 +307,19 @@ no_more_client s e h is =
     ∙ sym (ap (λ side. takes_no_more side e) (sym h.side ∙ is))
 
 -- and at a server
-pub no_more_server : (s : EndpointState) (e : EndpointHistory) (n : ℕ) → StandsFor s e → s.side ≡ Server → IfSome s.last_goaway (λ earlier. earlier < 2 ^ 62) → ShowsFirstUnseen s n → is_named s.last_goaway n ≡ takes_no_more e.side e
-no_more_server s e n h is fits shows =
-    ap (is_named s.last_goaway) (shows e h) ∙ named_bounded s.last_goaway (first_unseen e) fits ∙ ap (λ o. is_named o (first_unseen e)) h.last_goaway ∙ sym (ap (λ side. takes_no_more side e) (sym h.side ∙ is))
+alike_pass : (one other : ℕ → Bool) (count : ℕ) → ((q : ℕ) → one q ≡ other q) → first_pass one count ≡ first_pass other count
+alike_pass one other zero same = refl
+alike_pass one other (suc n) same = ap (λ b. b && first_pass one n) (same (4 * n)) ∙ ap (λ b. other (4 * n) && b) (alike_pass one other n same)
+
+alike_below : (goaway : Option ℕ) (one other : ℕ → Bool) → ((q : ℕ) → one q ≡ other q) → are_seen_below goaway one ≡ are_seen_below goaway other
+alike_below None one other same = refl
+alike_below (Some id) one other same = alike_pass one other (count_below id) same
+
+pub no_more_server : (s : EndpointState) (e : EndpointHistory) → StandsFor s e → s.side ≡ Server → are_seen_below s.last_goaway (λ id. is_some (kept_at s.requests id)) ≡ takes_no_more e.side e
+no_more_server s e h is =
+    ap (λ o. are_seen_below o (λ id. is_some (kept_at s.requests id))) h.last_goaway
+    ∙ alike_below (last_id e.own.goaways) (λ id. is_some (kept_at s.requests id)) (λ id. is_some (stream_at e.incoming id)) (λ q. sym (was_seen s e q h))
+    ∙ sym (ap (λ side. takes_no_more side e) (sym h.side ∙ is))
 
 pub last_client : (s : EndpointState) (e : EndpointHistory) → StandsFor s e → s.side ≡ Client → 0 ≡ bounded (last_taken e.side e)
 last_client s e h is = sym (ap (λ side. bounded (last_taken side e)) (sym h.side ∙ is))

@@ -56,3 +56,4 @@ pub mod MemoryDeliveries
 pub mod MemorySteps
 pub mod Opened
 pub mod ReadingBodies
+pub mod Datagrams

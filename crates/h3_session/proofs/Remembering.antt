@@ -2,7 +2,8 @@
 use Rattle.std.proofs.Common.{◌≡◌, ℕ, Bool, true, false, if◌then◌else◌, List, Option, Some, None, refl, ap, sym, subst, ◌∙◌}
 use Rattle.std.specs.Prelude.{◌≢◌, ◌&&◌, IfSome, option_map}
 use Rattle.h3_field.specs.Field.{Field}
-use Rattle.h3_messages.specs.Content.{awaited_by, content_of_request}
+use Rattle.h3_messages.specs.Content.{awaited_by}
+use Rattle.h3_messages.specs.OwnMessages.{content_of_own_request}
 use Rattle.h3_messages.specs.declared.content.Content.{Content}
 use Rattle.h3_messages.specs.declared.response_said.ResponseSaid.{ResponseSaid}
 use Rattle.h3_proto.specs.declared.stream.Side.{Side}
@@ -110,7 +111,7 @@ told s now new id fields expected sent view is sets same =
     subst (λ v. Remembers v (record s { requests = new }) id fields) view
     (said_so s new id fields true Client (ap (λ (v : EndpointState). v.announced.choices.strict_messages) view ∙ is.0, ap (λ (v : EndpointState). v.side) view ∙ is.1.0)
     (λ e h.
-    subst (λ c. StandsFor (record s { requests = new }) (with_both e id c (content_of_request fields) (stream_at e.incoming id) (stream_at e.outgoing id))) is.1.1
+    subst (λ c. StandsFor (record s { requests = new }) (with_both e id c (content_of_own_request fields) (stream_at e.incoming id) (stream_at e.outgoing id))) is.1.1
     (subst (λ c. StandsFor (record s { requests = new }) (with_both e id expected c (stream_at e.incoming id) (stream_at e.outgoing id))) is.1.2 (awaited_stands s e new id expected sent (kept_at s.requests id) h refl sets same))))
 
 -- a server that does,

@@ -1,17 +1,22 @@
 -- Two endpoints that may ask for strict messages, over a whole run.
-use Rattle.std.proofs.Common.{◌≡◌, ℕ, List, take, false, sym, subst}
+use Rattle.std.proofs.Common.{◌≡◌, ℕ, List, [], ◌∷◌, take, true, false, sym, subst}
 use Rattle.std.specs.List.{AllByRecursion, list_any}
 use Rattle.h3_connection.specs.State.{EndpointState}
 use Rattle.h3_world.specs.declared.event.Answer.{Answer}
 use Rattle.h3_world.specs.declared.event.Event.{Event}
+use Rattle.h3_world.specs.declared.event.Event.TheVariants as event
 use Rattle.h3_world.specs.declared.setup.Setup.{Setup}
-use Rattle.h3_world.specs.Ends.{answers_of_ends, ends_after, new_ends}
+use Rattle.h3_world.specs.Ends.{Ends, answered, answers_of_ends, ends_after, new_ends}
 use Rattle.h3_world.specs.Few.{AreFew}
 use Rattle.h3_world.specs.Headline.{Happens, is_memory}
 use Rattle.h3_world.specs.Run.{Run}
 use Rattle.h3_world.specs.Sendable.{IsSendable}
 use Rattle.h3_world.specs.World.{World, empty_world}
 use Rattle.h3_headline.specs.Standing.{Stands}
+use Rattle.h3_connection.specs.OwnIds.{other}
+use Rattle.h3_strict.specs.Limits.{EarlyAreTaken, IsTaken, is_early}
+use Rattle.h3_strict.specs.ServerKnows.{ServerKnows}
+use Rattle.h3_strict.specs.Tallies.{JudgesStrictly}
 use Rattle.h3_strict.specs.PlainEnds.{RunsPlainly, answers_without_malformed, finds_fault, plain_ends, plain_setup, without_malformed}
 use Rattle.h3_session.specs.Messages.{HandsOutWhatWasSent}
 use Rattle.h3_session.specs.Running.{AnswersEach, RunsTo}
@@ -70,6 +75,10 @@ module _ (setup : Setup) (in_world : LawOfWorlds setup) (hands_out : LawOfMessag
         server_stands = h.server_stands;
       })
 
+-- what has to be known of a schedule of two strict sides
+abbrev pub KnownOf : Setup → List Event → List Answer → Type 0
+KnownOf setup events answers = ServerKnows events answers × EarlyAreTaken setup (new_ends setup) events
+
 -- Where what two endpoints answer finds no fault, of schedules of which this is known, so do these answers.
 module _ (setup : Setup) (Known : List Event → List Answer → Type 0)
     (finds_none : (events : List Event) → AllByRecursion IsSendable events → Known events (answers_of_ends (new_ends setup) events) → list_any finds_fault (answers_of_ends (new_ends setup) events) ≡ false) where
@@ -84,3 +93,13 @@ module _ (setup : Setup) (Known : List Event → List Answer → Type 0)
   pub run_finds_none : (events : List Event) (answers : List Answer) (client server : EndpointState) → AllByRecursion IsTyped events → RunsTo (new_ends setup) events answers client server → AreFew events
       → Known events answers → list_any finds_fault answers ≡ false
   run_finds_none events answers client server typed h few known = by_ends events answers (few_are_sendable events typed few) h.answered_so known
+
+-- A side without a limit takes each list that is sent to it.
+takes_early : (setup : Setup) (ends : Ends) (e : Event) → JudgesStrictly setup → is_early ends e ≡ true → IsTaken setup e (answered ends e).0
+takes_early setup ends (event.Head side id head) strict early = λ done limit. let none = (strict (other side)).1 in absurd (cc)
+takes_early setup ends (event.Trailer side id trailer) strict early = λ done limit. let none = (strict (other side)).1 in absurd (cc)
+takes_early setup ends e strict early = absurd (cc)
+
+pub takes_all : (setup : Setup) (ends : Ends) (events : List Event) → JudgesStrictly setup → EarlyAreTaken setup ends events
+takes_all setup ends [] strict = tt
+takes_all setup ends (e ∷ events) strict = (takes_early setup ends e strict, takes_all setup (answered ends e).1 events strict)

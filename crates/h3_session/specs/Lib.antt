@@ -12,7 +12,6 @@ pub mod Running
 pub mod Acting
 pub mod Copied
 pub mod Held
-pub mod Shutdown
 pub mod Typed
 pub mod Headlines
 pub mod Messages
@@ -24,3 +23,4 @@ pub mod Lacking
 pub mod JudgedLists
 pub mod StrictLists
 pub mod ReadingBodies
+pub mod Datagrams

@@ -2,7 +2,7 @@
 use Rattle.std.specs.Prelude.{ℕ, Bool, List, [], ◌∷◌, if◌then◌else◌, Option, None, is_some, option_map}
 use Rattle.h3_field.specs.Field.{Field}
 use Rattle.h3_header.specs.Head.{Head}
-use Rattle.h3_messages.specs.Messages.{violation_of_trailer}
+use Rattle.h3_messages.specs.OwnMessages.{violation_of_own_trailer}
 use Rattle.h3_messages.specs.declared.violation.Violation.{Violation}
 use Rattle.h3_outgoing.specs.Sent.{is_sent_off}
 use Rattle.h3_proto.specs.declared.stream.Side.{Side}
@@ -84,7 +84,7 @@ goaway_refused s id = closed_or s.closed (refusal_of_goaway s.side id s.last_goa
 
 -- The rule that a list breaks, where rules are asked, by the place of its message behind it: as a trailer, or as a head.
 abbrev pub violation_behind : SendPlace → EndpointState → List Field → Option Violation
-violation_behind TrailerSent s fields = violation_of_trailer fields
+violation_behind TrailerSent s fields = violation_of_own_trailer fields
 violation_behind HeadSent s fields = violation_of_own_head s.side s.peer.settings fields
 violation_behind NothingSent s fields = violation_of_own_head s.side s.peer.settings fields
 

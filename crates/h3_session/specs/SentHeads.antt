@@ -1,7 +1,8 @@
 -- What a head that is sent says of content, as one walk over its list tells it.
 use Rattle.std.specs.Prelude.{◌≡◌, ℕ, true, false, List, Option}
 use Rattle.h3_field.specs.Field.{Field}
-use Rattle.h3_messages.specs.Content.{awaited_by, content_of_request}
+use Rattle.h3_messages.specs.Content.{awaited_by}
+use Rattle.h3_messages.specs.OwnMessages.{content_of_own_request}
 use Rattle.h3_messages.specs.ResponseSaid.{response_said}
 use Rattle.h3_connection.specs.StrictSending.{violation_of_own_head}
 use Rattle.h3_connection.specs.declared.setup.Announced.{Announced}
@@ -14,7 +15,7 @@ use Rattle.h3_session.specs.declared.endpoint.strict.SentRead.{SentRead}
 -- by the side that sends it: a client sends requests, and a server responses
 abbrev pub IsSaidBy : Side → List Field → Said → Type 0
 IsSaidBy side fields Nothing = ⊥
-IsSaidBy side fields (Request awaited content) = (side ≡ Client) × (awaited ≡ awaited_by fields) × (content ≡ content_of_request fields)
+IsSaidBy side fields (Request awaited content) = (side ≡ Client) × (awaited ≡ awaited_by fields) × (content ≡ content_of_own_request fields)
 IsSaidBy side fields (Response said) = (side ≡ Server) × (said ≡ response_said fields)
 
 -- where rules are asked

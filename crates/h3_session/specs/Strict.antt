@@ -5,11 +5,12 @@ use Rattle.h3_connection.specs.State.{EndpointState, StandsFor}
 use Rattle.h3_world.specs.declared.event.Answer.{Answer}
 use Rattle.h3_world.specs.declared.event.Event.{Event}
 use Rattle.h3_world.specs.declared.setup.Setup.{Setup}
-use Rattle.h3_world.specs.Ends.{Ends}
+use Rattle.h3_world.specs.Ends.{Ends, new_ends}
 use Rattle.h3_world.specs.Headline.{Happens, is_memory}
 use Rattle.h3_world.specs.Run.{Run}
 use Rattle.h3_world.specs.World.{World, empty_world}
 use Rattle.h3_headline.specs.Standing.{Stands}
+use Rattle.h3_strict.specs.Limits.{EarlyAreTaken}
 use Rattle.h3_strict.specs.PlainEnds.{answers_without_malformed, finds_fault, plain_ends, plain_setup, without_malformed}
 use Rattle.h3_strict.specs.ServerKnows.{ServerKnows}
 use Rattle.h3_session.specs.Messages.{HandsOutWhatWasSent}
@@ -34,8 +35,9 @@ pub record RunsFaultless (setup : Setup) (events : List Event) (answers : List A
   pub client_stands : StandsFor client ends.client
   pub server_stands : StandsFor server ends.server
 
--- Where the server knows what was asked before it answers, no answer finds such a fault, and so it is, up to the first that tells of refused memory.
+-- No answer finds such a fault, and so it is, up to the first that tells of refused memory. The server knows what was asked before it answers, and
+-- what was sent before the reader's settings came is within its limit.
 abbrev pub FindsNoFault : Setup → List Event → List Answer → Type 0
 FindsNoFault setup events answers =
-    (n : ℕ) → list_any is_memory (take n answers) ≡ false → ServerKnows (take n events) (take n answers) →
+    (n : ℕ) → list_any is_memory (take n answers) ≡ false → ServerKnows (take n events) (take n answers) → EarlyAreTaken setup (new_ends setup) (take n events) →
     (list_any finds_fault (take n answers) ≡ false) × RunsWithoutMalformed setup (take n events) (take n answers)

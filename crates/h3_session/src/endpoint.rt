@@ -20,6 +20,7 @@ use std::marker::Model;
 
 mod bodies;
 mod copying;
+mod datagrams;
 mod ending;
 mod heads;
 mod lacking;
@@ -34,6 +35,7 @@ mod shutdown;
 mod strict;
 mod unread;
 
+pub use datagrams::{DatagramError, DatagramRead};
 pub use lists::FieldsError;
 
 /// One endpoint of a connection: what was sent and what came on all its streams. It reads no socket: the caller delivers what

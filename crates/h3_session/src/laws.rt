@@ -33,10 +33,13 @@
 //!   (`strict_endpoints_take_what_they_send`, `two_strict_endpoints_run_in_a_world`).
 //! - Limits on what is unfinished: if each takes what is sent to it they change nothing (`limits_that_take_what_is_sent_change_nothing`). A
 //!   limit takes it if it is at least four times what its side announces (`limits_above_what_is_announced_take_what_is_sent`). So two such
-//!   sides run in a world (`two_limited_endpoints_run_in_a_world`, `two_strict_limited_endpoints_run_in_a_world`).
+//!   sides run in a world (`two_limited_endpoints_run_in_a_world`, `two_strict_limited_endpoints_run_in_a_world`). A side without a limit
+//!   takes every list (`sides_without_limits_take_all`).
 //! - What `Setup::new` answers may be given to `run` (`setups_are_made`).
 //! - Lists: a header section and a trailer are sent as the lists of their fields are (`heads_are_sent_as_their_lists`).
-//! - Shutting down: no request below the last GOAWAY is rejected (`nothing_below_a_goaway_is_rejected`).
+//! - Datagrams: what is written in front of a payload reads back as the id of its stream (`datagrams_read_back`).
+//! - Shutting down: no request below the last GOAWAY is rejected (`nothing_below_a_goaway_is_rejected`). What is drained stays drained
+//!   (`drained_stays`).
 ghost use Rattle.std.specs.Prelude.{◌≡◌, ℕ, List};
 ghost use Rattle.h3_header.specs.Head.{head_fields};
 ghost use Rattle.h3_connection.specs.Endpoint.{EndpointHistory};
@@ -52,7 +55,7 @@ ghost use Rattle.h3_session.specs.SendingLists.{as_error, send_fields, send_trai
 pub use h3_connection::laws::{
     a_connection_fault_stays, a_response_to_head_has_no_content, content_is_as_long_as_was_said,
     cut_calls_are_answered_alike, cut_deliveries_are_answered_alike, cut_pulls_are_answered_alike,
-    each_stream_is_isolated, endpoints_stay_bounded, nothing_kept_is_plain,
+    drained_stays, each_stream_is_isolated, endpoints_stay_bounded, nothing_kept_is_plain,
     strict_endpoints_hand_out_no_broken_list, strict_endpoints_send_as_much_content_as_was_said,
     strict_endpoints_send_no_broken_list, the_end_stays, tries_and_waiting_streams_are_bounded,
     unknown_frames_give_nothing, unknown_streams_change_nothing_else,
@@ -127,9 +130,32 @@ pub fn lists_leave_endpoints_bounded()
 
 ghost use Rattle.std.specs.Prelude.{false};
 ghost use Rattle.h3_connection.specs.Lasts.{last_id};
-ghost use Rattle.h3_session.specs.Shutdown.{is_named, is_rejected};
+ghost use Rattle.h3_connection.specs.Shutdown.{is_named, is_rejected};
 
 /// Nothing below the last GOAWAY is rejected (RFC 9114, section 5.2), in every history: so what was announced to be processed is delivered.
 pub fn nothing_below_a_goaway_is_rejected()
     ensures { (e : EndpointHistory) (id : ℕ) → is_named (last_id e.own.goaways) id ≡ false → is_rejected e id ≡ false }
+{}
+
+ghost use Rattle.std.specs.Prelude.{Ok, ◌^◌, ◌<◌, ◌++◌, length};
+ghost use Rattle.h3_session.specs.Datagrams.{datagram_head, read_datagram, TakesDatagrams};
+ghost use Rattle.h3_session.specs.declared.endpoint.datagrams.DatagramRead.TheVariants.{For};
+
+/// What an endpoint writes in front of the payload of a datagram is read by its peer as the id of the same stream (RFC 9297, section 2.1),
+/// whatever the payload is. Of the peer it is asked that both sides announced datagrams to it, and that the stream is open to receive.
+pub fn datagrams_read_back()
+    ensures { (sender peer : EndpointHistory) (id : ℕ) (head payload : List ℕ) → id < 2 ^ 62 → datagram_head sender id ≡ Ok head → TakesDatagrams peer id
+        → read_datagram peer (head ++ payload) ≡ (For id (length head), peer) }
+{
+    h3_capsule::laws::datagrams_read_back();
+}
+
+ghost use Rattle.h3_world.specs.declared.setup.Setup.{Setup};
+ghost use Rattle.h3_strict.specs.Limits.{EarlyAreTaken};
+ghost use Rattle.h3_strict.specs.Tallies.{JudgesStrictly};
+
+/// A side without a limit on what is unfinished takes each list that comes, whenever it was sent. So of two such sides `run` asks nothing of
+/// what is sent before the settings came.
+pub fn sides_without_limits_take_all()
+    ensures { (setup : Setup) (ends : Ends) (events : List Event) → JudgesStrictly setup → EarlyAreTaken setup ends events }
 {}

@@ -18,8 +18,9 @@ pub mod endpoint;
 pub mod laws;
 pub mod run;
 
-pub use crate::endpoint::FieldsError;
+pub use crate::endpoint::{DatagramError, DatagramRead, FieldsError};
 pub use bytes::Bytes;
+pub use h3_capsule::head_bytes::HeadBytes;
 pub use h3_coding::varint::VarInt;
 pub use h3_connection::event::{
     DeliverError, Fault, Item, Malformation, PeerLimits, Pull, Refusal, StreamFault, TableSizes,

@@ -8,9 +8,9 @@ ghost use Rattle.h3_world.specs.Setup.{IsMadeSetup, JudgesPlainly};
 ghost use Rattle.h3_session.specs.Headlines.{RunsInKeepingWorld, RunsInWorld, RunsUntilMemory};
 ghost use Rattle.h3_session.specs.Messages.{HandsOutAlways};
 ghost use Rattle.h3_session.specs.Strict.{FindsNoFault, RunsFaultless, RunsUntilFault};
+ghost use Rattle.h3_strict.specs.Limits.{AsksForStrict, EarlyAreTaken};
 ghost use Rattle.h3_strict.specs.PlainEnds.{finds_fault};
 ghost use Rattle.h3_strict.specs.ServerKnows.{ServerKnows};
-ghost use Rattle.h3_strict.specs.Tallies.{JudgesStrictly};
 ghost use Rattle.h3_session.specs.Acting.{ActsEach, RunsByCalls};
 ghost use Rattle.h3_session.specs.Running.{AnswersEach, RunsTo};
 
@@ -30,7 +30,7 @@ use h3_strict::laws::{
     ends_stay_bounded, schedules_that_judge_nothing_find_no_fault,
     strict_endpoints_hand_out_what_was_sent, strict_endpoints_run_in_a_world, whole_runs_are_plain,
 };
-use h3_strict::strict::strict_endpoints_take_what_they_send;
+use h3_strict::limits::two_strict_limited_endpoints_run_in_a_world;
 use h3_world::event::{Answer, Event};
 use h3_world::setup::Setup;
 use std::alloc::{AllocError, Global};
@@ -120,8 +120,10 @@ fn beside<A: Drop, B: Drop>(first: A, second: Result<B, AllocError>) -> Result<(
 /// - `faultless`: if no answer tells of these, so it is of all of them. The endpoints that are returned then stand in the last world, once
 ///   they are taken for ones without strict messages.
 ///
-/// Between two strict sides without limits, if the server pulled the header section of a request before it sends the final header section
-/// of its response (`ServerKnows`):
+/// Between two strict sides, with limits or without, as two with the defaults of the library for C are. There are two premises. The server
+/// pulled the header section of a request before it sends the final header section of its response (`ServerKnows`). And the encoding of each
+/// list that a side sends before it read the other side's settings is within that side's limit (`EarlyAreTaken`): without a limit it always
+/// is (`crate::laws::sides_without_limits_take_all`).
 /// - `strict_front`: no answer tells of a malformed message or of a connection fault, up to the first that reports out of memory, and what
 ///   `faultless_front` says holds up to there.
 /// - `strict`: if no answer reports out of memory none tells of these, and all that `faultless` says holds.
@@ -141,9 +143,9 @@ pub fn run(alloc: Global, setup: Setup, events: &[Event]) -> Result<Outcome, All
     ensures faultless_front { IfOk result (λ out. AreFew events.now → RunsUntilFault setup events.now out.answers.items) }
     ensures faultless { IfOk result (λ out. list_any is_memory out.answers.items ≡ false → list_any finds_fault out.answers.items ≡ false → AreFew events.now →
         RunsFaultless setup events.now out.answers.items out.client out.server) }
-    ensures strict_front { IfOk result (λ out. AreFew events.now → JudgesStrictly setup → FindsNoFault setup events.now out.answers.items) }
-    ensures strict { IfOk result (λ out. list_any is_memory out.answers.items ≡ false → AreFew events.now → JudgesStrictly setup → ServerKnows events.now out.answers.items →
-        (list_any finds_fault out.answers.items ≡ false) × RunsFaultless setup events.now out.answers.items out.client out.server) }
+    ensures strict_front { IfOk result (λ out. AreFew events.now → AsksForStrict setup → FindsNoFault setup events.now out.answers.items) }
+    ensures strict { IfOk result (λ out. list_any is_memory out.answers.items ≡ false → AreFew events.now → AsksForStrict setup → ServerKnows events.now out.answers.items →
+        EarlyAreTaken setup (new_ends setup) events.now → (list_any finds_fault out.answers.items ≡ false) × RunsFaultless setup events.now out.answers.items out.client out.server) }
 {
     two_endpoints_run_in_a_world();
     two_endpoints_run_with_memory();
@@ -151,7 +153,7 @@ pub fn run(alloc: Global, setup: Setup, events: &[Event]) -> Result<Outcome, All
     whole_runs_are_plain();
     ends_stay_bounded();
     schedules_that_judge_nothing_find_no_fault();
-    strict_endpoints_take_what_they_send();
+    two_strict_limited_endpoints_run_in_a_world();
     strict_endpoints_run_in_a_world();
     strict_endpoints_hand_out_what_was_sent();
     events_are_typed(events);

@@ -3,7 +3,8 @@ use Rattle.std.proofs.Common.{◌≡◌, ℕ, ◌+◌, Bool, true, false, List, 
 use Rattle.std.specs.Prelude.{◌&&◌, not, unwrap_or, is_some}
 use Rattle.h3_field.specs.Field.{section_size}
 use Rattle.h3_header.specs.Head.{Head, head_fields, has_pseudo}
-use Rattle.h3_messages.specs.Content.{is_exceeded, left_behind, may_end, takes_trailer}
+use Rattle.h3_messages.specs.OwnMessages.{IsSentOf}
+use Rattle.h3_messages.specs.OwnMessageLaws.{sent_ends, sent_fits, sent_trails}
 use Rattle.h3_proto.specs.declared.stream.Side.{Side}
 use Rattle.h3_proto.specs.declared.stream.Side.TheVariants.{Client, Server}
 use Rattle.h3_wire.specs.Encoded.{frame_encoding}
@@ -117,7 +118,7 @@ module _ (setup : Setup) (w : World) (ends : Ends) (known : ℕ → Bool) (h : S
   behind_head : (s : Side) (i : ℕ) (part : Part) (p : Outgoing) (e : EndpointHistory) (v : World) → IsThere w i → ((writer : Side) (id : ℕ) → flow v writer id ≡ (if is_on writer id s i then appended (flow w s i) part else flow w writer id))
       → e.outgoing ≡ set_stream (end_at ends s).outgoing i p → e.incoming ≡ (end_at ends s).incoming → e.announced ≡ (end_at ends s).announced → is_head_part part ≡ false
       → (let said = content_along (other s) (awaited_of s (flow w Client i).sent) (flow w s i).sent in
-      IsUnbroken (other s) (announced_at setup (other s)) said part × (takes_end p ≡ true → p.content ≡ content_behind_part (other s) said part))
+      IsUnbroken (other s) (announced_at setup (other s)) said part × (takes_end p ≡ true → IsSentOf p.content (content_behind_part (other s) said part)))
       → Tallies setup v (with_end ends s e) known
   behind_head s i part p e v there flows out in_same announced none fine =
       part_tally setup w v ends known s i part p e
@@ -164,10 +165,10 @@ module _ (setup : Setup) (w : World) (ends : Ends) (known : ℕ → Bool) (h : S
           let e = end_at ends s in
           let there = open_there w s i opened in
           let o = outgoing_at e i in
-          let sends = (t.flows s i).sends (body_is_behind o takes.takes) in
+          let fits = sent_fits o.content (content_along (other s) (awaited_of s (flow w Client i).sent) (flow w s i).sent) (length (b ∷ bs)) ((t.flows s i).sends (body_is_behind o takes.takes)) takes.fits in
           behind_head s i (Body (b ∷ bs) (length (flow_bytes (flow w s i)) + length (frame_encoding 0 (b ∷ bs)))) (with_body o (b ∷ bs)) (counted (sent_bytes e i (b ∷ bs)) (length (b ∷ bs))) (sent_body w s i (b ∷ bs)) there
           (flows_with w s i (Body (b ∷ bs) (length (flow_bytes (flow w s i)) + length (frame_encoding 0 (b ∷ bs)))) there) refl refl refl refl
-          (ap (λ c. is_exceeded (left_behind c (length (b ∷ bs)))) (sym sends) ∙ takes.fits, λ ends_now. ap (λ c. left_behind c (length (b ∷ bs))) sends)
+          (fits.0, λ ends_now. fits.1)
 
   -- **A trailer.**
   pub trailer_event : (s : Side) (i : ℕ) (trailer : Head) (v : World) (a : Answer) (next : Ends) → (a, next) ≡ done ends s answer.Done (sender.send_trailer (end_at ends s) i trailer)
@@ -193,6 +194,7 @@ module _ (setup : Setup) (w : World) (ends : Ends) (known : ℕ → Bool) (h : S
       goes takes opened =
           let there = open_there w s i opened in
           let o = outgoing_at (end_at ends s) i in
+          let said = content_along (other s) (awaited_of s (flow w Client i).sent) (flow w s i).sent in
           let sends = (t.flows s i).sends (body_is_behind o takes.takes) in
           let late = trailer_is_late o.content takes.early in
           let q = having_encoded (party w s) i (head_fields trailer) in
@@ -200,8 +202,8 @@ module _ (setup : Setup) (w : World) (ends : Ends) (known : ℕ → Bool) (h : S
           behind_head s i part (record o { parts = o.parts ++ OwnTrailer (written_section (end_at ends s).encoder i (head_fields trailer)) ∷ [] }) new (sent_trailer w s i trailer) there (flows_with_party w s q i part there) refl refl refl refl (
             (
               trailer_taken (other s) (end_at ends s).announced (announced_at setup (other s)) (head_fields trailer) (strict_at s) takes.rule,
-              ap takes_trailer (sym sends) ∙ late.0,
-              ap may_end (sym sends) ∙ late.1,
+              sym (sent_trails o.content said sends) ∙ late.0,
+              sym (sent_ends o.content said sends) ∙ late.1,
             ),
             λ ends_now. sends,
           )
@@ -223,4 +225,4 @@ module _ (setup : Setup) (w : World) (ends : Ends) (known : ℕ → Bool) (h : S
           let o = outgoing_at (end_at ends s) i in
           let sends = (t.flows s i).sends takes.takes in
           behind_head s i End (with_finish o) (with_outgoing (end_at ends s) i (with_finish o)) (finished w s i) there (flows_with w s i End there) refl refl refl refl
-          (ap may_end (sym sends) ∙ takes.ends, λ ends_now. absurd (cc))
+          (sym (sent_ends o.content (content_along (other s) (awaited_of s (flow w Client i).sent) (flow w s i).sent) sends) ∙ takes.ends, λ ends_now. absurd (cc))

@@ -3,6 +3,7 @@ use Rattle.std.proofs.Common.{◌≡◌, inl, ℕ, ◌%◌, Bool, true, false, �
 use Rattle.std.specs.Prelude.{◌==◌, ◌&&◌, not, unwrap_or, option_map, MatchOption}
 use Rattle.std.proofs.lemmas.Grind.{common_steps}
 use Rattle.h3_messages.specs.Content.{awaited_by}
+use Rattle.h3_messages.specs.OwnMessages.{IsSentOf}
 use Rattle.h3_messages.specs.declared.content.Content.{Content}
 use Rattle.h3_proto.specs.StreamIds.{is_request_stream}
 use Rattle.h3_proto.specs.declared.stream.Side.{Side}
@@ -309,7 +310,7 @@ module _ (laws : Laws) (setup : Setup) (made : IsMadeSetup (plain_setup setup)) 
         let old = tallied laws setup made w ends known h t strict side id in
         record {
           unbroken = subst (AreUnbroken side (announced_at setup side) (awaited_of (other side) (flow w Client id).sent)) (sym g.sent) old.unbroken;
-          sends = λ takes. old.sends takes ∙ ap (content_along side (awaited_of (other side) (flow w Client id).sent)) (sym g.sent);
+          sends = λ takes. subst (IsSentOf (outgoing_at (end_at ends (other side)) id).content) (ap (content_along side (awaited_of (other side) (flow w Client id).sent)) (sym g.sent)) (old.sends takes);
           receives = λ alive more. subst (CountsFlow side (awaited_of (other side) (flow w Client id).sent) g.after) (sym now_here) g.counts;
           fine = subst IsFine (sym (ap (λ (x : Incoming). x.fault) now_here ∙ now_alive)) tt;
         }

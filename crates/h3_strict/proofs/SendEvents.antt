@@ -2,7 +2,9 @@
 use Rattle.std.proofs.Common.{◌≡◌, inl, inr, ℕ, zero, suc, ◌≤◌, Bool, true, false, List, [], ◌∷◌, ◌++◌, length, take, refl, sym, ap, ◌∙◌, subst, Option, Some, None, if◌then◌else◌}
 use Rattle.std.specs.Prelude.{◌==◌, ◌&&◌, ◌||◌, not, flat_map, unwrap_or, is_some, option_map}
 use Rattle.h3_header.specs.Head.{Head, head_fields}
-use Rattle.h3_messages.specs.Content.{awaited_by, may_end}
+use Rattle.h3_messages.specs.Content.{awaited_by, content_of_request, may_end}
+use Rattle.h3_messages.specs.OwnMessageLaws.{own_request_content, own_response_content}
+use Rattle.h3_messages.specs.OwnMessages.{IsSentOf, content_of_own_response}
 use Rattle.h3_messages.specs.declared.content.Content.{Content}
 use Rattle.h3_messages.specs.declared.content.Content.TheVariants.{Unsaid}
 use Rattle.h3_proto.specs.declared.stream.Side.{Side}
@@ -84,7 +86,7 @@ part_leaves w v s i part flows none writer id =
 pub part_tally : (setup : Setup) (w v : World) (ends : Ends) (known : ℕ → Bool) (s : Side) (i : ℕ) (part : Part) (p : Outgoing) (e : EndpointHistory) → SendsPart w v ends (with_end ends s e) s i part p → (flow w s i).parts_out ≤ length (flow w s i).sent
     → is_head_part part ≡ false
     → IsUnbroken (other s) (announced_at setup (other s)) (content_along (other s) (awaited_of s (flow w Client i).sent) (flow w s i).sent) part
-    → (takes_end p ≡ true → p.content ≡ content_behind_part (other s) (content_along (other s) (awaited_of s (flow w Client i).sent) (flow w s i).sent) part)
+    → (takes_end p ≡ true → IsSentOf p.content (content_behind_part (other s) (content_along (other s) (awaited_of s (flow w Client i).sent) (flow w s i).sent) part))
     → Tallies setup w ends known → Tallies setup v (with_end ends s e) known
 part_tally setup w v ends known s i part p e m within none fine sends h =
     let leaves = part_leaves w v s i part m.flows none in
@@ -155,7 +157,7 @@ module _ (setup : Setup) (w : World) (ends : Ends) (known : ℕ → Bool) (i : �
       let along = head_along setup w ends Server i head Client (asked_in request) h opened takes in
       let k = t.knows i knows in
       let content = content_of_own e.side (known_of (stream_at e.incoming i)) (head_fields head) in
-      let told : content ≡ content_of_head Client (asked_in request) (head_fields head) =
+      let told : content ≡ content_of_own_response (asked_in request) (head_fields head) =
       ap (λ d. content_of_own d (known_of (stream_at e.incoming i)) (head_fields head)) (side_of setup w ends Server h)
       ∙ ap (λ o. content_of_response_to o (head_fields head)) (known_is (stream_at e.incoming i) ∙ k.response) in
       let flows = flows_with_party w Server q i part there in
@@ -165,7 +167,10 @@ module _ (setup : Setup) (w : World) (ends : Ends) (known : ℕ → Bool) (i : �
       sound.out (λ id. ap (λ (x : Flow). asked_in x.sent) (flows Client id)) (λ id. ap (λ (x : Flow). has_head x.sent) (flows Client id))
       (λ id has. ap (λ (x : Flow). has_head x.sent) (flows Client id) ∙ asks k.has id (i == id) refl (sym (ap (λ (x : Flow). has_head x.sent) (flows Server id)) ∙ has))
       (head_unbroken setup w ends known Server i head h t (strict Server) takes, subst (IsAwaited Client) (sym along) (asked_awaited request))
-      (λ ends_now. ap (λ b. if b then content else (outgoing_at e i).content) (head_is_open (outgoing_at e i) takes.takes).0 ∙ told ∙ ap (λ c. content_of_head Client c (head_fields head)) (sym along)) t
+      (λ ends_now.
+      subst (λ c. IsSentOf p.content (content_of_head Client c (head_fields head))) (sym along)
+      (subst (λ c. IsSentOf c (content_of_head Client (asked_in request) (head_fields head)))
+      (sym (ap (λ b. if b then content else (outgoing_at e i).content) (head_is_open (outgoing_at e i) takes.takes).0 ∙ told)) (own_response_content (asked_in request) (head_fields head)))) t
     where
       asks : has_head (flow w Client i).sent ≡ true → (id : ℕ) (b : Bool) → (i == id) ≡ b → has_head (if b then appended (flow w Server i) (HeadPart (section_sent (party w Server) i (head_fields head) (flow w Server i))) else flow w Server id).sent ≡ true
           → has_head (flow w Client id).sent ≡ true
@@ -329,8 +334,11 @@ module _ (setup : Setup) (w : World) (ends : Ends) (known : ℕ → Bool) (i : �
       let along = head_along setup w ends Client i head Server Unsaid h opened takes in
       flow_grows Server (announced_at setup Server) Unsaid f request_part (outgoing_at e i) (said_head e i head asking) (incoming_at ends.server i) sound.out
       (head_unbroken setup w ends known Client i head h t (strict Client) takes, along)
-      (λ ends_now. ap (λ b. if b then content_of_own e.side (known_of (stream_at e.incoming i)) (head_fields head) else (outgoing_at e i).content) (head_is_open (outgoing_at e i) takes.takes).0
-      ∙ ap (λ d. content_of_own d (known_of (stream_at e.incoming i)) (head_fields head)) (side_of setup w ends Client h))
+      (λ ends_now.
+      subst (λ c. IsSentOf c (content_of_request (head_fields head)))
+      (sym (ap (λ b. if b then content_of_own e.side (known_of (stream_at e.incoming i)) (head_fields head) else (outgoing_at e i).content) (head_is_open (outgoing_at e i) takes.takes).0
+      ∙ ap (λ d. content_of_own d (known_of (stream_at e.incoming i)) (head_fields head)) (side_of setup w ends Client h)))
+      (own_request_content (head_fields head)))
       (t.flows Client i)
 
   pub request_tally : Tallies setup (with_section HeadPart w Client i (head_fields head)) (with_end ends Client after) known

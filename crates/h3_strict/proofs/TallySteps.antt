@@ -2,6 +2,7 @@
 use Rattle.std.proofs.Common.{◌≡◌, inl, inr, ℕ, zero, suc, ◌-◌, ◌≤◌, ◌<◌, Bool, true, false, List, [], ◌∷◌, ◌++◌, length, take, length-append, refl, sym, ap, ◌∙◌, subst, Some, None, nat_lt, arith, if◌then◌else◌}
 use Rattle.std.specs.Prelude.{◌==◌, ◌&&◌, slice_get}
 use Rattle.std.proofs.lemmas.Grind.{common_steps}
+use Rattle.h3_messages.specs.OwnMessages.{IsSentOf}
 use Rattle.h3_messages.specs.declared.content.Content.{Content}
 use Rattle.h3_proto.specs.declared.stream.Side.{Side}
 use Rattle.h3_proto.specs.declared.stream.Side.TheVariants.{Client, Server}
@@ -47,7 +48,8 @@ pub flow_keeps : (reader : Side) (peer : Announced) (awaited other_awaited : Con
 flow_keeps reader peer awaited other_awaited f g o p i j parts same out kept h =
     subst (λ c. TalliesFlow reader peer c g p j) (sym same) (record {
       unbroken = subst (AreUnbroken reader peer awaited) (sym parts.sent) h.unbroken;
-      sends = λ takes. out.content takes ∙ h.sends (out.takes takes) ∙ ap (content_along reader awaited) (sym parts.sent);
+      sends = λ takes.
+          subst (IsSentOf p.content) (ap (content_along reader awaited) (sym parts.sent)) (subst (λ c. IsSentOf c (content_along reader awaited f.sent)) (sym (out.content takes)) (h.sends (out.takes takes)));
       receives = λ alive more. by_kept kept alive more;
       fine = by_fine kept;
     })
@@ -117,10 +119,10 @@ counts_more reader awaited sent part out left content h =
     }
 
 pub flow_grows : (reader : Side) (peer : Announced) (awaited : Content) (f : Flow) (part : Part) (o p : Outgoing) (i : Incoming) → f.parts_out ≤ length f.sent → IsUnbroken reader peer (content_along reader awaited f.sent) part
-    → (takes_end p ≡ true → p.content ≡ content_behind_part reader (content_along reader awaited f.sent) part) → TalliesFlow reader peer awaited f o i → TalliesFlow reader peer awaited (appended f part) p i
+    → (takes_end p ≡ true → IsSentOf p.content (content_behind_part reader (content_along reader awaited f.sent) part)) → TalliesFlow reader peer awaited f o i → TalliesFlow reader peer awaited (appended f part) p i
 flow_grows reader peer awaited f part o p i within fine sends h = record {
   unbroken = unbroken_more reader peer awaited f.sent part h.unbroken fine;
-  sends = λ takes. sends takes ∙ sym (along_more reader awaited f.sent part);
+  sends = λ takes. subst (IsSentOf p.content) (sym (along_more reader awaited f.sent part)) (sends takes);
   receives = λ alive more. counts_more reader awaited f.sent part f.parts_out i.body_left i.content (h.receives alive (sym (over_more f part within) ∙ more));
   fine = h.fine;
 }
@@ -193,7 +195,7 @@ pub sends_tally : (setup : Setup) (w v : World) (ends next : Ends) (known : ℕ 
     → ((id : ℕ) → asked_in (flow v Client id).sent ≡ asked_in (flow w Client id).sent) → ((id : ℕ) → has_head (flow v Client id).sent ≡ has_head (flow w Client id).sent)
     → ((id : ℕ) → has_head (flow v Server id).sent ≡ true → has_head (flow v Client id).sent ≡ true)
     → IsUnbroken (other s) (announced_at setup (other s)) (content_along (other s) (awaited_of s (flow w Client i).sent) (flow w s i).sent) part
-    → (takes_end p ≡ true → p.content ≡ content_behind_part (other s) (content_along (other s) (awaited_of s (flow w Client i).sent) (flow w s i).sent) part)
+    → (takes_end p ≡ true → IsSentOf p.content (content_behind_part (other s) (content_along (other s) (awaited_of s (flow w Client i).sent) (flow w s i).sent) part))
     → Tallies setup w ends known → Tallies setup v next known
 sends_tally setup w v ends next known s i part p m within asked_same has_same asks fine sends h = record {
   flows = λ writer id. subst (λ g. Tallied writer id g) (sym (m.flows writer id)) (sends_flow w s writer i id part Tallied grown (others writer id));

@@ -1,6 +1,7 @@
 -- Two strict ends count the content of each message alike, and what was sent breaks no rule: in the world of the same ends without strict messages.
 use Rattle.std.specs.Prelude.{◌≡◌, ℕ, Bool, true, false, List, [], ◌∷◌, Option, Some, None}
 use Rattle.h3_messages.specs.Content.{awaited_by}
+use Rattle.h3_messages.specs.OwnMessages.{IsSentOf}
 use Rattle.h3_messages.specs.declared.content.Content.{Content}
 use Rattle.h3_messages.specs.declared.content.Content.TheVariants.{Unsaid}
 use Rattle.h3_proto.specs.declared.stream.Side.{Side}
@@ -46,10 +47,11 @@ abbrev pub IsFine : Option StreamFault → Type 0
 IsFine None = Unit {0}
 IsFine (Some fault) = is_malformation fault ≡ false
 
--- One flow: its parts break no rule of its reader; behind its head its sender counts what they say; and its reader does as far as it has read.
+-- One flow: its parts break no rule of its reader; behind its head its sender counts what they say, or sends nothing of what its reader would
+-- take; and its reader counts as far as it has read.
 pub record TalliesFlow (reader : Side) (peer : Announced) (awaited : Content) (f : Flow) (o : Outgoing) (i : Incoming) : Type 0 where
   pub unbroken : AreUnbroken reader peer awaited f.sent
-  pub sends : takes_end o ≡ true → o.content ≡ content_along reader awaited f.sent
+  pub sends : takes_end o ≡ true → IsSentOf o.content (content_along reader awaited f.sent)
   pub receives : i.fault ≡ None → is_over f ≡ false → CountsFlow reader awaited f i
   pub fine : IsFine i.fault
 

@@ -1,8 +1,6 @@
 //! The local control, encoder and decoder streams (RFC 9114, section 6.2.1; RFC 9204, section 4.2): what waits on each.
 ghost use Rattle.std.specs.Prelude.{◌≡◌, ◌≤◌, ◌++◌, length, IfOk, OnOk, OnErr};
 ghost use Rattle.h3_coding.specs.Encodings.{encoding};
-ghost use Rattle.h3_field.specs.Instruction.{decoder_bytes};
-ghost use Rattle.h3_field.specs.Instruction.DecoderInstruction.{Acknowledge, CancelStream};
 ghost use Rattle.h3_connection.specs.Endpoint.{goaway_encoding};
 ghost use Rattle.h3_unidirectional.specs.Owned.{first_own, own_stream_of, waiting_on, having_taken};
 ghost use Rattle.h3_wire.specs.StreamHeaders.{control_encoding};
@@ -12,7 +10,6 @@ use h3_coding::coding::BufMutExt;
 use h3_coding::varint::VarInt;
 use h3_proto::frame::Settings;
 use h3_proto::stream::{Side, StreamId, StreamType};
-use h3_qpack::{ack_header, stream_canceled};
 use h3_wire::proto::frame::FrameType;
 use std::alloc::{AllocError, Global};
 use std::marker::Model;
@@ -138,23 +135,6 @@ impl OwnStreams {
         self.control.append(frame.as_slice())
     }
 
-    /// Writes the acknowledgment of a section of a stream on the decoder stream (RFC 9204, section 4.4.1). A refusal changes
-    /// nothing.
-    pub fn acknowledge(&mut self, stream: StreamId) -> Result<(), AllocError>
-        ensures ok { OnOk result (self.new ≡ record self.old { decoder = self.old.decoder ++ decoder_bytes (Acknowledge stream) }) }
-        ensures err { OnErr result (self.new ≡ self.old) }
-    {
-        ack_header(stream.into_inner(), self.decoder.behind_mut())
-    }
-
-    /// Writes the cancellation of a stream on the decoder stream (RFC 9204, section 4.4.2). A refusal changes nothing.
-    pub fn cancel(&mut self, stream: StreamId) -> Result<(), AllocError>
-        ensures ok { OnOk result (self.new ≡ record self.old { decoder = self.old.decoder ++ decoder_bytes (CancelStream stream) }) }
-        ensures err { OnErr result (self.new ≡ self.old) }
-    {
-        stream_canceled(stream.into_inner(), self.decoder.behind_mut())
-    }
-
     /// The bytes that wait on the stream of this id, none if it is not one of these three.
     pub fn outgoing(&self, side: Side, id: StreamId) -> &[u8]
         ensures { result.now ≡ waiting_on self.now side id }
@@ -164,18 +144,6 @@ impl OwnStreams {
             Some(OwnStream::Encoder) => self.encoder.as_slice(),
             Some(OwnStream::Decoder) => self.decoder.as_slice(),
             None => &[],
-        }
-    }
-
-    /// How many bytes wait on the stream of this id.
-    pub fn waiting(&self, side: Side, id: StreamId) -> usize
-        ensures { result ≡ length (waiting_on self.now side id) }
-    {
-        match own_stream(side, id) {
-            Some(OwnStream::Control) => self.control.len(),
-            Some(OwnStream::Encoder) => self.encoder.len(),
-            Some(OwnStream::Decoder) => self.decoder.len(),
-            None => 0,
         }
     }
 

@@ -1,9 +1,9 @@
 -- What is known where a decoder stops.
-use Rattle.std.proofs.Common.{◌≡◌, ℕ, List, sym, ◌∙◌, ap, subst}
+use Rattle.std.proofs.Common.{◌≡◌, ℕ, List, Option, Some, None, Ok, sym, ◌∙◌, ap, subst}
 use Rattle.h3_wire.specs.Frames.{Front, Whole, Unknown, Refused, Unfinished, frame_at, TakesMemory}
 use Rattle.h3_wire.specs.declared.proto.frame.PayloadLen.{PayloadLen}
 use Rattle.h3_wire.specs.declared.proto.frame.Frame.{Frame}
-use Rattle.h3_wire.specs.Known.{known, IsWaiting}
+use Rattle.h3_wire.specs.Known.{Gives, known, IsWaiting}
 use Rattle.h3_wire.specs.KnownLaws.{known-other, known-unknown}
 use Rattle.h3_wire.specs.Fronts.{IsKnown}
 
@@ -32,3 +32,8 @@ wants start mid new h same left =
 
 pub passed : (start mid new : List ℕ) (kind : ℕ) → frame_at mid ≡ Unknown kind new → known mid ≡ known start → known new ≡ known start
 passed start mid new kind e same = sym (known-unknown kind mid new e) ∙ same
+
+-- what is given of the bytes from a later frame on, if unknown ones alone stand between
+pub given_on : (o : Option (Frame PayloadLen)) (start mid new : List ℕ) → Gives (Ok o) mid new → known mid ≡ known start → Gives (Ok o) start new
+given_on (Some f) start mid new g same = ap frame_at (sym same) ∙ g
+given_on None start mid new g same = (g.0 ∙ same, g.1)

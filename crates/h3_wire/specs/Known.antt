@@ -4,9 +4,6 @@ use Rattle.h3_wire.specs.declared.proto.frame.PayloadLen.{PayloadLen}
 use Rattle.h3_wire.specs.declared.proto.frame.Frame.{Frame}
 use Rattle.h3_wire.specs.declared.proto.frame.FrameError.{FrameError}
 use Rattle.h3_wire.specs.declared.proto.frame.FrameError.TheVariants as error
-use Rattle.h3_wire.specs.declared.proto.frame.Frame.TheVariants as frame
-use Rattle.h3_wire.specs.declared.frame.decoder.First.{First}
-use Rattle.h3_wire.specs.declared.frame.decoder.First.TheVariants as first
 use Rattle.h3_wire.specs.declared.frame.decoder.Tried.{Tried}
 use Rattle.h3_wire.specs.declared.frame.decoder.Tried.TheVariants as tried
 use Rattle.h3_wire.specs.declared.frame.errors.FrameProtocolError.{FrameProtocolError}
@@ -49,15 +46,6 @@ Gives (Err (stream.Proto e)) old new = (new ≡ known old) × (frame_at new ≡ 
 Gives (Err stream.OutOfMemory) old new = (new ≡ known old) × TakesMemory (frame_at new)
 Gives (Err (stream.Quic e)) old new = ⊥
 Gives (Err stream.UnexpectedEnd) old new = ⊥
-
--- a frame that lies in the first piece
-abbrev pub first_frame : First → Frame PayloadLen
-first_frame (first.Data size) = frame.Data (record { 0 = size })
-first_frame (first.Headers section) = frame.Headers section
-
-abbrev pub framed : Option First → Option (Frame PayloadLen)
-framed None = None
-framed (Some f) = Some (first_frame f)
 
 -- a try takes the frame at the front, an unknown one too, and else nothing
 abbrev pub Tries : Tried → Front → List ℕ → List ℕ → Type 0

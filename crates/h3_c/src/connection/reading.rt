@@ -1,6 +1,7 @@
 //! What came and is read where it lies.
 ghost use Rattle.std.specs.Prelude.{◌≡◌, ◌<◌, ◌≤◌, ◌^◌, true, length, Err, IfErr, OnOk};
-ghost use Rattle.h3_session.specs.Shutdown.{is_rejected_in};
+ghost use Rattle.h3_connection.specs.Shutdown.{is_rejected_in};
+ghost use Rattle.h3_incoming.specs.declared.fields.FieldsPull.TheVariants as answer;
 ghost use Rattle.h3_c.specs.Exported.{OnStream, UnlessRejected};
 ghost use Rattle.h3_c.specs.Numbers.{delivery_told};
 ghost use Rattle.h3_c.specs.Reads.{ends_with, is_after_end, is_kept, place_shown, taken_of, EndsThere, ReadsCopied, ReadsNext, RefusesEnd, StopsAt, TakesBytes, TakesEnd};
@@ -11,8 +12,8 @@ use crate::numbers::{OK, Told, delivered, or_memory};
 use bytes::Bytes;
 use h3_coding::coding::BufExt;
 use h3_connection::event::{DeliverError, Refusal};
-use h3_incoming::BodyPlace;
-use h3_incoming::answer::pause;
+use h3_incoming::answer::{Plain, pause};
+use h3_incoming::{BlockPull, BodyPlace, Told as PulledTold};
 use h3_proto::stream::StreamId;
 use std::alloc::Global;
 
@@ -41,8 +42,7 @@ impl Connection {
         };
         *used = place.offset + place.len;
         *item = placed(place);
-        // no item is held
-        pause(&mut self.last);
+        hold_none(&mut self.last);
         OK
     }
 
@@ -78,10 +78,11 @@ impl Connection {
         ensures within { result ≤ length bytes.now }
         ensures some { 0 < length bytes.now → 0 < result }
     {
-        if self.endpoint.unread(id) > 0 {
+        let count = first_frame_len(bytes);
+        if count < bytes.len() && self.endpoint.unread(id) > 0 {
             return bytes.len();
         }
-        first_frame_len(bytes)
+        count
     }
 
     // The bytes are delivered, if there are any: a copy of them. If the allocation for it fails, anything else that refuses them is
@@ -134,6 +135,26 @@ impl Connection {
                 Err(delivered(&Err(e)))
             }
         }
+    }
+}
+
+// No item is held. Most pieces of a body follow another one, after which none is: then nothing is written.
+#[tactic(auto, using(crate::proofs::Reading::is_pending))]
+fn hold_none(last: &mut BlockPull)
+    ensures { last.new ≡ answer.Pending }
+{
+    if holds_none(last) {
+        return;
+    }
+    pause(last);
+}
+
+fn holds_none(last: &BlockPull) -> bool
+    ensures { result ≡ true → last.now ≡ answer.Pending }
+{
+    match last.told() {
+        PulledTold::Plain(Plain::Pending) => true,
+        _ => false,
     }
 }
 

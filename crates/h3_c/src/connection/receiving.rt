@@ -1,7 +1,7 @@
 //! What comes from the peer.
 ghost use Rattle.std.specs.Prelude.{◌≡◌, ◌<◌, ◌≤◌, ◌^◌, true, false, IfErr, IfOk};
 ghost use Rattle.h3_connection.specs.ReceivingContracts.{Delivers, DeliversEnd, DeliversReset};
-ghost use Rattle.h3_session.specs.Shutdown.{is_rejected_in};
+ghost use Rattle.h3_connection.specs.Shutdown.{is_rejected_in};
 ghost use Rattle.h3_c.specs.Exported.{DeliversOn};
 ghost use Rattle.h3_c.specs.Numbers.{argument, rejected, delivery_told};
 

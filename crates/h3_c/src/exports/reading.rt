@@ -1,6 +1,6 @@
 //! What C calls: what came, read where it lies.
 ghost use Rattle.std.specs.Prelude.{◌≡◌, ◌<◌, ◌≤◌, ◌^◌, true, IsSome};
-ghost use Rattle.h3_session.specs.Shutdown.{is_rejected_in};
+ghost use Rattle.h3_connection.specs.Shutdown.{is_rejected_in};
 ghost use Rattle.h3_c.specs.Exported.{OnStream, Steps, UnlessRejected};
 ghost use Rattle.h3_c.specs.Numbers.{number};
 ghost use Rattle.h3_c.specs.Reads.{ReadsNext};

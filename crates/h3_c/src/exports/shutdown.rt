@@ -1,6 +1,6 @@
 //! What C calls: shutting a connection down.
 ghost use Rattle.std.specs.Prelude.{◌≡◌, IsSome};
-ghost use Rattle.h3_session.specs.Shutdown.{GivesNotice, ShutsDown};
+ghost use Rattle.h3_connection.specs.Shutdown.{GivesNotice, ShutsDown};
 ghost use Rattle.h3_c.specs.Exported.{Calls, Steps};
 ghost use Rattle.h3_c.specs.Numbers.{number, call_told};
 ghost use Rattle.h3_c.specs.Shutdown.{ShowsIsDrained, ShowsUnseen};

@@ -4,7 +4,6 @@ ghost use Rattle.h3_qpack.specs.DecoderState.{DecoderState};
 ghost use Rattle.h3_connection.specs.Incoming.{Incoming, is_body};
 ghost use Rattle.h3_connection.specs.Pulling.{at_frame};
 ghost use Rattle.h3_connection.specs.Skipping.{is_empty_data};
-ghost use Rattle.h3_wire.specs.Known.{first_frame};
 ghost use Rattle.h3_incoming.specs.Beginning.{IsBegunBy, IsSectionOf, begun_as, is_empty};
 ghost use Rattle.h3_incoming.specs.Placing.{promise_code};
 
@@ -15,7 +14,6 @@ use h3_messages::Content;
 use h3_proto::error::Code;
 use h3_proto::stream::Side;
 use h3_proto::webtransport::SessionId;
-use h3_wire::frame::First;
 use h3_wire::proto::frame::{Frame, PayloadLen};
 
 /// What a frame begins at its place.
@@ -30,6 +28,7 @@ pub(super) enum Begun {
 }
 
 /// What a frame begins.
+#[inline(always)]
 #[tactic(auto, using(crate::proofs::FrontLaws::none_empty))]
 pub(super) fn begun_by(
     side: Side,
@@ -53,22 +52,6 @@ pub(super) fn begun_by(
         | Frame::Goaway(_)
         | Frame::MaxPushId(_)
         | Frame::Grease(_) => Begun::Fault(Code::H3_FRAME_UNEXPECTED),
-    }
-}
-
-/// What a frame begins that lay in the first piece.
-#[inline(always)]
-#[tactic(auto, using(crate::proofs::FrontLaws::none_empty))]
-pub(super) fn begun_by_first(place: Place, content: Content, first: First) -> Begun
-    ensures is { (side : Side) (own : Announced) (id : ℕ) (r : DecoderState) (i : Incoming) → i.content ≡ content
-        → at_frame side own id r side i place (first_frame first) ≡ begun_as side own id r i result }
-    ensures begins { IsBegunBy place content (first_frame first) result }
-    ensures section { IsSectionOf (first_frame first) result }
-    ensures empty { (is_body place && is_empty_data (first_frame first)) ≡ is_empty result }
-{
-    match first {
-        First::Headers(section) => begun_by_section(place, content, section),
-        First::Data(len) => begun_by_data(place, len),
     }
 }
 

@@ -6,7 +6,7 @@ ghost use Rattle.h3_wire.specs.UnreadFrames.{AreBetween};
 ghost use Rattle.h3_connection.specs.Incoming.{is_body};
 ghost use Rattle.h3_incoming.specs.Finding.{Finds, GivesBegun, IsWithin, LeavesBetween, PassesFrames};
 
-use super::begun::{Begun, begun_by, begun_by_first, is_empty};
+use super::begun::{Begun, begun_by, is_empty};
 use h3_connection::place::Place;
 use h3_messages::Content;
 use h3_proto::stream::Side;
@@ -95,26 +95,6 @@ fn front_one(
 // Takes the next frame, as `FrameBuffer::next_frame` does, and returns what it begins.
 #[inline(always)]
 fn next_begun(
-    unread: &mut FrameBuffer,
-    alloc: Global,
-    side: Side,
-    place: Place,
-    content: Content,
-) -> Result<Option<Begun>, FrameStreamError>
-    ensures gives { GivesBegun side place content result (concat unread.old.pieces) (concat unread.new.pieces) }
-    ensures between { IfOk result (λ o. IfSome o (λ b. AreBetween unread.new)) }
-    ensures pieces { unread.new.pieces ≡ ending (length (concat unread.new.pieces)) unread.old.pieces }
-{
-    match unread.next_first() {
-        Some(Some(first)) => Ok(Some(begun_by_first(place, content, first))),
-        Some(None) => Ok(None),
-        None => next_anywhere(unread, alloc, side, place, content),
-    }
-}
-
-// The same of any frame, wherever it lies. It stays apart, since a `Frame` has room for the largest, and is moved from call to call.
-#[inline(never)]
-fn next_anywhere(
     unread: &mut FrameBuffer,
     alloc: Global,
     side: Side,

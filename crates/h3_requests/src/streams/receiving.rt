@@ -26,14 +26,14 @@ impl RequestStreams {
         ensures err { OnErr result (AllSame self.old self.new) }
     {
         let Some(stream) = self.streams.get_mut(id) else {
-            return self.deliver_anew(alloc, id, bytes);
+            return self.deliver_absent(alloc, id, bytes);
         };
         stream.deliver(bytes)
     }
 
     /// The same, but bytes are refused that the peer does not send. These are bytes on a stream of a client that is not open (`NotOpen`),
     /// and bytes after an end or a reset (`AfterEnd`). An `Err` changes nothing; `OutOfMemory` returns the bytes.
-    pub fn deliver_next(
+    pub fn deliver_or_refuse(
         &mut self,
         alloc: Global,
         side: Side,
@@ -49,7 +49,7 @@ impl RequestStreams {
             if self.streams.is_over(id) {
                 return Err(DeliverError::Refused(Refusal::AfterEnd));
             }
-            return self.deliver_unopened(alloc, side, id, bytes);
+            return self.open_or_refuse(alloc, side, id, bytes);
         };
         if stream.has_ended() {
             return Err(DeliverError::Refused(Refusal::AfterEnd));
@@ -61,7 +61,7 @@ impl RequestStreams {
     }
 
     // Bytes of a stream that is not there: a server's peer opens it.
-    fn deliver_unopened(
+    fn open_or_refuse(
         &mut self,
         alloc: Global,
         side: Side,
@@ -76,7 +76,7 @@ impl RequestStreams {
     {
         match side {
             Side::Client => Err(DeliverError::Refused(Refusal::NotOpen)),
-            Side::Server => match self.deliver_first(alloc, id, bytes) {
+            Side::Server => match self.open_with(alloc, id, bytes) {
                 Ok(()) => Ok(()),
                 Err(bytes) => Err(DeliverError::OutOfMemory(bytes)),
             },
@@ -84,7 +84,7 @@ impl RequestStreams {
     }
 
     // The first bytes of a stream, which open it.
-    fn deliver_first(&mut self, alloc: Global, id: StreamId, bytes: Bytes) -> Result<(), Bytes>
+    fn open_with(&mut self, alloc: Global, id: StreamId, bytes: Bytes) -> Result<(), Bytes>
         requires { kept_at self.old id ≡ None }
         ensures ok { OnOk result (Receives self.old self.new id (λ i. kept i bytes)) }
         ensures back { IfErr result (λ b. b ≡ bytes) }
@@ -101,7 +101,7 @@ impl RequestStreams {
     }
 
     // Bytes of a stream that is not under way.
-    fn deliver_anew(&mut self, alloc: Global, id: StreamId, bytes: Bytes) -> Result<(), Bytes>
+    fn deliver_absent(&mut self, alloc: Global, id: StreamId, bytes: Bytes) -> Result<(), Bytes>
         ensures ok { OnOk result (Receives self.old self.new id (λ i. kept i bytes)) }
         ensures back { IfErr result (λ b. b ≡ bytes) }
         ensures err { OnErr result (AllSame self.old self.new) }
@@ -124,7 +124,7 @@ impl RequestStreams {
         ensures err { OnErr result (AllSame self.old self.new) }
     {
         let Some(stream) = self.streams.get_mut(id) else {
-            return self.end_anew(alloc, id);
+            return self.end_absent(alloc, id);
         };
         stream.incoming.end();
         let is_over = stream.is_over();
@@ -133,7 +133,7 @@ impl RequestStreams {
     }
 
     // The end of a stream that is not under way.
-    fn end_anew(&mut self, alloc: Global, id: StreamId) -> Result<(), AllocError>
+    fn end_absent(&mut self, alloc: Global, id: StreamId) -> Result<(), AllocError>
         ensures ok { OnOk result (Receives self.old self.new id with_end) }
         ensures err { OnErr result (AllSame self.old self.new) }
     {

@@ -16,7 +16,7 @@ impl RequestStreams {
     pub fn contains(&self, id: StreamId) -> bool
         ensures { result ≡ is_some (kept_at self.now id) }
     {
-        self.streams.get_alike(id).is_some()
+        self.streams.contains(id)
     }
 
     /// What is sent on a stream, if it is there.

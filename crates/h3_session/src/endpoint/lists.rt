@@ -110,7 +110,7 @@ impl Endpoint {
     {
         let list = Fields::of(fields);
         let mut seen = Seen::new();
-        if let Err(part) = seen.take_good(&list) {
+        if let Err(part) = seen.take_good(&list, false) {
             return Err(FieldsError::Malformed(malformation_by(part)));
         }
         let survey = Survey::of(&list, &seen);

@@ -129,15 +129,6 @@ impl Endpoint {
         out
     }
 
-    /// The same, with the answer in the place of what `out` was, which is freed. So the answer is not moved, and a caller that keeps it has
-    /// it at the place at which it was made.
-    pub fn pull_fields_into(&mut self, id: StreamId, out: &mut FieldsPull)
-        ensures pulls { PullsNext self.old self.new id (pull_of out.new) }
-        ensures list { ListsNext self.old id (list_of out.new) }
-    {
-        self.pull_into(id, out);
-    }
-
     /// The same, with the fields of a header section or trailer in a block of memory that serves again. `out` keeps the memory of its last
     /// answer for the next one, and a header section or trailer takes memory only if it is longer.
     pub fn pull_block(&mut self, id: StreamId, out: &mut BlockPull)

@@ -116,7 +116,7 @@ fn server_opened_refusal(side: Side) -> Option<Refusal>
 /// What came on a request stream is its receiver's. A stream that is not there is opened. If an allocation fails nothing has changed, and
 /// the arrival comes back.
 #[tactic(auto, using(crate::proofs::Behind::written_behind))]
-fn receive(
+fn receive_arrival(
     requests: &mut RequestStreams,
     alloc: Global,
     replies: &mut WaitingBytes,
@@ -193,7 +193,8 @@ impl Endpoint {
         ensures why { IfErr result (λ e. IsRefusedBy (receiver_refusal self.old.side (kept_at self.old.requests id)) bytes e) }
         ensures err { OnErr result (AllSame self.old.requests self.new.requests) }
     {
-        self.requests.deliver_next(self.alloc, self.side, id, bytes)
+        self.requests
+            .deliver_or_refuse(self.alloc, self.side, id, bytes)
     }
 
     // What comes is read after all that is kept. With nothing kept, what comes on a request stream is its receiver's at once.
@@ -335,7 +336,7 @@ impl Endpoint {
 
     // Whether an end or a reset of the stream is kept.
     #[tactic(auto, using(crate::proofs::ReceivingRefusals::closed_in_parts))]
-    fn is_closed_behind(&self, id: StreamId) -> bool
+    pub(super) fn is_closed_behind(&self, id: StreamId) -> bool
         ensures { result ≡ is_closed_in self.now.kept id }
     {
         let (front, back) = self.kept.as_slices();
@@ -350,6 +351,6 @@ impl Endpoint {
         ensures err { OnErr result (AllSame self.old.requests self.new.requests × (self.new.own.decoder ≡ self.old.own.decoder)) }
     {
         let replies = &mut self.streams.own.decoder;
-        receive(&mut self.requests, self.alloc, replies, arrival)
+        receive_arrival(&mut self.requests, self.alloc, replies, arrival)
     }
 }

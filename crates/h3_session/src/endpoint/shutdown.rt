@@ -1,12 +1,10 @@
 //! A connection is shut down (RFC 9114, section 5.2).
-ghost use Rattle.std.specs.Prelude.{◌≡◌, ◌==◌, ◌<◌, ◌^◌, length, IfSome};
-ghost use Rattle.std.specs.List.{list_all};
+ghost use Rattle.std.specs.Prelude.{◌≡◌, ◌<◌, ◌^◌, is_some, IfSome};
 ghost use Rattle.h3_connection.specs.Answers.{call_refused};
-ghost use Rattle.h3_connection.specs.Endpoint.{own_waiting};
-ghost use Rattle.h3_connection.specs.OwnIds.{control_id};
 ghost use Rattle.h3_connection.specs.ReadingContracts.{Shows};
 ghost use Rattle.h3_connection.specs.SendingContracts.{DoesOrRefuses};
-ghost use Rattle.h3_session.specs.Shutdown.{above_greatest, bounded, goaway_once, is_done, is_named, is_rejected_in, last_taken, notice_id, takes_no_more, GivesNotice, ShowsDrained, ShowsFirstUnseen, ShowsRejected, ShutsDown};
+ghost use Rattle.h3_connection.specs.Shutdown.{above_greatest, are_done, are_seen_below, bounded, goaway_once, is_control_taken, is_named, is_rejected_in, last_taken, notice_id, takes_no_more, GivesNotice, ShowsDrained, ShowsFirstUnseen, ShowsRejected, ShutsDown};
+ghost use Rattle.h3_connection.specs.State.{kept_at};
 
 use super::Endpoint;
 use super::sending::is_server;
@@ -70,10 +68,11 @@ impl Endpoint {
     }
 
     /// Whether nothing is left to be done, so that the connection can be closed without losing a request (RFC 9114, section 5.2). No
-    /// request is to come: a server named an id that is no higher than `first_unseen`, and to a client its server sent a GOAWAY. Each
+    /// request is to come: a server saw each request below the last id that it named, and to a client its server sent a GOAWAY. Each
     /// stream was pulled to its end or given up; sending on it has ended, all bytes were taken, and `end_taken` said so of its end. And the
     /// GOAWAY was taken. A caller that never calls `end_taken` (it goes by `next_waiting` alone) sees no connection drained on which a
-    /// message was finished. It takes no memory, and looks at the streams under way alone.
+    /// message was finished. What is drained stays so until another GOAWAY is sent, if a server's caller leaves out what `is_rejected` names
+    /// (law `drained_stays`). It takes no memory, and looks at the streams under way alone.
     pub fn is_drained(&self) -> bool
         ensures { ShowsDrained self.now result }
     {
@@ -128,13 +127,23 @@ impl Endpoint {
     {
         match self.side {
             Side::Client => self.streams.peer.last_goaway().is_some(),
-            Side::Server => self.names(self.first_unseen()),
+            Side::Server => self.has_seen_all(),
+        }
+    }
+
+    // Whether each request was seen that is below the last GOAWAY of this server.
+    fn has_seen_all(&self) -> bool
+        ensures { result ≡ are_seen_below self.now.last_goaway (λ id. is_some (kept_at self.now.requests id)) }
+    {
+        match self.last_goaway {
+            Some(goaway) => self.requests.has_all_below(goaway.into_inner()),
+            None => false,
         }
     }
 
     // Whether each request stream is done with.
     fn are_done(&self) -> bool
-        ensures { Shows (λ e. list_all (λ s. is_done e s.0) e.incoming) self.now result }
+        ensures { Shows are_done self.now result }
     {
         match self.requests.unfinished() {
             Some(_) => false,
@@ -144,7 +153,7 @@ impl Endpoint {
 
     // Whether nothing waits on the local control stream.
     fn control_is_taken(&self) -> bool
-        ensures { Shows (λ e. length (own_waiting e (control_id e.side)) == 0) self.now result }
+        ensures { Shows is_control_taken self.now result }
     {
         self.streams.own.control.len() == 0
     }

@@ -1,5 +1,5 @@
 //! What the rules of well-formed messages make of a list that is to be sent (RFC 9114, sections 4.1.2 and 4.2 to 4.5). That is which of
-//! them the list breaks, as a strict peer would judge it, and what it says of content.
+//! them the list breaks, as a strict peer would judge it and by the rules of its sender, and what it says of content.
 ghost use Rattle.std.specs.Prelude.{◌≡◌, ◌≢◌, None, Some, IfOk, IfErr, IfSome, OnOk};
 ghost use Rattle.h3_connection.specs.StrictSending.{peer_connects, violation_of_own_head};
 ghost use Rattle.h3_connection.specs.declared.place.SendPlace.TheVariants.{TrailerSent};
@@ -11,7 +11,8 @@ use h3_connection::event::Malformation;
 use h3_connection::place::SendPlace;
 use h3_field::{Fields, HeaderField};
 use h3_messages::{
-    Content, ResponseSaid, Seen, Survey, Violation, any_response_by, request_by, trailer_violation,
+    Content, ResponseSaid, Seen, Survey, Violation, own_request_by, own_response_by,
+    own_trailer_violation,
 };
 use h3_proto::frame::SettingId;
 use h3_proto::stream::Side;
@@ -75,7 +76,7 @@ impl Endpoint {
                 None => self.read_head(&Fields::of(fields)),
             },
             SendPlace::TrailerSent => SentRead {
-                violation: trailer_violation(fields),
+                violation: own_trailer_violation(fields),
                 said: Said::Nothing,
             },
         }
@@ -98,14 +99,14 @@ impl Endpoint {
     {
         match self.side {
             Side::Client => {
-                let head = request_by(survey, self.peer_connects());
+                let head = own_request_by(survey, self.peer_connects());
                 SentRead {
                     violation: head.violation,
                     said: Said::Request(head.awaited, head.content),
                 }
             }
             Side::Server => {
-                let head = any_response_by(survey);
+                let head = own_response_by(survey);
                 SentRead {
                     violation: head.violation,
                     said: Said::Response(head.said),

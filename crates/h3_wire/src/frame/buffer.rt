@@ -1,14 +1,14 @@
 //! The bytes of a stream of frames that came and were not read.
-ghost use Rattle.std.specs.Prelude.{◌≡◌, ◌+◌, ◌^◌, ◌<◌, ◌≤◌, ◌++◌, [], None, Ok, false, true, length, IfOk, IfErr, IfSome, IfNone, IsNone, OnOk, OnErr};
+ghost use Rattle.std.specs.Prelude.{◌≡◌, ◌+◌, ◌^◌, ◌<◌, ◌≤◌, ◌++◌, [], None, Ok, false, true, length, IfOk, IfErr, IfSome, IfNone, OnOk, OnErr};
 ghost use Rattle.std.specs.List.{concat};
 ghost use Rattle.h3_wire.specs.ExcessiveFrames.{begins_section, is_excessive};
-ghost use Rattle.h3_wire.specs.Known.{Gives, framed, known};
+ghost use Rattle.h3_wire.specs.Known.{Gives, known};
 ghost use Rattle.h3_wire.specs.Pieces.{chunk_of, ending, first_of, with_piece};
 ghost use Rattle.h3_wire.specs.Tries.{Counts};
 ghost use Rattle.h3_wire.specs.UnknownSize.{held_length};
 ghost use Rattle.h3_wire.specs.UnreadFrames.{none_unread, AreBetween, AreSpared, IsStillUnderWay, IsPassed};
 
-use super::decoder::{First, FrameDecoder};
+use super::decoder::FrameDecoder;
 use super::errors::FrameStreamError;
 use super::sparing::FrameBytes;
 use crate::proto::frame::{Frame, PayloadLen};
@@ -64,6 +64,7 @@ impl FrameBuffer {
     /// Takes the next known frame, of DATA its type and length alone, and the unknown ones before it. Without a whole frame, and at an
     /// error, only unknown frames are taken, and the bytes of an unknown one under way are freed. Fewer bytes than the frame at the front
     /// is known to need are not tried.
+    #[inline(always)]
     pub fn next_frame(
         &mut self,
         alloc: Global,
@@ -78,23 +79,6 @@ impl FrameBuffer {
             return self.decode(alloc);
         }
         Ok(None)
-    }
-
-    /// `next_frame`, if its answer needs no `Frame`, which has room for the largest. It takes the type and length of a DATA frame or a
-    /// whole HEADERS frame from the first piece, or fewer bytes are there than the next try needs. Otherwise the answer is `None`, which
-    /// changes nothing, and `next_frame` is to be asked.
-    #[inline(always)]
-    pub fn next_first(&mut self) -> Option<Option<First>>
-        ensures gives { IfSome result (λ o. Gives (Ok (framed o)) (concat self.old.pieces) (concat self.new.pieces)) }
-        ensures between { IfSome result (λ o. IfSome o (λ f. AreBetween self.new)) }
-        ensures counts { IfSome result (λ o. Counts self.old.decoder (concat self.old.pieces) (Ok (framed o)) self.new.decoder) }
-        ensures pieces { self.new.pieces ≡ ending (length (concat self.new.pieces)) self.old.pieces }
-        ensures same { IsNone result → self.new ≡ self.old }
-    {
-        if self.unread.passing() > 0 {
-            return None;
-        }
-        self.unread.decode_first(&mut self.decoder)
     }
 
     // Whether a frame begins at the front: none is under way there, or the unknown one that was is whole, and is passed. (A function of its
@@ -132,6 +116,7 @@ impl FrameBuffer {
     }
 
     // The same if none is under way.
+    #[inline(always)]
     fn decode(&mut self, alloc: Global) -> Result<Option<Frame<PayloadLen>>, FrameStreamError>
         requires none { self.old.passing ≡ 0 }
         ensures gives { Gives result (concat self.old.pieces) (concat self.new.pieces) }

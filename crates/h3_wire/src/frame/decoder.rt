@@ -3,7 +3,7 @@ ghost use Rattle.std.specs.Prelude.{◌≡◌, ◌+◌, ◌^◌, ◌<◌, ◌≤
 ghost use Rattle.std.specs.List.{concat};
 ghost use Rattle.h3_wire.specs.declared.proto.frame.Frame.TheVariants as frame;
 ghost use Rattle.h3_wire.specs.Frames.{Whole, frame_at, has_head, IsHeadersFrame};
-ghost use Rattle.h3_wire.specs.Known.{Gives, Tries, first_frame, framed};
+ghost use Rattle.h3_wire.specs.Known.{Gives, Tries};
 ghost use Rattle.h3_wire.specs.Pieces.{IsRest, ending, first_size};
 ghost use Rattle.h3_wire.specs.Tries.{Counts, Expects, counted, needed, one_more};
 
@@ -55,26 +55,6 @@ pub(crate) enum Tried {
     OutOfMemory,
 }
 
-/// A frame that was taken from the first piece: no `Frame`, which has room for the largest.
-#[derive(Drop)]
-pub enum First {
-    /// The type and length of a DATA frame, whose payload has so many bytes.
-    Data(usize),
-    /// The field section of a HEADERS frame.
-    Headers(Bytes),
-}
-
-impl First {
-    fn into_frame(self) -> Frame<PayloadLen>
-        ensures { result ≡ first_frame self }
-    {
-        match self {
-            First::Data(len) => Frame::Data(PayloadLen(len)),
-            First::Headers(section) => Frame::Headers(section),
-        }
-    }
-}
-
 impl FrameDecoder {
     /// How often the frame under way was tried, or else the last one that was taken, an unknown one
     /// too: at most 17 times, and 0 before the first. A try does not count that ends because an
@@ -109,7 +89,8 @@ impl FrameDecoder {
     /// it. Without a whole frame, and at an error, only unknown frames are taken. If a call
     /// answered no frame, the next one must find the bytes that it left, and may find more after
     /// them. After an allocation failed the call can be made again; a frame that was refused stays
-    /// at the front and is refused again.
+    /// at the front and is refused again. It stands in its caller, so that a frame in the first piece is not moved.
+    #[inline(always)]
     pub fn decode(
         &mut self,
         alloc: Global,
@@ -123,41 +104,42 @@ impl FrameDecoder {
         ensures pieces { src.new.pieces ≡ ending (length (concat src.new.pieces)) src.old.pieces }
     {
         match self.decode_first(src) {
-            Some(Some(first)) => Ok(Some(first.into_frame())),
-            Some(None) => Ok(None),
-            None => self.decode_front(alloc, src),
+            Some(answer) => Ok(answer),
+            None => self.decode_anywhere(alloc, src),
         }
     }
 
     // The same, if it takes a frame from the first piece, or fewer bytes are there than the next try needs. Otherwise `None`, which changes
     // nothing.
     #[inline(always)]
-    pub(super) fn decode_first(&mut self, src: &mut BufList<Bytes>) -> Option<Option<First>>
+    fn decode_first(&mut self, src: &mut BufList<Bytes>) -> Option<Option<Frame<PayloadLen>>>
         requires expects { Expects self.old (concat src.old.pieces) }
-        ensures gives { IfSome result (λ o. Gives (Ok (framed o)) (concat src.old.pieces) (concat src.new.pieces)) }
+        ensures gives { IfSome result (λ o. Gives (Ok o) (concat src.old.pieces) (concat src.new.pieces)) }
         ensures expects { Expects self.new (concat src.new.pieces) }
         ensures fresh { IfSome result (λ o. IfSome o (λ f. self.new.expected ≡ None)) }
-        ensures counts { IfSome result (λ o. Counts self.old (concat src.old.pieces) (Ok (framed o)) self.new) }
+        ensures counts { IfSome result (λ o. Counts self.old (concat src.old.pieces) (Ok o) self.new) }
         ensures none { IsNone result → (self.new ≡ self.old) × (src.new.pieces ≡ src.old.pieces) }
+        ensures enough { IsNone result → needed self.old ≤ length (concat src.old.pieces) }
         ensures rest { IsRest src.old.pieces src.new.pieces }
     {
         if src.remaining() < self.needed() {
             return Some(None);
         }
-        let first = take_first(src)?;
+        let frame = take_first(src)?;
         self.count(None);
-        Some(Some(first))
+        Some(Some(frame))
     }
 
-    // The same wherever the frame lies, and after unknown ones. It stays apart, so that a frame in the first piece is read without making
-    // room for the largest.
+    // The same wherever the frame lies, and after unknown ones, if as many bytes are there as the next try needs. It stays apart, so that a
+    // frame in the first piece is read without making room for the largest.
     #[inline(never)]
-    fn decode_front(
+    fn decode_anywhere(
         &mut self,
         alloc: Global,
         src: &mut BufList<Bytes>,
     ) -> Result<Option<Frame<PayloadLen>>, FrameStreamError>
         requires expects { Expects self.old (concat src.old.pieces) }
+        requires enough { needed self.old ≤ length (concat src.old.pieces) }
         ensures gives { Gives result (concat src.old.pieces) (concat src.new.pieces) }
         ensures expects { Expects self.new (concat src.new.pieces) }
         ensures fresh { IfOk result (λ o. IfSome o (λ f. self.new.expected ≡ None)) }
@@ -165,10 +147,7 @@ impl FrameDecoder {
         ensures rest { IsRest src.old.pieces src.new.pieces }
     {
         loop {
-            if src.remaining() < self.needed() {
-                return Ok(None);
-            }
-            match try_frame(alloc, src) {
+            match decode_frame(alloc, src) {
                 Tried::Frame(frame) => {
                     self.count(None);
                     return Ok(Some(frame));
@@ -181,27 +160,18 @@ impl FrameDecoder {
                 Tried::Refused(e) => return Err(FrameStreamError::Proto(e)),
                 Tried::OutOfMemory => return Err(FrameStreamError::OutOfMemory),
             }
+            if let Some(answer) = self.decode_first(src) {
+                return Ok(answer);
+            }
         }
     }
 }
 
-// Takes the frame at the front, an unknown one too. Anything else takes nothing. A field section
-// that lies in the first piece is cut from it, and else copied.
-fn try_frame(alloc: Global, src: &mut BufList<Bytes>) -> Tried
-    ensures tries { Tries result (frame_at (concat src.old.pieces)) (concat src.old.pieces) (concat src.new.pieces) }
-    ensures few { has_head (concat src.old.pieces) ≡ false → length (concat src.old.pieces) < 16 }
-    ensures rest { IsRest src.old.pieces src.new.pieces }
-{
-    if let Some(first) = take_first(src) {
-        return Tried::Frame(first.into_frame());
-    }
-    decode_frame(alloc, src)
-}
-
 // Takes the type and length of a DATA frame, if they lie in the first piece, or a HEADERS frame that lies in it. The field section of that
 // one is cut from the piece. `None` takes nothing.
-fn take_first(src: &mut BufList<Bytes>) -> Option<First>
-    ensures some { IfSome result (λ f. frame_at (concat src.old.pieces) ≡ Whole (first_frame f) (concat src.new.pieces)) }
+#[inline(always)]
+fn take_first(src: &mut BufList<Bytes>) -> Option<Frame<PayloadLen>>
+    ensures some { IfSome result (λ f. frame_at (concat src.old.pieces) ≡ Whole f (concat src.new.pieces)) }
     ensures whole { IfSome result (λ f. has_head (concat src.old.pieces) ≡ true) }
     ensures none { IsNone result → src.new.pieces ≡ src.old.pieces }
     ensures rest { IsRest src.old.pieces src.new.pieces }
@@ -212,13 +182,13 @@ fn take_first(src: &mut BufList<Bytes>) -> Option<First>
     // the type of DATA
     if head.kind == 0 {
         src.advance_first(head.size);
-        return Some(First::Data(len));
+        return Some(Frame::Data(PayloadLen(len)));
     }
     let behind = bytes.len() - head.size;
     // the type of HEADERS
     if head.kind == 1 && len <= behind {
         let section = cut_section(src, head.size, len)?;
-        return Some(First::Headers(section));
+        return Some(Frame::Headers(section));
     }
     None
 }

@@ -1,14 +1,14 @@
 //! The bytes of a stream of frames, of which those of an unknown frame that is under way are not kept.
-ghost use Rattle.std.specs.Prelude.{◌≡◌, ◌+◌, ◌^◌, ◌<◌, ◌≤◌, ◌++◌, [], None, Ok, true, length, drop, IfOk, IfErr, IfSome, IsNone, OnOk, OnErr};
+ghost use Rattle.std.specs.Prelude.{◌≡◌, ◌+◌, ◌^◌, ◌<◌, ◌≤◌, ◌++◌, [], None, Ok, true, length, drop, IfOk, IfErr, IfSome, OnOk, OnErr};
 ghost use Rattle.std.specs.List.{concat};
 ghost use Rattle.h3_proto.specs.Config.{is_limit};
 ghost use Rattle.h3_wire.specs.ExcessiveFrames.{begins_section, is_excessive};
-ghost use Rattle.h3_wire.specs.Known.{Gives, framed, known};
+ghost use Rattle.h3_wire.specs.Known.{Gives, known};
 ghost use Rattle.h3_wire.specs.Pieces.{IsRest, chunk_of, ending, first_of, with_piece};
 ghost use Rattle.h3_wire.specs.Tries.{Counts, Expects};
 ghost use Rattle.h3_wire.specs.UnknownSize.{AreLetGo, IsSpared, is_known_type, is_longer, is_under_way, unknown_size};
 
-use super::decoder::{First, FrameDecoder};
+use super::decoder::FrameDecoder;
 use super::errors::FrameStreamError;
 use super::excess;
 use super::let_go::LetGo;
@@ -121,6 +121,7 @@ impl FrameBytes {
     }
 
     /// `FrameDecoder::decode`, when no unknown frame is under way.
+    #[inline(always)]
     pub(super) fn decode(
         &mut self,
         alloc: Global,
@@ -136,22 +137,6 @@ impl FrameBytes {
         ensures none { self.new.passing ≡ 0 }
     {
         decoder.decode(alloc, &mut self.kept)
-    }
-
-    /// `FrameDecoder::decode_first`, when no unknown frame is under way.
-    #[inline(always)]
-    pub(super) fn decode_first(&mut self, decoder: &mut FrameDecoder) -> Option<Option<First>>
-        requires none { self.old.passing ≡ 0 }
-        requires expects { Expects decoder.old (concat self.old.pieces) }
-        ensures gives { IfSome result (λ o. Gives (Ok (framed o)) (concat self.old.pieces) (concat self.new.pieces)) }
-        ensures expects { Expects decoder.new (concat self.new.pieces) }
-        ensures fresh { IfSome result (λ o. IfSome o (λ f. decoder.new.expected ≡ None)) }
-        ensures counts { IfSome result (λ o. Counts decoder.old (concat self.old.pieces) (Ok (framed o)) decoder.new) }
-        ensures same { IsNone result → (self.new ≡ self.old) × (decoder.new ≡ decoder.old) }
-        ensures rest { IsRest self.old.pieces self.new.pieces }
-        ensures none { self.new.passing ≡ 0 }
-    {
-        decoder.decode_first(&mut self.kept)
     }
 
     /// `BufList::take_chunk`, when no unknown frame is under way.

@@ -3,7 +3,7 @@ use Rattle.std.specs.Prelude.{is_some}
 use Rattle.h3_connection.specs.Lasts.{last_id}
 use Rattle.h3_connection.specs.StreamSets.{stream_at}
 use Rattle.h3_proto.specs.StreamIds.{is_request_stream}
-use Rattle.h3_session.specs.Shutdown.{is_named}
+use Rattle.h3_connection.specs.Shutdown.{is_named}
 use Rattle.h3_session.proofs.Draining.{not_rejected}
 use Rattle.h3_session.proofs.laws.nothing_below_a_goaway_is_rejected.Goals as goal
 

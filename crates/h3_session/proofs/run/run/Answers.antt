@@ -2,8 +2,7 @@ use Rattle.h3_world.specs.Ends.{new_ends}
 use Rattle.h3_session.proofs.Headlines.{runs_in_keeping_world, runs_in_world, runs_until_memory}
 use Rattle.h3_session.proofs.Messages.{hands_out_always}
 use Rattle.h3_session.proofs.Runs.{answers_each, ran, runs_to}
-use Rattle.h3_strict.specs.ServerKnows.{ServerKnows}
-use Rattle.h3_session.proofs.Strict.{front_finds_none, run_finds_none, runs_faultless, runs_until_fault}
+use Rattle.h3_session.proofs.Strict.{KnownOf, front_finds_none, run_finds_none, runs_faultless, runs_until_fault}
 use Rattle.h3_session.proofs.run.run.Goals as goal
 
 pub returns-clause-calls : goal.returns-clause-calls
@@ -98,7 +97,7 @@ returns-clause-strict_front c = λ few strict.
     let setup = c.args.setup in
     let answers = c.in_ok-client-2.answers.items in
     let each = answers_each (new_ends setup) c.args.events.now answers _ _ calls in
-    let none = front_finds_none setup ServerKnows (λ events sendable known. c.schedules_that_judge_nothing_find_no_fault.ensures setup events c.requires sendable (c.strict_endpoints_take_what_they_send.ensures setup events c.requires strict sendable known)) c.args.events.now answers c.events_are_typed.ensures
+    let none = front_finds_none setup (KnownOf setup) (λ events sendable known. c.schedules_that_judge_nothing_find_no_fault.ensures setup events c.requires sendable (c.two_strict_limited_endpoints_run_in_a_world.ensures.none setup events c.requires strict sendable known.0 known.1)) c.args.events.now answers c.events_are_typed.ensures
     each few in
     let runs = runs_until_fault setup (λ front sendable plainly. c.strict_endpoints_run_in_a_world.ensures setup front c.requires sendable plainly)
     (λ front sendable plainly. record {
@@ -107,16 +106,16 @@ returns-clause-strict_front c = λ few strict.
       ends = λ side id ended. c.strict_endpoints_hand_out_what_was_sent.ensures.end setup front side id c.requires sendable plainly ended;
     }) c.args.events.now answers (λ front. c.whole_runs_are_plain.ensures.faultless (new_ends setup) front (c.ends_stay_bounded.ensures.made setup)) c.events_are_typed.ensures
     each few in
-    λ n not_memory known. (none n not_memory known, runs n not_memory (none n not_memory known))
+    λ n not_memory known taken. (none n not_memory (known, taken), runs n not_memory (none n not_memory (known, taken)))
 
 pub returns-clause-strict : goal.returns-clause-strict
-returns-clause-strict c = λ whole few strict known.
+returns-clause-strict c = λ whole few strict known taken.
     let calls = ran (λ v. v.items) (new_ends c.args.setup) c.args.events.now c.announcing-client.result c.announcing-server.result c.run_between-answers.result _ _ _ _ _ c.in_ok-client-2.answers
     c.announcing-client.ensures c.announcing-server.ensures c.in_ok-client.ensures.0 c.in_ok-client.ensures.1 c.run_between-answers.ensures c.in_ok-client-2.ensures.0 c.in_ok-client-2.ensures.1 in
     let setup = c.args.setup in
     let answers = c.in_ok-client-2.answers.items in
     let to = runs_to (new_ends setup) c.args.events.now answers _ _ calls whole in
-    let none = run_finds_none setup ServerKnows (λ events sendable known. c.schedules_that_judge_nothing_find_no_fault.ensures setup events c.requires sendable (c.strict_endpoints_take_what_they_send.ensures setup events c.requires strict sendable known)) c.args.events.now answers _ _ c.events_are_typed.ensures to few known in (
+    let none = run_finds_none setup (KnownOf setup) (λ events sendable known. c.schedules_that_judge_nothing_find_no_fault.ensures setup events c.requires sendable (c.two_strict_limited_endpoints_run_in_a_world.ensures.none setup events c.requires strict sendable known.0 known.1)) c.args.events.now answers _ _ c.events_are_typed.ensures to few (known, taken) in (
       none,
       runs_faultless setup (λ front sendable plainly. c.strict_endpoints_run_in_a_world.ensures setup front c.requires sendable plainly)
           (λ front sendable plainly. record {

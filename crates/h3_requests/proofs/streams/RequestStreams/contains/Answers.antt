@@ -1,9 +1,8 @@
--- What has no code is what stands for it.
-use Rattle.std.proofs.Common.{rules}
-use Rattle.std.specs.Prelude.{option_copied}
-use Rattle.h3_requests.specs.Stored.{streams_in}
-use Rattle.h3_requests.proofs.Alike.{there_is}
+-- It is there in the view, too.
+use Rattle.std.proofs.Common.{ap, ◌∙◌}
+use Rattle.std.specs.Prelude.{is_some}
+use Rattle.h3_connection.specs.State.{kept_at}
 use Rattle.h3_requests.proofs.streams.RequestStreams.contains.Goals as goal
 
 pub returns : goal.returns
-returns c = let same = there_is (streams_in c.self.inside.streams) c.args.self.now c.args.id (option_copied c.get_alike.result) c.self.view_is c.get_alike.ensures in search (rules, same)
+returns c = c.contains.ensures ∙ ap (λ l. is_some (kept_at l c.args.id)) c.self.view_is

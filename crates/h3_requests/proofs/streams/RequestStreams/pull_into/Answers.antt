@@ -65,7 +65,7 @@ within_limit-requires-2-clause-among g c =
     (subst (λ n. Replaces c.make_room.new.self c.replace.new.self c.waits_for-before.result n) c.waits_for.ensures c.replace.ensures.replaced) in
     let stands : Replaces c.make_room.new.self c.replace.new.self c.in-Some.stream.now.incoming.waits_for c.pull_into.new.self.waits_for =
     subst (λ (r : RequestState). Replaces c.make_room.new.self c.replace.new.self r.incoming.waits_for c.pull_into.new.self.waits_for) c.stream.view_is waited in
-    let between : AreKept c.replace.new.self c.self.inside.ready (streams_in (c.get_mut.follows.lender now)) =
+    let between : AreKept c.replace.new.self c.self.inside.ready c.self.inside.seen (streams_in (c.get_mut.follows.lender now)) =
     replaced _ _ _ _ _ c.args.id c.in-Some.stream.now now (c.get_mut.follows.holds now) (search rules) c.replace.ensures.sound stands (search rules) (kept_again c.make_room.ensures.same c.make_room.ensures.sound (kept_again c.pass.ensures.same c.pass.ensures.sound c.self.invariant)) in
     let found : under_way_at c.self.inside.streams c.args.id ≡ Some c.in-Some.stream.now = search rules in
     let there : kept_at (streams_in (c.get_mut.follows.lender now)) c.args.id ≡ Some now = ((c.get_mut.follows.holds now).0 (ap is_some found)).here in

@@ -1,5 +1,5 @@
 -- What is named is what is told of the last id.
-use Rattle.h3_session.specs.Shutdown.{last_taken}
+use Rattle.h3_connection.specs.Shutdown.{last_taken}
 use Rattle.h3_connection.specs.Answers.{call_refused}
 use Rattle.h3_session.proofs.Draining.{goes_bounded}
 use Rattle.h3_session.proofs.endpoint.Endpoint.shutdown.Goals as goal

@@ -1,6 +1,6 @@
 -- What is named rests on the side.
 use Rattle.std.proofs.Common.{◌∙◌, sym, ap}
-use Rattle.h3_session.specs.Shutdown.{goaway_once, notice_id, shutdown_notice}
+use Rattle.h3_connection.specs.Shutdown.{goaway_once, notice_id, shutdown_notice}
 use Rattle.h3_connection.specs.Answers.{call_refused}
 use Rattle.h3_session.proofs.Draining.{does_alike}
 use Rattle.h3_session.proofs.endpoint.Endpoint.shutdown_notice.Goals as goal

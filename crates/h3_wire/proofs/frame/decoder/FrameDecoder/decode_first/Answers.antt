@@ -25,11 +25,11 @@ pub returns-then-remaining-needed-clause-rest : goal.returns-then-remaining-need
 returns-then-remaining-needed-clause-rest c = rest_same _ _ refl
 
 pub returns-clause-gives : goal.returns-clause-gives
-returns-clause-gives c = found _ _ _ _ c.in_ok-first.ensures.some refl
+returns-clause-gives c = found _ _ _ _ c.in_ok-frame.ensures.some refl
 
 pub returns-clause-counts : goal.returns-clause-counts
 returns-clause-counts c =
     let d = c.args.self.now in
     let enough : needed d ≤ length (concat c.args.src.now.pieces) =
     subst (λ n. needed d ≤ n) c.remaining.ensures (subst (λ n. n ≤ c.remaining.result) c.needed.ensures c.if-remaining-needed.false) in
-    finds _ _ _ _ _ enough c.in_ok-first.ensures.some c.count.ensures
+    finds _ _ _ _ _ enough c.in_ok-frame.ensures.some c.count.ensures
