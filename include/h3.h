@@ -66,7 +66,8 @@
  * h3_free, the ids and the texts return none. A refused call changed nothing, with these
  * exceptions: H3_CONNECTION of a delivery (the connection has its fault now), H3_KEPT (the bytes
  * were taken), and H3_MEMORY of the calls that send fields (some QPACK instructions may wait on the
- * local encoder stream; the request stream is as it was, and you can repeat the call).
+ * local encoder stream; the request stream is as it was, and you can repeat the call) and of
+ * h3_open_request_at (requests with lower ids may be open).
  * If there are several reasons, the first in the order of the call's comment is returned, but
  * H3_MEMORY may come before others. Many calls have a last argument `detail`, which may be NULL: it
  * gets the number that the reason names (below), else 0.
@@ -154,7 +155,7 @@
  *   h3_read, h3_deliver, h3_deliver_end,    the local encoder stream (the peer's settings came),
  *   h3_deliver_reset, h3_pull               the local decoder stream (the peer's encoder stream was
  *                                           read, a section was decoded, a stream was canceled)
- *   h3_cancel                               the local decoder stream
+ *   h3_cancel, h3_close_stream              the local decoder stream
  *   all others                              none
  *
  * If QUIC has no room for all, send the local control, encoder and decoder stream before request
@@ -272,15 +273,16 @@ enum h3_answer {
   H3_IDS_USED_UP = 8,        /* there are no further ids below 2^62 */
   H3_NOT_OPEN = 9,           /* the stream is not open at this side */
   H3_OUT_OF_ORDER = 10,      /* not at this place of the message: first the header section, then
-                                bodies, then a trailer section, then the end */
+                                bodies, then a trailer section, then the end; or the request's id
+                                is below the next one */
   H3_WRONG_SIDE = 11,        /* a client sends requests (:method), a server responses (:status) */
   H3_PSEUDO_IN_TRAILER = 12, /* a trailer section has no pseudo-header field */
   H3_TOO_LARGE = 13,         /* the field section is larger than the peer accepts; detail: its size
                                 (RFC 9114, section 4.2.2) */
   H3_CRITICAL = 14,          /* the connection needs this stream */
   H3_ENDED = 15,             /* the stream has ended */
-  H3_NOT_REQUEST_ID = 16,    /* a server's GOAWAY and a datagram name a request stream: a multiple
-                                of 4 */
+  H3_NOT_REQUEST_ID = 16,    /* a server's GOAWAY, a datagram and h3_open_request_at name a request
+                                stream: a multiple of 4 */
   H3_RAISED = 17,            /* an earlier GOAWAY had a lower id; detail: that id */
   H3_MEMORY = 18,            /* out of memory: nothing is lost */
   /* of h3_new */
@@ -493,6 +495,13 @@ static inline uint32_t h3_open_request(h3_endpoint *endpoint, uint64_t *id, uint
  * h3_open_request, except H3_MEMORY; *id is not written then. */
 static inline uint32_t h3_next_request_id(h3_endpoint *endpoint, uint64_t *id, uint64_t *detail);
 
+/* Opens the request whose id QUIC gave, and all with lower ids that are not open yet: for a program
+ * whose QUIC library names the stream. Each that it opens takes memory, so pass no id far ahead.
+ * Refused, in this order: H3_ARGUMENT (id not below 2^62), H3_CLOSED, H3_NOT_CLIENT, H3_GOING_AWAY,
+ * H3_IDS_USED_UP, H3_NOT_REQUEST_ID, H3_OUT_OF_ORDER (the id is below the next one), H3_MEMORY
+ * (requests with lower ids may be open now: call again). */
+static inline uint32_t h3_open_request_at(h3_endpoint *endpoint, uint64_t id, uint64_t *detail);
+
 /* How long a name and a value are, in bytes. */
 typedef struct {
   uint32_t name, value;
@@ -547,6 +556,14 @@ static inline uint32_t h3_reset(h3_endpoint *endpoint, uint64_t id, uint64_t *de
  * later pull of it returns H3_FAULT_CANCELED. Refused, in this order: H3_ARGUMENT, H3_CLOSED,
  * H3_CRITICAL, H3_NOT_OPEN, H3_ENDED (its end was delivered, or it was canceled), H3_MEMORY. */
 static inline uint32_t h3_cancel(h3_endpoint *endpoint, uint64_t id, uint64_t *detail);
+
+/* Ends a request stream both ways, as h3_cancel and then h3_reset do. A half that has ended stays
+ * as it is, and is no refusal. *stop_sending is 1 if QUIC is to send STOP_SENDING, else 0, and
+ * *reset_stream is 1 if it is to send RESET_STREAM, else 0: both with a code of your choice.
+ * Refused, and neither is written, in this order: H3_ARGUMENT (id not below 2^62), H3_CLOSED,
+ * H3_CRITICAL, H3_NOT_OPEN, H3_MEMORY. */
+static inline uint32_t h3_close_stream(h3_endpoint *endpoint, uint64_t id, uint32_t *stop_sending,
+                                       uint32_t *reset_stream, uint64_t *detail);
 
 /* Sends GOAWAY: a server announces that it processes no request from this id on (a multiple of 4),
  * a client no push (RFC 9114, section 5.2). With reject_requests, which h3_config_default sets, a
@@ -886,6 +903,23 @@ typedef struct {
 /* The state of a stream. Refused: H3_ARGUMENT (id not below 2^62). */
 static inline uint32_t h3_stream(h3_endpoint *endpoint, uint64_t id, h3_stream_state *state);
 
+/* The types of unidirectional streams (RFC 9114, section 6.2; RFC 9204, section 4.2). */
+enum h3_stream_type {
+  H3_STREAM_UNTOLD = 0,  /* too few bytes came: its type, or the id after it, is not whole */
+  H3_STREAM_CONTROL = 1,
+  H3_STREAM_ENCODER = 2,
+  H3_STREAM_DECODER = 3,
+  H3_STREAM_PUSH = 4,    /* the connection has a fault by it: no push was allowed */
+  H3_STREAM_SESSION = 5, /* of a WebTransport session */
+  H3_STREAM_UNKNOWN = 6  /* what comes on it is dropped. QUIC may send STOP_SENDING, with
+                            H3_CODE_STREAM_CREATION_ERROR */
+};
+
+/* The h3_stream_type of a unidirectional stream of the peer, by what came on it. Ask after data on
+ * such a stream. H3_NONE for any other stream (*type is not written then).
+ * Refused: H3_ARGUMENT (id not below 2^62). */
+static inline uint32_t h3_stream_kind(h3_endpoint *endpoint, uint64_t id, uint32_t *type);
+
 typedef struct {
   uint64_t sending_table;    /* size of the dynamic table that this side writes, in bytes (RFC 9204,
                                 section 3.2.1) */
@@ -936,6 +970,8 @@ uint32_t h3_raw_open_request(h3_endpoint endpoint, uint64_t *id, uint64_t *detai
                              h3_endpoint *out);
 uint32_t h3_raw_next_request_id(h3_endpoint endpoint, uint64_t *id, uint64_t *detail,
                                 h3_endpoint *out);
+uint32_t h3_raw_open_request_at(h3_endpoint endpoint, uint64_t id, uint64_t *detail,
+                                h3_endpoint *out);
 uint32_t h3_raw_send_head(h3_endpoint endpoint, uint64_t id, const h3_field_size *sizes,
                           size_t count, const uint8_t *bytes, size_t len, uint64_t *detail,
                           h3_endpoint *out);
@@ -949,6 +985,8 @@ uint32_t h3_raw_send_body_of(h3_endpoint endpoint, uint64_t id, size_t len, uint
 uint32_t h3_raw_finish(h3_endpoint endpoint, uint64_t id, uint64_t *detail, h3_endpoint *out);
 uint32_t h3_raw_reset(h3_endpoint endpoint, uint64_t id, uint64_t *detail, h3_endpoint *out);
 uint32_t h3_raw_cancel(h3_endpoint endpoint, uint64_t id, uint64_t *detail, h3_endpoint *out);
+uint32_t h3_raw_close_stream(h3_endpoint endpoint, uint64_t id, uint32_t *stop_sending,
+                             uint32_t *reset_stream, uint64_t *detail, h3_endpoint *out);
 uint32_t h3_raw_goaway(h3_endpoint endpoint, uint64_t id, uint64_t *detail, h3_endpoint *out);
 uint32_t h3_raw_shutdown_notice(h3_endpoint endpoint, uint64_t *detail, h3_endpoint *out);
 uint32_t h3_raw_shutdown(h3_endpoint endpoint, uint64_t *detail, h3_endpoint *out);
@@ -976,6 +1014,7 @@ uint32_t h3_raw_datagram_head(h3_endpoint endpoint, uint64_t id, uint8_t *buffer
 uint32_t h3_raw_read_datagram(h3_endpoint endpoint, const uint8_t *bytes, size_t len, uint64_t *id,
                               size_t *from, uint64_t *detail, h3_endpoint *out);
 uint32_t h3_raw_stream(h3_endpoint endpoint, uint64_t id, h3_stream_state *state, h3_endpoint *out);
+uint32_t h3_raw_stream_kind(h3_endpoint endpoint, uint64_t id, uint32_t *type, h3_endpoint *out);
 uint32_t h3_raw_connection(h3_endpoint endpoint, h3_state *state, h3_endpoint *out);
 uint32_t h3_raw_peer_setting(h3_endpoint endpoint, uint64_t setting, uint64_t *value,
                              h3_endpoint *out);
@@ -1040,6 +1079,11 @@ static inline uint32_t h3_next_request_id(h3_endpoint *endpoint, uint64_t *id, u
   if (!id) return H3_ARGUMENT;
   return h3_raw_next_request_id(*endpoint, id, detail ? detail : &none, endpoint);
 }
+static inline uint32_t h3_open_request_at(h3_endpoint *endpoint, uint64_t id, uint64_t *detail) {
+  uint64_t none;
+  if (!endpoint || !endpoint->at) return H3_NO_ENDPOINT;
+  return h3_raw_open_request_at(*endpoint, id, detail ? detail : &none, endpoint);
+}
 static inline uint32_t h3_send_head(h3_endpoint *endpoint, uint64_t id, const h3_field_size *sizes,
                                     size_t count, const void *bytes, size_t len, uint64_t *detail) {
   uint64_t none; h3_field_size no_size = {0, 0};
@@ -1084,6 +1128,14 @@ static inline uint32_t h3_cancel(h3_endpoint *endpoint, uint64_t id, uint64_t *d
   uint64_t none;
   if (!endpoint || !endpoint->at) return H3_NO_ENDPOINT;
   return h3_raw_cancel(*endpoint, id, detail ? detail : &none, endpoint);
+}
+static inline uint32_t h3_close_stream(h3_endpoint *endpoint, uint64_t id, uint32_t *stop_sending,
+                                       uint32_t *reset_stream, uint64_t *detail) {
+  uint64_t none;
+  if (!endpoint || !endpoint->at) return H3_NO_ENDPOINT;
+  if (!stop_sending || !reset_stream) return H3_ARGUMENT;
+  return h3_raw_close_stream(*endpoint, id, stop_sending, reset_stream, detail ? detail : &none,
+                             endpoint);
 }
 static inline uint32_t h3_goaway(h3_endpoint *endpoint, uint64_t id, uint64_t *detail) {
   uint64_t none;
@@ -1208,6 +1260,11 @@ static inline uint32_t h3_stream(h3_endpoint *endpoint, uint64_t id, h3_stream_s
   if (!endpoint || !endpoint->at) return H3_NO_ENDPOINT;
   if (!state) return H3_ARGUMENT;
   return h3_raw_stream(*endpoint, id, state, endpoint);
+}
+static inline uint32_t h3_stream_kind(h3_endpoint *endpoint, uint64_t id, uint32_t *type) {
+  if (!endpoint || !endpoint->at) return H3_NO_ENDPOINT;
+  if (!type) return H3_ARGUMENT;
+  return h3_raw_stream_kind(*endpoint, id, type, endpoint);
 }
 static inline uint32_t h3_connection(h3_endpoint *endpoint, h3_state *state) {
   if (!endpoint || !endpoint->at) return H3_NO_ENDPOINT;

@@ -136,6 +136,11 @@ class field_list {
   std::string bytes_;
 };
 
+/* What QUIC is to send for a stream that was closed. */
+struct closed_stream {
+  bool stop_sending = false, reset_stream = false;
+};
+
 /* What a pull or a read returned. The same item may serve for many of them: its memory is used again. */
 struct item {
   h3_kind kind = H3_PENDING;
@@ -254,6 +259,8 @@ class endpoint {
 
   result open_request(std::uint64_t &id) noexcept { return call(h3_open_request, &id); }
   result next_request_id(std::uint64_t &id) noexcept { return call(h3_next_request_id, &id); }
+  /* Opens the request of an id that QUIC gave, and all with lower ids that are not open. */
+  result open_request_at(std::uint64_t id) noexcept { return call(h3_open_request_at, id); }
   /* Pseudo-header fields stand in front. */
   result send_head(std::uint64_t id, const field_list &list) noexcept { return send(h3_send_head, id, list); }
   result send_trailer(std::uint64_t id, const field_list &list) noexcept { return send(h3_send_trailer, id, list); }
@@ -265,6 +272,13 @@ class endpoint {
   result finish(std::uint64_t id) noexcept { return call(h3_finish, id); }
   result reset(std::uint64_t id) noexcept { return call(h3_reset, id); }
   result cancel(std::uint64_t id) noexcept { return call(h3_cancel, id); }
+  /* Cancels and resets a stream, each if that half is open: `frames` says which frames QUIC is to send. */
+  result close_stream(std::uint64_t id, closed_stream &frames) noexcept {
+    std::uint32_t stop_sending = 0, reset_stream = 0;
+    result said = call(h3_close_stream, id, &stop_sending, &reset_stream);
+    if (said) frames = {stop_sending == 1, reset_stream == 1};
+    return said;
+  }
   result goaway(std::uint64_t id) noexcept { return call(h3_goaway, id); }
   /* The two steps of a shutdown (SHUT DOWN of h3.h). */
   result shutdown_notice() noexcept { return call(h3_shutdown_notice); }
@@ -364,6 +378,12 @@ class endpoint {
     h3_stream_state state{};
     h3_stream(&raw_, id, &state);
     return state;
+  }
+  /* The h3_stream_type of a unidirectional stream of the peer. */
+  std::optional<std::uint32_t> stream_kind(std::uint64_t id) noexcept {
+    std::uint32_t type;
+    if (h3_stream_kind(&raw_, id, &type) != H3_OK) return std::nullopt;
+    return type;
   }
   h3_state connection() noexcept {
     h3_state state{};

@@ -55,6 +55,12 @@ func (e *Endpoint) NextRequestID() (uint64, error) {
 	return uint64(id), err
 }
 
+// OpenRequestAt opens the request of an id that QUIC gave, and all with lower ids that are not open.
+func (e *Endpoint) OpenRequestAt(id uint64) error {
+	var detail C.uint64_t
+	return refusal(C.h3_open_request_at(&e.raw, C.uint64_t(id), &detail), detail)
+}
+
 // start is the address of the first byte, or nil if there is none.
 func start(bytes []byte) unsafe.Pointer {
 	if len(bytes) == 0 {
@@ -143,6 +149,14 @@ func (e *Endpoint) Reset(id uint64) error {
 func (e *Endpoint) Cancel(id uint64) error {
 	var detail C.uint64_t
 	return refusal(C.h3_cancel(&e.raw, C.uint64_t(id), &detail), detail)
+}
+
+// CloseStream cancels and resets a request stream, each if that half is open: which frames QUIC is to send for it.
+func (e *Endpoint) CloseStream(id uint64) (stopSending, resetStream bool, err error) {
+	var stop, reset C.uint32_t
+	var detail C.uint64_t
+	err = refusal(C.h3_close_stream(&e.raw, C.uint64_t(id), &stop, &reset, &detail), detail)
+	return stop == 1, reset == 1, err
 }
 
 // Goaway says that a server takes no request from this id on, a multiple of 4, or a client no push (RFC 9114, section 5.2).

@@ -158,6 +158,28 @@ func TestStates(t *testing.T) {
 	is(t, version>>16, uint32(1))
 }
 
+func TestStreams(t *testing.T) {
+	client, server := pair(t)
+	is(t, client.OpenRequestAt(8), nil)
+	id, err := client.OpenRequest()
+	is(t, []any{id, err}, []any{uint64(12), nil})
+	is(t, client.OpenRequestAt(4) != nil, true)
+	// neither half has ended; then the end of the peer's half came
+	stop, reset, err := client.CloseStream(4)
+	is(t, []any{stop, reset, err}, []any{true, true, nil})
+	is(t, client.DeliverEnd(8), nil)
+	stop, reset, err = client.CloseStream(8)
+	is(t, []any{stop, reset, err}, []any{false, true, nil})
+	// 0x21 is reserved (RFC 9114, section 6.2.3)
+	is(t, server.Deliver(14, []byte{0x21}), nil)
+	for id, wanted := range map[uint64]StreamType{2: StreamControl, 6: StreamEncoder, 10: StreamDecoder, 14: StreamUnknown, 18: StreamUntold} {
+		kind, ok := server.StreamKind(id)
+		is(t, []any{kind, ok}, []any{wanted, true})
+	}
+	_, ok := server.StreamKind(0)
+	is(t, ok, false)
+}
+
 func TestPauses(t *testing.T) {
 	client, server := pair(t)
 	id, _ := client.OpenRequest()

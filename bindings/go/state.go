@@ -22,6 +22,26 @@ func (e *Endpoint) Stream(id uint64) StreamState {
 	return StreamState{uint64(s.waiting), uint64(s.unread), s.has_outgoing == 1, s.is_finished == 1, s.is_reset == 1, int(s.tries)}
 }
 
+// StreamType is the type of a unidirectional stream (RFC 9114, section 6.2), as h3_stream_type.
+type StreamType int
+
+const (
+	StreamUntold  StreamType = C.H3_STREAM_UNTOLD // too few bytes came
+	StreamControl StreamType = C.H3_STREAM_CONTROL
+	StreamEncoder StreamType = C.H3_STREAM_ENCODER
+	StreamDecoder StreamType = C.H3_STREAM_DECODER
+	StreamPush    StreamType = C.H3_STREAM_PUSH
+	StreamSession StreamType = C.H3_STREAM_SESSION // of a WebTransport session
+	StreamUnknown StreamType = C.H3_STREAM_UNKNOWN // what comes on it is dropped: QUIC may send STOP_SENDING
+)
+
+// StreamKind is the type of a unidirectional stream of the peer, by what came on it; false: it is another stream.
+func (e *Endpoint) StreamKind(id uint64) (StreamType, bool) {
+	var kind C.uint32_t
+	answer := C.h3_stream_kind(&e.raw, C.uint64_t(id), &kind)
+	return StreamType(kind), answer == C.H3_OK
+}
+
 // PeerLimits is what the peer's settings allow.
 type PeerLimits struct {
 	Table   uint64 // the capacity of its dynamic table in bytes

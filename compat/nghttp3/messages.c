@@ -26,12 +26,12 @@ static int submit_message(nghttp3_conn *connection, stream *s, const nghttp3_nv 
 
 /* Opens the request stream of this id, and those before it, which QUIC has opened for other ends or not at all. */
 static int open_request(nghttp3_conn *connection, int64_t id) {
-  while (connection->next_id <= id) {
-    uint64_t opened, detail = 0;
-    uint32_t answer = h3_open_request(&connection->endpoint, &opened, &detail);
-    if (answer != H3_OK) return error_of_answer(answer, detail);
-    connection->next_id = (int64_t)opened + 4;
-  }
+  uint64_t detail = 0;
+  if (id < connection->next_id) return 0;
+  uint32_t answer = h3_open_request_at(&connection->endpoint, (uint64_t)id, &detail);
+  /* one below the next is open: a call that ran out of memory opened it */
+  if (answer != H3_OK && answer != H3_OUT_OF_ORDER) return error_of_answer(answer, detail);
+  connection->next_id = id + 4;
   return 0;
 }
 

@@ -116,6 +116,7 @@ checks() {
   compile excess excess "${wrapped[@]}"
   compile cancellations cancellations "${wrapped[@]}"
   compile shutdown shutdown
+  compile streams streams -Wl,--wrap=malloc,--wrap=realloc
   compile drained drained -Wl,--wrap=malloc,--wrap=realloc
   compile datagrams datagrams
   compile lists lists
@@ -142,6 +143,7 @@ checks() {
     run excess "$out/excess"
     run cancellations "$out/cancellations"
     run shutdown "$out/shutdown"
+    run streams "$out/streams"
     run drained "$out/drained" 0 10000
     run datagrams "$out/datagrams"
     programs

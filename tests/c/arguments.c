@@ -28,6 +28,7 @@ static void of_none(h3_endpoint *e) {
   h3_field_size f = {1, 1};
   IS(h3_open_request(e, &id, &detail), H3_NO_ENDPOINT);
   IS(h3_next_request_id(e, &id, &detail), H3_NO_ENDPOINT);
+  IS(h3_open_request_at(e, 0, &detail), H3_NO_ENDPOINT);
   IS(h3_send_head(e, 0, &f, 1, "ab", 2, &detail), H3_NO_ENDPOINT);
   IS(h3_send_trailer(e, 0, &f, 1, "ab", 2, &detail), H3_NO_ENDPOINT);
   IS(h3_send_head(e, 0, &f, 1, "ab", 2, &detail), H3_NO_ENDPOINT);
@@ -38,6 +39,8 @@ static void of_none(h3_endpoint *e) {
   IS(h3_finish(e, 0, &detail), H3_NO_ENDPOINT);
   IS(h3_reset(e, 0, &detail), H3_NO_ENDPOINT);
   IS(h3_cancel(e, 0, &detail), H3_NO_ENDPOINT);
+  IS(h3_close_stream(e, 0, &fin, &fin, &detail), H3_NO_ENDPOINT);
+  IS(h3_stream_kind(e, 2, &fin), H3_NO_ENDPOINT);
   IS(h3_goaway(e, 0, &detail), H3_NO_ENDPOINT);
   IS(h3_shutdown_notice(e, &detail), H3_NO_ENDPOINT);
   IS(h3_shutdown(e, &detail), H3_NO_ENDPOINT);
@@ -104,6 +107,9 @@ static void of_pointers(h3_endpoint *e, uint64_t id) {
   IS(h3_pull(e, id, NULL), H3_ARGUMENT);
   IS(h3_item_bytes(e, 0, b, 4, NULL), H3_ARGUMENT);
   IS(h3_stream(e, id, NULL), H3_ARGUMENT);
+  IS(h3_stream_kind(e, 3, NULL), H3_ARGUMENT);
+  IS(h3_close_stream(e, id, NULL, &fin, NULL), H3_ARGUMENT);
+  IS(h3_close_stream(e, id, &fin, NULL, NULL), H3_ARGUMENT);
   IS(h3_connection(e, NULL), H3_ARGUMENT);
   IS(h3_peer_setting(e, 6, NULL), H3_ARGUMENT);
   HOLDS(n == 0);

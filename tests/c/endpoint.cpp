@@ -84,6 +84,11 @@ void exchange(std::size_t piece) {
   std::uint64_t id = 1;
   WANT(client.next_request_id(id) && id == 0);
   WANT(client.open_request(id) && id == 0);
+  closed_stream frames;
+  WANT(client.open_request_at(8) && client.open_request_at(4).answer == H3_OUT_OF_ORDER);
+  WANT(client.close_stream(8, frames) && frames.stop_sending && frames.reset_stream);
+  WANT(client.close_stream(12, frames).answer == H3_NOT_OPEN && frames.stop_sending);
+  WANT(client.stream_kind(3) == std::uint32_t{H3_STREAM_CONTROL} && !client.stream_kind(0));
   const std::initializer_list<field> asked = {
       {":method", "POST"}, {":scheme", "https"}, {":authority", "localhost"}, {":path", "/"}, {"x-none", ""}};
   WANT(client.send_head(id, asked));

@@ -96,7 +96,11 @@ static void drop(void) {
 static uint64_t opened(void) {
   uint64_t next, id;
   DONE(h3_next_request_id(&ends[0], &next, NULL), "h3_next_request_id", 0);
-  DONE(h3_open_request(&ends[0], &id, NULL), "h3_open_request", next);
+  if (next % 8) {
+    DONE(h3_open_request(&ends[0], &id, NULL), "h3_open_request", next);
+  } else {
+    DONE(h3_open_request_at(&ends[0], id = next, NULL), "h3_open_request_at", next);
+  }
   WANT(id == next, "h3_next_request_id names another stream", id, next);
   return id;
 }
@@ -219,6 +223,7 @@ static void bodies(void) {
 static void streams(void) {
   static list head;
   uint64_t id, seen = 0;
+  uint32_t stop, reset;
   make();
   carry_own();
   for (int side = 0; side < 2; side++) {
@@ -243,10 +248,15 @@ static void streams(void) {
     id = opened();
     send(0, id, &head, 100, NULL);
     carry_own();
-    DONE(h3_reset(&ends[0], id, NULL), "h3_reset", id);
+    if (n % 2) {
+      DONE(h3_close_stream(&ends[0], id, &stop, &reset, NULL), "h3_close_stream", id);
+      WANT(stop == 1 && reset == 1, "a frame is not to be sent", id, n);
+    } else {
+      DONE(h3_reset(&ends[0], id, NULL), "h3_reset", id);
+    }
     DONE(h3_deliver_reset(&ends[1], id, 256, NULL), "h3_deliver_reset", id);
     WANT(pulled(1, id, H3_FAULT_RESET).number == 256, "another code", id, 0);
-    DONE(h3_cancel(&ends[0], id, NULL), "h3_cancel", id);
+    if (n % 2 == 0) DONE(h3_cancel(&ends[0], id, NULL), "h3_cancel", id);
     pulled(0, id, H3_FAULT_CANCELED);
   }
   drop();
@@ -279,7 +289,7 @@ static void insertions(void) {
 /* deliveries of 1 MiB on each kind of stream */
 static void deliveries(void) {
   uint64_t id, value, detail;
-  uint32_t drained;
+  uint32_t drained, type;
   h3_state state;
   h3_item item;
   size_t n;
@@ -319,6 +329,8 @@ static void deliveries(void) {
   carry(1, 3);
   DONE(h3_first_unseen(&ends[1], &id), "h3_first_unseen", 0);
   DONE(h3_is_drained(&ends[1], &drained), "h3_is_drained", 0);
+  DONE(h3_stream_kind(&ends[0], 3, &type), "h3_stream_kind", 3);
+  WANT(type == H3_STREAM_CONTROL, "another type of stream", 3, type);
   WANT(id == 0 && drained == 1, "an endpoint without requests is not drained", 3, id);
   drop();
 }

@@ -61,7 +61,7 @@ from .items import (
     Trailer,
     Waiting,
 )
-from .state import ConnectionState, PeerLimits, Priority, StreamState, Version
+from .state import ClosedStream, ConnectionState, PeerLimits, Priority, StreamState, StreamType, Version
 
 __all__ = [
     "Answer",
@@ -73,6 +73,7 @@ __all__ = [
     "CapsuleHead",
     "CapsuleReader",
     "CapsuleValue",
+    "ClosedStream",
     "Code",
     "Config",
     "ConnectionFault",
@@ -102,6 +103,7 @@ __all__ = [
     "Reset",
     "Session",
     "StreamState",
+    "StreamType",
     "TooLargeHead",
     "Trailer",
     "Version",

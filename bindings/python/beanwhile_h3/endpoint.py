@@ -32,7 +32,7 @@ from .items import (
     Trailer,
     Waiting,
 )
-from .state import ConnectionState, PeerLimits, StreamState
+from .state import ClosedStream, ConnectionState, PeerLimits, StreamState, StreamType
 
 Bytes = bytes | bytearray | memoryview
 
@@ -160,6 +160,12 @@ class Endpoint:
         self._call("h3_raw_next_request_id", byref(id))
         return id.value
 
+    def open_request_at(self, id: int) -> None:
+        """Opens the request of an id that QUIC gave, and all with lower ids that are not open.
+
+        Raises what `open_request` raises, and `Answer.NOT_REQUEST_ID`, `OUT_OF_ORDER` (the id is below the next one)."""
+        self._call("h3_raw_open_request_at", _number(id))
+
     def send_head(self, id: int, fields: Iterable[tuple[Bytes, Bytes]]) -> None:
         """Sends a header section as the list that it is given as: put pseudo-header fields in front, each once. A response with a status
         from 100 to 199 is an interim one, after which another one is sent.
@@ -207,6 +213,14 @@ class Endpoint:
 
         Raises `Answer.CLOSED`, `CRITICAL`, `NOT_OPEN`, `ENDED` (its end was delivered, or it was canceled), `MEMORY`."""
         self._call("h3_raw_cancel", _number(id))
+
+    def close_stream(self, id: int) -> ClosedStream:
+        """Cancels and resets a request stream, each if that half is open: which frames QUIC is to send for it.
+
+        Raises `Answer.CLOSED`, `CRITICAL`, `NOT_OPEN`, `MEMORY`."""
+        stop_sending, reset_stream = c_uint32(), c_uint32()
+        self._call("h3_raw_close_stream", _number(id), byref(stop_sending), byref(reset_stream))
+        return ClosedStream(stop_sending.value == 1, reset_stream.value == 1)
 
     def goaway(self, id: int) -> None:
         """A server processes no request from this id on (a multiple of 4), a client no push (RFC 9114, section 5.2).
@@ -412,6 +426,14 @@ class Endpoint:
         state = raw.RawStream()
         self._plain_call("h3_raw_stream", _number(id), byref(state))
         return StreamState(state.waiting, state.unread, state.has_outgoing == 1, state.is_finished == 1, state.is_reset == 1, state.tries)
+
+    def stream_kind(self, id: int) -> StreamType | None:
+        """The type of a unidirectional stream of the peer, by what came on it. None: it is another stream."""
+        kind = c_uint32()
+        answer = self._answer("h3_raw_stream_kind", _number(id), byref(kind))
+        if answer not in (Answer.OK, Answer.NONE):
+            raise refused(answer)
+        return None if answer else StreamType(kind.value)
 
     def connection(self) -> ConnectionState:
         """The state of the connection."""

@@ -134,6 +134,7 @@ DECLARATIONS: dict[str, tuple[Any, list[Any]]] = {
     "h3_raw_free": (None, [Handle]),
     "h3_raw_open_request": GIVES_ID,
     "h3_raw_next_request_id": GIVES_ID,
+    "h3_raw_open_request_at": TAKES_ID,
     "h3_raw_send_head": SENDS_LIST,
     "h3_raw_send_trailer": SENDS_LIST,
     "h3_raw_send_body": TAKES_BYTES,
@@ -141,6 +142,7 @@ DECLARATIONS: dict[str, tuple[Any, list[Any]]] = {
     "h3_raw_finish": TAKES_ID,
     "h3_raw_reset": TAKES_ID,
     "h3_raw_cancel": TAKES_ID,
+    "h3_raw_close_stream": (c_uint32, [Handle, c_uint64, U32_OUT, U32_OUT, U64_OUT, OUT]),
     "h3_raw_goaway": TAKES_ID,
     "h3_raw_shutdown_notice": TELLS,
     "h3_raw_shutdown": TELLS,
@@ -160,6 +162,7 @@ DECLARATIONS: dict[str, tuple[Any, list[Any]]] = {
     "h3_raw_datagram_head": (c_uint32, [Handle, c_uint64, BUFFER, c_size_t, SIZE_OUT, U64_OUT, OUT]),
     "h3_raw_read_datagram": (c_uint32, [Handle, BYTES, c_size_t, U64_OUT, SIZE_OUT, U64_OUT, OUT]),
     "h3_raw_stream": (c_uint32, [Handle, c_uint64, POINTER(RawStream), OUT]),
+    "h3_raw_stream_kind": (c_uint32, [Handle, c_uint64, U32_OUT, OUT]),
     "h3_raw_connection": (c_uint32, [Handle, POINTER(RawConnection), OUT]),
     "h3_raw_peer_setting": FINDS_NUMBER,
 }

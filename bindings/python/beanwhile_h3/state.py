@@ -1,6 +1,7 @@
 """What can be read of a stream, of the connection, of the library and of a `priority` field."""
 
 import ctypes
+import enum
 from dataclasses import dataclass
 from typing import Self
 
@@ -23,6 +24,29 @@ class StreamState:
     """Sending was reset."""
     tries: int
     """How often the field section that is next was tried, else the last one."""
+
+
+@dataclass(frozen=True, slots=True)
+class ClosedStream:
+    """What QUIC is to send for a stream that was closed."""
+
+    stop_sending: bool
+    reset_stream: bool
+
+
+class StreamType(enum.IntEnum):
+    """`h3_stream_type`: the type of a unidirectional stream (RFC 9114, section 6.2)."""
+
+    UNTOLD = 0
+    """Too few bytes came."""
+    CONTROL = 1
+    ENCODER = 2
+    DECODER = 3
+    PUSH = 4
+    SESSION = 5
+    """Of a WebTransport session."""
+    UNKNOWN = 6
+    """What comes on it is dropped: QUIC may send STOP_SENDING with `Code.STREAM_CREATION_ERROR`."""
 
 
 @dataclass(frozen=True, slots=True)

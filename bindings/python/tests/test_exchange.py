@@ -7,8 +7,10 @@ from unittest import mock
 
 import beanwhile_h3
 from beanwhile_h3 import (
+    Answer,
     Body,
     Canceled,
+    ClosedStream,
     Config,
     End,
     Endpoint,
@@ -19,6 +21,8 @@ from beanwhile_h3 import (
     PeerLimits,
     Pending,
     Priority,
+    Refused,
+    StreamType,
     Trailer,
     Waiting,
     local_ids,
@@ -90,6 +94,23 @@ class Exchange(unittest.TestCase):
         client.advance(id, 5)
         self.assertEqual((client.outgoing(id), client.next_to_send(0)), ((b"", True), 0))
         self.assertEqual((client.end_taken(id), client.end_taken(id), client.next_to_send(0)), (True, False, 2))
+
+    def test_requests_are_opened_by_their_ids_and_closed(self) -> None:
+        client, server = Endpoint(Config.client()), Endpoint(Config.server())
+        client.open_request_at(8)
+        self.assertEqual((client.next_request_id(), client.open_request()), (12, 12))
+        with self.assertRaises(Refused) as below:
+            client.open_request_at(4)
+        self.assertEqual(below.exception.answer, Answer.OUT_OF_ORDER)
+        # neither half has ended; then the end of the peer's half came
+        self.assertEqual(client.close_stream(4), ClosedStream(stop_sending=True, reset_stream=True))
+        client.deliver_end(8)
+        self.assertEqual(client.close_stream(8), ClosedStream(stop_sending=False, reset_stream=True))
+        # the types 0, 0x21 (RFC 9114, sections 6.2.1 and 6.2.3), and half a type
+        for id, data in (2, b"\x00"), (14, b"\x21"), (18, b"\x40"):
+            server.deliver(id, data)
+        types = [server.stream_kind(id) for id in (2, 14, 18, 22, 0, 3)]
+        self.assertEqual(types, [StreamType.CONTROL, StreamType.UNKNOWN, StreamType.UNTOLD, StreamType.UNTOLD, None, None])
 
     def test_a_server_shuts_down_in_two_steps(self) -> None:
         server = Endpoint(Config.server())

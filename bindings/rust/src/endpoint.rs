@@ -4,7 +4,7 @@ use crate::error::{Error, Fault, Malformation};
 use crate::fields::{in_a_row, Fields};
 use crate::item::{Came, Head, Item, Next, Pause};
 use crate::raw::{self, FieldSize, Handle, RawConnection, RawItem, RawStream};
-use crate::state::{ConnectionState, PeerLimits, StreamState};
+use crate::state::{ClosedStream, ConnectionState, PeerLimits, StreamState, StreamType};
 use std::ptr;
 
 const KEPT: u32 = 5;
@@ -104,6 +104,16 @@ impl Endpoint {
         Ok(id)
     }
 
+    /// Opens the request of an id that QUIC gave, and all with lower ids that are not open.
+    ///
+    /// # Errors
+    ///
+    /// Those of [`open_request`](Endpoint::open_request), [`Error::NotRequestId`], [`Error::OutOfOrder`] (the id is below the next one),
+    /// [`Error::Argument`] (the id is 2^62 or more).
+    pub fn open_request_at(&mut self, id: u64) -> Result<(), Error> {
+        self.call(|handle, detail, out| unsafe { raw::h3_raw_open_request_at(handle, id, detail, out) })
+    }
+
     fn send_list<N: AsRef<[u8]>, V: AsRef<[u8]>>(&mut self, call: SendsList, id: u64, fields: &[(N, V)]) -> Result<(), Error> {
         let (sizes, bytes) = in_a_row(fields).ok_or(Error::Argument)?;
         self.call(|handle, detail, out| unsafe { call(handle, id, sizes.as_ptr(), sizes.len(), bytes.as_ptr(), bytes.len(), detail, out) })
@@ -194,6 +204,20 @@ impl Endpoint {
     /// [`Error::Argument`] (the id is 2^62 or more), [`Error::Memory`].
     pub fn cancel(&mut self, id: u64) -> Result<(), Error> {
         self.call(|handle, detail, out| unsafe { raw::h3_raw_cancel(handle, id, detail, out) })
+    }
+
+    /// Cancels and resets a request stream, each if that half is open: which frames QUIC is to send for it.
+    ///
+    /// # Errors
+    ///
+    /// [`Error::Closed`], [`Error::Critical`], [`Error::NotOpen`], [`Error::Argument`] (the id is 2^62 or more), [`Error::Memory`].
+    pub fn close_stream(&mut self, id: u64) -> Result<ClosedStream, Error> {
+        let (mut stop_sending, mut reset_stream) = (0, 0);
+        self.call(|handle, detail, out| unsafe { raw::h3_raw_close_stream(handle, id, &mut stop_sending, &mut reset_stream, detail, out) })?;
+        Ok(ClosedStream {
+            stop_sending: stop_sending == 1,
+            reset_stream: reset_stream == 1,
+        })
     }
 
     /// A server takes no request from this id on, a multiple of 4, or a client no push (RFC 9114, section 5.2).
@@ -495,6 +519,21 @@ impl Endpoint {
             is_reset: state.is_reset == 1,
             tries: state.tries,
         })
+    }
+
+    /// The type of a unidirectional stream of the peer, by what came on it. `None`: it is another stream.
+    pub fn stream_kind(&mut self, id: u64) -> Option<StreamType> {
+        let mut kind = 0;
+        self.call(|handle, _, out| unsafe { raw::h3_raw_stream_kind(handle, id, &mut kind, out) }).ok()?;
+        match kind {
+            0 => Some(StreamType::Untold),
+            1 => Some(StreamType::Control),
+            2 => Some(StreamType::Encoder),
+            3 => Some(StreamType::Decoder),
+            4 => Some(StreamType::Push),
+            5 => Some(StreamType::Session),
+            _ => Some(StreamType::Unknown),
+        }
     }
 
     /// What is to be seen of the connection.

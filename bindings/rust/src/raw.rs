@@ -80,6 +80,7 @@ extern "C" {
     pub(crate) fn h3_raw_free(endpoint: Handle);
     pub(crate) fn h3_raw_open_request(endpoint: Handle, id: *mut u64, detail: *mut u64, out: *mut Handle) -> u32;
     pub(crate) fn h3_raw_next_request_id(endpoint: Handle, id: *mut u64, detail: *mut u64, out: *mut Handle) -> u32;
+    pub(crate) fn h3_raw_open_request_at(endpoint: Handle, id: u64, detail: *mut u64, out: *mut Handle) -> u32;
     pub(crate) fn h3_raw_send_head(endpoint: Handle, id: u64, sizes: *const FieldSize, count: usize, bytes: *const u8, len: usize, detail: *mut u64, out: *mut Handle) -> u32;
     pub(crate) fn h3_raw_send_trailer(endpoint: Handle, id: u64, sizes: *const FieldSize, count: usize, bytes: *const u8, len: usize, detail: *mut u64, out: *mut Handle) -> u32;
     pub(crate) fn h3_raw_send_body(endpoint: Handle, id: u64, bytes: *const u8, len: usize, detail: *mut u64, out: *mut Handle) -> u32;
@@ -87,6 +88,7 @@ extern "C" {
     pub(crate) fn h3_raw_finish(endpoint: Handle, id: u64, detail: *mut u64, out: *mut Handle) -> u32;
     pub(crate) fn h3_raw_reset(endpoint: Handle, id: u64, detail: *mut u64, out: *mut Handle) -> u32;
     pub(crate) fn h3_raw_cancel(endpoint: Handle, id: u64, detail: *mut u64, out: *mut Handle) -> u32;
+    pub(crate) fn h3_raw_close_stream(endpoint: Handle, id: u64, stop_sending: *mut u32, reset_stream: *mut u32, detail: *mut u64, out: *mut Handle) -> u32;
     pub(crate) fn h3_raw_goaway(endpoint: Handle, id: u64, detail: *mut u64, out: *mut Handle) -> u32;
     pub(crate) fn h3_raw_shutdown_notice(endpoint: Handle, detail: *mut u64, out: *mut Handle) -> u32;
     pub(crate) fn h3_raw_shutdown(endpoint: Handle, detail: *mut u64, out: *mut Handle) -> u32;
@@ -106,6 +108,7 @@ extern "C" {
     pub(crate) fn h3_raw_datagram_head(endpoint: Handle, id: u64, buffer: *mut u8, room: usize, n: *mut usize, detail: *mut u64, out: *mut Handle) -> u32;
     pub(crate) fn h3_raw_read_datagram(endpoint: Handle, bytes: *const u8, len: usize, id: *mut u64, from: *mut usize, detail: *mut u64, out: *mut Handle) -> u32;
     pub(crate) fn h3_raw_stream(endpoint: Handle, id: u64, state: *mut RawStream, out: *mut Handle) -> u32;
+    pub(crate) fn h3_raw_stream_kind(endpoint: Handle, id: u64, kind: *mut u32, out: *mut Handle) -> u32;
     pub(crate) fn h3_raw_connection(endpoint: Handle, state: *mut RawConnection, out: *mut Handle) -> u32;
     pub(crate) fn h3_raw_peer_setting(endpoint: Handle, setting: u64, value: *mut u64, out: *mut Handle) -> u32;
 }

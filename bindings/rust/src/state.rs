@@ -18,6 +18,35 @@ pub struct StreamState {
     pub tries: u32,
 }
 
+/// What QUIC is to send for a stream that was closed.
+#[derive(Debug, Clone, Copy, PartialEq, Eq)]
+pub struct ClosedStream {
+    /// STOP_SENDING: the peer's half was open.
+    pub stop_sending: bool,
+    /// RESET_STREAM: the local half was open.
+    pub reset_stream: bool,
+}
+
+/// The type of a unidirectional stream (RFC 9114, section 6.2), as `h3_stream_type`.
+#[derive(Debug, Clone, Copy, PartialEq, Eq)]
+#[non_exhaustive]
+pub enum StreamType {
+    /// Too few bytes came.
+    Untold,
+    /// The control stream.
+    Control,
+    /// QPACK's encoder stream.
+    Encoder,
+    /// QPACK's decoder stream.
+    Decoder,
+    /// A push stream: the connection has a fault by it.
+    Push,
+    /// Of a WebTransport session.
+    Session,
+    /// What comes on it is dropped: QUIC may send STOP_SENDING with H3_STREAM_CREATION_ERROR.
+    Unknown,
+}
+
 /// What the peer's settings allow.
 #[derive(Debug, Clone, Copy, PartialEq, Eq)]
 #[non_exhaustive]

@@ -1,6 +1,6 @@
 //! Two endpoints in one program, with the bytes between them carried by hand: what was sent is what is handed out, once.
 
-use beanwhile_h3::{own_ids, Config, Endpoint, Error, Fields, Head, Item, Next, Pause, Version};
+use beanwhile_h3::{own_ids, ClosedStream, Config, Endpoint, Error, Fields, Head, Item, Next, Pause, StreamType, Version};
 
 /// Carries all that waits, in pieces, and each end once. Answers how many ends went over.
 fn carry(from: &mut Endpoint, to: &mut Endpoint, piece: usize) -> usize {
@@ -159,6 +159,26 @@ fn states_and_settings_are_shown() {
     assert_eq!(client.connection().unwrap().goaway, Some(4));
     assert_eq!(client.next_request_id(), Err(Error::GoingAway(4)));
     assert_eq!((own_ids(false), own_ids(true)), ([2, 6, 10], [3, 7, 11]));
+}
+
+#[test]
+fn requests_are_opened_by_their_ids_and_closed() {
+    let (mut client, mut server) = pair();
+    assert_eq!(client.open_request_at(8), Ok(()));
+    assert_eq!((client.next_request_id(), client.open_request()), (Ok(12), Ok(12)));
+    assert_eq!(client.open_request_at(4), Err(Error::OutOfOrder));
+    assert_eq!(client.open_request_at(17), Err(Error::NotRequestId));
+    // neither half has ended; then the end of the peer's half came
+    assert_eq!(client.close_stream(4), Ok(ClosedStream { stop_sending: true, reset_stream: true }));
+    client.deliver_end(8).unwrap();
+    assert_eq!(client.close_stream(8), Ok(ClosedStream { stop_sending: false, reset_stream: true }));
+    assert_eq!(client.close_stream(16), Err(Error::NotOpen));
+    // 0x21 is reserved (RFC 9114, section 6.2.3), and 0x40 is the first byte of a type of two
+    server.deliver(14, b"\x21").unwrap();
+    server.deliver(18, b"\x40").unwrap();
+    let types: Vec<Option<StreamType>> = [2, 6, 14, 18, 0, 3].into_iter().map(|id| server.stream_kind(id)).collect();
+    let (control, encoder) = (Some(StreamType::Control), Some(StreamType::Encoder));
+    assert_eq!(types, [control, encoder, Some(StreamType::Unknown), Some(StreamType::Untold), None, None]);
 }
 
 /// The crate and the library that it is linked with are of one version, which is what the crate says of its proofs too.

@@ -1,3 +1,4 @@
+pub mod Closing
 pub mod Configs
 pub mod Datagrams
 pub mod Ending
@@ -6,6 +7,7 @@ pub mod Given
 pub mod Giving
 pub mod Held
 pub mod Items
+pub mod Kinds
 pub mod Rows
 pub mod Numbers
 pub mod Priorities

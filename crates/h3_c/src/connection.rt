@@ -15,10 +15,12 @@ use h3_session::endpoint::Endpoint;
 use std::alloc::Global;
 use std::marker::Model;
 
+mod closing;
 mod datagrams;
 mod ending;
 mod heads;
 mod items;
+mod kinds;
 mod outgoing;
 mod reading;
 mod receiving;

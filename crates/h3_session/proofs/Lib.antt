@@ -57,3 +57,6 @@ pub mod MemorySteps
 pub mod Opened
 pub mod ReadingBodies
 pub mod Datagrams
+pub mod Closing
+pub mod OpeningAt
+pub mod PeerKinds

@@ -2,8 +2,11 @@ pub mod Changes
 pub mod Refused
 pub mod Next
 pub mod NextRequest
+pub mod OpeningAt
 pub mod Reading
 pub mod Canceling
+pub mod Closing
+pub mod PeerKinds
 pub mod Arriving
 pub mod SendingFields
 pub mod Pulling

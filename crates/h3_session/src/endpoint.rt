@@ -19,13 +19,16 @@ use std::collections::VecDeque;
 use std::marker::Model;
 
 mod bodies;
+mod closing;
 mod copying;
 mod datagrams;
 mod ending;
 mod heads;
+mod kinds;
 mod lacking;
 mod lists;
 mod next;
+mod opening;
 mod pulling;
 mod reading;
 mod receiving;
@@ -35,6 +38,7 @@ mod shutdown;
 mod strict;
 mod unread;
 
+pub use closing::ClosedStream;
 pub use datagrams::{DatagramError, DatagramRead};
 pub use lists::FieldsError;
 

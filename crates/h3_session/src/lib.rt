@@ -18,7 +18,7 @@ pub mod endpoint;
 pub mod laws;
 pub mod run;
 
-pub use crate::endpoint::{DatagramError, DatagramRead, FieldsError};
+pub use crate::endpoint::{ClosedStream, DatagramError, DatagramRead, FieldsError};
 pub use bytes::Bytes;
 pub use h3_capsule::head_bytes::HeadBytes;
 pub use h3_coding::varint::VarInt;
@@ -35,6 +35,7 @@ pub use h3_proto::error::Code;
 pub use h3_proto::frame::{SettingId, Settings, SettingsError};
 pub use h3_proto::stream::{InvalidStreamId, Side, StreamId};
 pub use h3_proto::webtransport::SessionId;
+pub use h3_unidirectional::stream::Kind;
 pub use h3_wire::frame::FrameBuffer;
 pub use h3_world::event::{Answer, Event};
 pub use h3_world::setup::Setup;

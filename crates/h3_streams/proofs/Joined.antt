@@ -14,6 +14,7 @@ use Rattle.h3_connection.specs.Unread.{held_of_role}
 use Rattle.h3_connection.specs.declared.event.Pull.{Pull}
 use Rattle.h3_connection.specs.declared.event.Pull.TheVariants.{NoMessages}
 use Rattle.h3_unidirectional.specs.Kinds.{plain, received_by, TellsFirst}
+use Rattle.h3_unidirectional.specs.Told.{kind_in}
 use Rattle.h3_unidirectional.specs.declared.plain.PlainRole.{PlainRole}
 use Rattle.h3_unidirectional.specs.declared.plain.PlainRole.TheVariants as plain_role
 use Rattle.h3_unidirectional.specs.declared.stream.Received.{Received}
@@ -107,6 +108,11 @@ unsettled role (Some x) h = ap (λ r. is_settled_session x r) h.0 ∙ by_role ro
 
 pub plain_unsettled : (xs ys : Streams Unidirectional) (id : ℕ) (role : PlainRole) → IsPlain role (kept_at xs id) → is_settled_peer (kept_at (xs ++ ys) id) ≡ false
 plain_unsettled xs ys id role h = unsettled role (kept_at (xs ++ ys) id) (plain_there xs ys id role h)
+
+pub plain_kind : (xs ys : Streams Unidirectional) (id : ℕ) (role : PlainRole) → IsPlain role (kept_at xs id) → kind_in (peer_stream (xs ++ ys) id).role ≡ kind_in (plain role)
+plain_kind xs ys id role h =
+    let p = some_plain role (kept_at xs id) h in
+    ap (λ (o : Unidirectional). kind_in o.role) (stream_first xs ys id role h ∙ ap (λ o. unwrap_or o untold) p.1) ∙ ap kind_in p.2
 
 pub nothing_unread : (xs ys : Streams Unidirectional) (id : ℕ) (role : PlainRole) → IsPlain role (kept_at xs id) → 0 ≡ length (concat (peer_stream (xs ++ ys) id).unread)
 nothing_unread xs ys id role h =

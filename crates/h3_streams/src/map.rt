@@ -6,11 +6,12 @@ ghost use Rattle.h3_connection.specs.State.{kept_at};
 ghost use Rattle.h3_connection.specs.Unidirectional.{is_closed};
 ghost use Rattle.h3_connection.specs.Unread.{held_of_role};
 ghost use Rattle.h3_streams.specs.Placed.{peer_stream, Pulls, Receives, Closes};
+ghost use Rattle.h3_unidirectional.specs.Told.{kind_in};
 
 use bytes::Bytes;
 use h3_connection::event::Pull;
 use h3_proto::stream::StreamId;
-use h3_unidirectional::stream::{Received, UnidirectionalStream};
+use h3_unidirectional::stream::{Kind, Received, UnidirectionalStream};
 use std::alloc::{AllocError, Global};
 use std::collections::BTreeMap;
 
@@ -39,6 +40,16 @@ pub(crate) fn is_closed(streams: &BTreeMap<u64, UnidirectionalStream>, id: Strea
     match streams.get(&id.into_inner()) {
         Some(stream) => stream.is_closed(),
         None => false,
+    }
+}
+
+/// What the stream of this id is read as. One of which nothing came is not told yet.
+pub(crate) fn kind(streams: &BTreeMap<u64, UnidirectionalStream>, id: StreamId) -> Kind
+    ensures { result ≡ kind_in (peer_stream streams.now.entries id).role }
+{
+    match streams.get(&id.into_inner()) {
+        Some(stream) => stream.kind(),
+        None => Kind::Untold,
     }
 }
 

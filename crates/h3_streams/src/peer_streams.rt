@@ -8,13 +8,14 @@ ghost use Rattle.h3_connection.specs.Unidirectional.{is_closed};
 ghost use Rattle.h3_connection.specs.Unread.{held_of_role};
 ghost use Rattle.h3_streams.specs.Placed.{peer_stream, Pulls, Receives, Closes};
 ghost use Rattle.h3_streams.specs.Plain.{plain_streams};
+ghost use Rattle.h3_unidirectional.specs.Told.{kind_in};
 
 use crate::map;
 use crate::plain::PlainStreams;
 use bytes::Bytes;
 use h3_connection::event::Pull;
 use h3_proto::stream::StreamId;
-use h3_unidirectional::stream::{Received, UnidirectionalStream};
+use h3_unidirectional::stream::{Kind, Received, UnidirectionalStream};
 use std::alloc::{AllocError, Global};
 use std::collections::BTreeMap;
 use std::marker::Model;
@@ -90,6 +91,16 @@ impl PeerStreams {
         match self.plain.role(id.into_inner()) {
             Some(_role) => self.plain.is_closed(id.into_inner()),
             None => map::is_closed(&self.kept, id),
+        }
+    }
+
+    /// What a stream is read as. One of which nothing came is not told yet. It takes no memory, and one look-up.
+    pub fn kind(&self, id: StreamId) -> Kind
+        ensures { result ≡ kind_in (peer_stream self.now id).role }
+    {
+        match self.plain.role(id.into_inner()) {
+            Some(role) => role.kind(),
+            None => map::kind(&self.kept, id),
         }
     }
 

@@ -10,3 +10,4 @@ pub mod OwnLaws
 pub mod PeerLaws
 pub mod WaitingLaws
 pub mod OwnTexts
+pub mod Told

@@ -3,6 +3,7 @@ ghost use Rattle.std.specs.Prelude.{◌≡◌, ◌≤◌, ℕ, List, [], false, 
 ghost use Rattle.h3_connection.specs.Unidirectional.{Role, is_critical, role_after};
 ghost use Rattle.h3_connection.specs.Unidirectional.Role.{Untold};
 ghost use Rattle.h3_unidirectional.specs.Kinds.{role_of, plain, is_untold, TellsFirst, received_by};
+ghost use Rattle.h3_unidirectional.specs.Told.{kind_in};
 
 use crate::stream::{Kind, Received, read_kind};
 use bytes::Bytes;
@@ -33,6 +34,18 @@ impl PlainRole {
             Kind::Untold => None,
             Kind::Session(_) => None,
             Kind::Push(_) => None,
+        }
+    }
+
+    /// What its stream is read as.
+    pub fn kind(self) -> Kind
+        ensures { result ≡ kind_in (plain self) }
+    {
+        match self {
+            PlainRole::Control => Kind::Control,
+            PlainRole::Encoder => Kind::Encoder,
+            PlainRole::Decoder => Kind::Decoder,
+            PlainRole::Ignored => Kind::Ignored,
         }
     }
 

@@ -6,6 +6,7 @@ ghost use Rattle.h3_connection.specs.Keeping.{is_settled_session};
 ghost use Rattle.h3_connection.specs.Unidirectional.{Role, untold, is_closed, is_critical, role_after, with_bytes, may_be_session, untold_pull, raw, if_over, pull_unidirectional};
 ghost use Rattle.h3_connection.specs.Unidirectional.Role.{Untold, Session};
 ghost use Rattle.h3_unidirectional.specs.Kinds.{role_of, is_told_kind, is_untold, Tells, TellsFirst, received_by};
+ghost use Rattle.h3_unidirectional.specs.Told.{kind_in};
 
 use bytes::{Buf, Bytes};
 use h3_coding::coding::BufExt;
@@ -144,6 +145,13 @@ impl UnidirectionalStream {
         ensures { result ≡ is_closed self.now }
     {
         self.ended || self.is_reset
+    }
+
+    /// What it is read as, by the bytes that came so far.
+    pub fn kind(&self) -> Kind
+        ensures { result ≡ kind_in self.now.role }
+    {
+        self.kind
     }
 
     /// Whether it may not be closed: it is read as the control, encoder or decoder stream.

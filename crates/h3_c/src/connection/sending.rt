@@ -4,6 +4,7 @@ ghost use Rattle.h3_connection.specs.SendingContracts.{SendsBody, Finishes, Rese
 ghost use Rattle.h3_c.specs.Exported.{Calls, CallsOn, OnStream, OpensRequest, ShowsNextId};
 ghost use Rattle.h3_c.specs.Numbers.{argument, call_told, body_told};
 ghost use Rattle.h3_session.specs.Held.{SendsBodyOf};
+ghost use Rattle.h3_session.specs.OpeningAt.{OpensRequestAt};
 
 use super::Connection;
 use crate::numbers::{ARGUMENT, OK, Told, called, or_memory, refused, sent};
@@ -38,6 +39,16 @@ impl Connection {
             }
             Err(why) => refused(why),
         }
+    }
+
+    /// Opens the request of an id that QUIC gave, and all with lower ids that are not open.
+    pub(crate) fn open_request_at(&mut self, id: u64) -> Told
+        ensures { CallsOn call_told id result self.old self.new (λ call. OpensRequestAt self.old.endpoint self.new.endpoint id call) }
+    {
+        let Ok(id) = StreamId::try_from(id) else {
+            return ARGUMENT;
+        };
+        called(self.endpoint.open_request_at(id))
     }
 
     /// A piece of a body goes out on a stream.

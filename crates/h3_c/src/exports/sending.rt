@@ -4,6 +4,7 @@ ghost use Rattle.h3_connection.specs.SendingContracts.{SendsBody, Finishes, Rese
 ghost use Rattle.h3_c.specs.Exported.{Calls, CallsOn, OnStream, OpensRequest, ShowsNextId, Steps};
 ghost use Rattle.h3_c.specs.Numbers.{number, call_told, body_told};
 ghost use Rattle.h3_session.specs.Held.{SendsBodyOf};
+ghost use Rattle.h3_session.specs.OpeningAt.{OpensRequestAt};
 
 use crate::handle::{Handle, kept, opened};
 use std::alloc::Global;
@@ -43,6 +44,26 @@ pub extern "C" fn h3_raw_next_request_id(
 {
     let connection = opened(alloc, handle);
     let told = connection.next_request_id(id);
+    *out = kept(connection);
+    *detail = told.detail;
+    told.number
+}
+
+/// Opens the request of an id that QUIC gave, and all with lower ids that are not open.
+#[unsafe(no_mangle)]
+pub extern "C" fn h3_raw_open_request_at(
+    alloc: Global,
+    handle: Handle,
+    id: u64,
+    detail: &mut u64,
+    out: &mut Handle,
+) -> u32
+    requires { IsSome handle.value }
+    ensures there { IsSome out.new.value }
+    ensures goes { Steps handle.value out.new.value (λ v w. CallsOn call_told id (number result detail.new) v w (λ call. OpensRequestAt v.endpoint w.endpoint id call)) }
+{
+    let mut connection = opened(alloc, handle);
+    let told = connection.open_request_at(id);
     *out = kept(connection);
     *detail = told.detail;
     told.number

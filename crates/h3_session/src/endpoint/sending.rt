@@ -62,7 +62,7 @@ impl Endpoint {
         }
     }
 
-    fn open_refusal(&self) -> Option<Refusal>
+    pub(super) fn open_refusal(&self) -> Option<Refusal>
         ensures { result ≡ open_refused self.now }
     {
         if let Some(code) = self.closed {
