@@ -47,6 +47,8 @@ static int connection_new(nghttp3_conn **to, bool is_server, const nghttp3_callb
   stream_init(&connection->control, -1, h3_control_id(is_server));
   stream_init(&connection->encoder, -1, h3_encoder_id(is_server));
   stream_init(&connection->decoder, -1, h3_decoder_id(is_server));
+  connection->control.is_untaken = connection->encoder.is_untaken = connection->decoder.is_untaken = true;
+  connection->has_own_table = config.table > 0;
   for (int urgency = 0; urgency < NGHTTP3_URGENCY_LEVELS; urgency++) TAILQ_INIT(&connection->ready[urgency]);
   TAILQ_INIT(&connection->waiting);
   *to = connection;
@@ -84,13 +86,13 @@ EXPORT void nghttp3_conn_del(nghttp3_conn *connection) {
 
 EXPORT int nghttp3_conn_bind_control_stream(nghttp3_conn *connection, int64_t id) {
   if (connection->control.id >= 0) return NGHTTP3_ERR_INVALID_STATE;
-  connection->control.id = id, connection->has_own_bytes = true;
+  connection->control.id = id;
   return 0;
 }
 
 EXPORT int nghttp3_conn_bind_qpack_streams(nghttp3_conn *connection, int64_t encoder_id, int64_t decoder_id) {
   if (connection->encoder.id >= 0 || connection->decoder.id >= 0) return NGHTTP3_ERR_INVALID_STATE;
-  connection->encoder.id = encoder_id, connection->decoder.id = decoder_id, connection->has_own_bytes = true;
+  connection->encoder.id = encoder_id, connection->decoder.id = decoder_id;
   return 0;
 }
 
@@ -99,7 +101,7 @@ EXPORT int nghttp3_conn_bind_qpack_streams(nghttp3_conn *connection, int64_t enc
 static int send_goaway(nghttp3_conn *connection, uint64_t id) {
   uint64_t detail = 0;
   uint32_t answer = h3_goaway(&connection->endpoint, id, &detail);
-  connection->has_own_bytes = true;
+  connection->control.is_untaken = true;
   return error_of_answer(answer, detail);
 }
 

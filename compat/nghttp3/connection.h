@@ -17,6 +17,8 @@
 #endif
 
 #define EXPORT __attribute__((visibility("default")))
+/* What a packet of a body does not need: so the code for that stays short. */
+#define APART __attribute__((noinline))
 
 /* Calls a callback of the application, where it has set one. */
 #define CALLBACK(connection, name, ...) \
@@ -27,7 +29,7 @@ typedef struct chunk {
   STAILQ_ENTRY(chunk) next;
   const uint8_t *bytes;
   size_t length, room; /* room: how many bytes fit after a copy */
-  bool is_body; /* the application's: it learns of their acknowledgment */
+  bool is_body;        /* the application's: it learns of their acknowledgment */
 } chunk;
 
 /* A list of fields as h3_send_head takes it: the sizes, and all bytes after the last one. */
@@ -46,32 +48,32 @@ typedef struct stream {
   int64_t id;           /* QUIC's */
   uint64_t endpoint_id; /* the endpoint's, which may be another one for a local unidirectional stream */
   struct stream *next;  /* in the same place of the table */
-  TAILQ_ENTRY(stream) ready, waiting;
   void *user_data;
+  size_t owed; /* bytes that came, and for which no credit was granted */
   int holders; /* calls that use it now, which a callback may interrupt: it is freed after the last one */
+  bool is_read_shut, is_closed;
+  bool may_be_held; /* the endpoint may hold bytes that came: of a frame that is not whole, or after a head that waits */
+  bool is_waiting, is_ready;
+  bool is_closing; /* QUIC closed it while a head waited: it is closed after that message */
+  bool is_untaken; /* the endpoint may have bytes of the stream */
+  bool is_blocked; /* by QUIC's flow control */
+  bool awaits_data; /* read_data answered NGHTTP3_ERR_WOULDBLOCK */
+  bool is_write_shut, has_ended, is_fin_offered, is_fin_taken;
+  bool is_prioritized; /* the server's application has set the priority, and the client's counts no more */
+  priority priority;
 
   nghttp3_read_data_callback read_data; /* NULL: there is no body, or all of it was read */
   STAILQ_HEAD(, chunk) chunks;          /* what is not acknowledged, in order */
   chunk *unsent;                        /* the first that QUIC does not have whole */
   chunk *last;                          /* if there is an unsent one: the last */
-  size_t unsent_offset;                 /* how much of it QUIC has */
+  size_t unsent_offset;                 /* how much of `unsent` QUIC has */
   size_t unsent_length;                 /* how many bytes of the stream QUIC does not have */
   size_t acknowledged_offset;           /* how much of the first chunk is acknowledged */
   uint64_t sent, acknowledged;          /* bytes that QUIC has; of these are acknowledged */
   field_list trailer;                   /* which is sent after the body */
-  priority priority;
-  bool is_prioritized; /* the server's application has set the priority, and the client's counts no more */
-  bool is_ready, is_waiting;
-  bool is_untaken;  /* the endpoint may have bytes of the stream, since memory was refused for them */
-  bool is_blocked;  /* by QUIC's flow control */
-  bool awaits_data; /* read_data answered NGHTTP3_ERR_WOULDBLOCK */
-  bool is_write_shut, has_ended, is_fin_offered, is_fin_taken;
-
-  size_t owed;      /* bytes that came, and for which no credit was granted */
-  bool may_be_held; /* the endpoint may hold bytes that came: of a frame that is not whole, or after a head that waits */
-  bool is_read_shut, is_closed;
-  bool is_closing; /* QUIC closed it while a head waited: it is closed after that message */
   uint64_t close_code;
+  uint32_t round; /* when it was last tried whether its head waits still */
+  TAILQ_ENTRY(stream) ready, waiting;
 } stream;
 
 TAILQ_HEAD(stream_row, stream);
@@ -81,7 +83,7 @@ struct nghttp3_conn {
   nghttp3_callbacks callbacks;
   void *user_data;
   bool is_server;
-  bool has_own_bytes; /* the endpoint may have bytes for the local unidirectional streams */
+  bool has_own_table, has_peer_table; /* the table that the local decoder, and the local encoder, may use has room for entries */
   bool has_settings;  /* the application has the peer's */
   bool is_leaving;    /* nghttp3_conn_shutdown was called */
   bool has_goaway;    /* the application has one of the peer's, of this id */
@@ -91,19 +93,12 @@ struct nghttp3_conn {
   stream control, encoder, decoder;
   struct stream_row ready[NGHTTP3_URGENCY_LEVELS]; /* request streams that may have something to send, by urgency */
   struct stream_row waiting;                       /* request streams whose head waits for the peer's encoder */
+  uint32_t round;                                  /* of trying all of these */
   stream **table;                                  /* request streams by id */
   size_t places, streams;
   uint8_t *scratch;
   size_t scratch_size;
 };
-
-/* What came in one call on a request stream, without what the endpoint has used of it. */
-typedef struct {
-  const uint8_t *bytes;
-  size_t length;
-  bool has_fin;
-  const uint8_t *given; /* the bytes as the endpoint was given them last: an item says where in them a body lies */
-} input;
 
 /* errors.c */
 int error_of_code(uint64_t code);
@@ -170,7 +165,6 @@ static inline void stream_set_waiting(nghttp3_conn *connection, stream *s, bool 
 /* endpoint.c: how bytes enter and leave the endpoint */
 int endpoint_take(nghttp3_conn *connection, stream *s);
 int endpoint_send_body(nghttp3_conn *connection, stream *s, const nghttp3_vec *body);
-int endpoint_next(nghttp3_conn *connection, stream *s, input *in, h3_item *item);
 int endpoint_copied_body(nghttp3_conn *connection, const h3_item *item, const uint8_t **bytes);
 int endpoint_deliver(nghttp3_conn *connection, int64_t id, const uint8_t *bytes, size_t length, bool has_fin);
 int append_copy(stream *s, const uint8_t *bytes, size_t length);

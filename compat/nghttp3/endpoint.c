@@ -1,4 +1,4 @@
-/* endpoint.c: how bytes enter and leave the endpoint. The rest of this folder does not know by which calls of h3.h they do. */
+/* endpoint.c: how bytes leave the endpoint, and how those of streams without messages enter it. */
 #include <stdlib.h>
 #include <string.h>
 #include "connection.h"
@@ -81,33 +81,6 @@ int endpoint_send_body(nghttp3_conn *connection, stream *s, const nghttp3_vec *b
 }
 
 /* ---- what enters ---- */
-
-static inline bool is_pause(const h3_item *item) { return item->kind == H3_PENDING || item->kind == H3_WAITING; }
-
-static inline int read_on(nghttp3_conn *connection, stream *s, input *in, bool is_end, h3_item *item) {
-  size_t used = 0;
-  uint64_t detail = 0;
-  uint32_t answer = h3_read(&connection->endpoint, s->endpoint_id, in->bytes, in->length, is_end, &used, item, &detail);
-  in->given = in->bytes;
-  if (used > 0) in->bytes += used, in->length -= used;
-  if (answer == H3_KEPT) { /* what was taken is read by the pull */
-    s->may_be_held = true;
-    answer = h3_pull(&connection->endpoint, s->endpoint_id, item);
-  }
-  if (answer != H3_OK) return error_of_answer(answer, detail);
-  if (is_pause(item) && used > 0) s->may_be_held = true;
-  if (item->kind == H3_BODY_GIVEN) s->may_be_held = false;
-  return 0;
-}
-
-/* The next item of a request stream, of what came before and of `in`, which then begins after what was used. The end comes after all items
- * of the bytes: so a body that it cuts short is passed on as far as it came, in whichever pieces. */
-int endpoint_next(nghttp3_conn *connection, stream *s, input *in, h3_item *item) {
-  for (bool is_end = in->has_fin && in->length == 0 && !s->may_be_held;; is_end = true) {
-    int error = read_on(connection, s, in, is_end, item);
-    if (error || is_end || !in->has_fin || !is_pause(item)) return error;
-  }
-}
 
 /* The bytes of a piece of a body that the endpoint holds: a copy until the next call of this file. */
 int endpoint_copied_body(nghttp3_conn *connection, const h3_item *item, const uint8_t **bytes) {

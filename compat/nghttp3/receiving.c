@@ -1,6 +1,6 @@
 /* receiving.c: the callbacks for what came on a stream, and the end of a stream. */
 #include <stdlib.h>
-#include "connection.h"
+#include "input.h"
 
 /* ---- streams that are given up ---- */
 
@@ -9,7 +9,7 @@ void give_up_reading(nghttp3_conn *connection, stream *s) {
   s->is_read_shut = true;
   stream_set_waiting(connection, s, false);
   h3_cancel(&connection->endpoint, s->endpoint_id, NULL);
-  connection->has_own_bytes = true;
+  connection->decoder.is_untaken = true;
 }
 
 /* Nothing more of the stream is sent. */
@@ -76,59 +76,98 @@ static int tell_end_of_fields(nghttp3_conn *connection, stream *s, uint32_t kind
                             : CALLBACK(connection, end_headers, s->id, is_end, connection->user_data, s->user_data);
 }
 
-/* The application grants credit for the bytes that recv_data gets. */
-static inline int tell_body(nghttp3_conn *connection, stream *s, const input *in, const h3_item *item) {
-  const uint8_t *bytes;
-  int error = 0;
-  s->owed -= item->len < s->owed ? item->len : s->owed;
-  if (!connection->callbacks.recv_data || item->len == 0) return 0;
-  if (item->kind == H3_BODY_GIVEN) bytes = in->given + item->number;
-  else error = endpoint_copied_body(connection, item, &bytes);
-  return error ? error : CALLBACK(connection, recv_data, s->id, bytes, item->len, connection->user_data, s->user_data);
+static inline int tell_body(nghttp3_conn *connection, stream *s, const uint8_t *bytes, size_t length) {
+  return CALLBACK(connection, recv_data, s->id, bytes, length, connection->user_data, s->user_data);
 }
 
-/* `is_last`: nothing follows now. */
-static int tell_item(nghttp3_conn *connection, stream *s, const input *in, const h3_item *item, bool *is_last) {
+/* The application grants credit for the bytes that recv_data gets. */
+static void count_body(stream *s, size_t length) { s->owed -= length < s->owed ? length : s->owed; }
+
+static int tell_given_body(nghttp3_conn *connection, stream *s, const reading *now) {
+  count_body(s, now->item.len);
+  return tell_body(connection, s, now->given + now->item.number, now->item.len);
+}
+
+static int tell_copied_body(nghttp3_conn *connection, stream *s, const h3_item *item) {
+  const uint8_t *bytes = NULL;
+  if (item->len == 0) return 0;
+  count_body(s, item->len);
+  int error = connection->callbacks.recv_data ? endpoint_copied_body(connection, item, &bytes) : 0;
+  return error ? error : tell_body(connection, s, bytes, item->len);
+}
+
+enum { NOTHING_FOLLOWS = 1 }; /* of tell_item, beside 0 and errors */
+
+/* Any item but a piece of a body in the bytes that came. */
+static int tell_item(nghttp3_conn *connection, stream *s, const h3_item *item) {
+  stream_set_waiting(connection, s, item->kind == H3_WAITING);
+  if (connection->has_own_table) connection->decoder.is_untaken = true; /* a section may have been acknowledged (RFC 9204, section 4.4.1) */
   switch (item->kind) {
     case H3_HEAD:
     case H3_INTERIM:
     case H3_TRAILER: return tell_fields(connection, s, item);
-    case H3_BODY: return tell_body(connection, s, in, item);
+    case H3_BODY: return tell_copied_body(connection, s, item);
     case H3_END: s->is_read_shut = true; return CALLBACK(connection, end_stream, s->id, connection->user_data, s->user_data);
     case H3_TOO_LARGE_HEAD: return refuse_message(connection, s, NGHTTP3_H3_EXCESSIVE_LOAD);
     case H3_FAULT_MALFORMED: return refuse_message(connection, s, h3_error_code(H3_FAULT_MALFORMED, item->number, connection->is_server));
     case H3_FAULT_CONNECTION: return error_of_code(item->number);
     case H3_FAULT_MEMORY: return NGHTTP3_ERR_NOMEM;
-    default: *is_last = true; return 0;
+    default: return NOTHING_FOLLOWS;
   }
 }
 
 static bool is_section(uint32_t kind) { return kind == H3_HEAD || kind == H3_INTERIM || kind == H3_TRAILER; }
 
-/* Was the item the last one of what came? The endpoint need not be asked then. */
-static bool is_all(const stream *s, const input *in, uint32_t kind) {
-  return (is_section(kind) || kind == H3_BODY_GIVEN) && in->length == 0 && !in->has_fin && !s->may_be_held;
-}
+/* Is nothing there after what was read? The endpoint need not be asked then. */
+static bool is_all(const stream *s, const input *in) { return in->length == 0 && !in->has_fin && !s->may_be_held; }
+
+/* Is only the end there? */
+static bool is_at_end(const stream *s, const input *in) { return in->length == 0 && in->has_fin && !s->may_be_held; }
+
+static bool is_pause(uint32_t kind) { return kind == H3_PENDING || kind == H3_WAITING; }
 
 /* Does the application get nothing more of the stream? */
-static bool is_shut(const stream *s) { return s->is_read_shut || s->is_closed; }
+static inline bool is_shut(const stream *s) { return s->is_read_shut || s->is_closed; }
 
-/* Passes all items that are there, of what came before and of `in`. */
-static int tell_items(nghttp3_conn *connection, stream *s, input *in) {
-  uint32_t before = H3_PENDING; /* the kind of the item before */
-  bool is_last = false;
-  while (!is_shut(s)) {
-    h3_item item;
-    int error = endpoint_next(connection, s, in, &item);
-    if (!error && is_section(before)) error = tell_end_of_fields(connection, s, before, item.kind == H3_END);
-    if (error || is_shut(s)) return error;
-    before = item.kind;
-    stream_set_waiting(connection, s, item.kind == H3_WAITING);
-    error = item.kind == H3_BODY_GIVEN ? tell_body(connection, s, in, &item) : tell_item(connection, s, in, &item, &is_last);
-    if (error || is_last) return error;
-    if (!is_shut(s) && is_all(s, in, item.kind)) return is_section(item.kind) ? tell_end_of_fields(connection, s, item.kind, 0) : 0;
+/* Takes note of what was read: `in` begins after that then. What was taken though memory was refused is read by a pull. */
+static int accept(nghttp3_conn *connection, stream *s, input *in, reading *now) {
+  now->given = in->bytes;
+  in->bytes += now->used, in->length -= now->used;
+  if (now->answer == H3_KEPT) {
+    s->may_be_held = true;
+    now->answer = h3_pull(&connection->endpoint, s->endpoint_id, &now->item);
   }
+  if (now->answer != H3_OK) return error_of_answer(now->answer, now->detail);
+  if (now->item.kind == H3_BODY_GIVEN) s->may_be_held = false;
+  else if (is_pause(now->item.kind) && now->used > 0) s->may_be_held = true;
   return 0;
+}
+
+/* The next item, from what was read on. After a pause all bytes are read, and then the end: so a body that it cuts short is passed on as far
+ * as it came, in whichever pieces. */
+static int next_item(nghttp3_conn *connection, stream *s, input *in, reading *now) {
+  for (;; read_on(connection, s, *in, in->length == 0, now)) {
+    int error = accept(connection, s, in, now);
+    bool is_over = in->length == 0 && (now->has_end || !in->has_fin);
+    if (error || is_over || !is_pause(now->item.kind)) return error;
+  }
+}
+
+/* Passes all items that are there, of what came before and of `in`, from what was read of it on. */
+static int tell_items(nghttp3_conn *connection, stream *s, input *in, reading *now) {
+  uint32_t section = 0; /* the kind of the item before, if that is a header or trailer section */
+  for (;; read_on(connection, s, *in, is_at_end(s, in), now)) {
+    int error = next_item(connection, s, in, now);
+    uint32_t kind = now->item.kind;
+    if (!error && section) error = tell_end_of_fields(connection, s, section, kind == H3_END);
+    if (error || is_shut(s)) return error;
+    error = kind == H3_BODY_GIVEN ? tell_given_body(connection, s, now) : tell_item(connection, s, &now->item);
+    if (error == NOTHING_FOLLOWS) return 0;
+    if (error || is_shut(s)) return error;
+    section = is_section(kind) ? kind : 0;
+    if ((section || kind == H3_BODY_GIVEN) && is_all(s, in)) break;
+  }
+  return section ? tell_end_of_fields(connection, s, section, 0) : 0;
 }
 
 /* ---- credit ---- */
@@ -143,6 +182,38 @@ static inline size_t take_credit(nghttp3_conn *connection, stream *s) {
     kept = state.unread < due ? (size_t)state.unread : due;
   s->owed = kept;
   return due - kept;
+}
+
+/* Passes what was read, and all that follows. Answers for how many bytes credit is due. */
+static APART nghttp3_ssize pass_items(nghttp3_conn *connection, stream *s, input in, reading *now) {
+  stream_hold(s);
+  s->owed += in.length;
+  int error = tell_items(connection, s, &in, now);
+  size_t credit = take_credit(connection, s);
+  stream_release(connection, s);
+  return error ? error : (nghttp3_ssize)credit;
+}
+
+/* The end of a request stream, perhaps after bytes, or nothing, where a head may be there now that waited. */
+static APART nghttp3_ssize read_end(nghttp3_conn *connection, stream *s, const uint8_t *bytes, size_t length, int fin) {
+  reading now;
+  input in = {length > 0 ? bytes : (const uint8_t *)"", length, fin};
+  read_on(connection, s, in, is_at_end(s, &in), &now);
+  return pass_items(connection, s, in, &now);
+}
+
+/* Bytes of a request stream. Most packets are a piece of a body and nothing else: the stream is not looked at after the callback then, so
+ * it need not be held. */
+static nghttp3_ssize read_request(nghttp3_conn *connection, stream *s, const uint8_t *bytes, size_t length, int fin) {
+  reading now;
+  input in = {bytes, length, false};
+  if (length == 0 || fin) return read_end(connection, s, bytes, length, fin);
+  read_on(connection, s, in, false, &now);
+  if (now.answer != H3_OK || now.item.kind != H3_BODY_GIVEN || now.used < length) return pass_items(connection, s, in, &now);
+  size_t credit = s->owed + length - now.item.len;
+  s->owed = 0, s->may_be_held = false;
+  int error = tell_body(connection, s, bytes + now.item.number, now.item.len);
+  return error ? error : (nghttp3_ssize)credit;
 }
 
 /* ---- the end of a stream ---- */
@@ -187,31 +258,30 @@ EXPORT void nghttp3_conn_shutdown_stream_write(nghttp3_conn *connection, int64_t
 
 /* A head of the stream may be there now that waited for the peer's encoder. */
 static int resume_waiting(nghttp3_conn *connection, stream *s) {
-  input nothing = {0};
   stream_hold(s);
-  int error = tell_items(connection, s, &nothing);
-  size_t credit = error ? 0 : take_credit(connection, s);
-  if (credit > 0) error = CALLBACK(connection, deferred_consume, s->id, credit, connection->user_data, s->user_data);
+  nghttp3_ssize credit = read_request(connection, s, NULL, 0, 0);
+  int error = credit < 0 ? (int)credit : 0;
+  if (credit > 0) error = CALLBACK(connection, deferred_consume, s->id, (size_t)credit, connection->user_data, s->user_data);
   if (!error && s->is_closing && !s->is_waiting && !s->is_closed) error = close_now(connection, s);
   stream_release(connection, s);
   return error;
 }
 
-/* Each stream that waits now, once. */
+/* Each stream that waits now, once: those that go on waiting come last. Callbacks may end any of them. */
 static int resume_all_waiting(nghttp3_conn *connection) {
-  struct stream_row row = TAILQ_HEAD_INITIALIZER(row);
+  uint32_t round = ++connection->round;
   int error = 0;
-  TAILQ_CONCAT(&row, &connection->waiting, waiting);
-  for (stream *s; (s = TAILQ_FIRST(&row));) {
-    TAILQ_REMOVE(&row, s, waiting);
+  for (stream *s; !error && (s = TAILQ_FIRST(&connection->waiting)) && s->round != round;) {
+    s->round = round;
+    TAILQ_REMOVE(&connection->waiting, s, waiting);
     TAILQ_INSERT_TAIL(&connection->waiting, s, waiting);
-    if (!error) error = resume_waiting(connection, s);
+    error = resume_waiting(connection, s);
   }
   return error;
 }
 
 static int tell_settings(nghttp3_conn *connection, const h3_state *state) {
-  connection->has_settings = true;
+  connection->has_settings = true, connection->has_peer_table = state->peer_table > 0;
 #ifdef HAS_VERSION_1
   enum { ENABLE_CONNECT_PROTOCOL = 0x08, H3_DATAGRAM = 0x33 }; /* RFC 9220, section 5; RFC 9297, section 5.1 */
   uint64_t connect = 0, datagram = 0;
@@ -240,9 +310,9 @@ static int tell_control(nghttp3_conn *connection) {
   return CALLBACK(connection, shutdown, (int64_t)state.goaway, connection->user_data);
 }
 
-static nghttp3_ssize read_unidirectional(nghttp3_conn *connection, int64_t id, const uint8_t *bytes, size_t length, int fin) {
+static APART nghttp3_ssize read_unidirectional(nghttp3_conn *connection, int64_t id, const uint8_t *bytes, size_t length, int fin) {
   int fault = endpoint_deliver(connection, id, bytes, length, fin);
-  connection->has_own_bytes = true;
+  connection->encoder.is_untaken = connection->decoder.is_untaken = true;
   int error = tell_control(connection);
   if (fault || error) return fault ? fault : error;
   error = resume_all_waiting(connection);
@@ -250,16 +320,6 @@ static nghttp3_ssize read_unidirectional(nghttp3_conn *connection, int64_t id, c
 }
 
 /* ---- request streams ---- */
-
-static int read_request(nghttp3_conn *connection, stream *s, input *in, size_t *credit) {
-  stream_hold(s);
-  s->owed += in->length;
-  int error = tell_items(connection, s, in);
-  connection->has_own_bytes = true;
-  *credit = take_credit(connection, s);
-  stream_release(connection, s);
-  return error;
-}
 
 /* A request that comes after the local GOAWAY (RFC 9114, section 5.2). */
 static int reject(nghttp3_conn *connection, stream *s) {
@@ -270,22 +330,22 @@ static int reject(nghttp3_conn *connection, stream *s) {
   return error;
 }
 
+/* What came on a stream that is not there: the first bytes of a request, or late ones. */
+static APART nghttp3_ssize read_first(nghttp3_conn *connection, int64_t id, const uint8_t *bytes, size_t length, int fin) {
+  if (!connection->is_server) return id < connection->next_id ? (nghttp3_ssize)length : NGHTTP3_ERR_H3_STREAM_CREATION_ERROR;
+  stream *s = stream_add(connection, id);
+  if (!s) return NGHTTP3_ERR_NOMEM;
+  if (id >= connection->end_id) {
+    int error = reject(connection, s);
+    return error ? error : (nghttp3_ssize)length;
+  }
+  if (id >= connection->next_id) connection->next_id = id + 4;
+  return read_request(connection, s, bytes, length, fin);
+}
+
 EXPORT nghttp3_ssize nghttp3_conn_read_stream(nghttp3_conn *connection, int64_t id, const uint8_t *bytes, size_t length, int fin) {
-  input in = {.bytes = bytes, .length = length, .has_fin = fin};
-  size_t credit = 0;
   if (!is_request(id)) return read_unidirectional(connection, id, bytes, length, fin);
   stream *s = stream_find(connection, id);
-  if (!s && !connection->is_server) return id < connection->next_id ? (nghttp3_ssize)length : NGHTTP3_ERR_H3_STREAM_CREATION_ERROR;
-  if (!s) {
-    s = stream_add(connection, id);
-    if (!s) return NGHTTP3_ERR_NOMEM;
-    if (id >= connection->end_id) {
-      int error = reject(connection, s);
-      return error ? error : (nghttp3_ssize)length;
-    }
-    if (id >= connection->next_id) connection->next_id = id + 4;
-  }
-  if (s->is_read_shut || s->is_closed) return (nghttp3_ssize)length;
-  int error = read_request(connection, s, &in, &credit);
-  return error ? error : (nghttp3_ssize)credit;
+  if (!s) return read_first(connection, id, bytes, length, fin);
+  return is_shut(s) ? (nghttp3_ssize)length : read_request(connection, s, bytes, length, fin);
 }

@@ -16,7 +16,7 @@ int send_fields(nghttp3_conn *connection, stream *s, const field_list *fields, b
   uint32_t (*send)(h3_endpoint *, uint64_t, const h3_field_size *, size_t, const void *, size_t, uint64_t *) =
       is_trailer ? h3_send_trailer : h3_send_head;
   uint32_t answer = send(&connection->endpoint, s->endpoint_id, fields->sizes, fields->count, bytes, fields->length, &detail);
-  connection->has_own_bytes = true;
+  if (connection->has_peer_table) connection->encoder.is_untaken = true;
   return answer == H3_OK ? endpoint_take(connection, s) : error_of_answer(answer, detail);
 }
 
@@ -77,10 +77,9 @@ static bool wants_body(const stream *s) {
 static int next_own(nghttp3_conn *connection, stream **next) {
   stream *own[] = {&connection->control, &connection->decoder, &connection->encoder};
   for (int i = 0; i < 3; i++) {
-    int error = connection->has_own_bytes && own[i]->id >= 0 ? endpoint_take(connection, own[i]) : 0;
+    int error = own[i]->is_untaken && own[i]->id >= 0 ? endpoint_take(connection, own[i]) : 0;
     if (error) return error;
   }
-  connection->has_own_bytes = connection->control.id < 0 || connection->decoder.id < 0;
   for (int i = 0; i < 3 && !*next; i++)
     if (own[i]->unsent_length > 0 && !own[i]->is_blocked) *next = own[i];
   return 0;
