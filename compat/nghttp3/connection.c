@@ -77,11 +77,12 @@ EXPORT void nghttp3_conn_del(nghttp3_conn *connection) {
   for (size_t i = 0; i < connection->places; i++)
     for (stream *s = connection->table[i], *next; s; s = next) {
       next = s->next;
-      stream_clear(s);
-      free(s);
+      stream_free(connection, s);
     }
-  stream_clear(&connection->control), stream_clear(&connection->encoder), stream_clear(&connection->decoder);
-  free(connection->table), free(connection->scratch), free(connection);
+  stream_clear(connection, &connection->control), stream_clear(connection, &connection->encoder);
+  stream_clear(connection, &connection->decoder);
+  pool_clear(&connection->spare_streams), pool_clear(&connection->spare_chunks);
+  free(connection->spare_section), free(connection->table), free(connection->scratch), free(connection);
 }
 
 EXPORT int nghttp3_conn_bind_control_stream(nghttp3_conn *connection, int64_t id) {

@@ -5,6 +5,7 @@
 #include <nghttp3/nghttp3.h>
 #include <stdbool.h>
 #include <stdint.h>
+#include <stdlib.h>
 #include <sys/queue.h>
 #include "h3.h"
 
@@ -24,12 +25,25 @@
 #define CALLBACK(connection, name, ...) \
   ((connection)->callbacks.name && (connection)->callbacks.name((connection), __VA_ARGS__) ? NGHTTP3_ERR_CALLBACK_FAILURE : 0)
 
+/* Blocks of one size, which are allocated many at once and used again: so an exchange asks malloc for few. They are freed with the
+ * connection. */
+typedef struct spare_block {
+  struct spare_block *next;
+} spare_block;
+
+typedef struct {
+  spare_block *first;  /* of the blocks that are not used */
+  spare_block *slabs;  /* what was allocated: after its first 16 bytes each has blocks */
+  size_t last_count;   /* how many the last one has */
+} block_pool;
+
 /* Bytes that are sent on a stream, kept until they are acknowledged: a copy, which stands after the struct, or the application's. */
 typedef struct chunk {
   STAILQ_ENTRY(chunk) next;
   const uint8_t *bytes;
   size_t length, room; /* room: how many bytes fit after a copy */
   bool is_body;        /* the application's: it learns of their acknowledgment */
+  bool is_block;       /* of the pool of chunks */
 } chunk;
 
 /* A list of fields as h3_send_head takes it: the sizes, and all bytes after the last one. */
@@ -66,6 +80,7 @@ typedef struct stream {
   STAILQ_HEAD(, chunk) chunks;          /* what is not acknowledged, in order */
   chunk *unsent;                        /* the first that QUIC does not have whole */
   chunk *last;                          /* if there is an unsent one: the last */
+  chunk *announced;                     /* a piece of the body, if the endpoint has the head of its frame still; nothing follows it there */
   size_t unsent_offset;                 /* how much of `unsent` QUIC has */
   size_t unsent_length;                 /* how many bytes of the stream QUIC does not have */
   size_t acknowledged_offset;           /* how much of the first chunk is acknowledged */
@@ -96,6 +111,8 @@ struct nghttp3_conn {
   uint32_t round;                                  /* of trying all of these */
   stream **table;                                  /* request streams by id */
   size_t places, streams;
+  block_pool spare_streams, spare_chunks;
+  struct section *spare_section; /* for the next header section, or NULL */
   uint8_t *scratch;
   size_t scratch_size;
 };
@@ -107,12 +124,12 @@ int error_of_answer(uint32_t answer, uint64_t detail);
 /* tokens.c: -1 where nghttp3 has no token for the name */
 int32_t token_of(const uint8_t *name, size_t length);
 
-/* fields.c: a field section as reference-counted buffers, two for each field. NULL where memory is refused. The caller holds one
- * reference to the whole, and gives it back. */
+/* fields.c: the field section that was read last, as reference-counted buffers, two for each field. NULL where memory is refused. The
+ * caller holds one reference to the whole, and gives it back. */
 typedef struct section section;
-section *section_new(size_t count, const h3_field_size *sizes, const uint8_t *bytes, size_t length);
+section *section_take(nghttp3_conn *connection, const h3_item *item);
 nghttp3_rcbuf *section_buffer(section *all, size_t index);
-void section_release(section *all);
+void section_give(nghttp3_conn *connection, section *all);
 size_t field_list_size(const nghttp3_nv *fields, size_t count);
 field_list field_list_at(void *place, const nghttp3_nv *fields, size_t count);
 
@@ -123,7 +140,9 @@ bool priority_field_parse(priority *to, const uint8_t *value, size_t length);
 stream *stream_find_own(nghttp3_conn *connection, int64_t id);
 stream *stream_add(nghttp3_conn *connection, int64_t id);
 void stream_init(stream *s, int64_t id, uint64_t endpoint_id);
-void stream_clear(stream *s);
+void stream_clear(nghttp3_conn *connection, stream *s);
+void *pool_grow(block_pool *pool, size_t size);
+void pool_clear(block_pool *pool);
 void stream_free(nghttp3_conn *connection, stream *s);
 bool stream_has_work(const stream *s);
 void stream_schedule(nghttp3_conn *connection, stream *s);
@@ -131,7 +150,26 @@ void stream_unschedule(nghttp3_conn *connection, stream *s);
 void stream_set_priority(nghttp3_conn *connection, stream *s, priority to);
 bool reserve_scratch(nghttp3_conn *connection, size_t size);
 
-/* Each packet of a body needs what follows: so it stands here, without a call. */
+/* Each packet needs what follows: so it stands here, without a call. */
+
+/* The size is the same in each call for a pool, and a multiple of 8. With the sanitizer of addresses blocks are malloc's, so that it sees
+ * each use of one that was freed. */
+#ifdef __SANITIZE_ADDRESS__
+static inline void *block_take(block_pool *pool, size_t size) { return (void)pool, malloc(size); }
+static inline void block_give(block_pool *pool, void *block) { (void)pool, free(block); }
+#else
+static inline void *block_take(block_pool *pool, size_t size) {
+  spare_block *block = pool->first;
+  if (!block) return pool_grow(pool, size);
+  pool->first = block->next;
+  return block;
+}
+
+static inline void block_give(block_pool *pool, void *block) {
+  spare_block *spare = block;
+  spare->next = pool->first, pool->first = spare;
+}
+#endif
 
 /* A client opens the streams 0, 4, 8, .. (RFC 9000, section 2.1). */
 static inline bool is_request(int64_t id) { return id >= 0 && id % 4 == 0; }
@@ -167,7 +205,8 @@ int endpoint_take(nghttp3_conn *connection, stream *s);
 int endpoint_send_body(nghttp3_conn *connection, stream *s, const nghttp3_vec *body);
 int endpoint_copied_body(nghttp3_conn *connection, const h3_item *item, const uint8_t **bytes);
 int endpoint_deliver(nghttp3_conn *connection, int64_t id, const uint8_t *bytes, size_t length, bool has_fin);
-int append_copy(stream *s, const uint8_t *bytes, size_t length);
+int append_copy(nghttp3_conn *connection, stream *s, const uint8_t *bytes, size_t length);
+void chunk_free(nghttp3_conn *connection, chunk *old);
 
 /* sending.c */
 int send_message_end(nghttp3_conn *connection, stream *s);

@@ -72,7 +72,7 @@ EXPORT int nghttp3_conn_set_client_stream_priority(nghttp3_conn *connection, int
   memcpy(end, id_bytes, id_length), end += id_length;
   if (length > 0) memcpy(end, value, length);
   int error = endpoint_take(connection, &connection->control);
-  if (!error) error = append_copy(&connection->control, frame, (size_t)(end - frame) + length);
+  if (!error) error = append_copy(connection, &connection->control, frame, (size_t)(end - frame) + length);
   free(frame);
   return error;
 }

@@ -48,25 +48,15 @@ static int tell_field(nghttp3_conn *connection, stream *s, nghttp3_rcbuf *name, 
   return CALLBACK(connection, recv_header, s->id, token, name, value, 0, connection->user_data, s->user_data);
 }
 
-/* The fields of the item that was pulled last; NULL where memory is refused. */
-static section *fields_of(nghttp3_conn *connection, const h3_item *item) {
-  size_t sizes_length = item->fields * sizeof(h3_field_size);
-  if (!reserve_scratch(connection, sizes_length + item->len)) return NULL;
-  h3_field_size *sizes = (h3_field_size *)connection->scratch;
-  uint8_t *bytes = connection->scratch + sizes_length;
-  if (h3_item_fields(&connection->endpoint, sizes, item->fields, bytes, item->len) != H3_OK) return NULL;
-  return section_new(item->fields, sizes, bytes, item->len);
-}
-
 static int tell_fields(nghttp3_conn *connection, stream *s, const h3_item *item) {
   bool is_trailer = item->kind == H3_TRAILER;
-  section *all = fields_of(connection, item);
+  section *all = section_take(connection, item);
   if (!all) return NGHTTP3_ERR_NOMEM;
   int error = is_trailer ? CALLBACK(connection, begin_trailers, s->id, connection->user_data, s->user_data)
                          : CALLBACK(connection, begin_headers, s->id, connection->user_data, s->user_data);
   for (size_t i = 0; i < item->fields && !error && !s->is_read_shut; i++)
     error = tell_field(connection, s, section_buffer(all, 2 * i), section_buffer(all, 2 * i + 1), is_trailer);
-  section_release(all);
+  section_give(connection, all);
   return error;
 }
 

@@ -10,14 +10,23 @@ enum {
 
 /* ---- parts of a message ---- */
 
+/* The most bytes of a HEADERS frame with these fields: its type, its length, the prefix of the section (RFC 9204, section 4.5.1), and for
+ * each field two lengths (sections 4.1.1 and 4.5.6) and both strings. */
+static size_t most_encoded(const field_list *fields) { return 9 + 20 + fields->length + 12 * fields->count; }
+
 int send_fields(nghttp3_conn *connection, stream *s, const field_list *fields, bool is_trailer) {
   uint64_t detail = 0;
   const uint8_t *bytes = (const uint8_t *)(fields->sizes + fields->count);
+  bool has_unsent = s->is_untaken || s->unsent_length > 0;
+  int error = s->announced ? endpoint_take(connection, s) : 0;
+  if (error) return error;
   uint32_t (*send)(h3_endpoint *, uint64_t, const h3_field_size *, size_t, const void *, size_t, uint64_t *) =
       is_trailer ? h3_send_trailer : h3_send_head;
   uint32_t answer = send(&connection->endpoint, s->endpoint_id, fields->sizes, fields->count, bytes, fields->length, &detail);
   if (connection->has_peer_table) connection->encoder.is_untaken = true;
-  return answer == H3_OK ? endpoint_take(connection, s) : error_of_answer(answer, detail);
+  if (answer != H3_OK) return error_of_answer(answer, detail);
+  s->is_untaken = true; /* what follows is taken in the same call, unless this alone fills what is unsent */
+  return has_unsent || most_encoded(fields) >= LEAST_UNSENT ? endpoint_take(connection, s) : 0;
 }
 
 int send_message_end(nghttp3_conn *connection, stream *s) {
@@ -91,7 +100,9 @@ static int next_of_row(nghttp3_conn *connection, struct stream_row *row, stream 
     int error = 0;
     stream_hold(s);
     while (!error && wants_body(s)) error = read_body(connection, s);
-    if (!error && TAILQ_FIRST(row) == s && !s->is_closed) {
+    bool is_first = !error && TAILQ_FIRST(row) == s && !s->is_closed;
+    if (is_first && s->is_untaken) error = endpoint_take(connection, s);
+    if (is_first && !error) {
       if (stream_has_work(s) && (s->unsent_length > 0 || s->has_ended)) *next = s;
       else stream_unschedule(connection, s);
     }
@@ -156,7 +167,7 @@ static int acknowledge(nghttp3_conn *connection, stream *s, uint64_t count) {
     if (s->acknowledged_offset == first->length) {
       STAILQ_REMOVE_HEAD(&s->chunks, next);
       s->acknowledged_offset = 0;
-      free(first);
+      chunk_free(connection, first);
     }
     if (is_body) error = CALLBACK(connection, acked_stream_data, s->id, part, connection->user_data, s->user_data);
   }

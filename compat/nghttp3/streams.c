@@ -38,7 +38,7 @@ void stream_init(stream *s, int64_t id, uint64_t endpoint_id) {
 /* A request stream, which is not in the table yet. NULL where memory is refused. */
 stream *stream_add(nghttp3_conn *connection, int64_t id) {
   if (connection->streams >= connection->places && !grow(connection)) return NULL;
-  stream *s = malloc(sizeof *s);
+  stream *s = block_take(&connection->spare_streams, sizeof *s);
   if (!s) return NULL;
   stream_init(s, id, (uint64_t)id);
   stream **place = place_of(connection->table, connection->places, id);
@@ -47,12 +47,34 @@ stream *stream_add(nghttp3_conn *connection, int64_t id) {
 }
 
 /* Frees what a stream keeps. */
-void stream_clear(stream *s) {
+void stream_clear(nghttp3_conn *connection, stream *s) {
   for (chunk *first; (first = STAILQ_FIRST(&s->chunks));) {
     STAILQ_REMOVE_HEAD(&s->chunks, next);
-    free(first);
+    chunk_free(connection, first);
   }
-  free(s->trailer.sizes);
+  if (s->announced) chunk_free(connection, s->announced);
+  if (s->trailer.sizes) free(s->trailer.sizes);
+}
+
+/* ---- blocks ---- */
+
+/* A block of a pool that has none left. */
+void *pool_grow(block_pool *pool, size_t size) {
+  enum { FIRST_COUNT = 4, MOST_COUNT = 64, HEAD = 16 };
+  size_t count = pool->last_count == 0 ? FIRST_COUNT : pool->last_count < MOST_COUNT ? 2 * pool->last_count : MOST_COUNT;
+  spare_block *slab = malloc(HEAD + count * size);
+  if (!slab) return NULL;
+  slab->next = pool->slabs, pool->slabs = slab, pool->last_count = count;
+  uint8_t *block = (uint8_t *)slab + HEAD;
+  for (size_t i = 1; i < count; i++) block_give(pool, block + i * size);
+  return block;
+}
+
+void pool_clear(block_pool *pool) {
+  for (spare_block *slab = pool->slabs, *next; slab; slab = next) {
+    next = slab->next;
+    free(slab);
+  }
 }
 
 /* Takes a request stream out of the table, and frees it. */
@@ -62,8 +84,8 @@ void stream_free(nghttp3_conn *connection, stream *s) {
   stream **place = place_of(connection->table, connection->places, s->id);
   while (*place != s) place = &(*place)->next;
   *place = s->next, connection->streams--;
-  stream_clear(s);
-  free(s);
+  stream_clear(connection, s);
+  block_give(&connection->spare_streams, s);
 }
 
 /* ---- the order among streams (RFC 9218, section 10) ---- */
@@ -71,7 +93,7 @@ void stream_free(nghttp3_conn *connection, stream *s) {
 /* May bytes or the end of the stream be sent, or its body be asked for? */
 bool stream_has_work(const stream *s) {
   if (s->is_blocked || s->is_write_shut) return false;
-  return s->unsent_length > 0 || (s->has_ended && !s->is_fin_taken) || (s->read_data && !s->awaits_data);
+  return s->unsent_length > 0 || s->is_untaken || (s->has_ended && !s->is_fin_taken) || (s->read_data && !s->awaits_data);
 }
 
 /* Puts a request stream that has work last among those of its urgency. */

@@ -4,8 +4,9 @@
 #include "names.h"
 
 int32_t token_of(const uint8_t *name, size_t length) {
-  if (length > LONGEST_NAME) return -1;
-  for (int i = FIRST_OF_LENGTH[length]; i < FIRST_OF_LENGTH[length + 1]; i++)
-    if (NAMES[i].name[length - 1] == name[length - 1] && memcmp(NAMES[i].name, name, length) == 0) return NAMES[i].token;
+  if (length == 0) return -1;
+  size_t place = (length * MULTIPLIER + name[length - 1]) % PLACES;
+  for (int i = FIRST_AT_PLACE[place]; i < FIRST_AT_PLACE[place + 1]; i++)
+    if (NAMES[i].length == length && memcmp(NAMES[i].name, name, length) == 0) return NAMES[i].token;
   return -1;
 }
