@@ -37,9 +37,9 @@ static int connection_new(nghttp3_conn **to, bool is_server, const nghttp3_callb
   h3_config config = config_of(is_server, settings);
   nghttp3_conn *connection = calloc(1, sizeof *connection);
   if (!connection) return NGHTTP3_ERR_NOMEM;
-  uint32_t answer = h3_new(&connection->endpoint, &config, NULL);
+  uint32_t answer = table_grow(connection) ? h3_new(&connection->endpoint, &config, NULL) : H3_MEMORY;
   if (answer != H3_OK) {
-    free(connection);
+    free(connection->table), free(connection);
     return error_of_answer(answer, 0);
   }
   connection->callbacks = *callbacks, connection->user_data = user_data;

@@ -110,6 +110,7 @@ struct nghttp3_conn {
   struct stream_row waiting;                       /* request streams whose head waits for the peer's encoder */
   uint32_t round;                                  /* of trying all of these */
   stream **table;                                  /* request streams by id */
+  stream *found;                                   /* the one that was found last, or NULL: QUIC speaks of one several times */
   size_t places, streams;
   block_pool spare_streams, spare_chunks;
   struct section *spare_section; /* for the next header section, or NULL */
@@ -127,8 +128,16 @@ int32_t token_of(const uint8_t *name, size_t length);
 /* fields.c: the field section that was read last, as reference-counted buffers, two for each field. NULL where memory is refused. The
  * caller holds one reference to the whole, and gives it back. */
 typedef struct section section;
+struct nghttp3_rcbuf {
+  section *all;
+  nghttp3_vec bytes;
+};
+struct section {
+  size_t references; /* to the whole and to its buffers */
+  size_t room;       /* after this struct */
+  nghttp3_rcbuf buffers[];
+};
 section *section_take(nghttp3_conn *connection, const h3_item *item);
-nghttp3_rcbuf *section_buffer(section *all, size_t index);
 void section_give(nghttp3_conn *connection, section *all);
 size_t field_list_size(const nghttp3_nv *fields, size_t count);
 field_list field_list_at(void *place, const nghttp3_nv *fields, size_t count);
@@ -137,7 +146,7 @@ field_list field_list_at(void *place, const nghttp3_nv *fields, size_t count);
 bool priority_field_parse(priority *to, const uint8_t *value, size_t length);
 
 /* streams.c */
-stream *stream_find_own(nghttp3_conn *connection, int64_t id);
+stream *stream_look_up(nghttp3_conn *connection, int64_t id);
 stream *stream_add(nghttp3_conn *connection, int64_t id);
 void stream_init(stream *s, int64_t id, uint64_t endpoint_id);
 void stream_clear(nghttp3_conn *connection, stream *s);
@@ -149,6 +158,7 @@ void stream_schedule(nghttp3_conn *connection, stream *s);
 void stream_unschedule(nghttp3_conn *connection, stream *s);
 void stream_set_priority(nghttp3_conn *connection, stream *s, priority to);
 bool reserve_scratch(nghttp3_conn *connection, size_t size);
+bool table_grow(nghttp3_conn *connection);
 
 /* Each packet needs what follows: so it stands here, without a call. */
 
@@ -174,16 +184,10 @@ static inline void block_give(block_pool *pool, void *block) {
 /* A client opens the streams 0, 4, 8, .. (RFC 9000, section 2.1). */
 static inline bool is_request(int64_t id) { return id >= 0 && id % 4 == 0; }
 
-/* Which place of the table a request stream has. There are 0, 16, 32, .. places: a power of 2. */
-static inline size_t place_in_table(size_t places, int64_t id) { return ((uint64_t)id >> 2) & (places - 1); }
-
 /* A request stream, or a local unidirectional stream that is bound to this id; else NULL. */
 static inline stream *stream_find(nghttp3_conn *connection, int64_t id) {
-  if (!is_request(id)) return stream_find_own(connection, id);
-  if (connection->places == 0) return NULL;
-  stream *s = connection->table[place_in_table(connection->places, id)];
-  while (s && s->id != id) s = s->next;
-  return s;
+  stream *s = connection->found;
+  return s && s->id == id ? s : stream_look_up(connection, id);
 }
 
 /* A callback of the application may close the stream that it was called for. */

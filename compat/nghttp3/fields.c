@@ -7,12 +7,12 @@
 
 /* The bytes that field_list_at writes, at most SIZE_MAX: then no memory is there for them. */
 size_t field_list_size(const nghttp3_nv *fields, size_t count) {
-  size_t size = count * sizeof(h3_field_size);
+  size_t size = count * sizeof(h3_field_size), bits = 0; /* bits: those of all lengths */
   for (size_t i = 0; i < count; i++) {
-    if (fields[i].namelen > UINT32_MAX || fields[i].valuelen > UINT32_MAX) return SIZE_MAX;
+    bits |= fields[i].namelen | fields[i].valuelen;
     size += fields[i].namelen + fields[i].valuelen;
   }
-  return size;
+  return bits > UINT32_MAX ? SIZE_MAX : size;
 }
 
 /* memcpy, without a call for the few bytes that most names and values have. Answers the place after them. */
@@ -39,17 +39,6 @@ field_list field_list_at(void *place, const nghttp3_nv *fields, size_t count) {
 }
 
 /* ---- to nghttp3: names and values that the application may hold on to, each with a NUL after it ---- */
-
-struct nghttp3_rcbuf {
-  section *all;
-  nghttp3_vec bytes;
-};
-
-struct section {
-  size_t references; /* to the whole and to its buffers */
-  size_t room;       /* after this struct */
-  nghttp3_rcbuf buffers[];
-};
 
 enum { STEP = 16 }; /* of copying, in bytes */
 
@@ -103,8 +92,6 @@ section *section_take(nghttp3_conn *connection, const h3_item *item) {
   spread(all, count, sizes, to, from);
   return all;
 }
-
-nghttp3_rcbuf *section_buffer(section *all, size_t index) { return all->buffers + index; }
 
 static void section_release(section *all) {
   if (--all->references == 0) free(all);

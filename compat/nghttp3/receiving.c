@@ -40,12 +40,16 @@ static void read_priority(nghttp3_conn *connection, stream *s, nghttp3_vec value
     stream_set_priority(connection, s, (priority){urgency, incremental != 0});
 }
 
-static int tell_field(nghttp3_conn *connection, stream *s, nghttp3_rcbuf *name, nghttp3_rcbuf *value, bool is_trailer) {
-  nghttp3_vec name_bytes = nghttp3_rcbuf_get_buf(name);
-  int32_t token = token_of(name_bytes.base, name_bytes.len);
-  if (is_trailer) return CALLBACK(connection, recv_trailer, s->id, token, name, value, 0, connection->user_data, s->user_data);
-  if (token == NGHTTP3_QPACK_TOKEN_PRIORITY) read_priority(connection, s, nghttp3_rcbuf_get_buf(value));
-  return CALLBACK(connection, recv_header, s->id, token, name, value, 0, connection->user_data, s->user_data);
+static int tell_each(nghttp3_conn *connection, stream *s, section *all, size_t count, bool is_trailer) {
+  nghttp3_recv_header tell = is_trailer ? connection->callbacks.recv_trailer : connection->callbacks.recv_header;
+  nghttp3_rcbuf *name = all->buffers, *end = name + 2 * count;
+  for (; name < end && !s->is_read_shut; name += 2) {
+    nghttp3_rcbuf *value = name + 1;
+    int32_t token = token_of(name->bytes.base, name->bytes.len);
+    if (token == NGHTTP3_QPACK_TOKEN_PRIORITY && !is_trailer) read_priority(connection, s, value->bytes);
+    if (tell && tell(connection, s->id, token, name, value, 0, connection->user_data, s->user_data)) return NGHTTP3_ERR_CALLBACK_FAILURE;
+  }
+  return 0;
 }
 
 static int tell_fields(nghttp3_conn *connection, stream *s, const h3_item *item) {
@@ -54,8 +58,7 @@ static int tell_fields(nghttp3_conn *connection, stream *s, const h3_item *item)
   if (!all) return NGHTTP3_ERR_NOMEM;
   int error = is_trailer ? CALLBACK(connection, begin_trailers, s->id, connection->user_data, s->user_data)
                          : CALLBACK(connection, begin_headers, s->id, connection->user_data, s->user_data);
-  for (size_t i = 0; i < item->fields && !error && !s->is_read_shut; i++)
-    error = tell_field(connection, s, section_buffer(all, 2 * i), section_buffer(all, 2 * i + 1), is_trailer);
+  if (!error) error = tell_each(connection, s, all, item->fields, is_trailer);
   section_give(connection, all);
   return error;
 }
@@ -174,32 +177,29 @@ static inline size_t take_credit(nghttp3_conn *connection, stream *s) {
   return due - kept;
 }
 
-/* Passes what was read, and all that follows. Answers for how many bytes credit is due. */
-static APART nghttp3_ssize pass_items(nghttp3_conn *connection, stream *s, input in, reading *now) {
+/* Passes all items of what came on a request stream. `first`: what was read of it; NULL if nothing was. Answers for how many bytes credit
+ * is due. */
+static APART nghttp3_ssize pass_items(nghttp3_conn *connection, stream *s, const uint8_t *bytes, size_t length, int fin,
+                                      const reading *first) {
+  reading now;
+  input in = {length > 0 ? bytes : (const uint8_t *)"", length, fin};
+  if (first) now = *first;
+  else read_on(connection, s, in, is_at_end(s, &in), &now);
   stream_hold(s);
-  s->owed += in.length;
-  int error = tell_items(connection, s, &in, now);
+  s->owed += length;
+  int error = tell_items(connection, s, &in, &now);
   size_t credit = take_credit(connection, s);
   stream_release(connection, s);
   return error ? error : (nghttp3_ssize)credit;
 }
 
-/* The end of a request stream, perhaps after bytes, or nothing, where a head may be there now that waited. */
-static APART nghttp3_ssize read_end(nghttp3_conn *connection, stream *s, const uint8_t *bytes, size_t length, int fin) {
+/* Bytes of a request stream, without the end. Most packets are a piece of a body and nothing else: the stream is not looked at after the
+ * callback then, so it need not be held. */
+static nghttp3_ssize read_bytes(nghttp3_conn *connection, stream *s, const uint8_t *bytes, size_t length) {
   reading now;
-  input in = {length > 0 ? bytes : (const uint8_t *)"", length, fin};
-  read_on(connection, s, in, is_at_end(s, &in), &now);
-  return pass_items(connection, s, in, &now);
-}
-
-/* Bytes of a request stream. Most packets are a piece of a body and nothing else: the stream is not looked at after the callback then, so
- * it need not be held. */
-static nghttp3_ssize read_request(nghttp3_conn *connection, stream *s, const uint8_t *bytes, size_t length, int fin) {
-  reading now;
-  input in = {bytes, length, false};
-  if (length == 0 || fin) return read_end(connection, s, bytes, length, fin);
-  read_on(connection, s, in, false, &now);
-  if (now.answer != H3_OK || now.item.kind != H3_BODY_GIVEN || now.used < length) return pass_items(connection, s, in, &now);
+  read_on(connection, s, (input){bytes, length, false}, false, &now);
+  if (now.answer != H3_OK || now.item.kind != H3_BODY_GIVEN || now.used < length)
+    return pass_items(connection, s, bytes, length, false, &now);
   size_t credit = s->owed + length - now.item.len;
   s->owed = 0, s->may_be_held = false;
   int error = tell_body(connection, s, bytes + now.item.number, now.item.len);
@@ -249,7 +249,7 @@ EXPORT void nghttp3_conn_shutdown_stream_write(nghttp3_conn *connection, int64_t
 /* A head of the stream may be there now that waited for the peer's encoder. */
 static int resume_waiting(nghttp3_conn *connection, stream *s) {
   stream_hold(s);
-  nghttp3_ssize credit = read_request(connection, s, NULL, 0, 0);
+  nghttp3_ssize credit = pass_items(connection, s, NULL, 0, 0, NULL);
   int error = credit < 0 ? (int)credit : 0;
   if (credit > 0) error = CALLBACK(connection, deferred_consume, s->id, (size_t)credit, connection->user_data, s->user_data);
   if (!error && s->is_closing && !s->is_waiting && !s->is_closed) error = close_now(connection, s);
@@ -300,7 +300,7 @@ static int tell_control(nghttp3_conn *connection) {
   return CALLBACK(connection, shutdown, (int64_t)state.goaway, connection->user_data);
 }
 
-static APART nghttp3_ssize read_unidirectional(nghttp3_conn *connection, int64_t id, const uint8_t *bytes, size_t length, int fin) {
+static nghttp3_ssize read_unidirectional(nghttp3_conn *connection, int64_t id, const uint8_t *bytes, size_t length, int fin) {
   int fault = endpoint_deliver(connection, id, bytes, length, fin);
   connection->encoder.is_untaken = connection->decoder.is_untaken = true;
   int error = tell_control(connection);
@@ -320,22 +320,30 @@ static int reject(nghttp3_conn *connection, stream *s) {
   return error;
 }
 
-/* What came on a stream that is not there: the first bytes of a request, or late ones. */
-static APART nghttp3_ssize read_first(nghttp3_conn *connection, int64_t id, const uint8_t *bytes, size_t length, int fin) {
-  if (!connection->is_server) return id < connection->next_id ? (nghttp3_ssize)length : NGHTTP3_ERR_H3_STREAM_CREATION_ERROR;
-  stream *s = stream_add(connection, id);
-  if (!s) return NGHTTP3_ERR_NOMEM;
-  if (id >= connection->end_id) {
-    int error = reject(connection, s);
-    return error ? error : (nghttp3_ssize)length;
+/* What came on a request stream that is there. */
+static inline nghttp3_ssize read_there(nghttp3_conn *connection, stream *s, const uint8_t *bytes, size_t length, int fin) {
+  if (is_shut(s)) return (nghttp3_ssize)length;
+  return length == 0 || fin ? pass_items(connection, s, bytes, length, fin, NULL) : read_bytes(connection, s, bytes, length);
+}
+
+/* What came on a stream that is not the one that was found last: one of the peer's, another request stream, a new one, or one that is over. */
+static APART nghttp3_ssize read_other(nghttp3_conn *connection, int64_t id, const uint8_t *bytes, size_t length, int fin) {
+  if (!is_request(id)) return read_unidirectional(connection, id, bytes, length, fin);
+  stream *s = stream_look_up(connection, id);
+  if (!s && !connection->is_server) return id < connection->next_id ? (nghttp3_ssize)length : NGHTTP3_ERR_H3_STREAM_CREATION_ERROR;
+  if (!s) {
+    s = stream_add(connection, id);
+    if (!s) return NGHTTP3_ERR_NOMEM;
+    if (id >= connection->end_id) {
+      int error = reject(connection, s);
+      return error ? error : (nghttp3_ssize)length;
+    }
+    if (id >= connection->next_id) connection->next_id = id + 4;
   }
-  if (id >= connection->next_id) connection->next_id = id + 4;
-  return read_request(connection, s, bytes, length, fin);
+  return read_there(connection, s, bytes, length, fin);
 }
 
 EXPORT nghttp3_ssize nghttp3_conn_read_stream(nghttp3_conn *connection, int64_t id, const uint8_t *bytes, size_t length, int fin) {
-  if (!is_request(id)) return read_unidirectional(connection, id, bytes, length, fin);
-  stream *s = stream_find(connection, id);
-  if (!s) return read_first(connection, id, bytes, length, fin);
-  return is_shut(s) ? (nghttp3_ssize)length : read_request(connection, s, bytes, length, fin);
+  stream *s = connection->found;
+  return s && s->id == id ? read_there(connection, s, bytes, length, fin) : read_other(connection, id, bytes, length, fin);
 }

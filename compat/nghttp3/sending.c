@@ -20,9 +20,9 @@ int send_fields(nghttp3_conn *connection, stream *s, const field_list *fields, b
   bool has_unsent = s->is_untaken || s->unsent_length > 0;
   int error = s->announced ? endpoint_take(connection, s) : 0;
   if (error) return error;
-  uint32_t (*send)(h3_endpoint *, uint64_t, const h3_field_size *, size_t, const void *, size_t, uint64_t *) =
-      is_trailer ? h3_send_trailer : h3_send_head;
-  uint32_t answer = send(&connection->endpoint, s->endpoint_id, fields->sizes, fields->count, bytes, fields->length, &detail);
+  h3_endpoint *endpoint = &connection->endpoint;
+  uint32_t answer = is_trailer ? h3_send_trailer(endpoint, s->endpoint_id, fields->sizes, fields->count, bytes, fields->length, &detail)
+                               : h3_send_head(endpoint, s->endpoint_id, fields->sizes, fields->count, bytes, fields->length, &detail);
   if (connection->has_peer_table) connection->encoder.is_untaken = true;
   if (answer != H3_OK) return error_of_answer(answer, detail);
   s->is_untaken = true; /* what follows is taken in the same call, unless this alone fills what is unsent */
@@ -77,7 +77,7 @@ static int read_body(nghttp3_conn *connection, stream *s) {
 }
 
 static bool wants_body(const stream *s) {
-  return s->is_ready && !s->is_closed && !s->is_write_shut && s->read_data && !s->awaits_data && s->unsent_length < LEAST_UNSENT;
+  return s->read_data && s->is_ready && !s->is_closed && !s->is_write_shut && !s->awaits_data && s->unsent_length < LEAST_UNSENT;
 }
 
 /* ---- which stream is next ---- */
@@ -103,7 +103,7 @@ static int next_of_row(nghttp3_conn *connection, struct stream_row *row, stream 
     bool is_first = !error && TAILQ_FIRST(row) == s && !s->is_closed;
     if (is_first && s->is_untaken) error = endpoint_take(connection, s);
     if (is_first && !error) {
-      if (stream_has_work(s) && (s->unsent_length > 0 || s->has_ended)) *next = s;
+      if (stream_has_work(s) && (s->unsent_length > 0 || s->has_ended)) *next = connection->found = s;
       else stream_unschedule(connection, s);
     }
     stream_release(connection, s);
@@ -147,9 +147,9 @@ EXPORT int nghttp3_conn_add_write_offset(nghttp3_conn *connection, int64_t id, s
     s->is_fin_taken = true;
     h3_end_taken(&connection->endpoint, s->endpoint_id);
   }
-  if (!stream_has_work(s) || s->priority.is_incremental)
-    stream_unschedule(connection, s); /* RFC 9218, section 10: incremental ones take turns */
-  stream_schedule(connection, s);
+  bool has_work = stream_has_work(s);
+  if (!has_work || s->priority.is_incremental) stream_unschedule(connection, s); /* RFC 9218, section 10: incremental ones take turns */
+  if (has_work) stream_schedule(connection, s);
   return 0;
 }
 

@@ -5,17 +5,26 @@
 
 /* ---- the table ---- */
 
-static stream **place_of(stream **table, size_t places, int64_t id) { return table + place_in_table(places, id); }
+/* There are 16, 32, .. places: a power of 2. */
+static stream **place_of(stream **table, size_t places, int64_t id) { return table + (((uint64_t)id >> 2) & (places - 1)); }
 
 /* The local unidirectional stream that is bound to this id; else NULL. */
-stream *stream_find_own(nghttp3_conn *connection, int64_t id) {
+static stream *find_own(nghttp3_conn *connection, int64_t id) {
   stream *own[] = {&connection->control, &connection->encoder, &connection->decoder};
   for (int i = 0; i < 3; i++)
     if (id >= 0 && own[i]->id == id) return own[i];
   return NULL;
 }
 
-static bool grow(nghttp3_conn *connection) {
+APART stream *stream_look_up(nghttp3_conn *connection, int64_t id) {
+  if (!is_request(id)) return find_own(connection, id);
+  stream *s = *place_of(connection->table, connection->places, id);
+  while (s && s->id != id) s = s->next;
+  if (s) connection->found = s;
+  return s;
+}
+
+bool table_grow(nghttp3_conn *connection) {
   size_t places = connection->places ? 2 * connection->places : 16;
   stream **table = calloc(places, sizeof *table);
   if (!table) return false;
@@ -37,12 +46,13 @@ void stream_init(stream *s, int64_t id, uint64_t endpoint_id) {
 
 /* A request stream, which is not in the table yet. NULL where memory is refused. */
 stream *stream_add(nghttp3_conn *connection, int64_t id) {
-  if (connection->streams >= connection->places && !grow(connection)) return NULL;
+  if (connection->streams >= connection->places && !table_grow(connection)) return NULL;
   stream *s = block_take(&connection->spare_streams, sizeof *s);
   if (!s) return NULL;
   stream_init(s, id, (uint64_t)id);
   stream **place = place_of(connection->table, connection->places, id);
   s->next = *place, *place = s, connection->streams++;
+  connection->found = s;
   return s;
 }
 
@@ -84,6 +94,7 @@ void stream_free(nghttp3_conn *connection, stream *s) {
   stream **place = place_of(connection->table, connection->places, s->id);
   while (*place != s) place = &(*place)->next;
   *place = s->next, connection->streams--;
+  if (connection->found == s) connection->found = NULL;
   stream_clear(connection, s);
   block_give(&connection->spare_streams, s);
 }
