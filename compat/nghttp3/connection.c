@@ -47,7 +47,8 @@ static int connection_new(nghttp3_conn **to, bool is_server, const nghttp3_callb
   stream_init(&connection->control, -1, h3_control_id(is_server));
   stream_init(&connection->encoder, -1, h3_encoder_id(is_server));
   stream_init(&connection->decoder, -1, h3_decoder_id(is_server));
-  connection->control.is_untaken = connection->encoder.is_untaken = connection->decoder.is_untaken = true;
+  may_have_bytes(connection, &connection->control), may_have_bytes(connection, &connection->encoder);
+  may_have_bytes(connection, &connection->decoder);
   connection->has_own_table = config.table > 0;
   for (int urgency = 0; urgency < NGHTTP3_URGENCY_LEVELS; urgency++) TAILQ_INIT(&connection->ready[urgency]);
   TAILQ_INIT(&connection->waiting);
@@ -102,7 +103,7 @@ EXPORT int nghttp3_conn_bind_qpack_streams(nghttp3_conn *connection, int64_t enc
 static int send_goaway(nghttp3_conn *connection, uint64_t id) {
   uint64_t detail = 0;
   uint32_t answer = h3_goaway(&connection->endpoint, id, &detail);
-  connection->control.is_untaken = true;
+  may_have_bytes(connection, &connection->control);
   return error_of_answer(answer, detail);
 }
 

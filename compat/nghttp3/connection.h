@@ -18,7 +18,8 @@
 #endif
 
 #define EXPORT __attribute__((visibility("default")))
-/* What a packet of a body does not need: so the code for that stays short. */
+/* What a packet of a body does not need: so the code for that stays short. (A function that is declared here and defined with the word
+ * `inline` may become part of its callers in other files: the Makefile compiles all as one.) */
 #define APART __attribute__((noinline))
 
 /* Calls a callback of the application, where it has set one. */
@@ -99,6 +100,7 @@ struct nghttp3_conn {
   void *user_data;
   bool is_server;
   bool has_own_table, has_peer_table; /* the table that the local decoder, and the local encoder, may use has room for entries */
+  bool has_own_work;  /* the endpoint or one of the local unidirectional streams may have bytes for these */
   bool has_settings;  /* the application has the peer's */
   bool is_leaving;    /* nghttp3_conn_shutdown was called */
   bool has_goaway;    /* the application has one of the peer's, of this id */
@@ -203,6 +205,9 @@ static inline void stream_set_waiting(nghttp3_conn *connection, stream *s, bool 
   else TAILQ_REMOVE(&connection->waiting, s, waiting);
   s->is_waiting = is_waiting;
 }
+
+/* The endpoint may have written on a local unidirectional stream. */
+static inline void may_have_bytes(nghttp3_conn *connection, stream *own) { own->is_untaken = connection->has_own_work = true; }
 
 /* endpoint.c: how bytes enter and leave the endpoint */
 int endpoint_take(nghttp3_conn *connection, stream *s);

@@ -20,13 +20,13 @@ static inline uint8_t *copy(uint8_t *to, const uint8_t *from, size_t size) {
   if (size > 16) memcpy(to, from, size);
   else if (size >= 8) memcpy(to, from, 8), memcpy(to + size - 8, from + size - 8, 8);
   else if (size >= 4) memcpy(to, from, 4), memcpy(to + size - 4, from + size - 4, 4);
-  else
-    for (size_t i = 0; i < size; i++) to[i] = from[i];
+  else if (size >= 2) memcpy(to, from, 2), memcpy(to + size - 2, from + size - 2, 2);
+  else if (size == 1) *to = *from;
   return to + size;
 }
 
 /* `place` is aligned for h3_field_size. */
-field_list field_list_at(void *place, const nghttp3_nv *fields, size_t count) {
+inline field_list field_list_at(void *place, const nghttp3_nv *fields, size_t count) {
   field_list list = {count, 0, place};
   uint8_t *begin = (uint8_t *)(list.sizes + count), *to = begin;
   for (size_t i = 0; i < count; i++) {

@@ -9,7 +9,7 @@ void give_up_reading(nghttp3_conn *connection, stream *s) {
   s->is_read_shut = true;
   stream_set_waiting(connection, s, false);
   h3_cancel(&connection->endpoint, s->endpoint_id, NULL);
-  connection->decoder.is_untaken = true;
+  may_have_bytes(connection, &connection->decoder);
 }
 
 /* Nothing more of the stream is sent. */
@@ -77,6 +77,7 @@ static inline int tell_body(nghttp3_conn *connection, stream *s, const uint8_t *
 static void count_body(stream *s, size_t length) { s->owed -= length < s->owed ? length : s->owed; }
 
 static int tell_given_body(nghttp3_conn *connection, stream *s, const reading *now) {
+  s->may_be_held = false;
   count_body(s, now->item.len);
   return tell_body(connection, s, now->given + now->item.number, now->item.len);
 }
@@ -94,7 +95,7 @@ enum { NOTHING_FOLLOWS = 1 }; /* of tell_item, beside 0 and errors */
 /* Any item but a piece of a body in the bytes that came. */
 static int tell_item(nghttp3_conn *connection, stream *s, const h3_item *item) {
   stream_set_waiting(connection, s, item->kind == H3_WAITING);
-  if (connection->has_own_table) connection->decoder.is_untaken = true; /* a section may have been acknowledged (RFC 9204, section 4.4.1) */
+  if (connection->has_own_table) may_have_bytes(connection, &connection->decoder); /* a section may have been acknowledged (RFC 9204, section 4.4.1) */
   switch (item->kind) {
     case H3_HEAD:
     case H3_INTERIM:
@@ -122,45 +123,43 @@ static bool is_pause(uint32_t kind) { return kind == H3_PENDING || kind == H3_WA
 /* Does the application get nothing more of the stream? */
 static inline bool is_shut(const stream *s) { return s->is_read_shut || s->is_closed; }
 
-/* Takes note of what was read: `in` begins after that then. What was taken though memory was refused is read by a pull. */
-static int accept(nghttp3_conn *connection, stream *s, input *in, reading *now) {
-  now->given = in->bytes;
-  in->bytes += now->used, in->length -= now->used;
+/* What was taken though memory was refused is read by a pull. */
+static int pull_kept(nghttp3_conn *connection, stream *s, reading *now) {
   if (now->answer == H3_KEPT) {
     s->may_be_held = true;
     now->answer = h3_pull(&connection->endpoint, s->endpoint_id, &now->item);
   }
-  if (now->answer != H3_OK) return error_of_answer(now->answer, now->detail);
-  if (now->item.kind == H3_BODY_GIVEN) s->may_be_held = false;
-  else if (is_pause(now->item.kind) && now->used > 0) s->may_be_held = true;
-  return 0;
+  return error_of_answer(now->answer, now->detail);
 }
 
-/* The next item, from what was read on. After a pause all bytes are read, and then the end: so a body that it cuts short is passed on as far
- * as it came, in whichever pieces. */
+/* The next item, from what was read on: `in` begins after that then. After a pause all bytes are read, and then the end: so a body that it
+ * cuts short is passed on as far as it came, in whichever pieces. */
 static int next_item(nghttp3_conn *connection, stream *s, input *in, reading *now) {
   for (;; read_on(connection, s, *in, in->length == 0, now)) {
-    int error = accept(connection, s, in, now);
-    bool is_over = in->length == 0 && (now->has_end || !in->has_fin);
-    if (error || is_over || !is_pause(now->item.kind)) return error;
+    now->given = in->bytes;
+    in->bytes += now->used, in->length -= now->used;
+    int error = now->answer == H3_OK ? 0 : pull_kept(connection, s, now);
+    if (error || !is_pause(now->item.kind)) return error;
+    if (now->used > 0) s->may_be_held = true;
+    if (in->length == 0 && (now->has_end || !in->has_fin)) return 0;
   }
 }
 
 /* Passes all items that are there, of what came before and of `in`, from what was read of it on. */
 static int tell_items(nghttp3_conn *connection, stream *s, input *in, reading *now) {
-  uint32_t section = 0; /* the kind of the item before, if that is a header or trailer section */
+  uint32_t before = 0; /* the kind of the item before, if that is a header or trailer section */
   for (;; read_on(connection, s, *in, is_at_end(s, in), now)) {
     int error = next_item(connection, s, in, now);
     uint32_t kind = now->item.kind;
-    if (!error && section) error = tell_end_of_fields(connection, s, section, kind == H3_END);
+    if (!error && before) error = tell_end_of_fields(connection, s, before, kind == H3_END);
     if (error || is_shut(s)) return error;
     error = kind == H3_BODY_GIVEN ? tell_given_body(connection, s, now) : tell_item(connection, s, &now->item);
     if (error == NOTHING_FOLLOWS) return 0;
     if (error || is_shut(s)) return error;
-    section = is_section(kind) ? kind : 0;
-    if ((section || kind == H3_BODY_GIVEN) && is_all(s, in)) break;
+    before = is_section(kind) ? kind : 0;
+    if ((before || kind == H3_BODY_GIVEN) && is_all(s, in)) break;
   }
-  return section ? tell_end_of_fields(connection, s, section, 0) : 0;
+  return before ? tell_end_of_fields(connection, s, before, 0) : 0;
 }
 
 /* ---- credit ---- */
@@ -217,11 +216,13 @@ static int close_now(nghttp3_conn *connection, stream *s) {
   return error;
 }
 
+/* A unidirectional stream of the peer (RFC 9000, section 2.1). */
+static bool is_of_peer(const nghttp3_conn *connection, int64_t id) { return id % 4 != 0 && (id % 2 == 1) != connection->is_server; }
+
 /* A stream whose head waits is closed after that message, as nghttp3 does: its application gets all that came. */
 EXPORT int nghttp3_conn_close_stream(nghttp3_conn *connection, int64_t id, uint64_t code) {
   stream *s = stream_find(connection, id);
-  bool is_of_peer = id % 4 != 0 && (id % 2 == 1) != connection->is_server;
-  if (!s) return is_of_peer ? 0 : NGHTTP3_ERR_STREAM_NOT_FOUND;
+  if (!s) return is_of_peer(connection, id) ? 0 : NGHTTP3_ERR_STREAM_NOT_FOUND;
   if (!is_request(id)) return NGHTTP3_ERR_H3_CLOSED_CRITICAL_STREAM;
   if (s->is_closed || s->is_closing) return NGHTTP3_ERR_STREAM_NOT_FOUND;
   s->close_code = code, s->is_closing = true;
@@ -302,7 +303,7 @@ static int tell_control(nghttp3_conn *connection) {
 
 static nghttp3_ssize read_unidirectional(nghttp3_conn *connection, int64_t id, const uint8_t *bytes, size_t length, int fin) {
   int fault = endpoint_deliver(connection, id, bytes, length, fin);
-  connection->encoder.is_untaken = connection->decoder.is_untaken = true;
+  may_have_bytes(connection, &connection->encoder), may_have_bytes(connection, &connection->decoder);
   int error = tell_control(connection);
   if (fault || error) return fault ? fault : error;
   error = resume_all_waiting(connection);
@@ -329,7 +330,8 @@ static inline nghttp3_ssize read_there(nghttp3_conn *connection, stream *s, cons
 /* What came on a stream that is not the one that was found last: one of the peer's, another request stream, a new one, or one that is over. */
 static APART nghttp3_ssize read_other(nghttp3_conn *connection, int64_t id, const uint8_t *bytes, size_t length, int fin) {
   if (!is_request(id)) return read_unidirectional(connection, id, bytes, length, fin);
-  stream *s = stream_look_up(connection, id);
+  bool is_new = connection->is_server && id >= connection->next_id && id < connection->end_id;
+  stream *s = is_new ? NULL : stream_look_up(connection, id);
   if (!s && !connection->is_server) return id < connection->next_id ? (nghttp3_ssize)length : NGHTTP3_ERR_H3_STREAM_CREATION_ERROR;
   if (!s) {
     s = stream_add(connection, id);

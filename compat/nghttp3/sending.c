@@ -14,7 +14,7 @@ enum {
  * each field two lengths (sections 4.1.1 and 4.5.6) and both strings. */
 static size_t most_encoded(const field_list *fields) { return 9 + 20 + fields->length + 12 * fields->count; }
 
-int send_fields(nghttp3_conn *connection, stream *s, const field_list *fields, bool is_trailer) {
+inline int send_fields(nghttp3_conn *connection, stream *s, const field_list *fields, bool is_trailer) {
   uint64_t detail = 0;
   const uint8_t *bytes = (const uint8_t *)(fields->sizes + fields->count);
   bool has_unsent = s->is_untaken || s->unsent_length > 0;
@@ -23,7 +23,7 @@ int send_fields(nghttp3_conn *connection, stream *s, const field_list *fields, b
   h3_endpoint *endpoint = &connection->endpoint;
   uint32_t answer = is_trailer ? h3_send_trailer(endpoint, s->endpoint_id, fields->sizes, fields->count, bytes, fields->length, &detail)
                                : h3_send_head(endpoint, s->endpoint_id, fields->sizes, fields->count, bytes, fields->length, &detail);
-  if (connection->has_peer_table) connection->encoder.is_untaken = true;
+  if (connection->has_peer_table) may_have_bytes(connection, &connection->encoder);
   if (answer != H3_OK) return error_of_answer(answer, detail);
   s->is_untaken = true; /* what follows is taken in the same call, unless this alone fills what is unsent */
   return has_unsent || most_encoded(fields) >= LEAST_UNSENT ? endpoint_take(connection, s) : 0;
@@ -85,8 +85,10 @@ static bool wants_body(const stream *s) {
 /* The local unidirectional streams come first: the peer's heads may wait for them. */
 static int next_own(nghttp3_conn *connection, stream **next) {
   stream *own[] = {&connection->control, &connection->decoder, &connection->encoder};
+  connection->has_own_work = false;
   for (int i = 0; i < 3; i++) {
     int error = own[i]->is_untaken && own[i]->id >= 0 ? endpoint_take(connection, own[i]) : 0;
+    if (own[i]->is_untaken || own[i]->unsent_length > 0) connection->has_own_work = true;
     if (error) return error;
   }
   for (int i = 0; i < 3 && !*next; i++)
@@ -126,7 +128,7 @@ EXPORT nghttp3_ssize nghttp3_conn_writev_stream(nghttp3_conn *connection, int64_
   stream *next = NULL;
   *id = -1, *fin = 0;
   if (room == 0) return 0;
-  int error = next_own(connection, &next);
+  int error = connection->has_own_work ? next_own(connection, &next) : 0;
   for (int urgency = 0; urgency < NGHTTP3_URGENCY_LEVELS && !error && !next; urgency++)
     error = next_of_row(connection, &connection->ready[urgency], &next);
   if (error) return error;

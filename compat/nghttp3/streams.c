@@ -5,7 +5,7 @@
 
 /* ---- the table ---- */
 
-/* There are 16, 32, .. places: a power of 2. */
+/* There are 128, 256, .. places: a power of 2. */
 static stream **place_of(stream **table, size_t places, int64_t id) { return table + (((uint64_t)id >> 2) & (places - 1)); }
 
 /* The local unidirectional stream that is bound to this id; else NULL. */
@@ -25,7 +25,7 @@ APART stream *stream_look_up(nghttp3_conn *connection, int64_t id) {
 }
 
 bool table_grow(nghttp3_conn *connection) {
-  size_t places = connection->places ? 2 * connection->places : 16;
+  size_t places = connection->places ? 2 * connection->places : 128; /* most QUIC libraries let 100 be open at once */
   stream **table = calloc(places, sizeof *table);
   if (!table) return false;
   for (size_t i = 0; i < connection->places; i++)
@@ -45,7 +45,7 @@ void stream_init(stream *s, int64_t id, uint64_t endpoint_id) {
 }
 
 /* A request stream, which is not in the table yet. NULL where memory is refused. */
-stream *stream_add(nghttp3_conn *connection, int64_t id) {
+inline stream *stream_add(nghttp3_conn *connection, int64_t id) {
   if (connection->streams >= connection->places && !table_grow(connection)) return NULL;
   stream *s = block_take(&connection->spare_streams, sizeof *s);
   if (!s) return NULL;
@@ -88,7 +88,7 @@ void pool_clear(block_pool *pool) {
 }
 
 /* Takes a request stream out of the table, and frees it. */
-void stream_free(nghttp3_conn *connection, stream *s) {
+inline void stream_free(nghttp3_conn *connection, stream *s) {
   stream_unschedule(connection, s);
   stream_set_waiting(connection, s, false);
   stream **place = place_of(connection->table, connection->places, s->id);

@@ -24,8 +24,7 @@ static inline bool is_same(const char *known, const uint8_t *name, size_t length
 
 int32_t token_of(const uint8_t *name, size_t length) {
   if (length == 0) return -1;
-  size_t place = (length * MULTIPLIER + name[length - 1]) % PLACES;
-  for (int i = FIRST_AT_PLACE[place]; i < FIRST_AT_PLACE[place + 1]; i++)
-    if (NAMES[i].length == length && is_same(NAMES[i].name, name, length)) return NAMES[i].token;
-  return -1;
+  const known *at = FIRST_AT[(length * MULTIPLIER + name[length - 1]) % PLACES];
+  while (at && !(at->length == length && is_same(at->name, name, length))) at = at->next;
+  return at ? at->token : -1;
 }

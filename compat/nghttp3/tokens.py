@@ -35,14 +35,19 @@ def main():
         tokens = dict(rows(file.read()))
     multiplier, place = places_of(sorted(tokens))
     names = sorted(tokens, key=lambda name: (place[name], name))
-    first = [sum(place[name] < at for name in names) for at in range(PLACES + 1)]
     print("/* written by tokens.py from the installed nghttp3.h */")
-    print("static const struct {\n  const char *name;\n  size_t length;\n  int32_t token;\n} NAMES[] = {")
-    for name in names:
-        print(f'    {{"{name}", {len(name)}, {tokens[name]}}},')
+    print("typedef struct known {\n  const struct known *next; /* at the same place */\n  const char *name;\n  size_t length;\n  int32_t token;\n} known;")
+    print("static const known KNOWN[] = {")
+    for at, name in enumerate(names, 1):
+        after = f"KNOWN + {at}" if at < len(names) and place[names[at]] == place[name] else "NULL"
+        print(f'    {{{after}, "{name}", {len(name)}, {tokens[name]}}},')
     print("};")
     print(f"enum {{ PLACES = {PLACES}, MULTIPLIER = {multiplier} }};")
-    print(f"static const uint8_t FIRST_AT_PLACE[] = {{{', '.join(map(str, first))}}};")
+    print("static const known *const FIRST_AT[PLACES] = {")
+    for at, name in enumerate(names):
+        if at == 0 or place[names[at - 1]] != place[name]:
+            print(f"    [{place[name]}] = KNOWN + {at},")
+    print("};")
 
 
 main()
