@@ -22,6 +22,15 @@
  * `inline` may become part of its callers in other files: the Makefile compiles all as one.) */
 #define APART __attribute__((noinline))
 
+/* Is this a build with the sanitizer of addresses? */
+#ifdef __has_feature
+#if __has_feature(address_sanitizer)
+#define HAS_SANITIZER
+#endif
+#elif defined __SANITIZE_ADDRESS__
+#define HAS_SANITIZER
+#endif
+
 /* Calls a callback of the application, where it has set one. */
 #define CALLBACK(connection, name, ...) \
   ((connection)->callbacks.name && (connection)->callbacks.name((connection), __VA_ARGS__) ? NGHTTP3_ERR_CALLBACK_FAILURE : 0)
@@ -166,7 +175,7 @@ bool table_grow(nghttp3_conn *connection);
 
 /* The size is the same in each call for a pool, and a multiple of 8. With the sanitizer of addresses blocks are malloc's, so that it sees
  * each use of one that was freed. */
-#ifdef __SANITIZE_ADDRESS__
+#ifdef HAS_SANITIZER
 static inline void *block_take(block_pool *pool, size_t size) { return (void)pool, malloc(size); }
 static inline void block_give(block_pool *pool, void *block) { (void)pool, free(block); }
 #else

@@ -52,6 +52,7 @@ int endpoint_take(nghttp3_conn *connection, stream *s) {
   size_t length, past;
   s->is_untaken = true;
   do {
+    length = past = 0;
     h3_outgoing(&connection->endpoint, s->endpoint_id, bytes, sizeof bytes, &length, &past, NULL);
     if (length > 0 && append_copy(connection, s, bytes, length)) return NGHTTP3_ERR_NOMEM;
     if (past > 0) append(s, s->announced), s->announced = NULL;

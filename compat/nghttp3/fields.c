@@ -81,18 +81,6 @@ static section *section_of_room(nghttp3_conn *connection, size_t room) {
   return all;
 }
 
-section *section_take(nghttp3_conn *connection, const h3_item *item) {
-  size_t count = item->fields, buffers = 2 * count * sizeof(nghttp3_rcbuf), text = item->len + 2 * count;
-  section *all = section_of_room(connection, buffers + count * sizeof(h3_field_size) + text + 2 * STEP);
-  if (!all) return NULL;
-  h3_field_size *sizes = (h3_field_size *)(all->buffers + 2 * count);
-  uint8_t *to = (uint8_t *)(sizes + count), *from = to + 2 * count + STEP;
-  all->references = 1;
-  h3_item_fields(&connection->endpoint, sizes, count, from, item->len);
-  spread(all, count, sizes, to, from);
-  return all;
-}
-
 static void section_release(section *all) {
   if (--all->references == 0) free(all);
 }
@@ -101,6 +89,21 @@ static void section_release(section *all) {
 void section_give(nghttp3_conn *connection, section *all) {
   if (all->references == 1 && !connection->spare_section) connection->spare_section = all;
   else section_release(all);
+}
+
+section *section_take(nghttp3_conn *connection, const h3_item *item) {
+  size_t count = item->fields, buffers = 2 * count * sizeof(nghttp3_rcbuf), text = item->len + 2 * count;
+  section *all = section_of_room(connection, buffers + count * sizeof(h3_field_size) + text + 2 * STEP);
+  if (!all) return NULL;
+  h3_field_size *sizes = (h3_field_size *)(all->buffers + 2 * count);
+  uint8_t *to = (uint8_t *)(sizes + count), *from = to + 2 * count + STEP;
+  all->references = 1;
+  if (h3_item_fields(&connection->endpoint, sizes, count, from, item->len) == H3_OK) {
+    spread(all, count, sizes, to, from);
+    return all;
+  }
+  section_give(connection, all);
+  return NULL;
 }
 
 EXPORT void nghttp3_rcbuf_incref(nghttp3_rcbuf *buffer) { buffer->all->references++; }

@@ -95,7 +95,7 @@ enum { NOTHING_FOLLOWS = 1 }; /* of tell_item, beside 0 and errors */
 /* Any item but a piece of a body in the bytes that came. */
 static int tell_item(nghttp3_conn *connection, stream *s, const h3_item *item) {
   stream_set_waiting(connection, s, item->kind == H3_WAITING);
-  if (connection->has_own_table) may_have_bytes(connection, &connection->decoder); /* a section may have been acknowledged (RFC 9204, section 4.4.1) */
+  if (connection->has_own_table) may_have_bytes(connection, &connection->decoder); /* for a section (RFC 9204, section 4.4.1) */
   switch (item->kind) {
     case H3_HEAD:
     case H3_INTERIM:
@@ -327,7 +327,8 @@ static inline nghttp3_ssize read_there(nghttp3_conn *connection, stream *s, cons
   return length == 0 || fin ? pass_items(connection, s, bytes, length, fin, NULL) : read_bytes(connection, s, bytes, length);
 }
 
-/* What came on a stream that is not the one that was found last: one of the peer's, another request stream, a new one, or one that is over. */
+/* What came on another stream than the one that was found last: a unidirectional one, another request stream, a new one, or one that is
+ * over. */
 static APART nghttp3_ssize read_other(nghttp3_conn *connection, int64_t id, const uint8_t *bytes, size_t length, int fin) {
   if (!is_request(id)) return read_unidirectional(connection, id, bytes, length, fin);
   bool is_new = connection->is_server && id >= connection->next_id && id < connection->end_id;

@@ -36,7 +36,8 @@ def main():
     multiplier, place = places_of(sorted(tokens))
     names = sorted(tokens, key=lambda name: (place[name], name))
     print("/* written by tokens.py from the installed nghttp3.h */")
-    print("typedef struct known {\n  const struct known *next; /* at the same place */\n  const char *name;\n  size_t length;\n  int32_t token;\n} known;")
+    print("typedef struct known {\n  const struct known *next; /* at the same place */")
+    print("  const char *name;\n  size_t length;\n  int32_t token;\n} known;")
     print("static const known KNOWN[] = {")
     for at, name in enumerate(names, 1):
         after = f"KNOWN + {at}" if at < len(names) and place[names[at]] == place[name] else "NULL"
