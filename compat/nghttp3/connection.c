@@ -37,9 +37,9 @@ static int connection_new(nghttp3_conn **to, bool is_server, const nghttp3_callb
   h3_config config = config_of(is_server, settings);
   nghttp3_conn *connection = calloc(1, sizeof *connection);
   if (!connection) return NGHTTP3_ERR_NOMEM;
-  uint32_t answer = h3_new(&connection->endpoint, &config, NULL);
+  uint32_t answer = table_grow(connection) ? h3_new(&connection->endpoint, &config, NULL) : H3_MEMORY;
   if (answer != H3_OK) {
-    free(connection);
+    free(connection->table), free(connection);
     return error_of_answer(answer, 0);
   }
   connection->callbacks = *callbacks, connection->user_data = user_data;
@@ -47,6 +47,9 @@ static int connection_new(nghttp3_conn **to, bool is_server, const nghttp3_callb
   stream_init(&connection->control, -1, h3_control_id(is_server));
   stream_init(&connection->encoder, -1, h3_encoder_id(is_server));
   stream_init(&connection->decoder, -1, h3_decoder_id(is_server));
+  may_have_bytes(connection, &connection->control), may_have_bytes(connection, &connection->encoder);
+  may_have_bytes(connection, &connection->decoder);
+  connection->has_own_table = config.table > 0;
   for (int urgency = 0; urgency < NGHTTP3_URGENCY_LEVELS; urgency++) TAILQ_INIT(&connection->ready[urgency]);
   TAILQ_INIT(&connection->waiting);
   *to = connection;
@@ -75,22 +78,23 @@ EXPORT void nghttp3_conn_del(nghttp3_conn *connection) {
   for (size_t i = 0; i < connection->places; i++)
     for (stream *s = connection->table[i], *next; s; s = next) {
       next = s->next;
-      stream_clear(s);
-      free(s);
+      stream_free(connection, s);
     }
-  stream_clear(&connection->control), stream_clear(&connection->encoder), stream_clear(&connection->decoder);
-  free(connection->table), free(connection->scratch), free(connection);
+  stream_clear(connection, &connection->control), stream_clear(connection, &connection->encoder);
+  stream_clear(connection, &connection->decoder);
+  pool_clear(&connection->spare_streams), pool_clear(&connection->spare_chunks);
+  free(connection->spare_section), free(connection->table), free(connection->scratch), free(connection);
 }
 
 EXPORT int nghttp3_conn_bind_control_stream(nghttp3_conn *connection, int64_t id) {
   if (connection->control.id >= 0) return NGHTTP3_ERR_INVALID_STATE;
-  connection->control.id = id, connection->has_own_bytes = true;
+  connection->control.id = id;
   return 0;
 }
 
 EXPORT int nghttp3_conn_bind_qpack_streams(nghttp3_conn *connection, int64_t encoder_id, int64_t decoder_id) {
   if (connection->encoder.id >= 0 || connection->decoder.id >= 0) return NGHTTP3_ERR_INVALID_STATE;
-  connection->encoder.id = encoder_id, connection->decoder.id = decoder_id, connection->has_own_bytes = true;
+  connection->encoder.id = encoder_id, connection->decoder.id = decoder_id;
   return 0;
 }
 
@@ -99,7 +103,7 @@ EXPORT int nghttp3_conn_bind_qpack_streams(nghttp3_conn *connection, int64_t enc
 static int send_goaway(nghttp3_conn *connection, uint64_t id) {
   uint64_t detail = 0;
   uint32_t answer = h3_goaway(&connection->endpoint, id, &detail);
-  connection->has_own_bytes = true;
+  may_have_bytes(connection, &connection->control);
   return error_of_answer(answer, detail);
 }
 

@@ -5,6 +5,7 @@
 #include <nghttp3/nghttp3.h>
 #include <stdbool.h>
 #include <stdint.h>
+#include <stdlib.h>
 #include <sys/queue.h>
 #include "h3.h"
 
@@ -17,17 +18,42 @@
 #endif
 
 #define EXPORT __attribute__((visibility("default")))
+/* What a packet of a body does not need: so the code for that stays short. (A function that is declared here and defined with the word
+ * `inline` may become part of its callers in other files: the Makefile compiles all as one.) */
+#define APART __attribute__((noinline))
+
+/* Is this a build with the sanitizer of addresses? */
+#ifdef __has_feature
+#if __has_feature(address_sanitizer)
+#define HAS_SANITIZER
+#endif
+#elif defined __SANITIZE_ADDRESS__
+#define HAS_SANITIZER
+#endif
 
 /* Calls a callback of the application, where it has set one. */
 #define CALLBACK(connection, name, ...) \
   ((connection)->callbacks.name && (connection)->callbacks.name((connection), __VA_ARGS__) ? NGHTTP3_ERR_CALLBACK_FAILURE : 0)
+
+/* Blocks of one size, which are allocated many at once and used again: so an exchange asks malloc for few. They are freed with the
+ * connection. */
+typedef struct spare_block {
+  struct spare_block *next;
+} spare_block;
+
+typedef struct {
+  spare_block *first;  /* of the blocks that are not used */
+  spare_block *slabs;  /* what was allocated: after its first 16 bytes each has blocks */
+  size_t last_count;   /* how many the last one has */
+} block_pool;
 
 /* Bytes that are sent on a stream, kept until they are acknowledged: a copy, which stands after the struct, or the application's. */
 typedef struct chunk {
   STAILQ_ENTRY(chunk) next;
   const uint8_t *bytes;
   size_t length, room; /* room: how many bytes fit after a copy */
-  bool is_body; /* the application's: it learns of their acknowledgment */
+  bool is_body;        /* the application's: it learns of their acknowledgment */
+  bool is_block;       /* of the pool of chunks */
 } chunk;
 
 /* A list of fields as h3_send_head takes it: the sizes, and all bytes after the last one. */
@@ -46,32 +72,33 @@ typedef struct stream {
   int64_t id;           /* QUIC's */
   uint64_t endpoint_id; /* the endpoint's, which may be another one for a local unidirectional stream */
   struct stream *next;  /* in the same place of the table */
-  TAILQ_ENTRY(stream) ready, waiting;
   void *user_data;
+  size_t owed; /* bytes that came, and for which no credit was granted */
   int holders; /* calls that use it now, which a callback may interrupt: it is freed after the last one */
+  bool is_read_shut, is_closed;
+  bool may_be_held; /* the endpoint may hold bytes that came: of a frame that is not whole, or after a head that waits */
+  bool is_waiting, is_ready;
+  bool is_closing; /* QUIC closed it while a head waited: it is closed after that message */
+  bool is_untaken; /* the endpoint may have bytes of the stream */
+  bool is_blocked; /* by QUIC's flow control */
+  bool awaits_data; /* read_data answered NGHTTP3_ERR_WOULDBLOCK */
+  bool is_write_shut, has_ended, is_fin_offered, is_fin_taken;
+  bool is_prioritized; /* the server's application has set the priority, and the client's counts no more */
+  priority priority;
 
   nghttp3_read_data_callback read_data; /* NULL: there is no body, or all of it was read */
   STAILQ_HEAD(, chunk) chunks;          /* what is not acknowledged, in order */
   chunk *unsent;                        /* the first that QUIC does not have whole */
   chunk *last;                          /* if there is an unsent one: the last */
-  size_t unsent_offset;                 /* how much of it QUIC has */
+  chunk *announced;                     /* a piece of the body, if the endpoint has the head of its frame still; nothing follows it there */
+  size_t unsent_offset;                 /* how much of `unsent` QUIC has */
   size_t unsent_length;                 /* how many bytes of the stream QUIC does not have */
   size_t acknowledged_offset;           /* how much of the first chunk is acknowledged */
   uint64_t sent, acknowledged;          /* bytes that QUIC has; of these are acknowledged */
   field_list trailer;                   /* which is sent after the body */
-  priority priority;
-  bool is_prioritized; /* the server's application has set the priority, and the client's counts no more */
-  bool is_ready, is_waiting;
-  bool is_untaken;  /* the endpoint may have bytes of the stream, since memory was refused for them */
-  bool is_blocked;  /* by QUIC's flow control */
-  bool awaits_data; /* read_data answered NGHTTP3_ERR_WOULDBLOCK */
-  bool is_write_shut, has_ended, is_fin_offered, is_fin_taken;
-
-  size_t owed;      /* bytes that came, and for which no credit was granted */
-  bool may_be_held; /* the endpoint may hold bytes that came: of a frame that is not whole, or after a head that waits */
-  bool is_read_shut, is_closed;
-  bool is_closing; /* QUIC closed it while a head waited: it is closed after that message */
   uint64_t close_code;
+  uint32_t round; /* when it was last tried whether its head waits still */
+  TAILQ_ENTRY(stream) ready, waiting;
 } stream;
 
 TAILQ_HEAD(stream_row, stream);
@@ -81,7 +108,8 @@ struct nghttp3_conn {
   nghttp3_callbacks callbacks;
   void *user_data;
   bool is_server;
-  bool has_own_bytes; /* the endpoint may have bytes for the local unidirectional streams */
+  bool has_own_table, has_peer_table; /* the table that the local decoder, and the local encoder, may use has room for entries */
+  bool has_own_work;  /* the endpoint or one of the local unidirectional streams may have bytes for these */
   bool has_settings;  /* the application has the peer's */
   bool is_leaving;    /* nghttp3_conn_shutdown was called */
   bool has_goaway;    /* the application has one of the peer's, of this id */
@@ -91,19 +119,15 @@ struct nghttp3_conn {
   stream control, encoder, decoder;
   struct stream_row ready[NGHTTP3_URGENCY_LEVELS]; /* request streams that may have something to send, by urgency */
   struct stream_row waiting;                       /* request streams whose head waits for the peer's encoder */
+  uint32_t round;                                  /* of trying all of these */
   stream **table;                                  /* request streams by id */
+  stream *found;                                   /* the one that was found last, or NULL: QUIC speaks of one several times */
   size_t places, streams;
+  block_pool spare_streams, spare_chunks;
+  struct section *spare_section; /* for the next header section, or NULL */
   uint8_t *scratch;
   size_t scratch_size;
 };
-
-/* What came in one call on a request stream, without what the endpoint has used of it. */
-typedef struct {
-  const uint8_t *bytes;
-  size_t length;
-  bool has_fin;
-  const uint8_t *given; /* the bytes as the endpoint was given them last: an item says where in them a body lies */
-} input;
 
 /* errors.c */
 int error_of_code(uint64_t code);
@@ -112,12 +136,20 @@ int error_of_answer(uint32_t answer, uint64_t detail);
 /* tokens.c: -1 where nghttp3 has no token for the name */
 int32_t token_of(const uint8_t *name, size_t length);
 
-/* fields.c: a field section as reference-counted buffers, two for each field. NULL where memory is refused. The caller holds one
- * reference to the whole, and gives it back. */
+/* fields.c: the field section that was read last, as reference-counted buffers, two for each field. NULL where memory is refused. The
+ * caller holds one reference to the whole, and gives it back. */
 typedef struct section section;
-section *section_new(size_t count, const h3_field_size *sizes, const uint8_t *bytes, size_t length);
-nghttp3_rcbuf *section_buffer(section *all, size_t index);
-void section_release(section *all);
+struct nghttp3_rcbuf {
+  section *all;
+  nghttp3_vec bytes;
+};
+struct section {
+  size_t references; /* to the whole and to its buffers */
+  size_t room;       /* after this struct */
+  nghttp3_rcbuf buffers[];
+};
+section *section_take(nghttp3_conn *connection, const h3_item *item);
+void section_give(nghttp3_conn *connection, section *all);
 size_t field_list_size(const nghttp3_nv *fields, size_t count);
 field_list field_list_at(void *place, const nghttp3_nv *fields, size_t count);
 
@@ -125,32 +157,48 @@ field_list field_list_at(void *place, const nghttp3_nv *fields, size_t count);
 bool priority_field_parse(priority *to, const uint8_t *value, size_t length);
 
 /* streams.c */
-stream *stream_find_own(nghttp3_conn *connection, int64_t id);
+stream *stream_look_up(nghttp3_conn *connection, int64_t id);
 stream *stream_add(nghttp3_conn *connection, int64_t id);
 void stream_init(stream *s, int64_t id, uint64_t endpoint_id);
-void stream_clear(stream *s);
+void stream_clear(nghttp3_conn *connection, stream *s);
+void *pool_grow(block_pool *pool, size_t size);
+void pool_clear(block_pool *pool);
 void stream_free(nghttp3_conn *connection, stream *s);
 bool stream_has_work(const stream *s);
 void stream_schedule(nghttp3_conn *connection, stream *s);
 void stream_unschedule(nghttp3_conn *connection, stream *s);
 void stream_set_priority(nghttp3_conn *connection, stream *s, priority to);
 bool reserve_scratch(nghttp3_conn *connection, size_t size);
+bool table_grow(nghttp3_conn *connection);
 
-/* Each packet of a body needs what follows: so it stands here, without a call. */
+/* Each packet needs what follows: so it stands here, without a call. */
+
+/* The size is the same in each call for a pool, and a multiple of 8. With the sanitizer of addresses blocks are malloc's, so that it sees
+ * each use of one that was freed. */
+#ifdef HAS_SANITIZER
+static inline void *block_take(block_pool *pool, size_t size) { return (void)pool, malloc(size); }
+static inline void block_give(block_pool *pool, void *block) { (void)pool, free(block); }
+#else
+static inline void *block_take(block_pool *pool, size_t size) {
+  spare_block *block = pool->first;
+  if (!block) return pool_grow(pool, size);
+  pool->first = block->next;
+  return block;
+}
+
+static inline void block_give(block_pool *pool, void *block) {
+  spare_block *spare = block;
+  spare->next = pool->first, pool->first = spare;
+}
+#endif
 
 /* A client opens the streams 0, 4, 8, .. (RFC 9000, section 2.1). */
 static inline bool is_request(int64_t id) { return id >= 0 && id % 4 == 0; }
 
-/* Which place of the table a request stream has. There are 0, 16, 32, .. places: a power of 2. */
-static inline size_t place_in_table(size_t places, int64_t id) { return ((uint64_t)id >> 2) & (places - 1); }
-
 /* A request stream, or a local unidirectional stream that is bound to this id; else NULL. */
 static inline stream *stream_find(nghttp3_conn *connection, int64_t id) {
-  if (!is_request(id)) return stream_find_own(connection, id);
-  if (connection->places == 0) return NULL;
-  stream *s = connection->table[place_in_table(connection->places, id)];
-  while (s && s->id != id) s = s->next;
-  return s;
+  stream *s = connection->found;
+  return s && s->id == id ? s : stream_look_up(connection, id);
 }
 
 /* A callback of the application may close the stream that it was called for. */
@@ -167,13 +215,16 @@ static inline void stream_set_waiting(nghttp3_conn *connection, stream *s, bool 
   s->is_waiting = is_waiting;
 }
 
+/* The endpoint may have written on a local unidirectional stream. */
+static inline void may_have_bytes(nghttp3_conn *connection, stream *own) { own->is_untaken = connection->has_own_work = true; }
+
 /* endpoint.c: how bytes enter and leave the endpoint */
 int endpoint_take(nghttp3_conn *connection, stream *s);
 int endpoint_send_body(nghttp3_conn *connection, stream *s, const nghttp3_vec *body);
-int endpoint_next(nghttp3_conn *connection, stream *s, input *in, h3_item *item);
 int endpoint_copied_body(nghttp3_conn *connection, const h3_item *item, const uint8_t **bytes);
 int endpoint_deliver(nghttp3_conn *connection, int64_t id, const uint8_t *bytes, size_t length, bool has_fin);
-int append_copy(stream *s, const uint8_t *bytes, size_t length);
+int append_copy(nghttp3_conn *connection, stream *s, const uint8_t *bytes, size_t length);
+void chunk_free(nghttp3_conn *connection, chunk *old);
 
 /* sending.c */
 int send_message_end(nghttp3_conn *connection, stream *s);

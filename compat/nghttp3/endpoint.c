@@ -1,17 +1,28 @@
-/* endpoint.c: how bytes enter and leave the endpoint. The rest of this folder does not know by which calls of h3.h they do. */
+/* endpoint.c: how bytes leave the endpoint, and how those of streams without messages enter it. */
 #include <stdlib.h>
 #include <string.h>
 #include "connection.h"
 
-enum { PIECE = 1024, SPARE = 16 }; /* SPARE: room of a chunk for the head of a DATA frame after its bytes */
+enum {
+  PIECE = 1024,
+  SPARE = 16,     /* room of a chunk for the head of a DATA frame after its bytes */
+  BLOCK_ROOM = 80 /* of a chunk of the pool: for most heads of messages */
+};
 
 /* ---- what leaves ---- */
 
 /* A chunk that has no bytes yet, and room for so many. */
-static chunk *chunk_new(size_t room) {
-  chunk *new = malloc(sizeof *new + room + SPARE);
-  if (new) *new = (chunk){.bytes = (const uint8_t *)(new + 1), .room = room + SPARE};
+static chunk *chunk_new(nghttp3_conn *connection, size_t room) {
+  bool is_block = room + SPARE <= BLOCK_ROOM;
+  size_t whole = is_block ? BLOCK_ROOM : room + SPARE;
+  chunk *new = is_block ? block_take(&connection->spare_chunks, sizeof *new + whole) : malloc(sizeof *new + whole);
+  if (new) *new = (chunk){.bytes = (const uint8_t *)(new + 1), .room = whole, .is_block = is_block};
   return new;
+}
+
+void chunk_free(nghttp3_conn *connection, chunk *old) {
+  if (old->is_block) block_give(&connection->spare_chunks, old);
+  else free(old);
 }
 
 static void append(stream *s, chunk *last) {
@@ -26,88 +37,51 @@ static chunk *last_with_room(stream *s, size_t length) {
   return s->unsent && !s->last->is_body && s->last->room >= length ? s->last : NULL;
 }
 
-/* Where the next bytes of a chunk go, and that so many have come there. */
-static uint8_t *end_of(chunk *last) { return (uint8_t *)(last + 1) + last->length; }
-static void extend(stream *s, chunk *last, size_t length) { last->length += length, last->room -= length, s->unsent_length += length; }
-
-int append_copy(stream *s, const uint8_t *bytes, size_t length) {
-  chunk *open = last_with_room(s, length), *last = open ? open : chunk_new(length);
+int append_copy(nghttp3_conn *connection, stream *s, const uint8_t *bytes, size_t length) {
+  chunk *open = last_with_room(s, length), *last = open ? open : chunk_new(connection, length);
   if (!last) return NGHTTP3_ERR_NOMEM;
   if (!open) append(s, last);
-  memcpy(end_of(last), bytes, length);
-  extend(s, last, length);
+  memcpy((uint8_t *)(last + 1) + last->length, bytes, length);
+  last->length += length, last->room -= length, s->unsent_length += length;
   return 0;
 }
 
 /* Takes all that the endpoint has for the stream. Where memory is refused the rest stays there. */
 int endpoint_take(nghttp3_conn *connection, stream *s) {
   uint8_t bytes[PIECE];
-  size_t length;
+  size_t length, past;
   s->is_untaken = true;
   do {
-    if (h3_outgoing(&connection->endpoint, s->endpoint_id, bytes, sizeof bytes, &length, NULL, NULL) != H3_OK || length == 0) break;
-    if (append_copy(s, bytes, length)) return NGHTTP3_ERR_NOMEM;
-    h3_advance(&connection->endpoint, s->endpoint_id, length);
+    length = past = 0;
+    h3_outgoing(&connection->endpoint, s->endpoint_id, bytes, sizeof bytes, &length, &past, NULL);
+    if (length > 0 && append_copy(connection, s, bytes, length)) return NGHTTP3_ERR_NOMEM;
+    if (past > 0) append(s, s->announced), s->announced = NULL;
+    if (length + past > 0) h3_advance(&connection->endpoint, s->endpoint_id, length + past);
   } while (length == sizeof bytes);
   s->is_untaken = false;
   return 0;
 }
 
-/* The length of a DATA frame's type and length (RFC 9114, section 7.1; RFC 9000, section 16). */
-static size_t frame_head_length(uint64_t payload) { return payload < 64 ? 2 : payload < 16384 ? 3 : payload < (1 << 30) ? 5 : 9; }
-
 /* Sends a piece of a body, which stays in the application's memory: the endpoint writes the type and length of its frame, and is told the
- * length of the payload. All memory is there before the endpoint learns of the piece. */
+ * length of the payload. */
 int endpoint_send_body(nghttp3_conn *connection, stream *s, const nghttp3_vec *body) {
-  size_t head_length = frame_head_length(body->len), length = 0, past = 0;
   uint64_t detail = 0;
   if (body->len == 0) return 0;
-  int error = s->is_untaken ? endpoint_take(connection, s) : 0;
+  int error = s->announced ? endpoint_take(connection, s) : 0;
   if (error) return error;
-  chunk *open = last_with_room(s, head_length), *head = open ? open : chunk_new(head_length), *payload = malloc(sizeof *payload);
-  uint32_t answer = head && payload ? h3_send_body_of(&connection->endpoint, s->endpoint_id, body->len, &detail) : H3_MEMORY;
+  chunk *piece = chunk_new(connection, 0);
+  if (!piece) return NGHTTP3_ERR_NOMEM;
+  piece->bytes = body->base, piece->length = body->len, piece->is_body = true;
+  uint32_t answer = h3_send_body_of(&connection->endpoint, s->endpoint_id, body->len, &detail);
   if (answer != H3_OK) {
-    if (!open) free(head);
-    free(payload);
+    chunk_free(connection, piece);
     return error_of_answer(answer, detail);
   }
-  h3_outgoing(&connection->endpoint, s->endpoint_id, end_of(head), head_length, &length, &past, NULL);
-  h3_advance(&connection->endpoint, s->endpoint_id, head_length + body->len);
-  if (!open) append(s, head);
-  extend(s, head, head_length);
-  *payload = (chunk){.bytes = body->base, .length = body->len, .is_body = true};
-  append(s, payload);
-  return 0;
+  s->announced = piece;
+  return endpoint_take(connection, s);
 }
 
 /* ---- what enters ---- */
-
-static inline bool is_pause(const h3_item *item) { return item->kind == H3_PENDING || item->kind == H3_WAITING; }
-
-static inline int read_on(nghttp3_conn *connection, stream *s, input *in, bool is_end, h3_item *item) {
-  size_t used = 0;
-  uint64_t detail = 0;
-  uint32_t answer = h3_read(&connection->endpoint, s->endpoint_id, in->bytes, in->length, is_end, &used, item, &detail);
-  in->given = in->bytes;
-  if (used > 0) in->bytes += used, in->length -= used;
-  if (answer == H3_KEPT) { /* what was taken is read by the pull */
-    s->may_be_held = true;
-    answer = h3_pull(&connection->endpoint, s->endpoint_id, item);
-  }
-  if (answer != H3_OK) return error_of_answer(answer, detail);
-  if (is_pause(item) && used > 0) s->may_be_held = true;
-  if (item->kind == H3_BODY_GIVEN) s->may_be_held = false;
-  return 0;
-}
-
-/* The next item of a request stream, of what came before and of `in`, which then begins after what was used. The end comes after all items
- * of the bytes: so a body that it cuts short is passed on as far as it came, in whichever pieces. */
-int endpoint_next(nghttp3_conn *connection, stream *s, input *in, h3_item *item) {
-  for (bool is_end = in->has_fin && in->length == 0 && !s->may_be_held;; is_end = true) {
-    int error = read_on(connection, s, in, is_end, item);
-    if (error || is_end || !in->has_fin || !is_pause(item)) return error;
-  }
-}
 
 /* The bytes of a piece of a body that the endpoint holds: a copy until the next call of this file. */
 int endpoint_copied_body(nghttp3_conn *connection, const h3_item *item, const uint8_t **bytes) {

@@ -7,24 +7,32 @@
 
 /* The bytes that field_list_at writes, at most SIZE_MAX: then no memory is there for them. */
 size_t field_list_size(const nghttp3_nv *fields, size_t count) {
-  size_t size = count * sizeof(h3_field_size);
+  size_t size = count * sizeof(h3_field_size), bits = 0; /* bits: those of all lengths */
   for (size_t i = 0; i < count; i++) {
-    if (fields[i].namelen > UINT32_MAX || fields[i].valuelen > UINT32_MAX) return SIZE_MAX;
+    bits |= fields[i].namelen | fields[i].valuelen;
     size += fields[i].namelen + fields[i].valuelen;
   }
-  return size;
+  return bits > UINT32_MAX ? SIZE_MAX : size;
+}
+
+/* memcpy, without a call for the few bytes that most names and values have. Answers the place after them. */
+static inline uint8_t *copy(uint8_t *to, const uint8_t *from, size_t size) {
+  if (size > 16) memcpy(to, from, size);
+  else if (size >= 8) memcpy(to, from, 8), memcpy(to + size - 8, from + size - 8, 8);
+  else if (size >= 4) memcpy(to, from, 4), memcpy(to + size - 4, from + size - 4, 4);
+  else if (size >= 2) memcpy(to, from, 2), memcpy(to + size - 2, from + size - 2, 2);
+  else if (size == 1) *to = *from;
+  return to + size;
 }
 
 /* `place` is aligned for h3_field_size. */
-field_list field_list_at(void *place, const nghttp3_nv *fields, size_t count) {
+inline field_list field_list_at(void *place, const nghttp3_nv *fields, size_t count) {
   field_list list = {count, 0, place};
   uint8_t *begin = (uint8_t *)(list.sizes + count), *to = begin;
   for (size_t i = 0; i < count; i++) {
     list.sizes[i] = (h3_field_size){(uint32_t)fields[i].namelen, (uint32_t)fields[i].valuelen};
-    if (fields[i].namelen > 0) memcpy(to, fields[i].name, fields[i].namelen);
-    to += fields[i].namelen;
-    if (fields[i].valuelen > 0) memcpy(to, fields[i].value, fields[i].valuelen);
-    to += fields[i].valuelen;
+    to = copy(to, fields[i].name, fields[i].namelen);
+    to = copy(to, fields[i].value, fields[i].valuelen);
   }
   list.length = (size_t)(to - begin);
   return list;
@@ -32,35 +40,70 @@ field_list field_list_at(void *place, const nghttp3_nv *fields, size_t count) {
 
 /* ---- to nghttp3: names and values that the application may hold on to, each with a NUL after it ---- */
 
-struct nghttp3_rcbuf {
-  section *all;
-  nghttp3_vec bytes;
-};
+enum { STEP = 16 }; /* of copying, in bytes */
 
-struct section {
-  size_t references; /* to the whole and to its buffers */
-  nghttp3_rcbuf buffers[];
-};
-
-section *section_new(size_t count, const h3_field_size *sizes, const uint8_t *bytes, size_t length) {
-  section *all = malloc(sizeof *all + 2 * count * sizeof *all->buffers + length + 2 * count);
-  if (!all) return NULL;
-  all->references = 1;
-  uint8_t *to = (uint8_t *)(all->buffers + 2 * count);
-  for (size_t i = 0; i < 2 * count; i++) {
-    size_t size = i % 2 ? sizes[i / 2].value : sizes[i / 2].name;
-    all->buffers[i] = (nghttp3_rcbuf){all, {to, size}};
-    memcpy(to, bytes, size);
-    to[size] = 0;
-    to += size + 1, bytes += size;
+/* Copies bytes down to where they end. The STEP bytes from there on are not kept, and as many after `from` are read. */
+static inline void copy_down(uint8_t *to, const uint8_t *from, size_t size) {
+  if (size > 8 * STEP) {
+    memmove(to, from, size);
+    return;
   }
+  for (size_t at = 0; at < size; at += STEP) {
+    uint64_t some[STEP / sizeof(uint64_t)];
+    memcpy(some, from + at, STEP);
+    memcpy(to + at, some, STEP);
+  }
+}
+
+/* Names and values move down from `from`, to make room for the NULs. */
+static void spread(section *all, size_t count, const h3_field_size *sizes, uint8_t *to, const uint8_t *from) {
+  nghttp3_rcbuf *buffer = all->buffers;
+  for (size_t i = 0; i < count; i++) {
+    size_t lengths[] = {sizes[i].name, sizes[i].value};
+    for (int part = 0; part < 2; part++, buffer++) {
+      size_t size = lengths[part];
+      *buffer = (nghttp3_rcbuf){all, {to, size}};
+      copy_down(to, from, size);
+      to[size] = 0;
+      to += size + 1, from += size;
+    }
+  }
+}
+
+/* A section with room for so many bytes after its struct: the spare one, if it has. */
+static section *section_of_room(nghttp3_conn *connection, size_t room) {
+  section *all = connection->spare_section;
+  connection->spare_section = NULL;
+  if (all && all->room >= room) return all;
+  free(all);
+  all = malloc(sizeof *all + room);
+  if (all) all->room = room;
   return all;
 }
 
-nghttp3_rcbuf *section_buffer(section *all, size_t index) { return all->buffers + index; }
-
-void section_release(section *all) {
+static void section_release(section *all) {
   if (--all->references == 0) free(all);
+}
+
+/* A section of which the application keeps nothing is used again. */
+void section_give(nghttp3_conn *connection, section *all) {
+  if (all->references == 1 && !connection->spare_section) connection->spare_section = all;
+  else section_release(all);
+}
+
+section *section_take(nghttp3_conn *connection, const h3_item *item) {
+  size_t count = item->fields, buffers = 2 * count * sizeof(nghttp3_rcbuf), text = item->len + 2 * count;
+  section *all = section_of_room(connection, buffers + count * sizeof(h3_field_size) + text + 2 * STEP);
+  if (!all) return NULL;
+  h3_field_size *sizes = (h3_field_size *)(all->buffers + 2 * count);
+  uint8_t *to = (uint8_t *)(sizes + count), *from = to + 2 * count + STEP;
+  all->references = 1;
+  if (h3_item_fields(&connection->endpoint, sizes, count, from, item->len) == H3_OK) {
+    spread(all, count, sizes, to, from);
+    return all;
+  }
+  section_give(connection, all);
+  return NULL;
 }
 
 EXPORT void nghttp3_rcbuf_incref(nghttp3_rcbuf *buffer) { buffer->all->references++; }

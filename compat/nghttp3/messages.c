@@ -38,7 +38,7 @@ static int open_request(nghttp3_conn *connection, int64_t id) {
 EXPORT int nghttp3_conn_submit_request(nghttp3_conn *connection, int64_t id, const nghttp3_nv *fields, size_t count,
                                        const nghttp3_data_reader *reader, void *user_data) {
   if (connection->is_server || !is_request(id)) return NGHTTP3_ERR_INVALID_ARGUMENT;
-  if (stream_find(connection, id)) return NGHTTP3_ERR_STREAM_IN_USE;
+  if (id < connection->next_id && stream_find(connection, id)) return NGHTTP3_ERR_STREAM_IN_USE;
   int error = open_request(connection, id);
   if (error) return error;
   stream *s = stream_add(connection, id);

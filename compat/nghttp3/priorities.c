@@ -71,8 +71,9 @@ EXPORT int nghttp3_conn_set_client_stream_priority(nghttp3_conn *connection, int
   uint8_t *end = write_integer(write_integer(frame, PRIORITY_UPDATE), id_length + length);
   memcpy(end, id_bytes, id_length), end += id_length;
   if (length > 0) memcpy(end, value, length);
+  may_have_bytes(connection, &connection->control);
   int error = endpoint_take(connection, &connection->control);
-  if (!error) error = append_copy(&connection->control, frame, (size_t)(end - frame) + length);
+  if (!error) error = append_copy(connection, &connection->control, frame, (size_t)(end - frame) + length);
   free(frame);
   return error;
 }

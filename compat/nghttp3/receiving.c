@@ -1,6 +1,6 @@
 /* receiving.c: the callbacks for what came on a stream, and the end of a stream. */
 #include <stdlib.h>
-#include "connection.h"
+#include "input.h"
 
 /* ---- streams that are given up ---- */
 
@@ -9,7 +9,7 @@ void give_up_reading(nghttp3_conn *connection, stream *s) {
   s->is_read_shut = true;
   stream_set_waiting(connection, s, false);
   h3_cancel(&connection->endpoint, s->endpoint_id, NULL);
-  connection->has_own_bytes = true;
+  may_have_bytes(connection, &connection->decoder);
 }
 
 /* Nothing more of the stream is sent. */
@@ -40,33 +40,26 @@ static void read_priority(nghttp3_conn *connection, stream *s, nghttp3_vec value
     stream_set_priority(connection, s, (priority){urgency, incremental != 0});
 }
 
-static int tell_field(nghttp3_conn *connection, stream *s, nghttp3_rcbuf *name, nghttp3_rcbuf *value, bool is_trailer) {
-  nghttp3_vec name_bytes = nghttp3_rcbuf_get_buf(name);
-  int32_t token = token_of(name_bytes.base, name_bytes.len);
-  if (is_trailer) return CALLBACK(connection, recv_trailer, s->id, token, name, value, 0, connection->user_data, s->user_data);
-  if (token == NGHTTP3_QPACK_TOKEN_PRIORITY) read_priority(connection, s, nghttp3_rcbuf_get_buf(value));
-  return CALLBACK(connection, recv_header, s->id, token, name, value, 0, connection->user_data, s->user_data);
-}
-
-/* The fields of the item that was pulled last; NULL where memory is refused. */
-static section *fields_of(nghttp3_conn *connection, const h3_item *item) {
-  size_t sizes_length = item->fields * sizeof(h3_field_size);
-  if (!reserve_scratch(connection, sizes_length + item->len)) return NULL;
-  h3_field_size *sizes = (h3_field_size *)connection->scratch;
-  uint8_t *bytes = connection->scratch + sizes_length;
-  if (h3_item_fields(&connection->endpoint, sizes, item->fields, bytes, item->len) != H3_OK) return NULL;
-  return section_new(item->fields, sizes, bytes, item->len);
+static int tell_each(nghttp3_conn *connection, stream *s, section *all, size_t count, bool is_trailer) {
+  nghttp3_recv_header tell = is_trailer ? connection->callbacks.recv_trailer : connection->callbacks.recv_header;
+  nghttp3_rcbuf *name = all->buffers, *end = name + 2 * count;
+  for (; name < end && !s->is_read_shut; name += 2) {
+    nghttp3_rcbuf *value = name + 1;
+    int32_t token = token_of(name->bytes.base, name->bytes.len);
+    if (token == NGHTTP3_QPACK_TOKEN_PRIORITY && !is_trailer) read_priority(connection, s, value->bytes);
+    if (tell && tell(connection, s->id, token, name, value, 0, connection->user_data, s->user_data)) return NGHTTP3_ERR_CALLBACK_FAILURE;
+  }
+  return 0;
 }
 
 static int tell_fields(nghttp3_conn *connection, stream *s, const h3_item *item) {
   bool is_trailer = item->kind == H3_TRAILER;
-  section *all = fields_of(connection, item);
+  section *all = section_take(connection, item);
   if (!all) return NGHTTP3_ERR_NOMEM;
   int error = is_trailer ? CALLBACK(connection, begin_trailers, s->id, connection->user_data, s->user_data)
                          : CALLBACK(connection, begin_headers, s->id, connection->user_data, s->user_data);
-  for (size_t i = 0; i < item->fields && !error && !s->is_read_shut; i++)
-    error = tell_field(connection, s, section_buffer(all, 2 * i), section_buffer(all, 2 * i + 1), is_trailer);
-  section_release(all);
+  if (!error) error = tell_each(connection, s, all, item->fields, is_trailer);
+  section_give(connection, all);
   return error;
 }
 
@@ -76,59 +69,97 @@ static int tell_end_of_fields(nghttp3_conn *connection, stream *s, uint32_t kind
                             : CALLBACK(connection, end_headers, s->id, is_end, connection->user_data, s->user_data);
 }
 
-/* The application grants credit for the bytes that recv_data gets. */
-static inline int tell_body(nghttp3_conn *connection, stream *s, const input *in, const h3_item *item) {
-  const uint8_t *bytes;
-  int error = 0;
-  s->owed -= item->len < s->owed ? item->len : s->owed;
-  if (!connection->callbacks.recv_data || item->len == 0) return 0;
-  if (item->kind == H3_BODY_GIVEN) bytes = in->given + item->number;
-  else error = endpoint_copied_body(connection, item, &bytes);
-  return error ? error : CALLBACK(connection, recv_data, s->id, bytes, item->len, connection->user_data, s->user_data);
+static inline int tell_body(nghttp3_conn *connection, stream *s, const uint8_t *bytes, size_t length) {
+  return CALLBACK(connection, recv_data, s->id, bytes, length, connection->user_data, s->user_data);
 }
 
-/* `is_last`: nothing follows now. */
-static int tell_item(nghttp3_conn *connection, stream *s, const input *in, const h3_item *item, bool *is_last) {
+/* The application grants credit for the bytes that recv_data gets. */
+static void count_body(stream *s, size_t length) { s->owed -= length < s->owed ? length : s->owed; }
+
+static int tell_given_body(nghttp3_conn *connection, stream *s, const reading *now) {
+  s->may_be_held = false;
+  count_body(s, now->item.len);
+  return tell_body(connection, s, now->given + now->item.number, now->item.len);
+}
+
+static int tell_copied_body(nghttp3_conn *connection, stream *s, const h3_item *item) {
+  const uint8_t *bytes = NULL;
+  if (item->len == 0) return 0;
+  count_body(s, item->len);
+  int error = connection->callbacks.recv_data ? endpoint_copied_body(connection, item, &bytes) : 0;
+  return error ? error : tell_body(connection, s, bytes, item->len);
+}
+
+enum { NOTHING_FOLLOWS = 1 }; /* of tell_item, beside 0 and errors */
+
+/* Any item but a piece of a body in the bytes that came. */
+static int tell_item(nghttp3_conn *connection, stream *s, const h3_item *item) {
+  stream_set_waiting(connection, s, item->kind == H3_WAITING);
+  if (connection->has_own_table) may_have_bytes(connection, &connection->decoder); /* for a section (RFC 9204, section 4.4.1) */
   switch (item->kind) {
     case H3_HEAD:
     case H3_INTERIM:
     case H3_TRAILER: return tell_fields(connection, s, item);
-    case H3_BODY: return tell_body(connection, s, in, item);
+    case H3_BODY: return tell_copied_body(connection, s, item);
     case H3_END: s->is_read_shut = true; return CALLBACK(connection, end_stream, s->id, connection->user_data, s->user_data);
     case H3_TOO_LARGE_HEAD: return refuse_message(connection, s, NGHTTP3_H3_EXCESSIVE_LOAD);
     case H3_FAULT_MALFORMED: return refuse_message(connection, s, h3_error_code(H3_FAULT_MALFORMED, item->number, connection->is_server));
     case H3_FAULT_CONNECTION: return error_of_code(item->number);
     case H3_FAULT_MEMORY: return NGHTTP3_ERR_NOMEM;
-    default: *is_last = true; return 0;
+    default: return NOTHING_FOLLOWS;
   }
 }
 
 static bool is_section(uint32_t kind) { return kind == H3_HEAD || kind == H3_INTERIM || kind == H3_TRAILER; }
 
-/* Was the item the last one of what came? The endpoint need not be asked then. */
-static bool is_all(const stream *s, const input *in, uint32_t kind) {
-  return (is_section(kind) || kind == H3_BODY_GIVEN) && in->length == 0 && !in->has_fin && !s->may_be_held;
-}
+/* Is nothing there after what was read? The endpoint need not be asked then. */
+static bool is_all(const stream *s, const input *in) { return in->length == 0 && !in->has_fin && !s->may_be_held; }
+
+/* Is only the end there? */
+static bool is_at_end(const stream *s, const input *in) { return in->length == 0 && in->has_fin && !s->may_be_held; }
+
+static bool is_pause(uint32_t kind) { return kind == H3_PENDING || kind == H3_WAITING; }
 
 /* Does the application get nothing more of the stream? */
-static bool is_shut(const stream *s) { return s->is_read_shut || s->is_closed; }
+static inline bool is_shut(const stream *s) { return s->is_read_shut || s->is_closed; }
 
-/* Passes all items that are there, of what came before and of `in`. */
-static int tell_items(nghttp3_conn *connection, stream *s, input *in) {
-  uint32_t before = H3_PENDING; /* the kind of the item before */
-  bool is_last = false;
-  while (!is_shut(s)) {
-    h3_item item;
-    int error = endpoint_next(connection, s, in, &item);
-    if (!error && is_section(before)) error = tell_end_of_fields(connection, s, before, item.kind == H3_END);
-    if (error || is_shut(s)) return error;
-    before = item.kind;
-    stream_set_waiting(connection, s, item.kind == H3_WAITING);
-    error = item.kind == H3_BODY_GIVEN ? tell_body(connection, s, in, &item) : tell_item(connection, s, in, &item, &is_last);
-    if (error || is_last) return error;
-    if (!is_shut(s) && is_all(s, in, item.kind)) return is_section(item.kind) ? tell_end_of_fields(connection, s, item.kind, 0) : 0;
+/* What was taken though memory was refused is read by a pull. */
+static int pull_kept(nghttp3_conn *connection, stream *s, reading *now) {
+  if (now->answer == H3_KEPT) {
+    s->may_be_held = true;
+    now->answer = h3_pull(&connection->endpoint, s->endpoint_id, &now->item);
   }
-  return 0;
+  return error_of_answer(now->answer, now->detail);
+}
+
+/* The next item, from what was read on: `in` begins after that then. After a pause all bytes are read, and then the end: so a body that it
+ * cuts short is passed on as far as it came, in whichever pieces. */
+static int next_item(nghttp3_conn *connection, stream *s, input *in, reading *now) {
+  for (;; read_on(connection, s, *in, in->length == 0, now)) {
+    now->given = in->bytes;
+    in->bytes += now->used, in->length -= now->used;
+    int error = now->answer == H3_OK ? 0 : pull_kept(connection, s, now);
+    if (error || !is_pause(now->item.kind)) return error;
+    if (now->used > 0) s->may_be_held = true;
+    if (in->length == 0 && (now->has_end || !in->has_fin)) return 0;
+  }
+}
+
+/* Passes all items that are there, of what came before and of `in`, from what was read of it on. */
+static int tell_items(nghttp3_conn *connection, stream *s, input *in, reading *now) {
+  uint32_t before = 0; /* the kind of the item before, if that is a header or trailer section */
+  for (;; read_on(connection, s, *in, is_at_end(s, in), now)) {
+    int error = next_item(connection, s, in, now);
+    uint32_t kind = now->item.kind;
+    if (!error && before) error = tell_end_of_fields(connection, s, before, kind == H3_END);
+    if (error || is_shut(s)) return error;
+    error = kind == H3_BODY_GIVEN ? tell_given_body(connection, s, now) : tell_item(connection, s, &now->item);
+    if (error == NOTHING_FOLLOWS) return 0;
+    if (error || is_shut(s)) return error;
+    before = is_section(kind) ? kind : 0;
+    if ((before || kind == H3_BODY_GIVEN) && is_all(s, in)) break;
+  }
+  return before ? tell_end_of_fields(connection, s, before, 0) : 0;
 }
 
 /* ---- credit ---- */
@@ -145,6 +176,35 @@ static inline size_t take_credit(nghttp3_conn *connection, stream *s) {
   return due - kept;
 }
 
+/* Passes all items of what came on a request stream. `first`: what was read of it; NULL if nothing was. Answers for how many bytes credit
+ * is due. */
+static APART nghttp3_ssize pass_items(nghttp3_conn *connection, stream *s, const uint8_t *bytes, size_t length, int fin,
+                                      const reading *first) {
+  reading now;
+  input in = {length > 0 ? bytes : (const uint8_t *)"", length, fin};
+  if (first) now = *first;
+  else read_on(connection, s, in, is_at_end(s, &in), &now);
+  stream_hold(s);
+  s->owed += length;
+  int error = tell_items(connection, s, &in, &now);
+  size_t credit = take_credit(connection, s);
+  stream_release(connection, s);
+  return error ? error : (nghttp3_ssize)credit;
+}
+
+/* Bytes of a request stream, without the end. Most packets are a piece of a body and nothing else: the stream is not looked at after the
+ * callback then, so it need not be held. */
+static nghttp3_ssize read_bytes(nghttp3_conn *connection, stream *s, const uint8_t *bytes, size_t length) {
+  reading now;
+  read_on(connection, s, (input){bytes, length, false}, false, &now);
+  if (now.answer != H3_OK || now.item.kind != H3_BODY_GIVEN || now.used < length)
+    return pass_items(connection, s, bytes, length, false, &now);
+  size_t credit = s->owed + length - now.item.len;
+  s->owed = 0, s->may_be_held = false;
+  int error = tell_body(connection, s, bytes + now.item.number, now.item.len);
+  return error ? error : (nghttp3_ssize)credit;
+}
+
 /* ---- the end of a stream ---- */
 
 static int close_now(nghttp3_conn *connection, stream *s) {
@@ -156,11 +216,13 @@ static int close_now(nghttp3_conn *connection, stream *s) {
   return error;
 }
 
+/* A unidirectional stream of the peer (RFC 9000, section 2.1). */
+static bool is_of_peer(const nghttp3_conn *connection, int64_t id) { return id % 4 != 0 && (id % 2 == 1) != connection->is_server; }
+
 /* A stream whose head waits is closed after that message, as nghttp3 does: its application gets all that came. */
 EXPORT int nghttp3_conn_close_stream(nghttp3_conn *connection, int64_t id, uint64_t code) {
   stream *s = stream_find(connection, id);
-  bool is_of_peer = id % 4 != 0 && (id % 2 == 1) != connection->is_server;
-  if (!s) return is_of_peer ? 0 : NGHTTP3_ERR_STREAM_NOT_FOUND;
+  if (!s) return is_of_peer(connection, id) ? 0 : NGHTTP3_ERR_STREAM_NOT_FOUND;
   if (!is_request(id)) return NGHTTP3_ERR_H3_CLOSED_CRITICAL_STREAM;
   if (s->is_closed || s->is_closing) return NGHTTP3_ERR_STREAM_NOT_FOUND;
   s->close_code = code, s->is_closing = true;
@@ -187,31 +249,30 @@ EXPORT void nghttp3_conn_shutdown_stream_write(nghttp3_conn *connection, int64_t
 
 /* A head of the stream may be there now that waited for the peer's encoder. */
 static int resume_waiting(nghttp3_conn *connection, stream *s) {
-  input nothing = {0};
   stream_hold(s);
-  int error = tell_items(connection, s, &nothing);
-  size_t credit = error ? 0 : take_credit(connection, s);
-  if (credit > 0) error = CALLBACK(connection, deferred_consume, s->id, credit, connection->user_data, s->user_data);
+  nghttp3_ssize credit = pass_items(connection, s, NULL, 0, 0, NULL);
+  int error = credit < 0 ? (int)credit : 0;
+  if (credit > 0) error = CALLBACK(connection, deferred_consume, s->id, (size_t)credit, connection->user_data, s->user_data);
   if (!error && s->is_closing && !s->is_waiting && !s->is_closed) error = close_now(connection, s);
   stream_release(connection, s);
   return error;
 }
 
-/* Each stream that waits now, once. */
+/* Each stream that waits now, once: those that go on waiting come last. Callbacks may end any of them. */
 static int resume_all_waiting(nghttp3_conn *connection) {
-  struct stream_row row = TAILQ_HEAD_INITIALIZER(row);
+  uint32_t round = ++connection->round;
   int error = 0;
-  TAILQ_CONCAT(&row, &connection->waiting, waiting);
-  for (stream *s; (s = TAILQ_FIRST(&row));) {
-    TAILQ_REMOVE(&row, s, waiting);
+  for (stream *s; !error && (s = TAILQ_FIRST(&connection->waiting)) && s->round != round;) {
+    s->round = round;
+    TAILQ_REMOVE(&connection->waiting, s, waiting);
     TAILQ_INSERT_TAIL(&connection->waiting, s, waiting);
-    if (!error) error = resume_waiting(connection, s);
+    error = resume_waiting(connection, s);
   }
   return error;
 }
 
 static int tell_settings(nghttp3_conn *connection, const h3_state *state) {
-  connection->has_settings = true;
+  connection->has_settings = true, connection->has_peer_table = state->peer_table > 0;
 #ifdef HAS_VERSION_1
   enum { ENABLE_CONNECT_PROTOCOL = 0x08, H3_DATAGRAM = 0x33 }; /* RFC 9220, section 5; RFC 9297, section 5.1 */
   uint64_t connect = 0, datagram = 0;
@@ -242,7 +303,7 @@ static int tell_control(nghttp3_conn *connection) {
 
 static nghttp3_ssize read_unidirectional(nghttp3_conn *connection, int64_t id, const uint8_t *bytes, size_t length, int fin) {
   int fault = endpoint_deliver(connection, id, bytes, length, fin);
-  connection->has_own_bytes = true;
+  may_have_bytes(connection, &connection->encoder), may_have_bytes(connection, &connection->decoder);
   int error = tell_control(connection);
   if (fault || error) return fault ? fault : error;
   error = resume_all_waiting(connection);
@@ -250,16 +311,6 @@ static nghttp3_ssize read_unidirectional(nghttp3_conn *connection, int64_t id, c
 }
 
 /* ---- request streams ---- */
-
-static int read_request(nghttp3_conn *connection, stream *s, input *in, size_t *credit) {
-  stream_hold(s);
-  s->owed += in->length;
-  int error = tell_items(connection, s, in);
-  connection->has_own_bytes = true;
-  *credit = take_credit(connection, s);
-  stream_release(connection, s);
-  return error;
-}
 
 /* A request that comes after the local GOAWAY (RFC 9114, section 5.2). */
 static int reject(nghttp3_conn *connection, stream *s) {
@@ -270,11 +321,18 @@ static int reject(nghttp3_conn *connection, stream *s) {
   return error;
 }
 
-EXPORT nghttp3_ssize nghttp3_conn_read_stream(nghttp3_conn *connection, int64_t id, const uint8_t *bytes, size_t length, int fin) {
-  input in = {.bytes = bytes, .length = length, .has_fin = fin};
-  size_t credit = 0;
+/* What came on a request stream that is there. */
+static inline nghttp3_ssize read_there(nghttp3_conn *connection, stream *s, const uint8_t *bytes, size_t length, int fin) {
+  if (is_shut(s)) return (nghttp3_ssize)length;
+  return length == 0 || fin ? pass_items(connection, s, bytes, length, fin, NULL) : read_bytes(connection, s, bytes, length);
+}
+
+/* What came on another stream than the one that was found last: a unidirectional one, another request stream, a new one, or one that is
+ * over. */
+static APART nghttp3_ssize read_other(nghttp3_conn *connection, int64_t id, const uint8_t *bytes, size_t length, int fin) {
   if (!is_request(id)) return read_unidirectional(connection, id, bytes, length, fin);
-  stream *s = stream_find(connection, id);
+  bool is_new = connection->is_server && id >= connection->next_id && id < connection->end_id;
+  stream *s = is_new ? NULL : stream_look_up(connection, id);
   if (!s && !connection->is_server) return id < connection->next_id ? (nghttp3_ssize)length : NGHTTP3_ERR_H3_STREAM_CREATION_ERROR;
   if (!s) {
     s = stream_add(connection, id);
@@ -285,7 +343,10 @@ EXPORT nghttp3_ssize nghttp3_conn_read_stream(nghttp3_conn *connection, int64_t 
     }
     if (id >= connection->next_id) connection->next_id = id + 4;
   }
-  if (s->is_read_shut || s->is_closed) return (nghttp3_ssize)length;
-  int error = read_request(connection, s, &in, &credit);
-  return error ? error : (nghttp3_ssize)credit;
+  return read_there(connection, s, bytes, length, fin);
+}
+
+EXPORT nghttp3_ssize nghttp3_conn_read_stream(nghttp3_conn *connection, int64_t id, const uint8_t *bytes, size_t length, int fin) {
+  stream *s = connection->found;
+  return s && s->id == id ? read_there(connection, s, bytes, length, fin) : read_other(connection, id, bytes, length, fin);
 }

@@ -10,14 +10,23 @@ enum {
 
 /* ---- parts of a message ---- */
 
-int send_fields(nghttp3_conn *connection, stream *s, const field_list *fields, bool is_trailer) {
+/* The most bytes of a HEADERS frame with these fields: its type, its length, the prefix of the section (RFC 9204, section 4.5.1), and for
+ * each field two lengths (sections 4.1.1 and 4.5.6) and both strings. */
+static size_t most_encoded(const field_list *fields) { return 9 + 20 + fields->length + 12 * fields->count; }
+
+inline int send_fields(nghttp3_conn *connection, stream *s, const field_list *fields, bool is_trailer) {
   uint64_t detail = 0;
   const uint8_t *bytes = (const uint8_t *)(fields->sizes + fields->count);
-  uint32_t (*send)(h3_endpoint *, uint64_t, const h3_field_size *, size_t, const void *, size_t, uint64_t *) =
-      is_trailer ? h3_send_trailer : h3_send_head;
-  uint32_t answer = send(&connection->endpoint, s->endpoint_id, fields->sizes, fields->count, bytes, fields->length, &detail);
-  connection->has_own_bytes = true;
-  return answer == H3_OK ? endpoint_take(connection, s) : error_of_answer(answer, detail);
+  bool has_unsent = s->is_untaken || s->unsent_length > 0;
+  int error = s->announced ? endpoint_take(connection, s) : 0;
+  if (error) return error;
+  h3_endpoint *endpoint = &connection->endpoint;
+  uint32_t answer = is_trailer ? h3_send_trailer(endpoint, s->endpoint_id, fields->sizes, fields->count, bytes, fields->length, &detail)
+                               : h3_send_head(endpoint, s->endpoint_id, fields->sizes, fields->count, bytes, fields->length, &detail);
+  if (connection->has_peer_table) may_have_bytes(connection, &connection->encoder);
+  if (answer != H3_OK) return error_of_answer(answer, detail);
+  s->is_untaken = true; /* what follows is taken in the same call, unless this alone fills what is unsent */
+  return has_unsent || most_encoded(fields) >= LEAST_UNSENT ? endpoint_take(connection, s) : 0;
 }
 
 int send_message_end(nghttp3_conn *connection, stream *s) {
@@ -68,7 +77,7 @@ static int read_body(nghttp3_conn *connection, stream *s) {
 }
 
 static bool wants_body(const stream *s) {
-  return s->is_ready && !s->is_closed && !s->is_write_shut && s->read_data && !s->awaits_data && s->unsent_length < LEAST_UNSENT;
+  return s->read_data && s->is_ready && !s->is_closed && !s->is_write_shut && !s->awaits_data && s->unsent_length < LEAST_UNSENT;
 }
 
 /* ---- which stream is next ---- */
@@ -76,11 +85,12 @@ static bool wants_body(const stream *s) {
 /* The local unidirectional streams come first: the peer's heads may wait for them. */
 static int next_own(nghttp3_conn *connection, stream **next) {
   stream *own[] = {&connection->control, &connection->decoder, &connection->encoder};
+  connection->has_own_work = false;
   for (int i = 0; i < 3; i++) {
-    int error = connection->has_own_bytes && own[i]->id >= 0 ? endpoint_take(connection, own[i]) : 0;
+    int error = own[i]->is_untaken && own[i]->id >= 0 ? endpoint_take(connection, own[i]) : 0;
+    if (own[i]->is_untaken || own[i]->unsent_length > 0) connection->has_own_work = true;
     if (error) return error;
   }
-  connection->has_own_bytes = connection->control.id < 0 || connection->decoder.id < 0;
   for (int i = 0; i < 3 && !*next; i++)
     if (own[i]->unsent_length > 0 && !own[i]->is_blocked) *next = own[i];
   return 0;
@@ -92,8 +102,10 @@ static int next_of_row(nghttp3_conn *connection, struct stream_row *row, stream 
     int error = 0;
     stream_hold(s);
     while (!error && wants_body(s)) error = read_body(connection, s);
-    if (!error && TAILQ_FIRST(row) == s && !s->is_closed) {
-      if (stream_has_work(s) && (s->unsent_length > 0 || s->has_ended)) *next = s;
+    bool is_first = !error && TAILQ_FIRST(row) == s && !s->is_closed;
+    if (is_first && s->is_untaken) error = endpoint_take(connection, s);
+    if (is_first && !error) {
+      if (stream_has_work(s) && (s->unsent_length > 0 || s->has_ended)) *next = connection->found = s;
       else stream_unschedule(connection, s);
     }
     stream_release(connection, s);
@@ -116,7 +128,7 @@ EXPORT nghttp3_ssize nghttp3_conn_writev_stream(nghttp3_conn *connection, int64_
   stream *next = NULL;
   *id = -1, *fin = 0;
   if (room == 0) return 0;
-  int error = next_own(connection, &next);
+  int error = connection->has_own_work ? next_own(connection, &next) : 0;
   for (int urgency = 0; urgency < NGHTTP3_URGENCY_LEVELS && !error && !next; urgency++)
     error = next_of_row(connection, &connection->ready[urgency], &next);
   if (error) return error;
@@ -137,9 +149,9 @@ EXPORT int nghttp3_conn_add_write_offset(nghttp3_conn *connection, int64_t id, s
     s->is_fin_taken = true;
     h3_end_taken(&connection->endpoint, s->endpoint_id);
   }
-  if (!stream_has_work(s) || s->priority.is_incremental)
-    stream_unschedule(connection, s); /* RFC 9218, section 10: incremental ones take turns */
-  stream_schedule(connection, s);
+  bool has_work = stream_has_work(s);
+  if (!has_work || s->priority.is_incremental) stream_unschedule(connection, s); /* RFC 9218, section 10: incremental ones take turns */
+  if (has_work) stream_schedule(connection, s);
   return 0;
 }
 
@@ -157,7 +169,7 @@ static int acknowledge(nghttp3_conn *connection, stream *s, uint64_t count) {
     if (s->acknowledged_offset == first->length) {
       STAILQ_REMOVE_HEAD(&s->chunks, next);
       s->acknowledged_offset = 0;
-      free(first);
+      chunk_free(connection, first);
     }
     if (is_body) error = CALLBACK(connection, acked_stream_data, s->id, part, connection->user_data, s->user_data);
   }

@@ -1,8 +1,11 @@
 #!/usr/bin/env python3
-"""tokens.py NGHTTP3_H: prints the field names that nghttp3.h has tokens for, sorted by length and then by bytes, as the header that
-tokens.c includes."""
+"""tokens.py NGHTTP3_H: prints the field names that nghttp3.h has tokens for, sorted by a place that the length and the last byte of a name
+give, as the header that tokens.c includes."""
 import re
 import sys
+from collections import Counter
+
+PLACES = 128
 
 
 def rows(header):
@@ -18,18 +21,34 @@ def rows(header):
         yield (":" + name[1:] if name.startswith("-") else name), token
 
 
+def places_of(names):
+    """the multiplier by which names are found with the fewest comparisons, and each name's place"""
+    def places(multiplier):
+        return [(len(name) * multiplier + ord(name[-1])) % PLACES for name in names]
+
+    best = min(range(PLACES), key=lambda multiplier: sum(count**2 for count in Counter(places(multiplier)).values()))
+    return best, dict(zip(names, places(best)))
+
+
 def main():
     with open(sys.argv[1], encoding="utf-8") as file:
-        names = sorted(rows(file.read()), key=lambda row: (len(row[0]), row[0]))
-    longest = len(names[-1][0])
-    first = [sum(len(name) < length for name, _ in names) for length in range(longest + 2)]
+        tokens = dict(rows(file.read()))
+    multiplier, place = places_of(sorted(tokens))
+    names = sorted(tokens, key=lambda name: (place[name], name))
     print("/* written by tokens.py from the installed nghttp3.h */")
-    print("static const struct {\n  const char *name;\n  int32_t token;\n} NAMES[] = {")
-    for name, token in names:
-        print(f'    {{"{name}", {token}}},')
+    print("typedef struct known {\n  const struct known *next; /* at the same place */")
+    print("  const char *name;\n  size_t length;\n  int32_t token;\n} known;")
+    print("static const known KNOWN[] = {")
+    for at, name in enumerate(names, 1):
+        after = f"KNOWN + {at}" if at < len(names) and place[names[at]] == place[name] else "NULL"
+        print(f'    {{{after}, "{name}", {len(name)}, {tokens[name]}}},')
     print("};")
-    print(f"enum {{ LONGEST_NAME = {longest} }};")
-    print(f"static const uint8_t FIRST_OF_LENGTH[] = {{{', '.join(map(str, first))}}};")
+    print(f"enum {{ PLACES = {PLACES}, MULTIPLIER = {multiplier} }};")
+    print("static const known *const FIRST_AT[PLACES] = {")
+    for at, name in enumerate(names):
+        if at == 0 or place[names[at - 1]] != place[name]:
+            print(f"    [{place[name]}] = KNOWN + {at},")
+    print("};")
 
 
 main()

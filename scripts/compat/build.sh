@@ -11,6 +11,6 @@ versions=$(bash scripts/compat/versions.sh)
 [ -n "$versions" ] || bash scripts/dev/packages.sh compat
 mkdir -p build/compat
 while read -r soname header _; do
-  make --no-print-directory -s -C compat/nghttp3 LIB="$lib" OUT="$PWD/build/compat" NGHTTP3="$header" KIND="$kind" CFLAGS="-O2 -g $*"
+  make --no-print-directory -s -C compat/nghttp3 LIB="$lib" OUT="$PWD/build/compat" NGHTTP3="$header" KIND="$kind" CFLAGS="-O3 -g $*"
   [ -n "$kind" ] || echo "build/compat/$soname"
 done <<< "$versions"

@@ -3,7 +3,7 @@
 draining, priorities, the order in which bodies go out, wrong calls. The answers that the RFCs fix are asked for by themselves."""
 import sys
 
-from byte_cases import GET, OK
+from byte_cases import CONTROL_TYPE, ENCODER_TYPE, GET, HEADERS, OK, SETTINGS, frame
 from library import END, IS_VERSION_1, Connection, check, error_name, libraries, pairs
 
 REQUEST_REJECTED, NO_ERROR = 0x10B, 0x100
@@ -137,8 +137,38 @@ class Steps:
         return self.told
 
 
+def give_up_a_waiting_one(library):
+    """Three heads wait for the peer's encoder. When the first is told, its application gives the last one up. Then another one waits."""
+    told = []
+
+    def end_headers(connection, stream):
+        told.append(stream)
+        if stream == 0:
+            check(library.shutdown_stream_read(connection.at, 8))
+
+    def head(inserted):  # a request that names the entry that was inserted last (RFC 9204, sections 4.5.1 and 4.5.2)
+        return frame(HEADERS, bytes((inserted + 1, 0)) + b"\xd1\xd7\xc1\x50\3a.b\x80")
+
+    server = Connection(library, True, lambda *_: None, {"end_headers": end_headers}, table=4096, blocked=16)
+    check(server.read(2, CONTROL_TYPE + frame(SETTINGS, b"")))
+    check(server.read(6, ENCODER_TYPE + b"\x3f\xe1\x1f"))  # the capacity is 4,096
+    for stream in (0, 4, 8):
+        check(server.read(stream, head(1)))
+    check(server.read(6, b"\x41a\1b"))
+    check(server.read(12, head(2)))
+    check(server.read(6, b"\x41a\1c"))
+    server.free()
+    assert told == [0, 4, 12], f"heads that waited were told of {told}"
+
+
 def main():
     found, wrong, wanted = libraries(), 0, None
+    for library in found:
+        try:
+            give_up_a_waiting_one(library)
+        except AssertionError as error:
+            wrong += 1
+            print(f"failed steps: {library.name}: {error}")
     for client, server in pairs(found):
         try:
             told = Steps(client, server).go()
