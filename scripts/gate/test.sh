@@ -8,8 +8,9 @@ log=$(mktemp)
 times=$(mktemp)
 ci=$(mktemp)
 tried=$(mktemp)
+shown=$(mktemp)
 said=$(mktemp -d)
-trap 'rm -rf "$log" "$times" "$ci" "$tried" "$said"' EXIT
+trap 'rm -rf "$log" "$times" "$ci" "$tried" "$shown" "$said"' EXIT
 passed=0
 failed=0
 
@@ -27,9 +28,9 @@ count() {
 }
 
 # what a check has said, and its status
-repeated() {
+repeated() { # FILE STATUS
   cat "$1"
-  return "$(cat "$1.status")"
+  return "$2"
 }
 
 # Passes the lines of rt ci on, and keeps those that say what has ended or begun, with the seconds so far.
@@ -53,7 +54,7 @@ for script in scripts/gate/check-*.sh; do
 done
 wait
 for script in scripts/gate/check-*.sh; do
-  count repeated "$said/${script##*/}"
+  count repeated "$said/${script##*/}" "$(cat "$said/${script##*/}.status")"
 done
 
 # As many proofs of one job at a time as there are processors, where there are 5 GB for each (4.6 GB were seen at most). Left to itself rt ci runs fewer, since it
@@ -86,10 +87,13 @@ if [ "$failed" -eq 0 ]; then
 fi
 
 if [ "$failed" -eq 0 ]; then
+  # its build needs no proof, and leaves processors to the edits and the programs
+  python3 scripts/gate/witnesses.py > "$shown" 2>&1 &
+  runs=$!
   began=$SECONDS
   wait "$edits"
   status=$?
-  count bash -c 'cat "$0"; exit "$1"' "$tried" "$status"
+  count repeated "$tried" "$status"
   printf '%7d s  behind that, the edits of refused/ that were left\n' $((SECONDS - began)) >> "$times"
 fi
 
@@ -103,8 +107,12 @@ if [ "$failed" -eq 0 ]; then
   count python3 scripts/gate/strict_messages.py crates/h3_cases/out/h3_cases
   count python3 scripts/gate/wide_scripts.py crates/h3_cases/out/h3_cases
   began=$SECONDS
-  count python3 scripts/gate/witnesses.py
-  printf '%7d s  the edits that runs show\n' $((SECONDS - began)) >> "$times"
+  wait "$runs"
+  count repeated "$shown" $?
+  printf '%7d s  behind that, the edits that runs show\n' $((SECONDS - began)) >> "$times"
+elif [ -n "${runs:-}" ]; then
+  pkill -P "$runs"
+  kill "$runs"
 fi
 
 if [ -s "$times" ]; then
