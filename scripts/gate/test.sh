@@ -57,7 +57,7 @@ for script in scripts/gate/check-*.sh; do
   count repeated "$said/${script##*/}" "$(cat "$said/${script##*/}.status")"
 done
 
-# As many proofs of one job at a time as there are processors, where there are 5 GB for each (4.6 GB were seen at most). Left to itself rt ci runs fewer, since it
+# As many proofs of one job at a time as there are processors, where there are 5 GB for each (one takes 5.3 GB, and each other one less). Left to itself rt ci runs fewer, since it
 # reckons with twice the memory, and gives further jobs to a proof that all others wait for: it is over sooner so, and takes more of the processors in all. What one
 # job leaves of them goes to the edits.
 free_kib=$(awk '/^MemAvailable:/ { print $2 }' /proc/meminfo)
