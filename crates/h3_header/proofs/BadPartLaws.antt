@@ -10,9 +10,10 @@ use Rattle.http_header.specs.HeaderMap.{Entry, Entries, append, value_count}
 use Rattle.h3_field.specs.Field.{Field}
 use Rattle.h3_header.specs.BadPart.{bad_part, bad_part_at, refusal_of, AreGood, IsHeadUnlessMany}
 use Rattle.h3_header.specs.Head.{Head, trailer_head}
-use Rattle.h3_header.specs.HeadRead.{IsHead, IsNone, Name, Value, TooMany, is_name_at, is_value_at, is_full_at, refusal_at, unless_refused, read_from, head_of, head_of_any, head_by}
+use Rattle.h3_header.specs.HeadRead.{IsHead, IsNone, Name, Value, TooMany, is_name_at, is_value_at, is_full_at, refusal_at, unless_refused, read_from, head_by}
 use Rattle.h3_header.specs.HeadTests.{contains_key, is_full_of_values}
 use Rattle.h3_header.specs.Reads.{kind_of, with_kind, with_field}
+use Rattle.h3_header.proofs.HeadReads.{by_reading}
 use Rattle.h3_header.specs.declared.headers.judge.BadPart.{BadPart}
 use Rattle.h3_header.specs.declared.headers.judge.BadPart.TheVariants as part
 use Rattle.h3_header.specs.declared.headers.kind.FieldKind.{FieldKind}
@@ -90,12 +91,6 @@ good_by true true true e room = absurd (cc)
 
 taken : (any : Bool) (at : FieldKind) (h : Head) (f : Field) (n : ℕ) → HasPlaces h (suc n) → bad_part_at any at f ≡ None → refusal_at any at h f ≡ None
 taken any at h f n p e = good_by (is_name_at at f.name) (is_value_at any at f.value) (is_full_at at h f) e (not_full at h f n p)
-
--- the value of a list is what it reads as
-pub by_reading : (any : Bool) (fields : List Field) → head_by any fields ≡ read_from any (trailer_head []) fields
-unfolding head_of head_of_any
-by_reading true fields = refl
-by_reading false fields = refl
 
 -- among the first n fields, the first bad one is at index i
 first_from : (any : Bool) (h : Head) (fields : List Field) (n i : ℕ) (d : Field) (p : BadPart) → HasPlaces h n → i < length (take n fields)

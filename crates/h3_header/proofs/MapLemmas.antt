@@ -1,5 +1,5 @@
 -- A map is what reading its own fields makes, one after the other.
-use Rattle.std.proofs.Common.{◌≡◌, ◌≢◌, ℕ, suc, ◌+◌, ◌<◌, ◌≤◌, ◌^◌, true, false, List, [], ◌∷◌, ◌++◌, map, length, fold, bytes_eq, Option, Some, refl, sym, ap, ◌∙◌, subst, inl, inr, arith, ap₂, append_assoc, append-nil, length-append}
+use Rattle.std.proofs.Common.{◌≡◌, ◌≢◌, ℕ, suc, ◌+◌, ◌<◌, ◌≤◌, ◌^◌, Bool, true, false, List, [], ◌∷◌, ◌++◌, map, length, fold, bytes_eq, Option, Some, refl, sym, ap, ◌∙◌, subst, inl, inr, arith, ap₂, append_assoc, append-nil, length-append}
 use Rattle.std.specs.Prelude.{All}
 use Rattle.std.proofs.lemmas.Bool.{cases_Bool, cond-true, cond-false}
 use Rattle.std.proofs.lemmas.List.{map-append, length-map, get_or_at, get_or_append_left, get_or-append-add}
@@ -19,23 +19,23 @@ use Rattle.h3_header.specs.ReadsBack.{IsPair, unmarked}
 use Rattle.h3_header.specs.declared.headers.kind.FieldKind.TheVariants.{Regular}
 
 -- the fields can be read into a, and make b
-pub record Reading (a : Head) (fields : List Field) (b : Head) : Type 0 where
-  pub accepts : AcceptsAll a fields
+pub record Reading (any : Bool) (a : Head) (fields : List Field) (b : Head) : Type 0 where
+  pub accepts : AcceptsAll any a fields
   pub makes : fold with_field a fields ≡ b
 
-pub Reading-none : (a : Head) → Reading a [] a
+pub Reading-none : (any : Bool) (a : Head) → Reading any a [] a
 unfolding AcceptsAll
-Reading-none a = record { accepts = tt; makes = refl }
+Reading-none any a = record { accepts = tt; makes = refl }
 
-pub Reading-one : (a b : Head) (f : Field) (fields : List Field) → Accepts a f → Reading (with_field a f) fields b → Reading a (f ∷ fields) b
+pub Reading-one : (any : Bool) (a b : Head) (f : Field) (fields : List Field) → Accepts any a f → Reading any (with_field a f) fields b → Reading any a (f ∷ fields) b
 unfolding AcceptsAll
-Reading-one a b f fields ok r = record { accepts = (ok, r.accepts); makes = r.makes }
+Reading-one any a b f fields ok r = record { accepts = (ok, r.accepts); makes = r.makes }
 
-pub Reading-append : (a b c : Head) (xs ys : List Field) → Reading a xs b → Reading b ys c → Reading a (xs ++ ys) c
+pub Reading-append : (any : Bool) (a b c : Head) (xs ys : List Field) → Reading any a xs b → Reading any b ys c → Reading any a (xs ++ ys) c
 unfolding AcceptsAll
-Reading-append a b c [] ys r s = subst (λ h. Reading h ys c) (sym r.makes) s
-Reading-append a b c (x ∷ xs) ys r s =
-    Reading-one a c x (xs ++ ys) r.accepts.0 (Reading-append (with_field a x) b c xs ys (record { accepts = r.accepts.1; makes = r.makes }) s)
+Reading-append any a b c [] ys r s = subst (λ h. Reading any h ys c) (sym r.makes) s
+Reading-append any a b c (x ∷ xs) ys r s =
+    Reading-one any a c x (xs ++ ys) r.accepts.0 (Reading-append any (with_field a x) b c xs ys (record { accepts = r.accepts.1; makes = r.makes }) s)
 
 -- the name is none of the list's
 Absent : Entries FieldValue → List ℕ → Type 0
@@ -133,17 +133,17 @@ ValidEntries : Entries FieldValue → Type 0
 ValidEntries [] = Unit {0}
 ValidEntries (e ∷ m) = (0 < length e.1) × (IsHeaderName e.0 × (ValidValues e.1 × ValidEntries m))
 
-module _ (h : Head) where
-  abbrev pub with_map : Entries FieldValue → Head
-  with_map m = record h { regular = m }
+abbrev pub with_map : Head → Entries FieldValue → Head
+with_map h m = record h { regular = m }
 
+module _ (any : Bool) (h : Head) where
   regular_step : (done : Entries FieldValue) (name bytes : List ℕ) (rest : List Field) (b : Head) → IsHeaderName name → IsFieldValue bytes
-      → ¬ (RefusesAppend done name) → Reading (with_map (append done name (plain_value bytes))) rest b → Reading (with_map done) (record { name = name; value = bytes } ∷ rest) b
+      → ¬ (RefusesAppend done name) → Reading any (with_map h (append done name (plain_value bytes))) rest b → Reading any (with_map h done) (record { name = name; value = bytes } ∷ rest) b
   regular_step done name bytes rest b is_name is_value room r =
       let e = kind_of-regular name is_name in
-      Reading-one _ b (record { name = name; value = bytes }) rest
-      (subst (λ at. AcceptsAt at (with_map done) (record { name = name; value = bytes })) (sym e) (record { name = is_name; value = is_value; room = room }))
-      (subst (λ a. Reading a rest b) (sym (ap (λ at. with_kind at (with_map done) (record { name = name; value = bytes })) e)) r)
+      Reading-one any _ b (record { name = name; value = bytes }) rest
+      (subst (λ at. AcceptsAt any at (with_map h done) (record { name = name; value = bytes })) (sym e) (record { name = is_name; value = is_value; room = room }))
+      (subst (λ a. Reading any a rest b) (sym (ap (λ at. with_kind at (with_map h done) (record { name = name; value = bytes })) e)) r)
 
   has_last : (done : Entries FieldValue) (name : List ℕ) (values : List FieldValue) → ContainsKey (done ++ (name, values) ∷ []) name
   has_last done name values =
@@ -152,24 +152,24 @@ module _ (h : Head) where
 
   more : (values before : List FieldValue) (done : Entries FieldValue) (name : List ℕ) → Absent done name → IsHeaderName name → ValidValues values
       → value_count done + (length before + length values) < 2 ^ 64
-      → Reading (with_map (done ++ (name, before) ∷ [])) (value_fields name values) (with_map (done ++ (name, before ++ map unmark values) ∷ []))
+      → Reading any (with_map h (done ++ (name, before) ∷ [])) (value_fields name values) (with_map h (done ++ (name, before ++ map unmark values) ∷ []))
   unfolding ValidValues
   more [] before done name away is_name valid fits =
-      subst (λ vs. Reading (with_map (done ++ (name, before) ∷ [])) [] (with_map (done ++ (name, vs) ∷ []))) (sym (append-nil before)) (Reading-none _)
+      subst (λ vs. Reading any (with_map h (done ++ (name, before) ∷ [])) [] (with_map h (done ++ (name, vs) ∷ []))) (sym (append-nil before)) (Reading-none any _)
   more (v ∷ values) before done name away is_name valid fits =
       let counted = count_append done ((name, before) ∷ []) in
       let one = count_cons (name, before) [] in
       regular_step (done ++ (name, before) ∷ []) name v.bytes _ _ is_name valid.0
       (λ refused. elim refused [ inl full ↦ omega arith | inr new ↦ new.0 (has_last done name before) ])
-      (subst (λ m. Reading (with_map m) (value_fields name values) (with_map (done ++ (name, before ++ unmark v ∷ map unmark values) ∷ []))) (sym (append_last done name before (unmark v) away))
-      (subst (λ vs. Reading (with_map (done ++ (name, before ++ unmark v ∷ []) ∷ [])) (value_fields name values) (with_map (done ++ (name, vs) ∷ []))) (append_assoc before (unmark v ∷ []) (map unmark values))
+      (subst (λ m. Reading any (with_map h m) (value_fields name values) (with_map h (done ++ (name, before ++ unmark v ∷ map unmark values) ∷ []))) (sym (append_last done name before (unmark v) away))
+      (subst (λ vs. Reading any (with_map h (done ++ (name, before ++ unmark v ∷ []) ∷ [])) (value_fields name values) (with_map h (done ++ (name, vs) ∷ []))) (append_assoc before (unmark v ∷ []) (map unmark values))
       (more values (before ++ unmark v ∷ []) done name away is_name valid.1 (omega (arith, length-append before (unmark v ∷ []))))))
 
   whole : (m done : Entries FieldValue) → Away done m → IsUnique m → ValidEntries m → value_count done + value_count m < 2 ^ 64 → length done + length m ≤ 24576
-      → Reading (with_map done) (regular_fields m) (with_map (done ++ unmarked m))
+      → Reading any (with_map h done) (regular_fields m) (with_map h (done ++ unmarked m))
   unfolding ValidEntries ValidValues Away
   whole [] done away unique valid fits few =
-      subst (λ q. Reading (with_map done) [] (with_map q)) (sym (append-nil done)) (Reading-none _)
+      subst (λ q. Reading any (with_map h done) [] (with_map h q)) (sym (append-nil done)) (Reading-none any _)
   whole ((name, []) ∷ m) done away unique valid fits few = absurd (omega (arith, valid.0))
   whole ((name, v ∷ values) ∷ m) done away unique valid fits few =
       let counted = count_cons (name, v ∷ values) m in
@@ -177,13 +177,13 @@ module _ (h : Head) where
       let after = count_append done (e ∷ []) in
       let one = count_cons e [] in
       let same = length-map values unmark in
-      subst (λ fields. Reading (with_map done) (record { name = name; value = v.bytes } ∷ fields) (with_map (done ++ e ∷ unmarked m)))
+      subst (λ fields. Reading any (with_map h done) (record { name = name; value = v.bytes } ∷ fields) (with_map h (done ++ e ∷ unmarked m)))
       (sym (map-append to_field (map (λ x. (name, x)) values) (pairs m)))
       (regular_step done name v.bytes _ _ valid.1.0 valid.1.1.0.0
       (λ refused. elim refused [ inl full ↦ omega arith | inr new ↦ elim new.1 [ inl many ↦ omega arith | inr full ↦ omega arith ] ])
-      (subst (λ q. Reading (with_map q) (value_fields name values ++ regular_fields m) (with_map (done ++ e ∷ unmarked m))) (sym (append_new done name (unmark v) away.0))
-      (subst (λ q. Reading (with_map (done ++ (name, unmark v ∷ []) ∷ [])) (value_fields name values ++ regular_fields m) (with_map q)) (append_assoc done (e ∷ []) (unmarked m))
-      (Reading-append _ _ _ (value_fields name values) (regular_fields m)
+      (subst (λ q. Reading any (with_map h q) (value_fields name values ++ regular_fields m) (with_map h (done ++ e ∷ unmarked m))) (sym (append_new done name (unmark v) away.0))
+      (subst (λ q. Reading any (with_map h (done ++ (name, unmark v ∷ []) ∷ [])) (value_fields name values ++ regular_fields m) (with_map h q)) (append_assoc done (e ∷ []) (unmarked m))
+      (Reading-append any _ _ _ (value_fields name values) (regular_fields m)
       (more values (unmark v ∷ []) done name away.0 valid.1.0 valid.1.1.0.1 (omega arith))
       (whole m (done ++ e ∷ []) (Away-append done m e away.1 (Apart-from_unique (name, v ∷ values) m unique)) (IsUnique-rest (name, v ∷ values) m unique) valid.1.1.1
       (omega arith) (omega (arith, length-append done (e ∷ []))))))))
@@ -228,10 +228,10 @@ ValidEntries-from ((name, v ∷ values) ∷ m) filled all =
     )
 
 -- the fields of a map are read into that map, where no value is sensitive
-pub Reading-map : (h : Head) (m : Entries FieldValue) → IsHeaderMap m → All IsPair (pairs m)
-    → Reading (with_map h []) (regular_fields m) (with_map h (unmarked m))
-Reading-map h m map_is all =
-    whole h m [] (Away-nil m) map_is.unique (ValidEntries-from m map_is.filled all) (omega (arith, map_is.values_fit)) (omega (arith, map_is.names_fit))
+pub Reading-map : (any : Bool) (h : Head) (m : Entries FieldValue) → IsHeaderMap m → All IsPair (pairs m)
+    → Reading any (with_map h []) (regular_fields m) (with_map h (unmarked m))
+Reading-map any h m map_is all =
+    whole any h m [] (Away-nil m) map_is.unique (ValidEntries-from m map_is.filled all) (omega (arith, map_is.values_fit)) (omega (arith, map_is.names_fit))
 
 owned_tail : (name : List ℕ) (values : List FieldValue) (rest : List (Option (List ℕ) × FieldValue))
     → owned_fields (Some name) (pairs_without_name values ++ rest) ≡ value_fields name values ++ owned_fields (Some name) rest

@@ -1,5 +1,5 @@
 -- Which field lists are read as a head, and why the others are refused.
-use Rattle.std.specs.Prelude.{◌≡◌, ℕ, ◌+◌, ◌-◌, ◌*◌, ◌⊎◌, ⊤, ◌≤◌, List, [], ◌∷◌, length, codes, fold, bytes_eq, slice_index, Some, if◌then◌else◌}
+use Rattle.std.specs.Prelude.{◌≡◌, ℕ, ◌+◌, ◌-◌, ◌*◌, ◌⊎◌, ⊤, ◌≤◌, Bool, List, [], ◌∷◌, length, codes, fold, bytes_eq, slice_index, Some, if◌then◌else◌}
 use Rattle.http_header.specs.Token.{IsToken}
 use Rattle.http_header.specs.FieldName.{IsHeaderName}
 use Rattle.http_header.specs.FieldValue.{FieldValue, plain_value, IsFieldValue}
@@ -7,7 +7,7 @@ use Rattle.http_header.specs.HeaderMap.{Entries, append, RefusesAppend}
 use Rattle.http.specs.StatusCode.{IsCodeText}
 use Rattle.http_uri.specs.Grammar.{IsScheme, IsAuthority, IsPathInput, without_fragment}
 use Rattle.h3_field.specs.Field.{Field}
-use Rattle.h3_header.specs.ProtocolText.{IsProtocolText}
+use Rattle.h3_header.specs.ProtocolText.{IsProtocolBy}
 use Rattle.h3_header.specs.Head.{Head, trailer_head}
 use Rattle.h3_header.specs.declared.headers.pseudo.Pseudo.{Pseudo}
 use Rattle.h3_header.specs.declared.headers.kind.FieldKind.{FieldKind}
@@ -31,15 +31,16 @@ abbrev pub IsNameAt : FieldKind → List ℕ → Type 0
 IsNameAt Regular name = IsHeaderName name
 IsNameAt _ name = ⊤
 
--- the value may stand there. That an authority of http and https has no userinfo (RFC 9114, section 4.3.1) is not enforced
-abbrev pub IsValueAt : FieldKind → List ℕ → Type 0
-IsValueAt Method value = IsToken value
-IsValueAt Scheme value = IsScheme value
-IsValueAt Authority value = IsAuthority value
-IsValueAt Path value = IsPathInput value
-IsValueAt Status value = IsCodeText value
-IsValueAt Protocol value = IsProtocolText value
-IsValueAt Regular value = IsFieldValue value
+-- the value may stand there, where any protocol is taken or the two names alone. That an authority of http and https has no userinfo
+-- (RFC 9114, section 4.3.1) is not enforced
+abbrev pub IsValueAt : Bool → FieldKind → List ℕ → Type 0
+IsValueAt any Method value = IsToken value
+IsValueAt any Scheme value = IsScheme value
+IsValueAt any Authority value = IsAuthority value
+IsValueAt any Path value = IsPathInput value
+IsValueAt any Status value = IsCodeText value
+IsValueAt any Protocol value = IsProtocolBy any value
+IsValueAt any Regular value = IsFieldValue value
 
 -- a method that is kept in place, with no memory of its own
 abbrev pub IsShortMethod : List ℕ → Type 0
@@ -66,29 +67,29 @@ HasRoomAt Regular h f = ¬ (RefusesAppend h.regular f.name)
 HasRoomAt _ h f = ⊤
 
 -- the field may come after those of the head
-pub record AcceptsAt (at : FieldKind) (h : Head) (f : Field) : Type 0 where
+pub record AcceptsAt (any : Bool) (at : FieldKind) (h : Head) (f : Field) : Type 0 where
   pub name : IsNameAt at f.name
-  pub value : IsValueAt at f.value
+  pub value : IsValueAt any at f.value
   pub room : HasRoomAt at h f
 
 -- reading the field may ask for memory: to keep its bytes, or for the text of its refusal
-abbrev pub MayAskMemory : FieldKind → List ℕ → Type 0
-MayAskMemory Method value = ¬ (IsShortMethod value)
-MayAskMemory Status value = ¬ (IsCodeText value)
-MayAskMemory Protocol value = ¬ (IsProtocolText value)
-MayAskMemory _ value = ⊤
+abbrev pub MayAskMemory : Bool → FieldKind → List ℕ → Type 0
+MayAskMemory any Method value = ¬ (IsShortMethod value)
+MayAskMemory any Status value = ¬ (IsCodeText value)
+MayAskMemory any Protocol value = ¬ (IsProtocolBy any value)
+MayAskMemory any _ value = ⊤
 
 -- why it may not. A name is judged before its value, and room comes last
-abbrev pub RefusesAt : FieldKind → Head → Field → HeaderError → Type 0
-RefusesAt at h f (InvalidHeaderName _) = ¬ (IsNameAt at f.name)
-RefusesAt at h f (InvalidHeaderValue _) = IsNameAt at f.name × ¬ (IsValueAt at f.value)
-RefusesAt at h f TooManyFields = (at ≡ Regular) × IsNameAt at f.name × IsValueAt at f.value × RefusesAppend h.regular f.name
-RefusesAt at h f InvalidRequest = ⊥
-RefusesAt at h f MissingMethod = ⊥
-RefusesAt at h f MissingStatus = ⊥
-RefusesAt at h f MissingAuthority = ⊥
-RefusesAt at h f ContradictedAuthority = ⊥
-RefusesAt at h f OutOfMemory = MayAskMemory at f.value
+abbrev pub RefusesAt : Bool → FieldKind → Head → Field → HeaderError → Type 0
+RefusesAt any at h f (InvalidHeaderName _) = ¬ (IsNameAt at f.name)
+RefusesAt any at h f (InvalidHeaderValue _) = IsNameAt at f.name × ¬ (IsValueAt any at f.value)
+RefusesAt any at h f TooManyFields = (at ≡ Regular) × IsNameAt at f.name × IsValueAt any at f.value × RefusesAppend h.regular f.name
+RefusesAt any at h f InvalidRequest = ⊥
+RefusesAt any at h f MissingMethod = ⊥
+RefusesAt any at h f MissingStatus = ⊥
+RefusesAt any at h f MissingAuthority = ⊥
+RefusesAt any at h f ContradictedAuthority = ⊥
+RefusesAt any at h f OutOfMemory = MayAskMemory any at f.value
 
 -- the refusal of a name that should be valid
 abbrev pub RefusesName : Type 0 → HeaderError → Type 0
@@ -103,10 +104,10 @@ RefusesValue Valid Asks OutOfMemory = Asks
 RefusesValue Valid Asks _ = ⊥
 
 -- the refusal of the value of a pseudo-header field
-abbrev pub RefusesPseudo : FieldKind → List ℕ → HeaderError → Type 0
-RefusesPseudo at value (InvalidHeaderValue _) = ¬ (IsValueAt at value)
-RefusesPseudo at value OutOfMemory = MayAskMemory at value
-RefusesPseudo at value _ = ⊥
+abbrev pub RefusesPseudo : Bool → FieldKind → List ℕ → HeaderError → Type 0
+RefusesPseudo any at value (InvalidHeaderValue _) = ¬ (IsValueAt any at value)
+RefusesPseudo any at value OutOfMemory = MayAskMemory any at value
+RefusesPseudo any at value _ = ⊥
 
 -- pseudo-header fields with one more, which takes the place of an earlier one
 abbrev pub with_pseudo : FieldKind → Pseudo → List ℕ → Pseudo
@@ -129,26 +130,26 @@ RefusesRegular m name value _ = ⊥
 abbrev pub with_field : Head → Field → Head
 with_field h f = with_kind (kind_of f.name) h f
 
-abbrev pub Accepts : Head → Field → Type 0
-Accepts h f = AcceptsAt (kind_of f.name) h f
+abbrev pub Accepts : Bool → Head → Field → Type 0
+Accepts any h f = AcceptsAt any (kind_of f.name) h f
 
-abbrev pub Refuses : Head → Field → HeaderError → Type 0
-Refuses h f e = RefusesAt (kind_of f.name) h f e
+abbrev pub Refuses : Bool → Head → Field → HeaderError → Type 0
+Refuses any h f e = RefusesAt any (kind_of f.name) h f e
 
 -- the head of a field list, if it has one
 abbrev pub head_of_fields : List Field → Head
 head_of_fields fields = fold with_field (trailer_head []) fields
 
 -- each field may come after those before it
-unfoldable pub AcceptsAll : Head → List Field → Type 0
-AcceptsAll h [] = ⊤
-AcceptsAll h (f ∷ fields) = Accepts h f × AcceptsAll (with_field h f) fields
+unfoldable pub AcceptsAll : Bool → Head → List Field → Type 0
+AcceptsAll any h [] = ⊤
+AcceptsAll any h (f ∷ fields) = Accepts any h f × AcceptsAll any (with_field h f) fields
 
 -- some field is refused, and those before it are not
-unfoldable pub RefusesOne : Head → List Field → HeaderError → Type 0
-RefusesOne h [] e = ⊥
-RefusesOne h (f ∷ fields) e = Refuses h f e ⊎ (Accepts h f × RefusesOne (with_field h f) fields e)
+unfoldable pub RefusesOne : Bool → Head → List Field → HeaderError → Type 0
+RefusesOne any h [] e = ⊥
+RefusesOne any h (f ∷ fields) e = Refuses any h f e ⊎ (Accepts any h f × RefusesOne any (with_field h f) fields e)
 
 -- the list is that of a head, and this is the head
-abbrev pub IsHeadOf : List Field → Head → Type 0
-IsHeadOf fields h = AcceptsAll (trailer_head []) fields × (h ≡ head_of_fields fields)
+abbrev pub IsHeadOf : Bool → List Field → Head → Type 0
+IsHeadOf any fields h = AcceptsAll any (trailer_head []) fields × (h ≡ head_of_fields fields)

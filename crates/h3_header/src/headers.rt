@@ -1,13 +1,15 @@
 //! Headers and trailers: the pseudo-header fields and the regular fields of a message
 //! (RFC 9114, 4.3).
-ghost use Rattle.std.specs.Prelude.{◌≡◌, ◌-◌, ◌^◌, [], length, min, IfOk, IfErr, IfSome, IsSome, OnOk, Some, None};
+ghost use Rattle.std.specs.Prelude.{◌≡◌, ◌-◌, ◌^◌, Bool, true, false, [], length, min, IfOk, IfErr, IfSome, IsSome, OnOk, Some, None};
 ghost use Rattle.std.specs.List.{AllByRecursion};
 ghost use Rattle.http_uri.specs.Uri.{uri_authority};
 ghost use Rattle.h3_field.specs.ReadBack.{IsFieldOfBytes};
 ghost use Rattle.h3_header.specs.Head.{trailer_head, response_head, head_fields, is_request, is_response, has_pseudo};
 ghost use Rattle.h3_header.specs.Request.{host_of, authority_refusal, request_head, RefusesRequest, IsRequestOf};
 ghost use Rattle.h3_header.specs.Reads.{RefusesOne, IsHeadOf, head_of_fields};
-ghost use Rattle.h3_header.specs.ReadsBack.{ReadsBack, as_read};
+ghost use Rattle.h3_header.specs.ReadsBack.{ReadsBackBy, as_read};
+ghost use Rattle.h3_header.specs.HeadRead.{IsNone, Value, head_of};
+ghost use Rattle.h3_header.specs.HeadTests.{takes_protocol};
 
 use crate::ext::Protocol;
 use authority::{authority_text, find_refusal, uri_of};
@@ -18,7 +20,7 @@ use http_header::HeaderMap;
 use http_uri::Uri;
 pub use iter::HeaderIter;
 use iter::RegularIter;
-pub use judge::{BadPart, MOST_NAMES, MOST_PROTOCOL_BYTES, field_kind, first_bad_part};
+pub use judge::{BadPart, MOST_NAMES, field_kind, first_bad_part};
 pub use kind::FieldKind;
 use pseudo::{Pseudo, RequestParts};
 use std::alloc::{AllocError, Global};
@@ -221,6 +223,20 @@ impl Header {
         self.pseudo.status
     }
 
+    /// Whether its protocol is one of the two names, or any if any is taken, or there is none.
+    pub fn takes_protocol(&self, any: bool) -> bool
+        ensures { result ≡ takes_protocol any self.now.protocol }
+    {
+        match &self.pseudo.protocol {
+            Some(protocol) => {
+                // (for the proof: that it is a token)
+                let named = protocol.is_named();
+                any || named
+            }
+            None => true,
+        }
+    }
+
     /// Whether it has any pseudo-header field.
     pub fn has_pseudo(&self) -> bool
         ensures { result ≡ has_pseudo self.now }
@@ -233,11 +249,11 @@ impl Header {
             || self.pseudo.protocol.is_some()
     }
 
-    /// The field list: the pseudo-header fields, and then the map's. Reading it back gives a
-    /// header with this very list.
+    /// The field list: the pseudo-header fields, and then the map's. Reading it back gives a header with this very list: `try_from` does
+    /// if the protocol is one of the two names or there is none, and `of_fields` with any protocol does always.
     pub fn fields(&self, alloc: Global) -> Result<Vec<HeaderField>, AllocError>
         ensures value { IfOk result (λ v. v.items ≡ head_fields self.now) }
-        ensures reads_back { IfOk result (λ v. ReadsBack v.items) }
+        ensures reads_back { IfOk result (λ v. (any : Bool) → takes_protocol any self.now.protocol ≡ true → ReadsBackBy any v.items) }
         ensures read_as { IfOk result (λ v. head_of_fields v.items ≡ as_read self.now) }
     {
         let mut list = Vec::with_capacity(alloc, self.len())?;
@@ -248,7 +264,9 @@ impl Header {
 
     // Reads each part, since the types of the parts tell by their calls what they hold.
     pub(crate) fn visit_parts(&self)
-        ensures reads_back { ReadsBack (head_fields self.now) }
+        ensures reads_back { (any : Bool) → takes_protocol any self.now.protocol ≡ true → ReadsBackBy any (head_fields self.now) }
+        ensures token { takes_protocol true self.now.protocol ≡ true }
+        ensures untaken { takes_protocol false self.now.protocol ≡ false → head_of (head_fields self.now) ≡ IsNone Value }
         ensures read_as { head_of_fields (head_fields self.now) ≡ as_read self.now }
         ensures of_bytes { AllByRecursion IsFieldOfBytes (head_fields self.now) }
     {
@@ -275,23 +293,46 @@ impl Header {
     ///
     /// The first field that is refused decides: `InvalidHeaderName` for a name that is empty, not
     /// in lower case, or unknown with a `:`, `InvalidHeaderValue` for a value that its type
-    /// refuses, `TooManyFields` if the map is full.
+    /// refuses, `TooManyFields` if the map is full. Of `:protocol` the two names of `Protocol` are taken alone.
     pub fn try_from(alloc: Global, fields: Vec<HeaderField>) -> Result<Header, HeaderError>
-        ensures ok { IfOk result (IsHeadOf fields.items) }
-        ensures err { IfErr result (RefusesOne (trailer_head []) fields.items) }
+        ensures ok { IfOk result (IsHeadOf false fields.items) }
+        ensures err { IfErr result (RefusesOne false (trailer_head []) fields.items) }
     {
-        Header::of_fields(alloc, &Fields::of(fields.as_slice()))
+        Header::of_list(alloc, fields, false)
     }
 
-    /// The same of fields that stay where they are. If the list is refused because it is out of memory, `first_bad_part` can still say what
-    /// is malformed of it.
-    pub fn of_fields(alloc: Global, fields: &Fields<'_>) -> Result<Header, HeaderError>
-        ensures ok { IfOk result (IsHeadOf fields.now) }
-        ensures err { IfErr result (RefusesOne (trailer_head []) fields.now) }
+    // The same, with any short token as the value of `:protocol`, or the two names alone.
+    pub(crate) fn of_list(
+        alloc: Global,
+        fields: Vec<HeaderField>,
+        any_protocol: bool,
+    ) -> Result<Header, HeaderError>
+        ensures ok { IfOk result (IsHeadOf any_protocol fields.items) }
+        ensures err { IfErr result (RefusesOne any_protocol (trailer_head []) fields.items) }
+    {
+        Header::of_fields(alloc, &Fields::of(fields.as_slice()), any_protocol)
+    }
+
+    /// The same of fields that stay where they are. The value of `:protocol` may be any token of at most 31 bytes, or one of the two names
+    /// alone. If the list is refused because it is out of memory, `first_bad_part` can still say what is malformed of it.
+    pub fn of_fields(
+        alloc: Global,
+        fields: &Fields<'_>,
+        any_protocol: bool,
+    ) -> Result<Header, HeaderError>
+        ensures ok { IfOk result (IsHeadOf any_protocol fields.now) }
+        ensures err { IfErr result (RefusesOne any_protocol (trailer_head []) fields.now) }
     {
         let mut pseudo = Pseudo::none();
         let (mut map, mut store) = store::room_for(alloc, fields);
-        match read::read_fields(alloc, &mut pseudo, &mut map, &mut store, fields) {
+        match read::read_fields(
+            alloc,
+            &mut pseudo,
+            &mut map,
+            &mut store,
+            fields,
+            any_protocol,
+        ) {
             Ok(()) => Ok(Header {
                 pseudo,
                 fields: map,

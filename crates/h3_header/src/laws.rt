@@ -7,7 +7,7 @@ ghost use Rattle.h3_header.specs.BadPart.{bad_part, refusal_of, IsHeadUnlessMany
 ghost use Rattle.h3_header.specs.declared.headers.judge.BadPart.{BadPart};
 ghost use Rattle.http_header.specs.FieldValue.{FieldValue};
 ghost use Rattle.http_header.specs.HeaderMap.{Entries};
-ghost use Rattle.h3_header.specs.AnyProtocol.{IsValidAny, asked, asking};
+ghost use Rattle.h3_header.specs.AnyProtocol.{asked, asking};
 ghost use Rattle.h3_header.specs.Connect.{connect_head};
 ghost use Rattle.h3_header.specs.Head.{Head, head_fields, regular_fields, trailer_head};
 ghost use Rattle.h3_header.specs.HeadRead.{HeadRefusal, IsHead, IsNone, Value, head_by, head_of, told};
@@ -16,32 +16,36 @@ ghost use Rattle.h3_header.specs.Reads.{IsHeadOf, RefusesOne, head_of_fields, ki
 ghost use Rattle.h3_header.specs.declared.headers.kind.FieldKind.TheVariants as kind;
 ghost use Rattle.h3_header.specs.declared.headers.pseudo.Pseudo.{Pseudo};
 ghost use Rattle.h3_header.specs.declared.headers.error.HeaderError.{HeaderError};
-ghost use Rattle.h3_header.specs.ReadsBack.{ReadsBack, as_read};
+ghost use Rattle.h3_header.specs.ReadsBack.{IsValidMap, IsValidPseudo, ReadsBackBy, as_read};
+ghost use Rattle.h3_header.specs.HeadTests.{takes_protocol};
 
 use crate::headers::{Header, HeaderError};
 use std::alloc::Global;
 
-/// The field list of every header, however it was made, is accepted, and it makes a header with
-/// this very list. It is the same header but for an empty path, which is `/`, and for the marks of
+/// The field list of every header, however it was made, is accepted by who takes its protocol, and it makes a header with
+/// this very list. Any short token is taken, or the two names alone: then the list of a header with another one is malformed. It is the same header but for an empty path, which is `/`, and for the marks of
 /// sensitive values. Each item of its names and values is below 256.
 pub fn every_header_reads_back(header: &Header)
-    ensures reads_back { ReadsBack (head_fields header.now) }
+    ensures reads_back { (any : Bool) → takes_protocol any header.now.protocol ≡ true → ReadsBackBy any (head_fields header.now) }
+    ensures token { takes_protocol true header.now.protocol ≡ true }
+    ensures untaken { takes_protocol false header.now.protocol ≡ false → head_of (head_fields header.now) ≡ IsNone Value }
     ensures read_as { head_of_fields (head_fields header.now) ≡ as_read header.now }
     ensures of_bytes { AllByRecursion IsFieldOfBytes (head_fields header.now) }
 {
     header.visit_parts();
 }
 
-/// A header there and back: its fields are read as a header with the same fields, and they are
+/// A header there and back: if its protocol is taken, its fields are read as a header with the same fields, and they are
 /// refused only when out of memory.
-pub fn round_trip(alloc: Global, header: &Header) -> Result<Header, HeaderError>
+pub fn round_trip(alloc: Global, header: &Header, any: bool) -> Result<Header, HeaderError>
+    requires { takes_protocol any header.now.protocol ≡ true }
     ensures ok { IfOk result (λ h. head_fields h ≡ head_fields header.now) }
     ensures err { IfErr result (λ e. e ≡ HeaderError.OutOfMemory) }
 {
     let Ok(fields) = header.fields(alloc) else {
         return Err(HeaderError::OutOfMemory);
     };
-    Header::try_from(alloc, fields)
+    Header::of_list(alloc, fields, any)
 }
 
 /// A list of so few fields that a map has room for all their names is judged field by field. The first of which anything is malformed
@@ -51,12 +55,14 @@ pub fn fields_are_judged_alone()
     ensures head { (any : Bool) (fields : List Field) → All (λ f. bad_part any f ≡ None) (take 24576 fields) → IsHeadUnlessMany any fields }
 {}
 
-/// What a field list is read as is a value: its header section, or the first refusal, memory aside. What the value says is so.
+/// What a field list is read as is a value: its header section, or the first refusal, memory aside. What the value says is so, whether any
+/// protocol is taken or the two names alone. What is a header section with the two names is so with any.
 pub fn lists_are_their_value()
-    ensures head { (fields : List Field) (h : Head) → IsHeadOf fields h → head_of fields ≡ IsHead h }
-    ensures refused { (fields : List Field) (e : HeaderError) (why : HeadRefusal) → RefusesOne (trailer_head []) fields e → told e ≡ Some why → head_of fields ≡ IsNone why }
-    ensures is_head { (fields : List Field) (h : Head) → head_of fields ≡ IsHead h → IsHeadOf fields h }
-    ensures is_refused { (fields : List Field) (e : HeaderError) (why : HeadRefusal) → head_of fields ≡ IsNone why → told e ≡ Some why → RefusesOne (trailer_head []) fields e }
+    ensures head { (any : Bool) (fields : List Field) (h : Head) → IsHeadOf any fields h → head_by any fields ≡ IsHead h }
+    ensures refused { (any : Bool) (fields : List Field) (e : HeaderError) (why : HeadRefusal) → RefusesOne any (trailer_head []) fields e → told e ≡ Some why → head_by any fields ≡ IsNone why }
+    ensures is_head { (any : Bool) (fields : List Field) (h : Head) → head_by any fields ≡ IsHead h → IsHeadOf any fields h }
+    ensures is_refused { (any : Bool) (fields : List Field) (e : HeaderError) (why : HeadRefusal) → head_by any fields ≡ IsNone why → told e ≡ Some why → RefusesOne any (trailer_head []) fields e }
+    ensures named { (any : Bool) (fields : List Field) (h : Head) → IsHeadOf false fields h → head_by any fields ≡ IsHead h }
 {}
 
 /// What the choice of any protocol changes. A list without `:protocol` reads alike with it and without it. A list that is a header section
@@ -65,7 +71,7 @@ pub fn lists_are_their_value()
 pub fn any_protocol_changes_protocols_alone()
     ensures others { (fields : List Field) → AllByRecursion (λ f. kind_of f.name ≡ kind.Protocol → ⊥) fields → head_by true fields ≡ head_of fields }
     ensures stays { (fields : List Field) (h : Head) → head_of fields ≡ IsHead h → head_by true fields ≡ IsHead h }
-    ensures tokens_read_back { (p : Pseudo) (m : Entries FieldValue) → IsValidAny p m → head_by true (head_fields (head_of_parts p m)) ≡ IsHead (as_read (head_of_parts p m)) }
+    ensures tokens_read_back { (p : Pseudo) (m : Entries FieldValue) → IsValidPseudo true p → IsValidMap m → head_by true (head_fields (head_of_parts p m)) ≡ IsHead (as_read (head_of_parts p m)) }
 {}
 
 /// What a `:protocol` by itself reads as if any is taken (RFC 8441, 4; a token is that of RFC 9110, 5.6.2), and if the two names alone are.

@@ -7,8 +7,7 @@ pub mod grammar;
 pub mod headers;
 pub mod laws;
 
-pub use ext::{InvalidProtocol, Protocol};
+pub use ext::{InvalidProtocol, MOST_PROTOCOL_BYTES, Protocol};
 pub use headers::{
-    BadPart, FieldKind, Header, HeaderError, HeaderIter, MOST_NAMES, MOST_PROTOCOL_BYTES,
-    field_kind, first_bad_part,
+    BadPart, FieldKind, Header, HeaderError, HeaderIter, MOST_NAMES, field_kind, first_bad_part,
 };

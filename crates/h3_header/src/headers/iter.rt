@@ -92,7 +92,7 @@ impl Pseudo {
             return Some(Ok(static_field(b":status", part.as_str())));
         }
         if let Some(part) = self.protocol.take() {
-            return Some(Ok(static_field(b":protocol", part.as_str())));
+            return Some(pseudo_field(alloc, b":protocol", part.as_str()));
         }
         None
     }

@@ -3,10 +3,10 @@ ghost use Rattle.std.specs.Prelude.{◌≡◌, IfSome, IfNone, IfOk, IfErr};
 ghost use Rattle.h3_header.specs.BadPart.{bad_part, refusal_of, AreGood, IsHeadUnlessMany};
 ghost use Rattle.h3_header.specs.HeadRead.{IsNone, head_by, is_name_at, is_value_at};
 ghost use Rattle.h3_header.specs.Reads.{kind_of};
-ghost use Rattle.h3_header.specs.HeadTests.{is_code_text, is_protocol_by, is_protocol_text, is_short_token};
+ghost use Rattle.h3_header.specs.HeadTests.{is_code_text, is_protocol_by, is_protocol_text};
 
 use super::kind::FieldKind;
-use crate::ext::Protocol;
+use crate::ext::{Protocol, is_short_token};
 use crate::grammar::{
     is_authority, is_field_value, is_header_name, is_path_input, is_scheme, is_token,
 };
@@ -15,9 +15,6 @@ use http::StatusCode;
 
 /// So many names a `HeaderMap` has room for: whether a list of no more fields is a header's is decided without memory.
 pub const MOST_NAMES: usize = 24576;
-
-/// The longest token that is taken as `:protocol`. The registry's longest is far shorter.
-pub const MOST_PROTOCOL_BYTES: usize = 31;
 
 /// What is malformed of a field by itself (RFC 9114, 4.2 and 4.3).
 #[derive(Clone, Copy, Debug, PartialEq, Eq)]
@@ -109,13 +106,6 @@ fn is_protocol(text: &[u8], any: bool) -> bool
     }
 }
 
-// Whether the text is a token that a `Protocol` has room for.
-fn is_short_token(text: &[u8]) -> bool
-    ensures { result ≡ is_short_token text.now }
-{
-    is_token(text) && text.len() <= MOST_PROTOCOL_BYTES
-}
-
 #[tactic(auto, using(crate::proofs::HeadTestLaws::decided, crate::proofs::HeadTestLaws::code_text))]
 fn is_code_text(text: &[u8]) -> bool
     ensures { result ≡ is_code_text text.now }
@@ -123,9 +113,8 @@ fn is_code_text(text: &[u8]) -> bool
     StatusCode::from_bytes(text).is_ok()
 }
 
-#[tactic(auto, using(crate::proofs::HeadTestLaws::decided, crate::proofs::HeadTestLaws::protocol_text))]
 fn is_protocol_text(text: &[u8]) -> bool
     ensures { result ≡ is_protocol_text text.now }
 {
-    Protocol::from_bytes(text).is_ok()
+    Protocol::from_bytes(text, false).is_ok()
 }

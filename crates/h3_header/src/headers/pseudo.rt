@@ -5,7 +5,7 @@ ghost use Rattle.http_header.specs.Token.{IsToken};
 ghost use Rattle.http.specs.StatusCode.{IsStatusCode, code_digits};
 ghost use Rattle.http_uri.specs.Grammar.{IsScheme, IsAuthority, IsPathAndQuery, or_slash};
 ghost use Rattle.h3_field.specs.ReadBack.{IsFieldOfBytes};
-ghost use Rattle.h3_header.specs.ProtocolText.{IsProtocolText};
+ghost use Rattle.h3_header.specs.ProtocolText.{IsProtocolBy};
 ghost use Rattle.http_header.specs.FieldValue.{FieldValue};
 ghost use Rattle.http_header.specs.HeaderMap.{Entries};
 ghost use Rattle.h3_header.specs.Parts.{head_of_parts, no_pseudo, fields_of_pseudo};
@@ -177,9 +177,9 @@ impl Pseudo {
         }
     }
 
-    pub(crate) fn protocol_text(&self) -> Option<&'static str>
+    pub(crate) fn protocol_text(&self) -> Option<&str>
         ensures value { option_copied result ≡ self.now.protocol }
-        ensures valid { IfSome self.now.protocol IsProtocolText }
+        ensures valid { IfSome self.now.protocol (IsProtocolBy true) }
     {
         match &self.protocol {
             Some(part) => Some(part.as_str()),
@@ -189,7 +189,7 @@ impl Pseudo {
 
     /// Reads each part.
     pub(crate) fn visit(&self)
-        ensures valid { IsValidPseudo self.now }
+        ensures valid { IsValidPseudo true self.now }
         ensures of_bytes { AllByRecursion IsFieldOfBytes (fields_of_pseudo self.now) }
     {
         visit_text(self.method_text());
@@ -220,14 +220,14 @@ impl Pseudo {
     ) -> Result<(), AllocError>
         ensures value { OnOk result (list.new.items
             ≡ list.old.items ++ fields_of_pseudo self.now) }
-        ensures valid { OnOk result (IsValidPseudo self.now) }
+        ensures valid { OnOk result (IsValidPseudo true self.now) }
     {
         append_pseudo(alloc, list, b":method", self.method_text())?;
         append_pseudo(alloc, list, b":scheme", self.scheme_text())?;
         append_pseudo(alloc, list, b":authority", self.authority_text())?;
         append_path(alloc, list, &self.path)?;
         append_static(list, b":status", self.status_text())?;
-        append_static(list, b":protocol", self.protocol_text())?;
+        append_pseudo(alloc, list, b":protocol", self.protocol_text())?;
         Ok(())
     }
 }

@@ -6,7 +6,7 @@ ghost use Rattle.http_header.specs.FieldValue.{plain_value, IsFieldValue};
 ghost use Rattle.http_header.specs.HeaderMap.{append, RefusesAppend};
 ghost use Rattle.http.specs.StatusCode.{IsCodeText};
 ghost use Rattle.http_uri.specs.Grammar.{IsScheme, IsAuthority, IsPathInput, without_fragment};
-ghost use Rattle.h3_header.specs.ProtocolText.{IsProtocolText};
+ghost use Rattle.h3_header.specs.ProtocolText.{IsProtocolBy};
 ghost use Rattle.h3_header.specs.declared.headers.kind.FieldKind.TheVariants as field;
 ghost use Rattle.h3_header.specs.Reads.{IsShortMethod, IsValueAt, status_number, RefusesName, RefusesValue, RefusesRegular, RefusesPseudo, Accepts, Refuses, AcceptsAll, RefusesOne, with_field, with_pseudo};
 ghost use Rattle.h3_header.specs.Parts.{head_of_parts};
@@ -86,11 +86,12 @@ fn read_status(alloc: Global, value: &[u8]) -> Result<StatusCode, HeaderError>
     }
 }
 
-fn read_protocol(alloc: Global, value: &[u8]) -> Result<Protocol, HeaderError>
-    ensures ok { IfOk result (λ m. IsProtocolText value.now × (m ≡ value.now)) }
-    ensures err { IfErr result (RefusesValue (IsProtocolText value.now) (¬ (IsProtocolText value.now))) }
+#[tactic(auto, using(crate::proofs::HeadTestLaws::decided, crate::proofs::HeadTestLaws::protocol_by))]
+fn read_protocol(alloc: Global, value: &[u8], any: bool) -> Result<Protocol, HeaderError>
+    ensures ok { IfOk result (λ m. IsProtocolBy any value.now × (m ≡ value.now)) }
+    ensures err { IfErr result (RefusesValue (IsProtocolBy any value.now) (¬ (IsProtocolBy any value.now))) }
 {
-    match Protocol::from_bytes(value) {
+    match Protocol::from_bytes(value, any) {
         Ok(protocol) => Ok(protocol),
         Err(_) => Err(HeaderError::invalid_value(alloc, b":protocol", value)),
     }
@@ -172,20 +173,22 @@ fn append_field(
     }
 }
 
-/// Reads the fields in order into the parts of a header, up to the first one that is refused. Their bytes go to the store.
+/// Reads the fields in order into the parts of a header, up to the first one that is refused. Their bytes go to the store. The value of
+/// `:protocol` may be any token of at most 31 bytes, or one of the two names alone.
 pub(crate) fn read_fields(
     alloc: Global,
     pseudo: &mut Pseudo,
     map: &mut HeaderMap,
     store: &mut Store,
     fields: &Fields<'_>,
+    any_protocol: bool,
 ) -> Result<(), HeaderError>
-    ensures ok { OnOk result (AcceptsAll (head_of_parts pseudo.old map.old) fields.now
+    ensures ok { OnOk result (AcceptsAll any_protocol (head_of_parts pseudo.old map.old) fields.now
         × (head_of_parts pseudo.new map.new ≡ fold with_field (head_of_parts pseudo.old map.old) fields.now)) }
-    ensures err { IfErr result (RefusesOne (head_of_parts pseudo.old map.old) fields.now) }
+    ensures err { IfErr result (RefusesOne any_protocol (head_of_parts pseudo.old map.old) fields.now) }
 {
     'fields: for place in 0..fields.len() {
-        read_field(alloc, pseudo, map, store, &fields.get(place))?;
+        read_field(alloc, pseudo, map, store, &fields.get(place), any_protocol)?;
     }
     Ok(())
 }
@@ -197,15 +200,16 @@ fn read_field(
     map: &mut HeaderMap,
     store: &mut Store,
     field: &FieldRef<'_>,
+    any_protocol: bool,
 ) -> Result<(), HeaderError>
-    ensures ok { OnOk result (Accepts (head_of_parts pseudo.old map.old) field.now
+    ensures ok { OnOk result (Accepts any_protocol (head_of_parts pseudo.old map.old) field.now
         × (head_of_parts pseudo.new map.new ≡ with_field (head_of_parts pseudo.old map.old) field.now)) }
-    ensures err { IfErr result (Refuses (head_of_parts pseudo.old map.old) field.now) }
+    ensures err { IfErr result (Refuses any_protocol (head_of_parts pseudo.old map.old) field.now) }
 {
     let kind = FieldKind::of(field.name());
     match kind {
         FieldKind::Regular => append_field(alloc, map, store, field.name(), field.value()),
-        _ => read_pseudo(alloc, pseudo, store, kind, field.value()),
+        _ => read_pseudo(alloc, pseudo, store, kind, field.value(), any_protocol),
     }
 }
 
@@ -216,11 +220,12 @@ fn read_pseudo(
     store: &mut Store,
     kind: FieldKind,
     value: &[u8],
+    any_protocol: bool,
 ) -> Result<(), HeaderError>
     requires { kind ≡ field.Regular → ⊥ }
-    ensures ok { OnOk result (IsValueAt kind value.now
+    ensures ok { OnOk result (IsValueAt any_protocol kind value.now
         × (pseudo.new ≡ with_pseudo kind pseudo.old value.now)) }
-    ensures err { IfErr result (RefusesPseudo kind value.now) }
+    ensures err { IfErr result (RefusesPseudo any_protocol kind value.now) }
 {
     match kind {
         FieldKind::Method => put(&mut pseudo.method, read_method(alloc, value)),
@@ -228,7 +233,10 @@ fn read_pseudo(
         FieldKind::Authority => put(&mut pseudo.authority, read_authority(alloc, store, value)),
         FieldKind::Path => put(&mut pseudo.path, read_path(alloc, store, value)),
         FieldKind::Status => put(&mut pseudo.status, read_status(alloc, value)),
-        FieldKind::Protocol => put(&mut pseudo.protocol, read_protocol(alloc, value)),
+        FieldKind::Protocol => put(
+            &mut pseudo.protocol,
+            read_protocol(alloc, value, any_protocol),
+        ),
         FieldKind::Regular => unreachable!(),
     }
 }

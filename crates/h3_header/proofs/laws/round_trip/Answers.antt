@@ -3,4 +3,4 @@ use Rattle.h3_header.specs.ReadLaws.{only_memory}
 use Rattle.h3_header.proofs.laws.round_trip.Goals as goal
 
 pub returns-clause-err : goal.returns-clause-err
-returns-clause-err c = IfErr-weaker c.try_from.result _ _ (λ e why. only_memory _ _ e c.in-Ok.ensures.reads_back.0 why) c.try_from.ensures.err
+returns-clause-err c = IfErr-weaker c.of_list.result _ _ (λ e why. only_memory _ _ _ e (c.in-Ok.ensures.reads_back c.args.any c.requires).0 why) c.of_list.ensures.err
