@@ -413,9 +413,9 @@ typedef struct {
   uint64_t send_grease;               /* whether a reserved setting is sent (RFC 9114, section
                                        * 7.2.4.1) */
   uint64_t webtransport;              /* whether WebTransport is announced */
-  uint64_t extended_connect;          /* whether extended CONNECT is announced (RFC 9220). :protocol
-                                       * is connect-udp or webtransport here; any other one, as
-                                       * websocket, is malformed: leave 0 if browsers connect */
+  uint64_t extended_connect;          /* whether extended CONNECT is announced (RFC 9220), as
+                                       * WebSockets need it. any_protocol says which values
+                                       * :protocol may have */
   uint64_t datagram;                  /* whether HTTP datagrams are announced (RFC 9297), as
                                        * h3_datagram_head asks for. QUIC has to announce its
                                        * max_datagram_frame_size too (RFC 9221, section 3) */
@@ -462,14 +462,20 @@ typedef struct {
                                        * kept. 2^62 - 1 and more: all ids of both are kept */
   uint64_t reject_requests;           /* whether a server rejects requests from the id of its
                                        * last GOAWAY on: H3_REJECTED (1) */
+  uint64_t any_protocol;              /* whether :protocol of a request may be any token of at most
+                                       * 31 bytes, as websocket (RFC 8441, section 4; RFC 9220),
+                                       * both ways. Without this it is connect-udp or webtransport,
+                                       * and any other value is malformed (H3_BAD_VALUE). A server
+                                       * answers 501 to a protocol that it does not know (RFC 9220,
+                                       * section 3): that is left to you */
 } h3_config;
 
 /* A client with limits for an untrusted peer: it takes field sections of at most 65,536 bytes, and
  * has a dynamic table of 4,096 bytes, for which 16 streams may wait. It counts acknowledgments, and
  * the table of its encoder has at most 4,096 bytes and is used economically. It is strict, keeps
- * 1,000 ids of canceled streams, and has reject_requests set. All else is 0, so a frame or
- * instruction that it keeps until it is whole has at most 262,144 bytes, four times 65,536.
- * SECURITY.md says what each limit bounds. */
+ * 1,000 ids of canceled streams, and has reject_requests and any_protocol set. All else is 0, so a
+ * frame or instruction that it keeps until it is whole has at most 262,144 bytes: four times
+ * 65,536. SECURITY.md says what each limit bounds. */
 static inline void h3_config_default(h3_config *config);
 
 /* Makes an endpoint in *endpoint, which is overwritten: what it held before is not freed. Its

@@ -28,6 +28,9 @@ type Config struct {
 	KeptIDs uint64
 	// RejectRequests: a server refuses requests from its last GOAWAY id on.
 	RejectRequests bool
+	// AnyProtocol: :protocol may be any token of at most 31 bytes, as websocket (RFC 9220), both ways. Without it connect-udp and webtransport
+	// alone are taken.
+	AnyProtocol bool
 }
 
 // DefaultConfig has the limits of h3_config_default, which are fit for a peer that is not trusted. Header and trailer sections may have at
@@ -54,6 +57,7 @@ func DefaultConfig(server bool) Config {
 		UnfinishedLimit:         uint64(raw.unfinished_limit),
 		KeptIDs:                 uint64(raw.kept_ids),
 		RejectRequests:          raw.reject_requests != 0,
+		AnyProtocol:             raw.any_protocol != 0,
 	}
 }
 
@@ -85,5 +89,6 @@ func (c Config) raw() C.h3_config {
 	raw.unfinished_limit = C.uint64_t(c.UnfinishedLimit)
 	raw.kept_ids = C.uint64_t(c.KeptIDs)
 	raw.reject_requests = number(c.RejectRequests)
+	raw.any_protocol = number(c.AnyProtocol)
 	return raw
 }

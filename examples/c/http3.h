@@ -57,7 +57,7 @@ typedef struct {
 typedef struct {
   bool server;
   uint64_t sessions; /* a server's: so many WebTransport sessions are taken on a connection, as the settings say; 0: none */
-  bool tunnels;      /* a server's: extended CONNECT is announced (RFC 9220). The endpoint takes connect-udp and webtransport as `:protocol` */
+  bool tunnels;      /* a server's: extended CONNECT is announced (RFC 9220). `:protocol` may be any token of at most 31 bytes */
   uint64_t requests; /* a server's: at most so many are taken on a connection, and GOAWAY sends the client to another before; 0: no limit */
   size_t data;       /* how many bytes `data` of a request has; 0: it is NULL at first */
   const char *qlog;  /* a folder where each connection has a file of its events (qlog.h); NULL: none */

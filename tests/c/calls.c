@@ -222,6 +222,7 @@ static void choose(h3_config *config, const char *word) {
       {"economical_table", offsetof(h3_config, economical_table)},
       {"unfinished_limit", offsetof(h3_config, unfinished_limit)},
       {"kept_ids", offsetof(h3_config, kept_ids)},
+      {"any_protocol", offsetof(h3_config, any_protocol)},
   };
   size_t len = strcspn(word, "=");
   uint64_t value = word[len] ? strtoull(word + len + 1, NULL, 10) : 1;
@@ -244,6 +245,7 @@ static void begin(char **words, size_t count) {
   c.unfinished_limit = UINT64_MAX;
   c.kept_ids = UINT64_MAX;
   c.reject_requests = 0;
+  c.any_protocol = 0;
   c.server = words[1][0] == 's';
   c.max_field_section_size = strtoull(words[2], NULL, 10);
   c.table = strtoull(words[3], NULL, 10);
@@ -299,6 +301,18 @@ static uint32_t send(uint64_t id, int is_trailer, field *given, size_t count, ui
   return n;
 }
 
+/* `:protocol` has another token than the two names: a header holds it */
+static int asks_for_another(const field *given, size_t count) {
+  for (size_t i = 0; i < count; i++) {
+    const field *at = &given[i];
+    if (at->name_len != 9 || memcmp(at->name, ":protocol", 9)) continue;
+    for (uint32_t j = 0; j < at->value_len; j++)
+      if (at->value[j] < 'a' || at->value[j] > 'z') return 0;
+    return at->value_len && at->value_len <= 31 && !(at->value_len == 12 && !memcmp(at->value, "webtransport", 12));
+  }
+  return 0;
+}
+
 static void section(uint64_t id, int trailer, char **words, size_t count) {
   static h3_field_size sizes[512];
   static uint8_t bytes[1 << 20];
@@ -329,10 +343,10 @@ static void section(uint64_t id, int trailer, char **words, size_t count) {
     fields++;
   }
   field *given = cut(sizes, fields, bytes);
-  int spaced = is_spaced(given, fields);
+  int holds = is_spaced(given, fields) || asks_for_another(given, fields);
   uint32_t n = send(id, trailer, given, fields, &detail);
-  /* a header takes such a value, and a list does not: the rows are of headers, of which a strict endpoint says so */
-  if (n == H3_FIELD_VALUE && spaced)
+  /* a header takes such a value, and a list does not: the rows are of headers, whose refusal an endpoint tells so */
+  if (n == H3_FIELD_VALUE && holds)
     puts("refused Malformed Value");
   else
     answer(n, detail);

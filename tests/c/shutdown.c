@@ -6,11 +6,11 @@
 #include "field_list.h"
 #include "pair.h"
 
-enum { REQUESTS = 1000, NUMBERS = 18, SERVER_NUMBER = 5, REJECT_NUMBER = 16 };
+enum { REQUESTS = 1000, NUMBERS = 19, SERVER_NUMBER = 5, REJECT_NUMBER = 16 };
 
 static field_list request, response;
 
-/* An end that is made of so many numbers in a row, so that reject_requests, which stands last, is given or left out. */
+/* An end that is made of so many numbers in a row, so that reject_requests is given or left out. */
 static void make_end(int side, uint64_t rejects) {
   uint64_t numbers[NUMBERS], detail = 0;
   h3_raw_config_default(numbers, NUMBERS);

@@ -51,6 +51,8 @@ class Config:
     of the peer's GOAWAY ids alone is kept."""
     reject_requests: bool
     """A server refuses requests from its last GOAWAY id on."""
+    any_protocol: bool
+    """`:protocol` may be any token of at most 31 bytes, as `websocket` (RFC 9220), both ways; else `connect-udp` and `webtransport` alone."""
 
     @classmethod
     def client(cls) -> Self:

@@ -1,7 +1,7 @@
 use crate::raw;
 
 /// How many numbers `h3_config` has: its size, and those of [`Config`].
-pub(crate) const NUMBERS: usize = 18;
+pub(crate) const NUMBERS: usize = 19;
 
 /// What an endpoint is and announces, as `h3_config`.
 ///
@@ -53,6 +53,8 @@ pub struct Config {
     pub kept_ids: u64,
     /// A server refuses requests from its last GOAWAY id on.
     pub reject_requests: bool,
+    /// `:protocol` may be any token of at most 31 bytes, as `websocket` (RFC 9220), both ways: else `connect-udp` and `webtransport` alone.
+    pub any_protocol: bool,
 }
 
 impl Config {
@@ -87,6 +89,7 @@ impl Config {
             unfinished_limit: numbers[15],
             kept_ids: numbers[16],
             reject_requests: numbers[17] != 0,
+            any_protocol: numbers[18] != 0,
         }
     }
 
@@ -111,6 +114,7 @@ impl Config {
             self.unfinished_limit,
             self.kept_ids,
             self.reject_requests.into(),
+            self.any_protocol.into(),
         ]
     }
 }

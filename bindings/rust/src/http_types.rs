@@ -8,8 +8,8 @@ use http::header::{COOKIE, HOST};
 use http::uri::{Authority, PathAndQuery, Scheme};
 use http::{HeaderMap, HeaderName, HeaderValue, Method, Request, Response, StatusCode, Uri, Version};
 
-/// The `:protocol` of an extended CONNECT request (RFC 9220, section 3), among the extensions of an `http::Request`: `connect-udp` or
-/// `webtransport`, which are those that the library takes.
+/// The `:protocol` of an extended CONNECT request (RFC 9220, section 3), among the extensions of an `http::Request`: a token of at most 31
+/// bytes, as `websocket`.
 #[derive(Debug, Clone, PartialEq, Eq)]
 pub struct Protocol(pub String);
 

@@ -1,5 +1,5 @@
 -- What an endpoint is made of.
-use Rattle.std.specs.Prelude.{◌≡◌, ◌≤◌, ◌<◌, ◌*◌, ◌-◌, ◌^◌, ◌&&◌, ◌==◌, ℕ, Bool, false, max, nat_le, nat_lt, not, if◌then◌else◌, List, [], ◌∷◌, length, slice_get, Option, Some, None, unwrap_or, Result, Ok, Err}
+use Rattle.std.specs.Prelude.{◌≡◌, ◌≤◌, ◌<◌, ◌*◌, ◌-◌, ◌^◌, ◌&&◌, ◌==◌, ℕ, Bool, max, nat_le, nat_lt, not, if◌then◌else◌, List, [], ◌∷◌, length, slice_get, Option, Some, None, unwrap_or, Result, Ok, Err}
 use Rattle.h3_proto.specs.Config.{announced}
 use Rattle.h3_proto.specs.declared.config.Config.{Config}
 use Rattle.h3_proto.specs.declared.stream.Side.{Side}
@@ -38,12 +38,13 @@ default_config =
       unfinished_limit = 0;
       kept_ids = 1000;
       reject_requests = 1;
+      any_protocol = 1;
     }
 
 -- the numbers of `h3_config`: its size, and the others in its order
 abbrev pub numbers_of : ℕ → GivenConfig → List ℕ
 numbers_of size c =
-    size ∷ c.max_field_section_size ∷ c.max_webtransport_sessions ∷ c.table ∷ c.blocked ∷ c.grease ∷ c.server ∷ c.send_grease ∷ c.webtransport ∷ c.extended_connect ∷ c.datagram ∷ c.strict ∷ c.count_acknowledgments ∷ c.encoder_table ∷ c.economical_table ∷ c.unfinished_limit ∷ c.kept_ids ∷ c.reject_requests ∷ []
+    size ∷ c.max_field_section_size ∷ c.max_webtransport_sessions ∷ c.table ∷ c.blocked ∷ c.grease ∷ c.server ∷ c.send_grease ∷ c.webtransport ∷ c.extended_connect ∷ c.datagram ∷ c.strict ∷ c.count_acknowledgments ∷ c.encoder_table ∷ c.economical_table ∷ c.unfinished_limit ∷ c.kept_ids ∷ c.reject_requests ∷ c.any_protocol ∷ []
 
 -- one of the numbers that a caller gave, or what it is where the caller has fewer
 abbrev pub number_at : List ℕ → ℕ → ℕ → ℕ
@@ -70,13 +71,14 @@ config_in numbers =
       unfinished_limit = number_at numbers 15 default_config.unfinished_limit;
       kept_ids = number_at numbers 16 default_config.kept_ids;
       reject_requests = number_at numbers 17 default_config.reject_requests;
+      any_protocol = number_at numbers 18 default_config.any_protocol;
     }
 
 -- what a caller asks for, whose first number is the size of all in bytes: of none but as many as are known here
 abbrev pub config_given : List ℕ → Option GivenConfig
 config_given [] = None
 config_given (size ∷ others) =
-    if (size == 8 * length (size ∷ others)) && nat_le (length (size ∷ others)) 18 then Some (config_in (size ∷ others)) else None
+    if (size == 8 * length (size ∷ others)) && nat_le (length (size ∷ others)) 19 then Some (config_in (size ∷ others)) else None
 
 -- a number other than 0 means yes
 abbrev pub is_on : ℕ → Bool
@@ -109,7 +111,7 @@ config_of given =
         encoder_table = given.encoder_table;
         economical_table = is_on given.economical_table;
         unfinished_limit = limit_of_given given;
-        extensions = record { kept_ids = given.kept_ids; requests_rejected = is_on given.reject_requests; any_protocol = false };
+        extensions = record { kept_ids = given.kept_ids; requests_rejected = is_on given.reject_requests; any_protocol = is_on given.any_protocol };
       };
     }
 

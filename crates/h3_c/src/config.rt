@@ -11,7 +11,7 @@ use h3_session::endpoint::Endpoint;
 use std::alloc::Global;
 
 /// How many numbers `h3_config` has: its size in bytes, and those of `GivenConfig`.
-const NUMBERS: usize = 18;
+const NUMBERS: usize = 19;
 
 /// The numbers of `h3_config` after its size, in its order. One other than 0 means yes.
 #[derive(Copy, Clone)]
@@ -33,6 +33,7 @@ pub struct GivenConfig {
     pub unfinished_limit: u64,
     pub kept_ids: u64,
     pub reject_requests: u64,
+    pub any_protocol: u64,
 }
 
 impl Default for GivenConfig {
@@ -57,6 +58,7 @@ impl Default for GivenConfig {
             unfinished_limit: 0,
             kept_ids: 1000,
             reject_requests: 1,
+            any_protocol: 1,
         }
     }
 }
@@ -90,6 +92,7 @@ impl GivenConfig {
             unfinished_limit: number_or(numbers, 15, default.unfinished_limit),
             kept_ids: number_or(numbers, 16, default.kept_ids),
             reject_requests: number_or(numbers, 17, default.reject_requests),
+            any_protocol: number_or(numbers, 18, default.any_protocol),
         })
     }
 
@@ -116,6 +119,7 @@ impl GivenConfig {
             self.unfinished_limit,
             self.kept_ids,
             self.reject_requests,
+            self.any_protocol,
         ]
     }
 
@@ -178,6 +182,7 @@ fn config_of(given: &GivenConfig) -> Config
         .with_unfinished_limit(given.limit())
         .with_kept_ids(given.kept_ids)
         .with_requests_rejected(given.reject_requests != 0)
+        .with_any_protocol(given.any_protocol != 0)
 }
 
 /// The endpoint that is asked for.

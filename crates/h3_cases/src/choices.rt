@@ -5,7 +5,7 @@ use h3_proto::config::Config;
 
 /// What `h3_config_default` has. `scripts/gate/wide_scripts.py` compares it with `h3_c`.
 const DEFAULT: &str =
-    "max_field_section_size=65536 table=4096 blocked=16 strict count_acknowledgments encoder_table=4096 economical_table unfinished_limit=0 kept_ids=1000 reject_requests";
+    "max_field_section_size=65536 table=4096 blocked=16 strict count_acknowledgments encoder_table=4096 economical_table unfinished_limit=0 kept_ids=1000 reject_requests any_protocol";
 
 /// No limit on what is unfinished.
 const NONE: u64 = (1 << 62) - 1;
@@ -98,6 +98,7 @@ fn allowed(told: &mut Told, config: Config, name: &str, yes: bool) -> Config {
         "count_acknowledgments" => config.with_acknowledgments_counted(yes),
         "economical_table" => config.with_economical_table(yes),
         "reject_requests" => config.with_requests_rejected(yes),
+        "any_protocol" => config.with_any_protocol(yes),
         _ => {
             told.unreadable();
             config

@@ -6,6 +6,7 @@ use crate::ids;
 use crate::sections::{fields, list};
 use h3_coding::varint::VarInt;
 use h3_connection::setup::Limits;
+use h3_field::Fields;
 use h3_header::Header;
 use h3_proto::stream::{Side, StreamId};
 use http_header::HeaderMap;
@@ -128,10 +129,10 @@ fn ending(told: &mut Told, command: &str, id: StreamId) -> Call {
     }
 }
 
-/// The header section or trailer of fields, each a word `name=value`.
+/// The header section or trailer of fields, each a word `name=value`. Any token may be the value of `:protocol`.
 fn section(told: &mut Told, words: &[&str]) -> Header {
     let fields = fields(told, words);
-    match Header::try_from(told.alloc(), fields) {
+    match Header::of_fields(told.alloc(), &Fields::of(fields.as_slice()), true) {
         Ok(header) => header,
         Err(_) => {
             told.unreadable();

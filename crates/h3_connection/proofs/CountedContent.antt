@@ -10,7 +10,7 @@ use Rattle.h3_qpack.specs.DecoderState.{DecoderState}
 use Rattle.h3_qpack.specs.DecodedSection.{DecodedSection, Fields, Missing, BadSection, decode_section}
 use Rattle.h3_qpack.specs.Sizes.{last_value}
 use Rattle.h3_header.specs.Head.{Head, has_pseudo}
-use Rattle.h3_header.specs.HeadRead.{HeadRead, IsHead, IsNone, head_of}
+use Rattle.h3_header.specs.HeadRead.{HeadRead, IsHead, IsNone, head_by}
 use Rattle.h3_messages.specs.Content.{left_behind, is_exceeded, may_end, takes_trailer}
 use Rattle.h3_messages.specs.declared.content.Content.{Content}
 use Rattle.h3_messages.specs.declared.content.Content.TheVariants.{Unsaid, Exactly, NoContent, Tunnel, Exceeded}
@@ -247,7 +247,7 @@ module _ (all n : ℕ) where
             are_all n i.fault (past_large side own i fields).content i.body_left g.more g.no_fault (large_stays side i.place i.content (last_value (codes ":status") fields) g.place ∙ g.content) g.sum,
           );
         })
-        (judged_fine (with_content side own i fields) replies (if_whole i.content (broken_rule side own i.place fields)) (head_of fields) closed
+        (judged_fine (with_content side own i fields) replies (if_whole i.content (broken_rule side own i.place fields)) (head_by own.choices.extensions.any_protocol fields) closed
         (record { no_fault = g.no_fault; not_over = g.not_over; place = g.place; more = g.more; content = stays i.place i.content fields g.place ∙ g.content; sum = g.sum })
         (λ none. whole_at i closed g (told i.content (broken_rule side own i.place fields) none)))
 

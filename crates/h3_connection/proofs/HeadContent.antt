@@ -7,7 +7,7 @@ use Rattle.h3_field.specs.Instruction.{DecoderInstruction}
 use Rattle.h3_qpack.specs.DecoderState.{DecoderState}
 use Rattle.h3_qpack.specs.DecodedSection.{DecodedSection, Fields, Missing, BadSection, decode_section}
 use Rattle.h3_header.specs.Head.{Head, has_pseudo}
-use Rattle.h3_header.specs.HeadRead.{HeadRead, IsHead, IsNone, head_of}
+use Rattle.h3_header.specs.HeadRead.{HeadRead, IsHead, IsNone, head_by}
 use Rattle.h3_proto.specs.declared.stream.Side.{Side}
 use Rattle.h3_proto.specs.declared.stream.Side.TheVariants.{Client, Server}
 use Rattle.h3_wire.specs.ExcessiveFrames.{begins_section, is_excessive}
@@ -36,7 +36,7 @@ use Rattle.h3_connection.specs.declared.place.Place.TheVariants.{BeforeHead, InB
 
 module _ (side : Side) (own : Announced) (strict : own.choices.strict_messages ≡ true) (id : ℕ) (r : DecoderState) (awaited : Content) (known : Option Content) where
   abbrev Sets : Pulled → Type 0
-  Sets p = HasItsContent side awaited known p.answer p.incoming
+  Sets p = HasItsContent side own awaited known p.answer p.incoming
 
   -- what was known in front of a section, and what is behind it
   abbrev Before : Incoming → Type 0
@@ -53,7 +53,7 @@ module _ (side : Side) (own : Announced) (strict : own.choices.strict_messages �
   unbroken_sets i replies None p h = h
   unbroken_sets i replies (Some why) p h = tt
 
-  head_sets : (i : Incoming) (replies : List DecoderInstruction) (broken : Option Malformation) (h : Head) (fields : List Field) → head_of fields ≡ IsHead h → Behind fields i
+  head_sets : (i : Incoming) (replies : List DecoderInstruction) (broken : Option Malformation) (h : Head) (fields : List Field) → head_by own.choices.extensions.any_protocol fields ≡ IsHead h → Behind fields i
       → Sets (whole_head side id i replies broken h)
   head_sets i replies broken h fields is content =
       either (not (is_for side h)) _ _ tt
@@ -63,14 +63,14 @@ module _ (side : Side) (own : Announced) (strict : own.choices.strict_messages �
   trailer_sets : (i : Incoming) (replies : List DecoderInstruction) (broken : Option Malformation) (h : Head) → Sets (whole_trailer id i replies broken h)
   trailer_sets i replies broken h = either (has_pseudo h) _ _ tt (unbroken_sets i replies broken _ tt)
 
-  section_sets : (i : Incoming) (replies : List DecoderInstruction) (broken : Option Malformation) (place : Place) (fields : List Field) (h : Head) → head_of fields ≡ IsHead h
+  section_sets : (i : Incoming) (replies : List DecoderInstruction) (broken : Option Malformation) (place : Place) (fields : List Field) (h : Head) → head_by own.choices.extensions.any_protocol fields ≡ IsHead h
       → (place ≡ BeforeHead → Behind fields i) → Sets (head_or_trailer side id i replies broken place h)
   section_sets i replies broken BeforeHead fields h is content = head_sets i replies broken h fields is (content refl)
   section_sets i replies broken InBody fields h is content = trailer_sets i replies broken h
   section_sets i replies broken AfterTrailer fields h is content = trailer_sets i replies broken h
   section_sets i replies broken InSession fields h is content = trailer_sets i replies broken h
 
-  judged_sets : (i : Incoming) (replies : List DecoderInstruction) (broken : Option Malformation) (fields : List Field) (read : HeadRead) → head_of fields ≡ read
+  judged_sets : (i : Incoming) (replies : List DecoderInstruction) (broken : Option Malformation) (fields : List Field) (read : HeadRead) → head_by own.choices.extensions.any_protocol fields ≡ read
       → (i.place ≡ BeforeHead → Behind fields i) → Sets (judged side id i replies broken read)
   judged_sets i replies broken fields (IsNone why) is content = tt
   judged_sets i replies broken fields (IsHead h) is content = section_sets i replies broken i.place fields h is content
@@ -78,7 +78,7 @@ module _ (side : Side) (own : Announced) (strict : own.choices.strict_messages �
   read_sets : (i : Incoming) (replies : List DecoderInstruction) (fields : List Field) → Before i → Sets (read_section side own id r i replies fields)
   read_sets i replies fields same =
       either (nat_lt (section_of own) (told_size fields)) _ _ tt
-      (judged_sets (with_content side own i fields) replies (if_whole i.content (broken_rule side own i.place fields)) fields (head_of fields) refl
+      (judged_sets (with_content side own i fields) replies (if_whole i.content (broken_rule side own i.place fields)) fields (head_by own.choices.extensions.any_protocol fields) refl
       (λ at. (
         ap (λ place. content_at side own place i.content fields) at ∙ ap (λ b. if b then content_behind side BeforeHead i.content fields else i.content) strict ∙ ap (λ c. content_of_head side c fields) same.0,
         ap (λ place. response_at side own place i.response fields) at ∙ ap (λ b. if b then response_behind side BeforeHead i.response fields else i.response) strict ∙ ap (λ k. response_of_head side k fields) same.1,

@@ -9,7 +9,7 @@ use Rattle.h3_qpack.specs.DecoderState.{DecoderState}
 use Rattle.h3_qpack.specs.DecodedSection.{DecodedSection, Fields, Missing, BadSection, decode_section}
 use Rattle.h3_qpack.specs.Sizes.{last_value}
 use Rattle.h3_header.specs.Head.{Head, head_fields, has_pseudo}
-use Rattle.h3_header.specs.HeadRead.{HeadRead, IsHead, IsNone, head_of}
+use Rattle.h3_header.specs.HeadRead.{HeadRead, IsHead, IsNone, head_by}
 use Rattle.h3_messages.specs.Content.{awaited_by, content_expected, is_exceeded, is_interim_status, left_behind, may_end, takes_trailer}
 use Rattle.h3_messages.specs.Messages.{value_of}
 use Rattle.h3_messages.specs.declared.content.Asked.TheVariants as asked_variant
@@ -186,7 +186,7 @@ module _ (own : Announced) (id : ℕ) (r : DecoderState) where
       either (nat_lt (section_of own) (told_size fields)) _ _
       (leaf (pull.Item (item.TooLarge (told_size fields))) (past_large Client own i fields) replies tt
       (record { content = large_stays i.place i.content (last_value (codes ":status") fields) e.content; none = e.none; place = next_message i.place fields e.place }))
-      (judged_fine (with_content Client own i fields) replies (if_whole i.content (broken_rule Client own i.place fields)) (head_of fields)
+      (judged_fine (with_content Client own i fields) replies (if_whole i.content (broken_rule Client own i.place fields)) (head_by own.choices.extensions.any_protocol fields)
       (record { content = stays i.place i.content fields e.content; none = e.none; place = e.place }))
 
   past_empty : (i : Incoming) → IsEmpty i → IsEmpty (past_section i)

@@ -8,7 +8,7 @@ use Rattle.h3_field.specs.Field.{Field}
 use Rattle.h3_field.specs.Instruction.{DecoderInstruction}
 use Rattle.h3_qpack.specs.DecoderState.{DecoderState}
 use Rattle.h3_header.specs.Head.{Head, has_pseudo}
-use Rattle.h3_header.specs.HeadRead.{HeadRead, IsHead, IsNone, head_of}
+use Rattle.h3_header.specs.HeadRead.{HeadRead, IsHead, IsNone, head_by}
 use Rattle.h3_proto.specs.declared.stream.Side.{Side}
 use Rattle.h3_proto.specs.declared.stream.Side.TheVariants.{Client, Server}
 use Rattle.h3_wire.specs.ExcessiveFrames.{begins_section, is_excessive}
@@ -125,7 +125,7 @@ tried_first i is = rw is refl
 
 module _ (side : Side) (own : Announced) (id : ℕ) (r : DecoderState) where
   read_good : (i : Incoming) (replies : List DecoderInstruction) (fields : List Field) → Ready i → Good (read_section side own id r i replies fields)
-  read_good i replies fields h = either (nat_lt (section_of own) (told_size fields)) _ _ (good _ (ready_as i _ (refl, refl) h)) (judged_good side id (with_content side own i fields) replies (if_whole i.content (broken_rule side own i.place fields)) (head_of fields) (ready_as i (with_content side own i fields) (refl, refl) h))
+  read_good i replies fields h = either (nat_lt (section_of own) (told_size fields)) _ _ (good _ (ready_as i _ (refl, refl) h)) (judged_good side id (with_content side own i fields) replies (if_whole i.content (broken_rule side own i.place fields)) (head_by own.choices.extensions.any_protocol fields) (ready_as i (with_content side own i fields) (refl, refl) h))
 
   missing_good : (i : Incoming) (count : ℕ) (first : Bool) → (i.waits_for == 0) ≡ first → Ready i
       → Good (if first then just (pull.Waiting count) (record (tried i) { waits_for = count }) else connection_fault 0x200 (past_section i))

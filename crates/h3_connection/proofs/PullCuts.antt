@@ -9,7 +9,7 @@ use Rattle.h3_field.specs.Instruction.{DecoderInstruction}
 use Rattle.h3_qpack.specs.DecoderState.{DecoderState}
 use Rattle.h3_qpack.specs.DecodedSection.{DecodedSection, Fields, Missing, BadSection, decode_section}
 use Rattle.h3_header.specs.Head.{Head, has_pseudo}
-use Rattle.h3_header.specs.HeadRead.{HeadRead, IsHead, IsNone, head_of}
+use Rattle.h3_header.specs.HeadRead.{HeadRead, IsHead, IsNone, head_by}
 use Rattle.h3_proto.specs.declared.stream.Side.{Side}
 use Rattle.h3_proto.specs.declared.stream.Side.TheVariants.{Client, Server}
 use Rattle.h3_wire.specs.ExcessiveFrames.{begins_section, is_excessive}
@@ -267,7 +267,7 @@ goes_ending i u n g =
 
 module _ (size : ℕ) (side : Side) (own : Announced) (id : ℕ) (r : DecoderState) where
   read_alike : (i : Incoming) (u : List (List ℕ)) (replies : List DecoderInstruction) (fields : List Field) → Cuts i.unread u → Pulls size (read_section side own id r i replies fields) (read_section side own id r (with_pieces i u) replies fields)
-  read_alike i u replies fields c = either size (nat_lt (section_of own) (told_size fields)) _ _ _ _ (leaf size _ _ u replies refl c) (judged_alike size side id (with_content side own i fields) u replies (if_whole i.content (broken_rule side own i.place fields)) (head_of fields) c)
+  read_alike i u replies fields c = either size (nat_lt (section_of own) (told_size fields)) _ _ _ _ (leaf size _ _ u replies refl c) (judged_alike size side id (with_content side own i fields) u replies (if_whole i.content (broken_rule side own i.place fields)) (head_by own.choices.extensions.any_protocol fields) c)
 
   decoded_alike : (i : Incoming) (u : List (List ℕ)) (d : DecodedSection) → Cuts i.unread u → Pulls size (decoded side own id r i d) (decoded side own id r (with_pieces i u) d)
   decoded_alike i u (Fields fields count) c = read_alike (past_section i) u _ fields c

@@ -7,7 +7,7 @@ use Rattle.h3_field.specs.Instruction.{DecoderInstruction}
 use Rattle.h3_qpack.specs.DecoderState.{DecoderState}
 use Rattle.h3_qpack.specs.DecodedSection.{DecodedSection, Fields, Missing, BadSection, decode_section}
 use Rattle.h3_header.specs.Head.{Head, has_pseudo}
-use Rattle.h3_header.specs.HeadRead.{HeadRead, IsHead, IsNone, head_of}
+use Rattle.h3_header.specs.HeadRead.{HeadRead, IsHead, IsNone, head_by}
 use Rattle.h3_proto.specs.declared.stream.Side.{Side}
 use Rattle.h3_proto.specs.declared.stream.Side.TheVariants.{Client, Server}
 use Rattle.h3_wire.specs.ExcessiveFrames.{begins_section, is_excessive}
@@ -104,7 +104,7 @@ judged_ends side id i replies broken (IsHead h) n = section_ends side id i repli
 
 module _ (side : Side) (own : Announced) (id : ℕ) (r : DecoderState) where
   read_ends : (i : Incoming) (replies : List DecoderInstruction) (fields : List Field) → i.is_over ≡ false → Ends (read_section side own id r i replies fields)
-  read_ends i replies fields n = either (nat_lt (section_of own) (told_size fields)) _ _ (goes (λ x. cc) n) (judged_ends side id (with_content side own i fields) replies (if_whole i.content (broken_rule side own i.place fields)) (head_of fields) n)
+  read_ends i replies fields n = either (nat_lt (section_of own) (told_size fields)) _ _ (goes (λ x. cc) n) (judged_ends side id (with_content side own i fields) replies (if_whole i.content (broken_rule side own i.place fields)) (head_by own.choices.extensions.any_protocol fields) n)
 
   decoded_ends : (i : Incoming) (d : DecodedSection) → i.is_over ≡ false → Ends (decoded side own id r i d)
   decoded_ends i (Fields fields count) n = read_ends _ _ fields n

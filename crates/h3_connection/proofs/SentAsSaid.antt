@@ -20,8 +20,8 @@ use Rattle.h3_connection.specs.Sending.{appended, asked, body_refusal, content_o
 use Rattle.h3_connection.specs.SentContent.{Begins, HeadsSayTheirContent, PeersExpectAsMuch, Sends, SendsAsMuchAsSaid, SendsContent, Stays, left_to_send}
 use Rattle.h3_connection.specs.StreamSetLaws.{set-here}
 use Rattle.h3_connection.specs.StreamSets.{set_stream, stream_at}
-use Rattle.h3_connection.specs.StrictSending.{broken_head, broken_trailer, early_trailer, passes_content, unless_malformed}
-use Rattle.h3_connection.specs.StrictSendingLaws.{not_closed, not_malformed, passed, was_allowed}
+use Rattle.h3_connection.specs.StrictSending.{broken_head, broken_protocol, broken_trailer, early_trailer, passes_content, unless_malformed}
+use Rattle.h3_connection.specs.StrictSendingLaws.{not_closed, not_early, not_malformed, passed, was_allowed}
 use Rattle.h3_connection.specs.declared.event.Malformation.TheVariants as malformation
 use Rattle.h3_connection.specs.declared.event.Refusal.{Refusal}
 use Rattle.h3_connection.specs.declared.event.Refusal.TheVariants as refusal
@@ -110,12 +110,13 @@ early_none left k is h = ap may_end is ∙ by_test (left == 0) (sym (ap early_tr
 trails : (e : EndpointHistory) (id : ℕ) (trailer : Head) (rest : EndpointHistory) → (does (trailer_refusal e id trailer) e rest).0 ≡ None → early_trailer (left_to_send e id) ≡ None
 trails e id trailer rest sent =
     let fields = head_fields trailer in
+    let protocol = broken_protocol e.announced trailer in
     let early = early_trailer (left_to_send e id) in
     let behind = unless_malformed (broken_trailer e.announced fields) ((is_too_large e.peer.settings fields, refusal.TooLarge (section_size fields)) ∷ []) in
     let pseudo = (has_pseudo trailer, refusal.PseudoInTrailer) ∷ unless_malformed early behind in
     let allowed = not_closed e.closed _ (was_allowed (trailer_refusal e id trailer) e rest sent) in
-    let there = passed (not (is_open e id)) refusal.NotOpen ((not (takes_body (outgoing_at e id)), refusal.OutOfOrder) ∷ pseudo) allowed in
-    let placed = passed (not (takes_body (outgoing_at e id))) refusal.OutOfOrder pseudo there in
+    let there = passed (not (is_open e id)) refusal.NotOpen ((not (takes_body (outgoing_at e id)), refusal.OutOfOrder) ∷ unless_malformed protocol pseudo) allowed in
+    let placed = not_early protocol pseudo (passed (not (takes_body (outgoing_at e id))) refusal.OutOfOrder (unless_malformed protocol pseudo) there) in
     not_malformed early behind (passed (has_pseudo trailer) refusal.PseudoInTrailer (unless_malformed early behind) placed)
 
 pub sends_as_much : SendsAsMuchAsSaid
@@ -135,7 +136,8 @@ first_true false b h = absurd (cc)
 takes : (e : EndpointHistory) (id : ℕ) (head : Head) (after : EndpointHistory) → (does (head_refusal e id head) e after).0 ≡ None → sent.is_unended (outgoing_at e id) ≡ true
 takes e id head after done =
     let fields = head_fields head in
-    let wrong = (not (is_for (other e.side) head), refusal.WrongSide) ∷ unless_malformed (broken_head e.side e.announced e.peer.settings fields) ((is_too_large e.peer.settings fields, refusal.TooLarge (section_size fields)) ∷ []) in
+    let wrong = unless_malformed (broken_protocol e.announced head)
+    ((not (is_for (other e.side) head), refusal.WrongSide) ∷ unless_malformed (broken_head e.side e.announced e.peer.settings fields) ((is_too_large e.peer.settings fields, refusal.TooLarge (section_size fields)) ∷ [])) in
     let allowed = not_closed e.closed _ (was_allowed (head_refusal e id head) e after done) in
     let there = passed (not (is_open e id)) refusal.NotOpen ((not (takes_head (outgoing_at e id)), refusal.OutOfOrder) ∷ wrong) allowed in
     first_true (sent.is_unended (outgoing_at e id)) (is_unsent (outgoing_at e id).parts) (is_true (takes_head (outgoing_at e id)) (head_test (not (takes_head (outgoing_at e id))) refusal.OutOfOrder wrong there))

@@ -12,7 +12,7 @@ use Rattle.h3_connection.specs.Outgoing.{Outgoing, nothing_sent, is_unended, is_
 use Rattle.h3_connection.specs.Refusals.{SenderStream, first_of, not_next, of_list, refusal_to_stop, with_pseudo, wrong_length, wrong_side}
 use Rattle.h3_connection.specs.Sending.{closed_or, outgoing_at, is_open, seen_at, head_refusal, body_refusal, trailer_refusal, finish_refusal, reset_refusal}
 use Rattle.h3_connection.specs.StreamSets.{stream_at}
-use Rattle.h3_connection.specs.StrictSending.{broken_head, broken_trailer, early_trailer, passes_content, unless_malformed}
+use Rattle.h3_connection.specs.StrictSending.{broken_head, broken_protocol, broken_trailer, early_trailer, passes_content, unless_malformed}
 
 -- all was sent on it, and nothing waits: by what ended it, and by how many bytes wait
 abbrev sent_by : (reset finished ended : Bool) → ℕ → Bool
@@ -107,7 +107,7 @@ module _ (e : EndpointHistory) (id : ℕ) (sent : sent_in (stream_at e.outgoing 
   pub head_refused : (head : Head) → head_refusal e id head ≡ None → ⊥
   head_refused head none =
       let fields = head_fields head in
-      next_refused e.closed (seen_at e id) (takes_head o) (wrong_side e.side head ∷ of_list (broken_head e.side e.announced e.peer.settings fields) e.peer.settings fields) (and_left (is_unended o) (is_unsent o.parts) over) none
+      next_refused e.closed (seen_at e id) (takes_head o) (unless_malformed (broken_protocol e.announced head) (wrong_side e.side head ∷ of_list (broken_head e.side e.announced e.peer.settings fields) e.peer.settings fields)) (and_left (is_unended o) (is_unsent o.parts) over) none
 
   pub body_refused : (size : ℕ) → body_refusal e id size ≡ None → ⊥
   body_refused size none = next_refused e.closed (seen_at e id) (takes_body o) (wrong_length (passes_content o.content size) ∷ []) takes_none none
@@ -115,7 +115,7 @@ module _ (e : EndpointHistory) (id : ℕ) (sent : sent_in (stream_at e.outgoing 
   pub trailer_refused : (head : Head) → trailer_refusal e id head ≡ None → ⊥
   trailer_refused head none =
       let fields = head_fields head in
-      next_refused e.closed (seen_at e id) (takes_body o) (with_pseudo head ∷ unless_malformed (early_trailer o.content) (of_list (broken_trailer e.announced fields) e.peer.settings fields)) takes_none none
+      next_refused e.closed (seen_at e id) (takes_body o) (unless_malformed (broken_protocol e.announced head) (with_pseudo head ∷ unless_malformed (early_trailer o.content) (of_list (broken_trailer e.announced fields) e.peer.settings fields))) takes_none none
 
   pub finish_refused : finish_refusal e id ≡ None → ⊥
   finish_refused none = next_refused e.closed (seen_at e id) (takes_end o) (wrong_length (not (may_end o.content)) ∷ []) (and_left (is_unended o) (not (is_unsent o.parts)) over) none

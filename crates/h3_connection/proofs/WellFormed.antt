@@ -7,7 +7,7 @@ use Rattle.h3_field.specs.Instruction.{DecoderInstruction}
 use Rattle.h3_qpack.specs.DecoderState.{DecoderState}
 use Rattle.h3_qpack.specs.DecodedSection.{DecodedSection, Fields, Missing, BadSection, decode_section}
 use Rattle.h3_header.specs.Head.{Head, has_pseudo}
-use Rattle.h3_header.specs.HeadRead.{HeadRead, IsHead, IsNone, head_of}
+use Rattle.h3_header.specs.HeadRead.{HeadRead, IsHead, IsNone, head_by}
 use Rattle.h3_messages.specs.Messages.{violation_of_trailer}
 use Rattle.h3_messages.specs.declared.violation.Violation.{Violation}
 use Rattle.h3_proto.specs.declared.stream.Side.{Side}
@@ -74,7 +74,7 @@ module _ (side : Side) (own : Announced) (strict : own.choices.strict_messages �
       (unbroken_well i replies broken _ (λ e. either (is_client side && is_interim h.status) (record { answer = pull.Item (item.Interim h); incoming = i; replies = replies })
       (record { answer = pull.Item (item.Head h); incoming = record i { place = InBody }; replies = replies }) (k e) (k e)))
 
-  trailer_well : (i : Incoming) (replies : List DecoderInstruction) (broken : Option Malformation) (h : Head) → (broken ≡ None → IsWellFormedTrailer h) → Well (whole_trailer id i replies broken h)
+  trailer_well : (i : Incoming) (replies : List DecoderInstruction) (broken : Option Malformation) (h : Head) → (broken ≡ None → IsWellFormedTrailer own h) → Well (whole_trailer id i replies broken h)
   trailer_well i replies broken h k = either (has_pseudo h) _ _ tt (unbroken_well i replies broken _ k)
 
   -- the rule that is told where the content stands so
@@ -84,20 +84,20 @@ module _ (side : Side) (own : Announced) (strict : own.choices.strict_messages �
   no_rule : (content : Content) (place : Place) (fields : List Field) → rule content place fields ≡ None → violation_at side own place fields ≡ None
   no_rule content place fields e = none_broken place fields (none_told content (broken_rule side own place fields) e)
 
-  section_well : (i : Incoming) (replies : List DecoderInstruction) (content : Content) (place : Place) (fields : List Field) (h : Head) → head_of fields ≡ IsHead h
+  section_well : (i : Incoming) (replies : List DecoderInstruction) (content : Content) (place : Place) (fields : List Field) (h : Head) → head_by own.choices.extensions.any_protocol fields ≡ IsHead h
       → Well (head_or_trailer side id i replies (rule content place fields) place h)
   section_well i replies content BeforeHead fields h is = head_well i replies _ h (λ e. (fields, is, no_rule content BeforeHead fields e))
   section_well i replies content InBody fields h is = trailer_well i replies _ h (λ e. (fields, is, no_rule content InBody fields e))
   section_well i replies content AfterTrailer fields h is = trailer_well i replies _ h (λ e. (fields, is, no_rule content AfterTrailer fields e))
   section_well i replies content InSession fields h is = trailer_well i replies _ h (λ e. (fields, is, no_rule content InSession fields e))
 
-  judged_well : (i : Incoming) (replies : List DecoderInstruction) (content : Content) (fields : List Field) (read : HeadRead) → head_of fields ≡ read
+  judged_well : (i : Incoming) (replies : List DecoderInstruction) (content : Content) (fields : List Field) (read : HeadRead) → head_by own.choices.extensions.any_protocol fields ≡ read
       → Well (judged side id i replies (rule content i.place fields) read)
   judged_well i replies _ fields (IsNone why) is = tt
   judged_well i replies expected fields (IsHead h) is = section_well i replies expected i.place fields h is
 
   read_well : (i : Incoming) (replies : List DecoderInstruction) (fields : List Field) → Well (read_section side own id r i replies fields)
-  read_well i replies fields = either (nat_lt (section_of own) (told_size fields)) _ _ tt (judged_well (with_content side own i fields) replies i.content fields (head_of fields) refl)
+  read_well i replies fields = either (nat_lt (section_of own) (told_size fields)) _ _ tt (judged_well (with_content side own i fields) replies i.content fields (head_by own.choices.extensions.any_protocol fields) refl)
 
   decoded_well : (i : Incoming) (d : DecodedSection) → Well (decoded side own id r i d)
   decoded_well i (Fields fields count) = read_well _ _ fields

@@ -1,7 +1,7 @@
 -- What is handed out of a message whose head says how long its content is (RFC 9114, section 4.1.2).
 use Rattle.std.specs.Prelude.{◌≡◌, ℕ, ◌+◌, ◌≤◌, true, false, List, length, Option, None}
 use Rattle.h3_field.specs.Field.{Field}
-use Rattle.h3_header.specs.HeadRead.{IsHead, head_of}
+use Rattle.h3_header.specs.HeadRead.{IsHead, head_by}
 use Rattle.h3_messages.specs.declared.content.Content.{Content}
 use Rattle.h3_messages.specs.declared.content.Content.TheVariants.{Exactly}
 use Rattle.h3_proto.specs.declared.stream.Side.{Side}
@@ -49,12 +49,12 @@ CountsContent =
 
 -- Behind a head stands the content that its list says, of a response by what its request asked; and behind that of a request, what its
 -- response may have.
-abbrev pub HasItsContent : Side → Content → Option Content → Pull → Incoming → Type 0
-HasItsContent side awaited known (pull.Item (item.Head h)) i =
-    (fields : List Field) × (head_of fields ≡ IsHead h) × (i.content ≡ content_of_head side awaited fields) × (i.place ≡ InBody) × (i.response ≡ response_of_head side known fields)
-HasItsContent side awaited known _ i = Unit {0}
+abbrev pub HasItsContent : Side → Announced → Content → Option Content → Pull → Incoming → Type 0
+HasItsContent side own awaited known (pull.Item (item.Head h)) i =
+    (fields : List Field) × (head_by own.choices.extensions.any_protocol fields ≡ IsHead h) × (i.content ≡ content_of_head side awaited fields) × (i.place ≡ InBody) × (i.response ≡ response_of_head side known fields)
+HasItsContent side own awaited known _ i = Unit {0}
 
 abbrev pub HeadsHaveTheirContent : Type 0
 HeadsHaveTheirContent =
     (side : Side) (own : Announced) (id : ℕ) (r : DecoderState) (i : Incoming) → own.choices.strict_messages ≡ true
-    → HasItsContent side i.content i.response (pull_stream side own id r i).answer (pull_stream side own id r i).incoming
+    → HasItsContent side own i.content i.response (pull_stream side own id r i).answer (pull_stream side own id r i).incoming

@@ -19,7 +19,7 @@ use Rattle.h3_wire.specs.declared.proto.frame.Frame.TheVariants as frame
 use Rattle.h3_connection.specs.Announcing.{section_of}
 use Rattle.h3_connection.specs.Codes.{frame_unexpected, frame_error, excessive_load, id_error, decompression_failed, refusal_code}
 use Rattle.h3_qpack.specs.DecodedSection.{DecodedSection, Fields, Missing, BadSection, decode_section}
-use Rattle.h3_header.specs.HeadRead.{HeadRead, HeadRefusal, IsHead, IsNone, Name, Value, TooMany, head_of}
+use Rattle.h3_header.specs.HeadRead.{HeadRead, HeadRefusal, IsHead, IsNone, Name, Value, TooMany, head_by}
 use Rattle.h3_connection.specs.Incoming.{Incoming, given_up, is_body}
 use Rattle.h3_connection.specs.declared.place.Place.{Place}
 use Rattle.h3_connection.specs.declared.place.Place.TheVariants.{BeforeHead, InBody, AfterTrailer, InSession}
@@ -182,7 +182,7 @@ module _ (side : Side) (own : Announced) (id : ℕ) (r : DecoderState) where
   read_section i replies fields =
       if nat_lt (section_of own) (told_size fields)
       then record { answer = pull.Item (item.TooLarge (told_size fields)); incoming = past_large side own i fields; replies = replies }
-      else judged side id (with_content side own i fields) replies (if_whole i.content (broken_rule side own i.place fields)) (head_of fields)
+      else judged side id (with_content side own i fields) replies (if_whole i.content (broken_rule side own i.place fields)) (head_by own.choices.extensions.any_protocol fields)
 
   -- A section was tried. One that is bad, or that misses entries a second time, is a fault of the connection, and no more tried.
   abbrev pub decoded : Incoming → DecodedSection → Pulled

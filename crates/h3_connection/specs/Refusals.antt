@@ -71,18 +71,19 @@ wrong_length is_wrong = (is_wrong, refusal.Malformed malformation.ContentLength)
 abbrev pub of_list : Option Malformation → Option (List (ℕ × ℕ)) → List Field → List (Bool × Refusal)
 of_list broken settings fields = unless_malformed broken (too_large settings fields ∷ [])
 
--- A head, that goes out as these fields, comes first, and is one of the own side (RFC 9114, section 4.1).
-abbrev pub refusal_of_head : Sender → Option Malformation → Head → List Field → Option Refusal
-refusal_of_head s broken head fields = first_of (not_next s.stream s.stream.takes_head (wrong_side s.side head ∷ of_list broken s.settings fields))
+-- A head, that goes out as these fields, comes first, has a protocol that is taken, and is one of the own side (RFC 9114, section 4.1).
+abbrev pub refusal_of_head : Sender → Option Malformation → Option Malformation → Head → List Field → Option Refusal
+refusal_of_head s protocol broken head fields =
+    first_of (not_next s.stream s.stream.takes_head (unless_malformed protocol (wrong_side s.side head ∷ of_list broken s.settings fields)))
 
 -- A body comes behind a head, and before the trailer. A strict sender refuses more of it than the head says.
 abbrev pub refusal_of_body : SenderStream → Bool → Option Refusal
 refusal_of_body s is_too_much = first_of (not_next s s.takes_body (wrong_length is_too_much ∷ []))
 
--- A trailer comes behind a head, and once. A strict sender refuses one that is early.
-abbrev pub refusal_of_trailer : Sender → Option Malformation → Option Malformation → Head → List Field → Option Refusal
-refusal_of_trailer s early broken trailer fields =
-    first_of (not_next s.stream s.stream.takes_body (with_pseudo trailer ∷ unless_malformed early (of_list broken s.settings fields)))
+-- A trailer comes behind a head, and once. Its protocol is judged as that of a head, and it has none. A strict sender refuses one that is early.
+abbrev pub refusal_of_trailer : Sender → Option Malformation → Option Malformation → Option Malformation → Head → List Field → Option Refusal
+refusal_of_trailer s protocol early broken trailer fields =
+    first_of (not_next s.stream s.stream.takes_body (unless_malformed protocol (with_pseudo trailer ∷ unless_malformed early (of_list broken s.settings fields))))
 
 -- The end comes behind a head. A strict sender refuses it where less was sent than the head says.
 abbrev pub refusal_of_end : SenderStream → Bool → Option Refusal

@@ -19,7 +19,7 @@ use Rattle.h3_connection.specs.declared.event.Fault.TheVariants as fault
 use Rattle.h3_connection.specs.declared.event.StreamFault.TheVariants as stream_fault
 use Rattle.h3_connection.specs.Codes.{decompression_failed}
 use Rattle.h3_connection.specs.StreamSets.{Streams, stream_at, set_stream}
-use Rattle.h3_connection.specs.StrictSending.{broken_head, broken_trailer, early_trailer, passes_content}
+use Rattle.h3_connection.specs.StrictSending.{broken_head, broken_protocol, broken_trailer, early_trailer, passes_content}
 use Rattle.h3_connection.specs.Incoming.{Incoming, awaiting}
 use Rattle.h3_messages.specs.Content.{awaited_by, may_end}
 use Rattle.h3_messages.specs.Messages.{value_of}
@@ -69,7 +69,8 @@ sender_at e id = record { side = e.side; stream = seen_at e id; settings = e.pee
 
 abbrev pub head_refusal : EndpointHistory → ℕ → Head → Option Refusal
 head_refusal e id head =
-    unless_closed e (refusal_of_head (sender_at e id) (broken_head e.side e.announced e.peer.settings (head_fields head)) head (head_fields head))
+    unless_closed e
+    (refusal_of_head (sender_at e id) (broken_protocol e.announced head) (broken_head e.side e.announced e.peer.settings (head_fields head)) head (head_fields head))
 
 -- a body of so many bytes
 abbrev pub body_refusal : EndpointHistory → ℕ → ℕ → Option Refusal
@@ -77,7 +78,8 @@ body_refusal e id size = unless_closed e (refusal_of_body (seen_at e id) (passes
 
 abbrev pub trailer_refusal : EndpointHistory → ℕ → Head → Option Refusal
 trailer_refusal e id head =
-    unless_closed e (refusal_of_trailer (sender_at e id) (early_trailer (outgoing_at e id).content) (broken_trailer e.announced (head_fields head)) head (head_fields head))
+    unless_closed e
+    (refusal_of_trailer (sender_at e id) (broken_protocol e.announced head) (early_trailer (outgoing_at e id).content) (broken_trailer e.announced (head_fields head)) head (head_fields head))
 
 abbrev pub finish_refusal : EndpointHistory → ℕ → Option Refusal
 finish_refusal e id = unless_closed e (refusal_of_end (seen_at e id) (not (may_end (outgoing_at e id).content)))

@@ -3,7 +3,7 @@
 use Rattle.std.specs.Prelude.{◌≡◌, ℕ, true, List, None}
 use Rattle.h3_field.specs.Field.{Field}
 use Rattle.h3_header.specs.Head.{Head}
-use Rattle.h3_header.specs.HeadRead.{IsHead, head_of}
+use Rattle.h3_header.specs.HeadRead.{IsHead, head_by}
 use Rattle.h3_messages.specs.Messages.{violation_of_trailer}
 use Rattle.h3_proto.specs.declared.stream.Side.{Side}
 use Rattle.h3_qpack.specs.DecoderState.{DecoderState}
@@ -17,15 +17,15 @@ use Rattle.h3_connection.specs.declared.setup.Announced.{Announced}
 
 -- the list of a head of the other side
 abbrev pub IsWellFormedHead : Side → Announced → Head → Type 0
-IsWellFormedHead side own h = (fields : List Field) × (head_of fields ≡ IsHead h) × (violation_of_head side own fields ≡ None)
+IsWellFormedHead side own h = (fields : List Field) × (head_by own.choices.extensions.any_protocol fields ≡ IsHead h) × (violation_of_head side own fields ≡ None)
 
-abbrev pub IsWellFormedTrailer : Head → Type 0
-IsWellFormedTrailer h = (fields : List Field) × (head_of fields ≡ IsHead h) × (violation_of_trailer fields ≡ None)
+abbrev pub IsWellFormedTrailer : Announced → Head → Type 0
+IsWellFormedTrailer own h = (fields : List Field) × (head_by own.choices.extensions.any_protocol fields ≡ IsHead h) × (violation_of_trailer fields ≡ None)
 
 abbrev pub IsWellFormed : Side → Announced → Pull → Type 0
 IsWellFormed side own (pull.Item (item.Interim h)) = IsWellFormedHead side own h
 IsWellFormed side own (pull.Item (item.Head h)) = IsWellFormedHead side own h
-IsWellFormed side own (pull.Item (item.Trailer h)) = IsWellFormedTrailer h
+IsWellFormed side own (pull.Item (item.Trailer h)) = IsWellFormedTrailer own h
 IsWellFormed side own _ = Unit {0}
 
 abbrev pub PullsWellFormed : Type 0

@@ -2,6 +2,8 @@
 -- (RFC 9114, sections 4.1.2 and 4.2 to 4.5), and by the rules that bind a sender alone. One that asks for none sends any list.
 use Rattle.std.specs.Prelude.{ℕ, Bool, true, false, List, ◌∷◌, if◌then◌else◌, option_map, Option, Some, None}
 use Rattle.h3_field.specs.Field.{Field}
+use Rattle.h3_header.specs.Head.{Head}
+use Rattle.h3_header.specs.HeadTests.{takes_protocol}
 use Rattle.h3_messages.specs.Content.{is_exceeded, left_behind, may_end, takes_trailer}
 use Rattle.h3_messages.specs.declared.content.Content.{Content}
 use Rattle.h3_messages.specs.OwnMessages.{violation_of_own_request, violation_of_own_response, violation_of_own_trailer}
@@ -26,6 +28,10 @@ peer_connects (Some pairs) = is_enabled 8 pairs
 abbrev pub violation_of_own_head : Side → Option (List (ℕ × ℕ)) → List Field → Option Violation
 violation_of_own_head Client settings fields = violation_of_own_request (peer_connects settings) fields
 violation_of_own_head Server settings fields = violation_of_own_response fields
+
+-- The value of `:protocol` is one that the endpoint takes itself (RFC 8441, section 4): any token where it takes any, or one of the two names.
+abbrev pub broken_protocol : Announced → Head → Option Malformation
+broken_protocol own head = if takes_protocol own.choices.extensions.any_protocol head.protocol then None else Some malformation.Value
 
 abbrev pub broken_head : Side → Announced → Option (List (ℕ × ℕ)) → List Field → Option Malformation
 broken_head side own settings fields =

@@ -10,12 +10,13 @@ use Rattle.h3_world.specs.World.{World, party, Party}
 use Rattle.h3_proto.specs.declared.stream.Side.TheVariants.{Client}
 use Rattle.h3_world.specs.declared.event.Answer.{Answer}
 use Rattle.h3_world.specs.Ends.{Ends, end_at, with_end}
-use Rattle.std.specs.Prelude.{unwrap_or}
+use Rattle.std.specs.Prelude.{true, false, unwrap_or}
 use Rattle.h3_connection.specs.Incoming.{Incoming}
 use Rattle.h3_world.specs.Flow.{Flow, Section, Part, own_part}
 use Rattle.h3_connection.specs.Outgoing.{Outgoing, OwnPart, nothing_sent}
 use Rattle.h3_connection.specs.StreamSets.{set_stream}
 use Rattle.h3_header.specs.Head.{Head as Fields, head_fields}
+use Rattle.h3_header.specs.HeadTests.{takes_protocol}
 use Rattle.h3_header.specs.Reads.{head_of_fields}
 use Rattle.h3_header.specs.ReadsBack.{as_read}
 use Rattle.h3_qpack.specs.Encodings.{IsWrittenInstruction}
@@ -62,8 +63,10 @@ sending e id n o = record e { outgoing = set_stream e.outgoing id o; sent = n }
 abbrev pub seen_by : EndpointHistory → Side → ℕ → Bool
 seen_by e s n = is_critical_of (record e { side = s }) n (kind_of s n)
 
--- A section that may be sent: its fields are read as its head, and the instructions for it can be written.
+-- A section that may be sent: its protocol is one of the two names, its fields are read as its head, and the instructions for it can be
+-- written.
 pub record IsWritableHead (w : World) (side : Side) (id : ℕ) (head : Fields) : Type 0 where
+  pub named : takes_protocol false head.protocol ≡ true
   pub read_as : head_of_fields (head_fields head) ≡ as_read head
   pub instructions : AllByRecursion IsWrittenInstruction (own_instructions (party w side).encoder id (head_fields head))
 

@@ -27,7 +27,7 @@ use Rattle.h3_qpack.specs.Session.{Session, UndecodedSection, IsSound, is_cancel
 use Rattle.h3_qpack.specs.TableHistory.{IsReadAs}
 use Rattle.h3_qpack.specs.WholeInstructions.{whole_in, rest_in, decoder_instructions_in}
 use Rattle.h3_header.specs.Head as header
-use Rattle.h3_header.specs.HeadRead.{IsHead, head_of}
+use Rattle.h3_header.specs.HeadRead.{IsHead, head_by}
 use Rattle.h3_header.specs.Reads.{IsHeadOf}
 use Rattle.h3_connection.specs.Sections.{own_instructions}
 
@@ -55,9 +55,9 @@ pub record StreamLaws : Type 0 where
   pub values : (counts : Bool) (most announced limit other : ℕ) (events : List SessionEvent) (s : Session) (b : UndecodedSection) (r : DecoderState) → SessionRun (beginning counts most announced limit) events s → IsDecoderAt other s r →
       oldest b.stream s.sections ≡ Some b → is_canceled s b.stream ≡ false → IsWritten s b → decode_section r (encoded_section b.encoder b.fields) ≡ tried s b
 
--- the law of h3_header that a list that is read as a head is read as that head
+-- the law of h3_header that a list that is read as a head is read as that head, also where any protocol is taken
 abbrev pub ListsAreTheirValue : Type 0
-ListsAreTheirValue = (fields : List Field) (h : header.Head) → IsHeadOf fields h → head_of fields ≡ IsHead h
+ListsAreTheirValue = (any : Bool) (fields : List Field) (h : header.Head) → IsHeadOf false fields h → head_by any fields ≡ IsHead h
 
 pub record Laws : Type 0 where
   pub worlds : WorldLaws

@@ -23,7 +23,8 @@ use Rattle.h3_world.specs.Came.{settings_known}
 use Rattle.h3_world.specs.Setup.{announced_at, IsPlain}
 use Rattle.std.specs.Prelude.{option_map, not, ◌&&◌, is_some, ◌||◌}
 use Rattle.h3_connection.specs.StrictMessages.{malformation_by}
-use Rattle.h3_connection.specs.StrictSending.{broken_head, violation_of_own_head, broken_trailer, unless_malformed, early_trailer}
+use Rattle.h3_connection.specs.StrictSendingLaws.{no_broken_protocol}
+use Rattle.h3_connection.specs.StrictSending.{broken_head, broken_protocol, violation_of_own_head, broken_trailer, unless_malformed, early_trailer}
 use Rattle.h3_connection.specs.Sending as sender
 use Rattle.h3_connection.specs.declared.event.Malformation.{Malformation}
 use Rattle.h3_connection.specs.declared.setup.Announced.{Announced}
@@ -163,7 +164,9 @@ head_served setup w ends side id head plain h writable =
     let new = counted (part_appended (encoded e id fields) id (head_part head (written_section e.encoder id fields))) (fields_cost fields) in
     subst (λ n. Serves setup (ends_of.done ends side answer.Done (does (sender.head_refusal e id head) e n)) (served setup w (event.Head side id head))) (sym (unasked setup w side e new id fields plain b.here refl))
     (call_agrees setup w (sent_head w side id head) ends side answer.Done answer.Done (sender.head_refusal e id head) (head_refusal setup w side id head) new h
-    (refusal_agrees setup w side id e (λ o. (not (takes_head o), refusal.OutOfOrder) ∷ (not (is_for (other e.side) head), refusal.WrongSide) ∷ unless_malformed (broken_head e.side e.announced e.peer.settings fields) ((is_too_large e.peer.settings fields, size) ∷ [])) b.here
+    (refusal_agrees setup w side id e (λ o. (not (takes_head o), refusal.OutOfOrder) ∷ unless_malformed (broken_protocol e.announced head) ((not (is_for (other e.side) head), refusal.WrongSide) ∷ unless_malformed (broken_head e.side e.announced e.peer.settings fields) ((is_too_large e.peer.settings fields, size) ∷ []))) b.here
+    ∙ ap (λ p. first_of ((not (is_open w side id), refusal.NotOpen) ∷ (not (takes_head to), refusal.OutOfOrder) ∷ unless_malformed p ((not (is_for (other e.side) head), refusal.WrongSide) ∷ unless_malformed (broken_head e.side e.announced e.peer.settings fields) ((is_too_large e.peer.settings fields, size) ∷ []))))
+    (no_broken_protocol e.announced head writable.named)
     ∙ ap (λ m. first_of ((not (is_open w side id), refusal.NotOpen) ∷ (not (takes_head to), refusal.OutOfOrder) ∷ (not (is_for (other e.side) head), refusal.WrongSide) ∷ unless_malformed m ((is_too_large e.peer.settings fields, size) ∷ [])))
     (no_broken_head setup w side e fields plain b.here)
     ∙ ap (λ s. first_of ((not (is_open w side id), refusal.NotOpen) ∷ (not (takes_head to), refusal.OutOfOrder) ∷ (not (is_for (other s) head), refusal.WrongSide) ∷ (is_too_large e.peer.settings fields, size) ∷ [])) b.here.side_is
@@ -212,7 +215,9 @@ trailer_served setup w ends side id head plain h writable =
     let to = outgoing_of (flow w side id) in
     call_agrees setup w (sent_trailer w side id head) ends side answer.Done answer.Done (sender.trailer_refusal e id head) (trailer_refusal setup w side id head)
     (counted (part_appended (encoded e id fields) id (OwnTrailer (written_section e.encoder id fields))) (fields_cost fields)) h
-    (refusal_agrees setup w side id e (λ o. (not (takes_body o), refusal.OutOfOrder) ∷ (has_pseudo head, refusal.PseudoInTrailer) ∷ unless_malformed (early_trailer o.content) (unless_malformed (broken_trailer e.announced fields) ((is_too_large e.peer.settings fields, size) ∷ []))) b.here
+    (refusal_agrees setup w side id e (λ o. (not (takes_body o), refusal.OutOfOrder) ∷ unless_malformed (broken_protocol e.announced head) ((has_pseudo head, refusal.PseudoInTrailer) ∷ unless_malformed (early_trailer o.content) (unless_malformed (broken_trailer e.announced fields) ((is_too_large e.peer.settings fields, size) ∷ [])))) b.here
+    ∙ ap (λ p. first_of ((not (is_open w side id), refusal.NotOpen) ∷ (not (takes_body to), refusal.OutOfOrder) ∷ unless_malformed p ((has_pseudo head, refusal.PseudoInTrailer) ∷ unless_malformed (early_trailer to.content) (unless_malformed (broken_trailer e.announced fields) ((is_too_large e.peer.settings fields, size) ∷ [])))))
+    (no_broken_protocol e.announced head writable.named)
     ∙ ap (λ m. first_of ((not (is_open w side id), refusal.NotOpen) ∷ (not (takes_body to), refusal.OutOfOrder) ∷ (has_pseudo head, refusal.PseudoInTrailer) ∷ unless_malformed m ((is_too_large e.peer.settings fields, size) ∷ [])))
     (no_broken_trailer setup w side e fields plain b.here)
     ∙ ap (λ t. first_of ((not (is_open w side id), refusal.NotOpen) ∷ (not (takes_body to), refusal.OutOfOrder) ∷ (has_pseudo head, refusal.PseudoInTrailer) ∷ (t, size) ∷ [])) (too_large_agrees setup w side e fields b.here))

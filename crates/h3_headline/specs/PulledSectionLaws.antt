@@ -18,7 +18,7 @@ use Rattle.h3_connection.specs.declared.event.Pull.TheVariants as pull
 use Rattle.std.proofs.lemmas.Grind.{common_steps}
 use Rattle.h3_field.specs.Instruction.{DecoderInstruction}
 use Rattle.h3_qpack.specs.DecoderState.{DecoderState}
-use Rattle.h3_header.specs.HeadRead.{head_of}
+use Rattle.h3_header.specs.HeadRead.{head_by}
 use Rattle.h3_header.specs.Reads.{head_of_fields}
 use Rattle.h3_header.specs.ReadsBack.{ReadsBack}
 use Rattle.h3_proto.specs.declared.stream.Side.{Side}
@@ -90,13 +90,13 @@ module _ (lists : ListsAreTheirValue) (side : Side) (announced : Announced) (pla
 
   -- a list that reads back is judged by its head
   judged_is : (x : Incoming) (replies : List DecoderInstruction) (fields : List Field) → x.content ≡ Unsaid → ReadsBack fields
-      → judged side id (with_content side announced x fields) replies (if_whole x.content (broken_rule side announced x.place fields)) (head_of fields)
+      → judged side id (with_content side announced x fields) replies (if_whole x.content (broken_rule side announced x.place fields)) (head_by announced.choices.extensions.any_protocol fields)
       ≡ head_or_trailer side id x replies None x.place (head_of_fields fields)
   judged_is x replies fields unsaid back =
       ap (λ b. let y : Incoming = record x { content = if b then content_behind side x.place x.content fields else x.content; response = if b then response_behind side x.place x.response fields else x.response } in
-      judged side id y replies (if_whole x.content (broken_rule side announced x.place fields)) (head_of fields)) plain.0
-      ∙ ap (λ c. judged side id x replies (if_whole c (broken_rule side announced x.place fields)) (head_of fields)) unsaid
-      ∙ ap (λ b. judged side id x replies b (head_of fields)) (none_broken x.place fields) ∙ ap (judged side id x replies None) (lists fields (head_of_fields fields) (back.0, refl))
+      judged side id y replies (if_whole x.content (broken_rule side announced x.place fields)) (head_by announced.choices.extensions.any_protocol fields)) plain.0
+      ∙ ap (λ c. judged side id x replies (if_whole c (broken_rule side announced x.place fields)) (head_by announced.choices.extensions.any_protocol fields)) unsaid
+      ∙ ap (λ b. judged side id x replies b (head_by announced.choices.extensions.any_protocol fields)) (none_broken x.place fields) ∙ ap (judged side id x replies None) (lists announced.choices.extensions.any_protocol fields (head_of_fields fields) (back.0, refl))
 
   above : (a b : ℕ) → nat_lt a b ≡ true → a < b
   above a b e = grind (arith, common_steps, e)
@@ -127,13 +127,13 @@ module _ (lists : ListsAreTheirValue) (side : Side) (announced : Announced) (pla
       by_size : (b : Bool) → nat_lt (section_of announced) (told_size s.fields) ≡ b → IsReadAs side announced id r kind part s x replies
       by_size true e = record {
         item_is = item.TooLarge (told_size s.fields);
-        reads = ap (λ b. if b then too_large (past_large side announced x s.fields) else judged side id (with_content side announced x s.fields) replies (if_whole x.content (broken_rule side announced x.place s.fields)) (head_of s.fields)) e
+        reads = ap (λ b. if b then too_large (past_large side announced x s.fields) else judged side id (with_content side announced x s.fields) replies (if_whole x.content (broken_rule side announced x.place s.fields)) (head_by announced.choices.extensions.any_protocol s.fields)) e
             ∙ large_is ∙ ap (answer_at (item.TooLarge (told_size s.fields))) place;
         of_fields = large (told_size s.fields) (told_is s.fields small) (omega (arith, above _ _ e, told_is s.fields small));
       }
       by_size false e = record {
         item_is = kind (head_of_fields s.fields);
-        reads = ap (λ b. if b then too_large (past_large side announced x s.fields) else judged side id (with_content side announced x s.fields) replies (if_whole x.content (broken_rule side announced x.place s.fields)) (head_of s.fields)) e
+        reads = ap (λ b. if b then too_large (past_large side announced x s.fields) else judged side id (with_content side announced x s.fields) replies (if_whole x.content (broken_rule side announced x.place s.fields)) (head_by announced.choices.extensions.any_protocol s.fields)) e
             ∙ judged_is x replies s.fields unsaid back ∙ head;
         of_fields = whole (omega (arith, at_most _ _ e, told_is s.fields small));
       }

@@ -6,6 +6,7 @@ use Rattle.h3_world.specs.declared.setup.Setup.{Setup}
 use Rattle.h3_world.specs.Sound.{IsSoundWorld}
 use Rattle.h3_world.specs.World.{World, party}
 use Rattle.h3_header.specs.Head.{Head as Fields, head_fields}
+use Rattle.h3_header.specs.NamedProtocolLaws.{named_taken}
 use Rattle.h3_world.specs.Sendable.{IsSendableHead, IsSendable}
 use Rattle.h3_world.specs.declared.event.Event.TheVariants as event
 use Rattle.h3_world.specs.Ends.{Ends}
@@ -31,6 +32,7 @@ few_inserted laws setup w side sound =
 writable_head : (laws : Laws) (setup : Setup) (w : World) (side : Side) (id : ℕ) (head : Fields) → IsSoundWorld setup w → IsSendableHead head → IsWritableHead w side id head
 writable_head laws setup w side id head sound sendable =
     record {
+      named = named_taken head.protocol sendable.named;
       read_as = sendable.read_as;
       instructions = laws.written (party w side).encoder id (head_fields head) (few_inserted laws.streams setup w side sound) sendable.section.of_bytes sendable.section.small;
     }

@@ -6,7 +6,7 @@ use Rattle.h3_field.specs.Field.{Field}
 use Rattle.h3_field.specs.Instruction.{DecoderInstruction}
 use Rattle.h3_qpack.specs.DecoderState.{DecoderState}
 use Rattle.h3_header.specs.Head.{Head}
-use Rattle.h3_header.specs.HeadRead.{HeadRead, HeadRefusal, IsHead, IsNone, head_of, told}
+use Rattle.h3_header.specs.HeadRead.{HeadRead, HeadRefusal, IsHead, IsNone, head_by, told}
 use Rattle.h3_header.specs.Reads.{kind_of, with_field, RefusesAt, RefusesOne}
 use Rattle.h3_header.specs.declared.headers.error.HeaderError.{HeaderError}
 use Rattle.h3_header.specs.declared.headers.error.HeaderError.TheVariants as error
@@ -40,35 +40,35 @@ use Rattle.h3_incoming.specs.declared.outline.ListRead.TheVariants as read
 use Rattle.h3_connection.specs.Pulling.{Pulled, is_for, is_memory, malformation_of, malformed, next_place, head_or_trailer, judged, with_content, read_section, decoded, at_section}
 
 -- a refusal that tells no malformation is for want of memory
-memory_at : (at : FieldKind) (h : Head) (f : Field) (e : HeaderError) → RefusesAt at h f e → told e ≡ None → RefusesAt at h f error.OutOfMemory
-memory_at at h f (error.InvalidHeaderName _) why none = absurd (cc)
-memory_at at h f (error.InvalidHeaderValue _) why none = absurd (cc)
-memory_at at h f error.TooManyFields why none = absurd (cc)
-memory_at at h f error.InvalidRequest why none = absurd why
-memory_at at h f error.MissingMethod why none = absurd why
-memory_at at h f error.MissingStatus why none = absurd why
-memory_at at h f error.MissingAuthority why none = absurd why
-memory_at at h f error.ContradictedAuthority why none = absurd why
-memory_at at h f error.OutOfMemory why none = why
+memory_at : (any : Bool) (at : FieldKind) (h : Head) (f : Field) (e : HeaderError) → RefusesAt any at h f e → told e ≡ None → RefusesAt any at h f error.OutOfMemory
+memory_at any at h f (error.InvalidHeaderName _) why none = absurd (cc)
+memory_at any at h f (error.InvalidHeaderValue _) why none = absurd (cc)
+memory_at any at h f error.TooManyFields why none = absurd (cc)
+memory_at any at h f error.InvalidRequest why none = absurd why
+memory_at any at h f error.MissingMethod why none = absurd why
+memory_at any at h f error.MissingStatus why none = absurd why
+memory_at any at h f error.MissingAuthority why none = absurd why
+memory_at any at h f error.ContradictedAuthority why none = absurd why
+memory_at any at h f error.OutOfMemory why none = why
 
-pub wants_memory : (h : Head) (fields : List Field) (e : HeaderError) → RefusesOne h fields e → told e ≡ None → RefusesOne h fields error.OutOfMemory
+pub wants_memory : (any : Bool) (h : Head) (fields : List Field) (e : HeaderError) → RefusesOne any h fields e → told e ≡ None → RefusesOne any h fields error.OutOfMemory
 unfolding RefusesOne
-wants_memory h [] e why none = absurd why
-wants_memory h (f ∷ fields) e (inl here) none = inl (memory_at (kind_of f.name) h f e here none)
-wants_memory h (f ∷ fields) e (inr later) none = inr (later.0, wants_memory (with_field h f) fields e later.1 none)
+wants_memory any h [] e why none = absurd why
+wants_memory any h (f ∷ fields) e (inl here) none = inl (memory_at any (kind_of f.name) h f e here none)
+wants_memory any h (f ∷ fields) e (inr later) none = inr (later.0, wants_memory any (with_field h f) fields e later.1 none)
 
 -- a list is no head where its reading told so, or where it says so itself
-pub tells_none : (fields : List Field) (e : HeaderError) (why : HeadRefusal) → (told e ≡ Some why → head_of fields ≡ IsNone why) → Tells fields e why → head_of fields ≡ IsNone why
-tells_none fields e why law (inl here) = law here
-tells_none fields e why law (inr is) = is
+pub tells_none : (any : Bool) (fields : List Field) (e : HeaderError) (why : HeadRefusal) → (told e ≡ Some why → head_by any fields ≡ IsNone why) → Tells any fields e why → head_by any fields ≡ IsNone why
+tells_none any fields e why law (inl here) = law here
+tells_none any fields e why law (inr is) = is
 
 -- so it is told to be malformed
-pub refused_reads : (fields : List Field) (e : HeaderError) (why : HeadRefusal) (r : ListRead) → (told e ≡ Some why → head_of fields ≡ IsNone why) → Tells fields e why → r ≡ read.Malformed (malformation_of why)
-    → r ≡ list_read (head_of fields)
-refused_reads fields e why r law tells is = is ∙ ap list_read (sym (tells_none fields e why law tells))
+pub refused_reads : (any : Bool) (fields : List Field) (e : HeaderError) (why : HeadRefusal) (r : ListRead) → (told e ≡ Some why → head_by any fields ≡ IsNone why) → Tells any fields e why → r ≡ read.Malformed (malformation_of why)
+    → r ≡ list_read (head_by any fields)
+refused_reads any fields e why r law tells is = is ∙ ap list_read (sym (tells_none any fields e why law tells))
 
-pub refused_never : (fields : List Field) (e : HeaderError) (why : HeadRefusal) (h : Head) → (told e ≡ Some why → head_of fields ≡ IsNone why) → Tells fields e why → head_of fields ≡ IsHead h → ⊥
-refused_never fields e why h law tells is = let wrong : IsHead h ≡ IsNone why = sym is ∙ tells_none fields e why law tells in cc
+pub refused_never : (any : Bool) (fields : List Field) (e : HeaderError) (why : HeadRefusal) (h : Head) → (told e ≡ Some why → head_by any fields ≡ IsNone why) → Tells any fields e why → head_by any fields ≡ IsHead h → ⊥
+refused_never any fields e why h law tells is = let wrong : IsHead h ≡ IsNone why = sym is ∙ tells_none any fields e why law tells in cc
 
 -- a list has one head
 pub one_head : (r : HeadRead) (header h : Head) → r ≡ IsHead header → r ≡ IsHead h → header ≡ h
@@ -130,7 +130,7 @@ module _ (side : Side) (own : Announced) (id : ℕ) (r : DecoderState) where
       → read_section side own id r i replies fields ≡ large_as size i behind expected known replies
   read_large i replies fields place behind content expected known size large is at left told next says =
       let status = last_value (codes ":status") fields in
-      ap (λ b. if b then large_as (told_size fields) i (next_place side i.place fields) (large_content_at side own i.place i.content status) i.response replies else judged side id (with_content side own i fields) replies (if_whole i.content (broken_rule side own i.place fields)) (head_of fields)) (lt-ltb (section_of own) (told_size fields) large)
+      ap (λ b. if b then large_as (told_size fields) i (next_place side i.place fields) (large_content_at side own i.place i.content status) i.response replies else judged side id (with_content side own i fields) replies (if_whole i.content (broken_rule side own i.place fields)) (head_by own.choices.extensions.any_protocol fields)) (lt-ltb (section_of own) (told_size fields) large)
       ∙ ap (λ n. large_as n i (next_place side i.place fields) (large_content_at side own i.place i.content status) i.response replies) (sym is)
       ∙ ap (λ q. large_as size i (next_place side q fields) (large_content_at side own q i.content status) i.response replies) at
       ∙ ap (λ c. large_as size i (next_place side place fields) (large_content_at side own place c status) i.response replies) left
@@ -139,7 +139,7 @@ module _ (side : Side) (own : Announced) (id : ℕ) (r : DecoderState) where
 
   -- a section that is small enough, and a head
   pub read_head : (i : Incoming) (replies : List DecoderInstruction) (fields : List Field) (place : Place) (h : Head) → told_size fields ≤ section_of own
-      → head_of fields ≡ IsHead h → i.place ≡ place → read_section side own id r i replies fields ≡ head_or_trailer side id (with_content side own i fields) replies (if_whole i.content (broken_rule side own place fields)) place h
+      → head_by own.choices.extensions.any_protocol fields ≡ IsHead h → i.place ≡ place → read_section side own id r i replies fields ≡ head_or_trailer side id (with_content side own i fields) replies (if_whole i.content (broken_rule side own place fields)) place h
   read_head i replies fields place h few e at =
       rw (le-ltb (section_of own) (told_size fields) few)
       (ap (judged side id (with_content side own i fields) replies (if_whole i.content (broken_rule side own i.place fields))) e
@@ -147,7 +147,7 @@ module _ (side : Side) (own : Announced) (id : ℕ) (r : DecoderState) where
 
   -- and one that is no head
   pub read_none : (i : Incoming) (replies : List DecoderInstruction) (fields : List Field) (place : Place) (known response : Option Content) (m : Malformation) (why : HeadRefusal) → told_size fields ≤ section_of own
-      → head_of fields ≡ IsNone why → m ≡ malformation_of why → i.place ≡ place → i.response ≡ known → response ≡ response_at side own place known fields
+      → head_by own.choices.extensions.any_protocol fields ≡ IsNone why → m ≡ malformation_of why → i.place ≡ place → i.response ≡ known → response ≡ response_at side own place known fields
       → read_section side own id r i replies fields ≡ malformed id m (record i { response = response }) replies
   read_none i replies fields place known response m why few e is at told says =
       let kept : (with_content side own i fields).response ≡ response =

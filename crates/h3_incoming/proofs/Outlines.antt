@@ -8,7 +8,7 @@ use Rattle.http.specs.StatusCode.{IsCodeText, code_digits}
 use Rattle.h3_field.specs.Field.{Field}
 use Rattle.h3_header.specs.BadPart.{bad_part, bad_part_at, AreGood, IsHeadUnlessMany}
 use Rattle.h3_header.specs.Head.{Head, is_request, is_response, trailer_head}
-use Rattle.h3_header.specs.HeadRead.{HeadRead, IsHead, IsNone, head_of, is_name_at, is_value_at}
+use Rattle.h3_header.specs.HeadRead.{HeadRead, IsHead, IsNone, head_by, is_name_at, is_value_at}
 use Rattle.h3_header.specs.HeadTests.{is_code_text, number_of}
 use Rattle.h3_header.specs.Reads.{IsHeadOf, kind_of, with_kind, with_field}
 use Rattle.h3_header.specs.declared.headers.judge.BadPart.TheVariants as part
@@ -44,8 +44,8 @@ method_alone h is = by (is_some h.status) (is_some h.method) is
     by true method is = absurd (cc)
 
 -- the value of a field of which nothing is malformed may stand there
-pub value_is_good : (at : FieldKind) (f : Field) → bad_part_at false at f ≡ None → is_value_at false at f.value ≡ true
-value_is_good at f is = by (is_name_at at f.name) (is_value_at false at f.value) is
+pub value_is_good : (any : Bool) (at : FieldKind) (f : Field) → bad_part_at any at f ≡ None → is_value_at any at f.value ≡ true
+value_is_good any at f is = by (is_name_at at f.name) (is_value_at any at f.value) is
   where
     by : (name value : Bool) → (if not name then Some part.Name else (if not value then Some part.Value else None)) ≡ None → value ≡ true
     by true true is = refl
@@ -87,15 +87,15 @@ pub last_outline : (fields : List Field) (i : ℕ) (o start : Outline) → lengt
 last_outline fields i o start past before = sym (ap (fold outlined o) (drop_all i fields past)) ∙ before
 
 -- Of so few fields none is malformed, where the walk came to their end.
-pub all_good : (fields : List Field) (i : ℕ) → length fields ≤ i → length fields ≤ 24576 → All (λ f. bad_part false f ≡ None) (take i fields) → AreGood false fields
-all_good fields i past few good = subst (All (λ f. bad_part false f ≡ None)) (take_all i fields past ∙ sym (take_all 24576 fields few)) good
+pub all_good : (any : Bool) (fields : List Field) (i : ℕ) → length fields ≤ i → length fields ≤ 24576 → All (λ f. bad_part any f ≡ None) (take i fields) → AreGood any fields
+all_good any fields i past few good = subst (All (λ f. bad_part any f ≡ None)) (take_all i fields past ∙ sym (take_all 24576 fields few)) good
 
 -- So they read as a head, and this is its outline.
-pub short_head : (fields : List Field) → ((fs : List Field) (h : Head) → head_of fs ≡ IsHead h → IsHeadOf fs h) → length fields ≤ 24576 → IsHeadUnlessMany false fields
-    → read.Head (fold outlined empty_outline fields) ≡ list_read (head_of fields)
-short_head fields law few unless = by (head_of fields) refl
+pub short_head : (any : Bool) (fields : List Field) → ((fs : List Field) (h : Head) → head_by any fs ≡ IsHead h → IsHeadOf any fs h) → length fields ≤ 24576 → IsHeadUnlessMany any fields
+    → read.Head (fold outlined empty_outline fields) ≡ list_read (head_by any fields)
+short_head any fields law few unless = by (head_by any fields) refl
   where
-    by : (r : HeadRead) → head_of fields ≡ r → read.Head (fold outlined empty_outline fields) ≡ list_read r
+    by : (r : HeadRead) → head_by any fields ≡ r → read.Head (fold outlined empty_outline fields) ≡ list_read r
     by (IsHead h) is =
         ap read.Head (sym (outlines (trailer_head []) fields)) ∙ ap (λ k. read.Head (outline_of k)) (sym (law fields h is).1)
     by (IsNone why) is = absurd (omega (arith, few, unless why is))

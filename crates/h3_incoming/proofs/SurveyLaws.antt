@@ -57,8 +57,8 @@ pseudo_by o f =
     (λ g. or_true o.pseudo) (λ g. or_true o.pseudo) (λ g. or_true o.pseudo) (λ g. or_true o.pseudo) (λ g. or_true o.pseudo) (λ g. or_true o.pseudo)
     f.name (λ r g. no_more o.pseudo ∙ ap (λ b. o.pseudo || b) (sym (name_is_plain f.name g)))
 
-pseudo_more : (o : Outline) (f : Field) → bad_part false f ≡ None → (outlined o f).pseudo ≡ (o.pseudo || is_pseudo f)
-pseudo_more o f good = pseudo_by o f (name_is_good false (kind_of f.name) f good)
+pseudo_more : (any : Bool) (o : Outline) (f : Field) → bad_part any f ≡ None → (outlined o f).pseudo ≡ (o.pseudo || is_pseudo f)
+pseudo_more any o f good = pseudo_by o f (name_is_good any (kind_of f.name) f good)
 
 status_more : (o : Outline) (f : Field) → (outlined o f).status ≡ cond (has_name (codes ":status") f) (Some (status_number f.value)) o.status
 status_more o f =
@@ -66,11 +66,11 @@ status_more o f =
     refl refl refl refl refl refl
     f.name (λ r. ap (λ b. cond b (Some (status_number f.value)) o.status) (sym (no_status f.name r)))
 
-value_at : (f : Field) → bad_part false f ≡ None → has_name (codes ":status") f ≡ true → is_value_at false kind.Status f.value ≡ true
-value_at f good has =
-    by_kind (λ n at. is_value_at false at f.value ≡ true → bytes_eq n (codes ":status") ≡ true → is_value_at false kind.Status f.value ≡ true)
+value_at : (any : Bool) (f : Field) → bad_part any f ≡ None → has_name (codes ":status") f ≡ true → is_value_at any kind.Status f.value ≡ true
+value_at any f good has =
+    by_kind (λ n at. is_value_at any at f.value ≡ true → bytes_eq n (codes ":status") ≡ true → is_value_at any kind.Status f.value ≡ true)
     (λ v h. absurd (false≢true h)) (λ v h. absurd (false≢true h)) (λ v h. absurd (false≢true h)) (λ v h. absurd (false≢true h)) (λ v h. v) (λ v h. absurd (false≢true h))
-    f.name (λ r v h. absurd (false≢true (sym (no_status f.name r) ∙ h))) (value_is_good (kind_of f.name) f good) has
+    f.name (λ r v h. absurd (false≢true (sym (no_status f.name r) ∙ h))) (value_is_good any (kind_of f.name) f good) has
 
 -- all of them
 methods : (fields : List Field) (o : Outline) → (fold outlined o fields).method ≡ (o.method || holds (codes ":method") fields)
@@ -78,10 +78,10 @@ methods [] o = no_more o.method
 methods (f ∷ fields) o =
     methods fields (outlined o f) ∙ ap (λ b. b || holds (codes ":method") fields) (method_more o f) ∙ or_more o.method (has_name (codes ":method") f) (holds (codes ":method") fields)
 
-pseudos : (fields : List Field) (o : Outline) → All (λ f. bad_part false f ≡ None) fields → (fold outlined o fields).pseudo ≡ (o.pseudo || list_any is_pseudo fields)
-pseudos [] o good = no_more o.pseudo
-pseudos (f ∷ fields) o good =
-    pseudos fields (outlined o f) (All-tail (λ g. bad_part false g ≡ None) f fields good) ∙ ap (λ b. b || list_any is_pseudo fields) (pseudo_more o f (All-head (λ g. bad_part false g ≡ None) f fields good)) ∙ or_more o.pseudo (is_pseudo f) (list_any is_pseudo fields)
+pseudos : (any : Bool) (fields : List Field) (o : Outline) → All (λ f. bad_part any f ≡ None) fields → (fold outlined o fields).pseudo ≡ (o.pseudo || list_any is_pseudo fields)
+pseudos any [] o good = no_more o.pseudo
+pseudos any (f ∷ fields) o good =
+    pseudos any fields (outlined o f) (All-tail (λ g. bad_part any g ≡ None) f fields good) ∙ ap (λ b. b || list_any is_pseudo fields) (pseudo_more any o f (All-head (λ g. bad_part any g ≡ None) f fields good)) ∙ or_more o.pseudo (is_pseudo f) (list_any is_pseudo fields)
 
 -- a name that does not repeat
 one_more : (b : Bool) (n : ℕ) → nat_lt 0 (cond b 1 0 + n) ≡ (b || nat_lt 0 n)
@@ -139,28 +139,28 @@ drawn method pseudo status = record { method = method; pseudo = pseudo; status =
 outline_is : (o : Outline) (method pseudo : Bool) (status : Option ℕ) → method ≡ o.method → pseudo ≡ o.pseudo → status ≡ o.status → drawn method pseudo status ≡ o
 outline_is o method pseudo status m p s = ap (λ x. drawn x pseudo status) m ∙ ap (λ x. drawn o.method x status) p ∙ ap (drawn o.method o.pseudo) s
 
-few_good : (fields : List Field) → length fields ≤ 24576 → AreGood false fields → All (λ f. bad_part false f ≡ None) fields
-few_good fields few good = subst (All (λ f. bad_part false f ≡ None)) (take_all 24576 fields few) good
+few_good : (any : Bool) (fields : List Field) → length fields ≤ 24576 → AreGood any fields → All (λ f. bad_part any f ≡ None) fields
+few_good any fields few good = subst (All (λ f. bad_part any f ≡ None)) (take_all 24576 fields few) good
 
-pub surveyed : (fields : List Field) (method pseudo : Bool) (status : Option ℕ) → length fields ≤ 24576 → AreGood false fields → repeats (codes ":status") fields ≡ false
+pub surveyed : (any : Bool) (fields : List Field) (method pseudo : Bool) (status : Option ℕ) → length fields ≤ 24576 → AreGood any fields → repeats (codes ":status") fields ≡ false
     → method ≡ holds (codes ":method") fields → pseudo ≡ list_any is_pseudo fields → status ≡ first_status fields
     → drawn method pseudo status ≡ fold outlined empty_outline fields
-surveyed fields method pseudo status few good lone m p s =
+surveyed any fields method pseudo status few good lone m p s =
     outline_is (fold outlined empty_outline fields) method pseudo status
-    (m ∙ sym (methods fields empty_outline)) (p ∙ sym (pseudos fields empty_outline (few_good fields few good))) (s ∙ sym (statuses fields empty_outline lone))
+    (m ∙ sym (methods fields empty_outline)) (p ∙ sym (pseudos any fields empty_outline (few_good any fields few good))) (s ∙ sym (statuses fields empty_outline lone))
 
 -- the value of the first `:status` may stand there
-value_by : (b : Bool) (v w : List ℕ) (there : Bool) → (b ≡ true → is_value_at false kind.Status v ≡ true) → (there ≡ true → is_value_at false kind.Status w ≡ true) → (b || there) ≡ true → is_value_at false kind.Status (cond b v w) ≡ true
-value_by true v w there first rest h = first refl
-value_by false v w there first rest h = rest h
+value_by : (any : Bool) (b : Bool) (v w : List ℕ) (there : Bool) → (b ≡ true → is_value_at any kind.Status v ≡ true) → (there ≡ true → is_value_at any kind.Status w ≡ true) → (b || there) ≡ true → is_value_at any kind.Status (cond b v w) ≡ true
+value_by any true v w there first rest h = first refl
+value_by any false v w there first rest h = rest h
 
-status_value : (fields : List Field) → All (λ f. bad_part false f ≡ None) fields → holds (codes ":status") fields ≡ true → is_value_at false kind.Status (value_of (codes ":status") fields) ≡ true
-status_value [] good h = absurd (false≢true h)
-status_value (f ∷ fields) good h =
-    value_by (has_name (codes ":status") f) f.value (value_of (codes ":status") fields) (holds (codes ":status") fields) (value_at f (All-head (λ g. bad_part false g ≡ None) f fields good)) (status_value fields (All-tail (λ g. bad_part false g ≡ None) f fields good)) h
+status_value : (any : Bool) (fields : List Field) → All (λ f. bad_part any f ≡ None) fields → holds (codes ":status") fields ≡ true → is_value_at any kind.Status (value_of (codes ":status") fields) ≡ true
+status_value any [] good h = absurd (false≢true h)
+status_value any (f ∷ fields) good h =
+    value_by any (has_name (codes ":status") f) f.value (value_of (codes ":status") fields) (holds (codes ":status") fields) (value_at any f (All-head (λ g. bad_part any g ≡ None) f fields good)) (status_value any fields (All-tail (λ g. bad_part any g ≡ None) f fields good)) h
 
-pub status_is_value : (fields : List Field) (text : List ℕ) → length fields ≤ 24576 → AreGood false fields → holds (codes ":status") fields ≡ true → text ≡ value_of (codes ":status") fields → is_value_at false kind.Status text ≡ true
-status_is_value fields text few good h is = ap (is_value_at false kind.Status) is ∙ status_value fields (few_good fields few good) h
+pub status_is_value : (any : Bool) (fields : List Field) (text : List ℕ) → length fields ≤ 24576 → AreGood any fields → holds (codes ":status") fields ≡ true → text ≡ value_of (codes ":status") fields → is_value_at any kind.Status text ≡ true
+status_is_value any fields text few good h is = ap (is_value_at any kind.Status) is ∙ status_value any fields (few_good any fields few good) h
 
 pub status_there : (fields : List Field) (text : List ℕ) → holds (codes ":status") fields ≡ true → text ≡ value_of (codes ":status") fields → Some (status_number text) ≡ first_status fields
 status_there fields text h is =

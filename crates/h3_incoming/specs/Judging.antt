@@ -1,8 +1,8 @@
 -- What a decoded field section is at its place.
-use Rattle.std.specs.Prelude.{◌≡◌, ◌⊎◌, ℕ, false, List, Option, Some, IfSome}
+use Rattle.std.specs.Prelude.{◌≡◌, ◌⊎◌, ℕ, Bool, false, List, Option, Some, IfSome}
 use Rattle.h3_field.specs.Field.{Field}
 use Rattle.h3_field.specs.Instruction.{DecoderInstruction}
-use Rattle.h3_header.specs.HeadRead.{HeadRefusal, IsNone, head_of, told}
+use Rattle.h3_header.specs.HeadRead.{HeadRefusal, IsNone, head_by, told}
 use Rattle.h3_header.specs.declared.headers.error.HeaderError.{HeaderError}
 use Rattle.h3_connection.specs.Incoming.{Incoming}
 use Rattle.h3_connection.specs.Pulling.{Pulled, is_memory, malformed}
@@ -27,5 +27,5 @@ HasList (judged.HandsOut place expected known) listed fields = IfSome listed (λ
 HasList (judged.Malformed why known) listed fields = Unit {0}
 
 -- The list is no head for this, as its reading told, or as the list says itself.
-abbrev pub Tells : List Field → HeaderError → HeadRefusal → Type 0
-Tells fields error why = (told error ≡ Some why) ⊎ (head_of fields ≡ IsNone why)
+abbrev pub Tells : Bool → List Field → HeaderError → HeadRefusal → Type 0
+Tells any fields error why = (told error ≡ Some why) ⊎ (head_by any fields ≡ IsNone why)

@@ -5,7 +5,7 @@ ghost use Rattle.std.specs.Prelude.{◌≡◌, Option, None, List, IfOk, IfSome,
 ghost use Rattle.h3_field.specs.Field.{Field};
 ghost use Rattle.h3_header.specs.BadPart.{IsHeadUnlessMany};
 ghost use Rattle.h3_header.specs.Head.{Head, trailer_head};
-ghost use Rattle.h3_header.specs.HeadRead.{IsHead, head_of};
+ghost use Rattle.h3_header.specs.HeadRead.{IsHead, head_by};
 ghost use Rattle.h3_header.specs.Reads.{RefusesOne};
 ghost use Rattle.h3_header.specs.declared.headers.error.HeaderError.TheVariants as error;
 ghost use Rattle.h3_connection.specs.declared.event.Item.TheVariants as item;
@@ -66,8 +66,8 @@ pub trait Answer: Drop {
     // The list of a header or trailer section that is kept as one.
     ghost listed: { Self → Option (List Field) };
 
-    // The lists for which such an answer asks for memory.
-    ghost asks: { List Field → Type 0 };
+    // The lists for which such an answer asks for memory, by whether any protocol is taken or the two names alone.
+    ghost asks: { Bool → List Field → Type 0 };
 
     /// An answer with no header or trailer section takes the place of what was there.
     fn give(&mut self, answer: Plain)
@@ -77,21 +77,22 @@ pub trait Answer: Drop {
     /// Returns what a decoded list is, and writes the header or trailer section that it is at this place, for this side. Of a malformed
     /// list it only returns why it is malformed. An `Err` says that an allocation failed: only for a list for which such an answer asks for
     /// memory. It is returned for no malformed list, unless that has more fields than a map has names for. An answer that keeps lists
-    /// learns what the list is, if that is known.
+    /// learns what the list is, if that is known. The value of `:protocol` may be any short token, or one of the two names alone.
     fn give_message(
         &mut self,
         alloc: Global,
         side: Side,
         place: Place,
+        any_protocol: bool,
         known: Option<ListRead>,
         fields: FieldBlock,
     ) -> Result<ListRead, AllocError>
-        requires { IfSome known (λ r. r ≡ list_read (head_of fields)) }
-        ensures read { IfOk result (λ r. r ≡ list_read (head_of fields)) }
-        ensures head { OnOk result ((h : Head) → head_of fields ≡ IsHead h → told self.new ≡ pull.Item (message_at side place h)) }
-        ensures list { OnOk result ((h : Head) → head_of fields ≡ IsHead h → IfSome (listed self.new) (λ l. l ≡ fields)) }
-        ensures memory { OnErr result (asks fields) }
-        ensures good { OnErr result (IsHeadUnlessMany false fields) };
+        requires { IfSome known (λ r. r ≡ list_read (head_by any_protocol fields)) }
+        ensures read { IfOk result (λ r. r ≡ list_read (head_by any_protocol fields)) }
+        ensures head { OnOk result ((h : Head) → head_by any_protocol fields ≡ IsHead h → told self.new ≡ pull.Item (message_at side place h)) }
+        ensures list { OnOk result ((h : Head) → head_by any_protocol fields ≡ IsHead h → IfSome (listed self.new) (λ l. l ≡ fields)) }
+        ensures memory { OnErr result (asks any_protocol fields) }
+        ensures good { OnErr result (IsHeadUnlessMany any_protocol fields) };
 
     /// Whether header and trailer sections are kept as their lists, of which no `Header` is made.
     fn keeps_lists() -> bool;
@@ -223,22 +224,23 @@ fn give_header(
     alloc: Global,
     side: Side,
     place: Place,
+    any_protocol: bool,
     fields: &Fields<'_>,
 ) -> Result<ListRead, AllocError>
-    ensures read { IfOk result (λ r. r ≡ list_read (head_of fields.now)) }
-    ensures head { OnOk result ((h : Head) → head_of fields.now ≡ IsHead h → out.new ≡ pull.Item (message_at side place h)) }
-    ensures memory { OnErr result (RefusesOne (trailer_head []) fields.now HeaderError.OutOfMemory) }
-    ensures good { OnErr result (IsHeadUnlessMany false fields.now) }
+    ensures read { IfOk result (λ r. r ≡ list_read (head_by any_protocol fields.now)) }
+    ensures head { OnOk result ((h : Head) → head_by any_protocol fields.now ≡ IsHead h → out.new ≡ pull.Item (message_at side place h)) }
+    ensures memory { OnErr result (RefusesOne any_protocol (trailer_head []) fields.now HeaderError.OutOfMemory) }
+    ensures good { OnErr result (IsHeadUnlessMany any_protocol fields.now) }
 {
     h3_header::laws::lists_are_their_value();
-    match Header::of_fields(alloc, fields) {
+    match Header::of_fields(alloc, fields, any_protocol) {
         Ok(header) => {
             let outline = Outline::of(&header);
             let kind = kind_at(side, place, &outline);
             put(out, Pull::Item(item_of(kind, header)));
             Ok(ListRead::Head(outline))
         }
-        Err(e) => read_refused(fields, &e),
+        Err(e) => read_refused(fields, any_protocol, &e),
     }
 }
 
@@ -247,7 +249,7 @@ impl Answer for Pull {
 
     ghost listed = { λ p. None };
 
-    ghost asks = { λ fields. RefusesOne (trailer_head []) fields error.OutOfMemory };
+    ghost asks = { λ any fields. RefusesOne any (trailer_head []) fields error.OutOfMemory };
 
     fn give(&mut self, answer: Plain) {
         put(self, pull_of_plain(answer));
@@ -258,10 +260,11 @@ impl Answer for Pull {
         alloc: Global,
         side: Side,
         place: Place,
+        any_protocol: bool,
         _known: Option<ListRead>,
         fields: FieldBlock,
     ) -> Result<ListRead, AllocError> {
-        give_header(self, alloc, side, place, &fields.fields())
+        give_header(self, alloc, side, place, any_protocol, &fields.fields())
     }
 
     fn keeps_lists() -> bool {

@@ -109,7 +109,7 @@ impl Answer for BlockPull {
 
     ghost listed = { list_of };
 
-    ghost asks = { λ fields. 24576 < length fields };
+    ghost asks = { λ any fields. 24576 < length fields };
 
     fn give(&mut self, answer: Plain) {
         self.told = Told::Plain(answer);
@@ -120,11 +120,12 @@ impl Answer for BlockPull {
         alloc: Global,
         side: Side,
         place: Place,
+        any_protocol: bool,
         known: Option<ListRead>,
         fields: FieldBlock,
     ) -> Result<ListRead, AllocError> {
         h3_header::laws::lists_are_their_value();
-        match read_unless(known, alloc, &fields.fields()) {
+        match read_unless(known, alloc, &fields.fields(), any_protocol) {
             Ok(ListRead::Head(outline)) => {
                 let kind = kind_at(side, place, &outline);
                 self.hold(kind, outline.status(), fields);

@@ -2,7 +2,7 @@
 ghost use Rattle.std.specs.Prelude.{◌≡◌, ◌<◌, false, length, IfOk, IfSome, OnOk, OnErr, None};
 ghost use Rattle.h3_header.specs.BadPart.{IsHeadUnlessMany};
 ghost use Rattle.h3_header.specs.Head.{Head};
-ghost use Rattle.h3_header.specs.HeadRead.{IsHead, head_of};
+ghost use Rattle.h3_header.specs.HeadRead.{IsHead, head_by};
 ghost use Rattle.h3_header.specs.Reads.{head_of_fields};
 ghost use Rattle.h3_connection.specs.declared.event.Pull.TheVariants as pull;
 ghost use Rattle.h3_incoming.specs.Answering.{message_at, plain_pull};
@@ -108,7 +108,7 @@ impl Answer for FieldsPull {
 
     ghost listed = { list_of };
 
-    ghost asks = { λ fields. 0 < length fields };
+    ghost asks = { λ any fields. 0 < length fields };
 
     fn give(&mut self, answer: Plain) {
         put(self, of_plain(answer));
@@ -119,10 +119,11 @@ impl Answer for FieldsPull {
         alloc: Global,
         side: Side,
         place: Place,
+        any_protocol: bool,
         known: Option<ListRead>,
         fields: FieldBlock,
     ) -> Result<ListRead, AllocError> {
-        give_fields(self, alloc, side, place, known, &fields)
+        give_fields(self, alloc, side, place, any_protocol, known, &fields)
     }
 
     fn keeps_lists() -> bool {
@@ -167,18 +168,19 @@ fn give_fields(
     alloc: Global,
     side: Side,
     place: Place,
+    any_protocol: bool,
     known: Option<ListRead>,
     fields: &FieldBlock,
 ) -> Result<ListRead, AllocError>
-    requires { IfSome known (λ r. r ≡ list_read (head_of fields.now)) }
-    ensures read { IfOk result (λ r. r ≡ list_read (head_of fields.now)) }
-    ensures head { OnOk result ((h : Head) → head_of fields.now ≡ IsHead h → pull_of out.new ≡ pull.Item (message_at side place h)) }
-    ensures list { OnOk result ((h : Head) → head_of fields.now ≡ IsHead h → IfSome (list_of out.new) (λ l. l ≡ fields.now)) }
+    requires { IfSome known (λ r. r ≡ list_read (head_by any_protocol fields.now)) }
+    ensures read { IfOk result (λ r. r ≡ list_read (head_by any_protocol fields.now)) }
+    ensures head { OnOk result ((h : Head) → head_by any_protocol fields.now ≡ IsHead h → pull_of out.new ≡ pull.Item (message_at side place h)) }
+    ensures list { OnOk result ((h : Head) → head_by any_protocol fields.now ≡ IsHead h → IfSome (list_of out.new) (λ l. l ≡ fields.now)) }
     ensures memory { OnErr result (0 < length fields.now) }
-    ensures good { OnErr result (IsHeadUnlessMany false fields.now) }
+    ensures good { OnErr result (IsHeadUnlessMany any_protocol fields.now) }
 {
     h3_header::laws::lists_are_their_value();
-    match read_unless(known, alloc, &fields.fields()) {
+    match read_unless(known, alloc, &fields.fields(), any_protocol) {
         Ok(ListRead::Head(outline)) => {
             let kind = kind_at(side, place, &outline);
             give_copies(out, alloc, kind, outline, fields)

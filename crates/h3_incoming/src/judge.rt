@@ -112,9 +112,10 @@ fn judge_fields<O: Answer>(
         → told_size fields ≤ section_of announced.now → i.place ≡ place → i.content ≡ content → i.response ≡ known → read_section side announced.now id r i replies fields ≡ judged_as id i replies (O.told out.new) j) }
     ensures item { IfOk result (λ j. HasItem j (O.told out.new)) }
     ensures list { IfOk result (λ j. HasList j (O.listed out.new) fields) }
-    ensures memory { OnErr result (O.asks fields) }
-    ensures good { OnErr result (IsHeadUnlessMany false fields) }
+    ensures memory { OnErr result (O.asks announced.now.choices.extensions.any_protocol fields) }
+    ensures good { OnErr result (IsHeadUnlessMany announced.now.choices.extensions.any_protocol fields) }
 {
+    let any_protocol = announced.choices.extensions.any_protocol;
     let keeps_lists = O::keeps_lists();
     let read = read_at(
         keeps_lists,
@@ -127,7 +128,7 @@ fn judge_fields<O: Answer>(
     );
     let strict = read.strict;
     let broken = if_whole(content, strict.broken);
-    match out.give_message(alloc, side, place, read.list, fields) {
+    match out.give_message(alloc, side, place, any_protocol, read.list, fields) {
         Ok(ListRead::Head(outline)) => Ok(judge_message(
             side,
             place,

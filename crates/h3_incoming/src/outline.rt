@@ -3,7 +3,7 @@ ghost use Rattle.std.specs.Prelude.{◌≡◌, ◌≤◌, ◌<◌, false, [], Al
 ghost use Rattle.h3_header.specs.BadPart.{bad_part, refusal_of, AreGood};
 ghost use Rattle.h3_header.specs.Head.{trailer_head};
 ghost use Rattle.h3_header.specs.BadPart.{IsHeadUnlessMany};
-ghost use Rattle.h3_header.specs.HeadRead.{HeadRefusal, head_of, is_value_at, told};
+ghost use Rattle.h3_header.specs.HeadRead.{HeadRefusal, head_by, is_value_at, told};
 ghost use Rattle.h3_header.specs.Reads.{kind_of, status_number, RefusesOne};
 ghost use Rattle.h3_header.specs.declared.headers.kind.FieldKind.TheVariants as kind;
 ghost use Rattle.h3_connection.specs.Pulling.{malformation_of};
@@ -132,16 +132,20 @@ impl Outline {
 }
 
 /// What a list of fields reads as, its header aside. It takes memory only for a list of more than 24,576 fields, whose names a map has to
-/// tell apart.
-pub fn read_list(alloc: Global, fields: &Fields<'_>) -> Result<ListRead, AllocError>
-    ensures ok { IfOk result (λ read. read ≡ list_read (head_of fields.now)) }
+/// tell apart. The value of `:protocol` may be any short token, or one of the two names alone.
+pub fn read_list(
+    alloc: Global,
+    fields: &Fields<'_>,
+    any_protocol: bool,
+) -> Result<ListRead, AllocError>
+    ensures ok { IfOk result (λ read. read ≡ list_read (head_by any_protocol fields.now)) }
     ensures err { OnErr result (24576 < length fields.now) }
-    ensures memory { OnErr result (RefusesOne (trailer_head []) fields.now HeaderError.OutOfMemory) }
+    ensures memory { OnErr result (RefusesOne any_protocol (trailer_head []) fields.now HeaderError.OutOfMemory) }
 {
     if fields.len() > MOST_NAMES {
-        return read_long(alloc, fields);
+        return read_long(alloc, fields, any_protocol);
     }
-    Ok(read_short(fields))
+    Ok(read_short(fields, any_protocol))
 }
 
 /// The same, but it may be known already.
@@ -150,29 +154,30 @@ pub(crate) fn read_unless(
     known: Option<ListRead>,
     alloc: Global,
     fields: &Fields<'_>,
+    any_protocol: bool,
 ) -> Result<ListRead, AllocError>
-    requires { IfSome known (λ r. r ≡ list_read (head_of fields.now)) }
-    ensures ok { IfOk result (λ read. read ≡ list_read (head_of fields.now)) }
+    requires { IfSome known (λ r. r ≡ list_read (head_by any_protocol fields.now)) }
+    ensures ok { IfOk result (λ read. read ≡ list_read (head_by any_protocol fields.now)) }
     ensures err { OnErr result (24576 < length fields.now) }
-    ensures memory { OnErr result (RefusesOne (trailer_head []) fields.now HeaderError.OutOfMemory) }
+    ensures memory { OnErr result (RefusesOne any_protocol (trailer_head []) fields.now HeaderError.OutOfMemory) }
 {
     match known {
         Some(read) => Ok(read),
-        None => read_list(alloc, fields),
+        None => read_list(alloc, fields, any_protocol),
     }
 }
 
 // One of so few fields that a map has room for all their names.
-fn read_short(fields: &Fields<'_>) -> ListRead
+fn read_short(fields: &Fields<'_>, any_protocol: bool) -> ListRead
     requires { length fields.now ≤ 24576 }
-    ensures { result ≡ list_read (head_of fields.now) }
+    ensures { result ≡ list_read (head_by any_protocol fields.now) }
 {
     h3_header::laws::lists_are_their_value();
     h3_header::laws::fields_are_judged_alone();
     let mut outline = Outline::empty();
     'fields: for place in 0..fields.len() {
         let field = fields.get(place);
-        match field_kind(&field, false) {
+        match field_kind(&field, any_protocol) {
             Ok(kind) => outline = outline.with(kind, &field),
             Err(part) => return ListRead::Malformed(malformation_by(part)),
         }
@@ -183,10 +188,10 @@ fn read_short(fields: &Fields<'_>) -> ListRead
 /// The same, by the walk that the rules of strict messages ask for, if nothing is malformed of any field. The walk keeps the first
 /// `:status`, and the last one counts here: if there are two, the answer is `None`.
 #[inline(always)]
-pub fn read_survey(survey: &Survey<'_>) -> Option<ListRead>
+pub fn read_survey(survey: &Survey<'_>, any_protocol: bool) -> Option<ListRead>
     requires few { length survey.now.fields.now ≤ 24576 }
-    requires good { AreGood false survey.now.fields.now }
-    ensures { IfSome result (λ read. read ≡ list_read (head_of survey.now.fields.now)) }
+    requires good { AreGood any_protocol survey.now.fields.now }
+    ensures { IfSome result (λ read. read ≡ list_read (head_by any_protocol survey.now.fields.now)) }
 {
     h3_header::laws::lists_are_their_value();
     h3_header::laws::fields_are_judged_alone();
@@ -196,16 +201,16 @@ pub fn read_survey(survey: &Survey<'_>) -> Option<ListRead>
     let outline = Outline {
         method: survey.has_method(),
         pseudo: survey.has_pseudo(),
-        status: first_status(survey),
+        status: first_status(survey, any_protocol),
     };
     Some(ListRead::Head(outline))
 }
 
 // The status that the first `:status` tells.
 #[inline(always)]
-fn first_status(survey: &Survey<'_>) -> Option<StatusCode>
+fn first_status(survey: &Survey<'_>, any_protocol: bool) -> Option<StatusCode>
     requires few { length survey.now.fields.now ≤ 24576 }
-    requires good { AreGood false survey.now.fields.now }
+    requires good { AreGood any_protocol survey.now.fields.now }
     ensures { result ≡ first_status survey.now.fields.now }
 {
     match survey.status() {
@@ -215,12 +220,12 @@ fn first_status(survey: &Survey<'_>) -> Option<StatusCode>
 }
 
 // Any list, by the header that is made of it.
-fn read_long(alloc: Global, fields: &Fields<'_>) -> Result<ListRead, AllocError>
-    ensures ok { IfOk result (λ read. read ≡ list_read (head_of fields.now)) }
-    ensures memory { OnErr result (RefusesOne (trailer_head []) fields.now HeaderError.OutOfMemory) }
+fn read_long(alloc: Global, fields: &Fields<'_>, any_protocol: bool) -> Result<ListRead, AllocError>
+    ensures ok { IfOk result (λ read. read ≡ list_read (head_by any_protocol fields.now)) }
+    ensures memory { OnErr result (RefusesOne any_protocol (trailer_head []) fields.now HeaderError.OutOfMemory) }
 {
     h3_header::laws::lists_are_their_value();
-    match Header::of_fields(alloc, fields) {
+    match Header::of_fields(alloc, fields, any_protocol) {
         Ok(header) => {
             let outline = Outline::of(&header);
             drop(header);
@@ -267,15 +272,19 @@ pub fn malformation_by(part: BadPart) -> Malformation
 
 /// What a list is of which no `Header` was made. An `Err` says that an allocation failed: only if `error` names no malformation. It is
 /// returned for no malformed list, which is judged without memory, unless that has more fields than a map has names for.
-pub(crate) fn read_refused(fields: &Fields<'_>, error: &HeaderError) -> Result<ListRead, AllocError>
-    ensures ok { IfOk result (λ r. (why : HeadRefusal) × Tells fields.now error.now why × (r ≡ read.Malformed (malformation_of why))) }
+pub(crate) fn read_refused(
+    fields: &Fields<'_>,
+    any_protocol: bool,
+    error: &HeaderError,
+) -> Result<ListRead, AllocError>
+    ensures ok { IfOk result (λ r. (why : HeadRefusal) × Tells any_protocol fields.now error.now why × (r ≡ read.Malformed (malformation_of why))) }
     ensures memory { OnErr result (told error.now ≡ None) }
-    ensures good { OnErr result (IsHeadUnlessMany false fields.now) }
+    ensures good { OnErr result (IsHeadUnlessMany any_protocol fields.now) }
 {
     if let Some(why) = malformation(error) {
         return Ok(ListRead::Malformed(why));
     }
-    match first_bad_part(fields, false) {
+    match first_bad_part(fields, any_protocol) {
         Some(part) => Ok(ListRead::Malformed(malformation_by(part))),
         None => Err(AllocError),
     }

@@ -1,7 +1,7 @@
 //! Which rule of well-formed messages a field list breaks, and how much content follows it, if the endpoint asks for these rules (RFC 9114,
 //! sections 4.1.2 and 4.2 to 4.5).
 ghost use Rattle.std.specs.Prelude.{◌≡◌, ◌≤◌, option_map, length, true, IfSome};
-ghost use Rattle.h3_header.specs.HeadRead.{head_of};
+ghost use Rattle.h3_header.specs.HeadRead.{head_by};
 ghost use Rattle.h3_connection.specs.StrictMessages.{broken_rule, malformation_by, violation_at, violation_of_head, content_of_head, content_behind, content_behind_large, content_at, large_content_at, response_of_head, response_behind, response_at, if_whole};
 ghost use Rattle.h3_incoming.specs.Outline.{list_read};
 
@@ -46,7 +46,7 @@ pub(crate) fn read_at(
     known: Option<Content>,
     fields: &Fields<'_>,
 ) -> OneRead
-    ensures list { IfSome result.list (λ r. r ≡ list_read (head_of fields.now)) }
+    ensures list { IfSome result.list (λ r. r ≡ list_read (head_by announced.now.choices.extensions.any_protocol fields.now)) }
     ensures broken { result.strict.broken ≡ broken_rule side announced.now place fields.now }
     ensures content { result.strict.content ≡ content_at side announced.now place content fields.now }
     ensures response { result.strict.response ≡ response_at side announced.now place known fields.now }
@@ -71,17 +71,18 @@ fn read_once(
 ) -> OneRead
     requires strict { announced.now.choices.strict_messages ≡ true }
     requires few { length fields.now ≤ 24576 }
-    ensures list { IfSome result.list (λ r. r ≡ list_read (head_of fields.now)) }
+    ensures list { IfSome result.list (λ r. r ≡ list_read (head_by announced.now.choices.extensions.any_protocol fields.now)) }
     ensures broken { result.strict.broken ≡ broken_rule side announced.now place fields.now }
     ensures content { result.strict.content ≡ content_at side announced.now place content fields.now }
     ensures response { result.strict.response ≡ response_at side announced.now place known fields.now }
 {
+    let any_protocol = announced.choices.extensions.any_protocol;
     let mut seen = Seen::new();
-    match seen.take_good(fields, false) {
+    match seen.take_good(fields, any_protocol) {
         Ok(()) => {
             let survey = Survey::of(fields, &seen);
             OneRead {
-                list: read_survey(&survey),
+                list: read_survey(&survey, any_protocol),
                 strict: survey_at(side, announced, place, content, known, &survey),
             }
         }

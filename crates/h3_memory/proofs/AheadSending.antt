@@ -15,7 +15,7 @@ use Rattle.h3_connection.specs.Sections.{written_section}
 use Rattle.h3_connection.specs.Refusals.{first_of, is_too_large}
 use Rattle.h3_connection.specs.Sending.{does, closed_or, head_refusal, trailer_refusal, finish_refusal, goaway_refusal, with_outgoing, outgoing_at, counted, encoded, appended, fields_cost, head_part, asked, send_head, send_trailer, finish, goaway}
 use Rattle.h3_connection.specs.StreamSets.{Streams, stream_at, set_stream}
-use Rattle.h3_connection.specs.StrictSending.{broken_head, broken_trailer, early_trailer, unless_malformed}
+use Rattle.h3_connection.specs.StrictSending.{broken_head, broken_protocol, broken_trailer, early_trailer, unless_malformed}
 use Rattle.h3_messages.specs.Content.{may_end}
 use Rattle.h3_connection.specs.declared.event.Malformation.TheVariants as malformation
 use Rattle.h3_connection.specs.declared.event.Refusal.{Refusal}
@@ -100,8 +100,10 @@ module _ (mine : List Delivery) (held : Held) (incoming : Streams Incoming) (kep
 
       rules : Outgoing → List (Bool × Refusal)
       rules o =
-          (not (takes_head o), refusal.OutOfOrder) ∷ (not (is_for (other behind.side) head), refusal.WrongSide)
-          ∷ unless_malformed (broken_head behind.side behind.announced behind.peer.settings fields) ((is_too_large behind.peer.settings fields, refusal.TooLarge (section_size fields)) ∷ [])
+          (not (takes_head o), refusal.OutOfOrder)
+          ∷ unless_malformed (broken_protocol behind.announced head)
+          ((not (is_for (other behind.side) head), refusal.WrongSide)
+          ∷ unless_malformed (broken_head behind.side behind.announced behind.peer.settings fields) ((is_too_large behind.peer.settings fields, refusal.TooLarge (section_size fields)) ∷ []))
 
   -- **A trailer.**
   pub trailer_ahead : (id : ℕ) (head : Head) → send_trailer (ahead behind mine held incoming kept) id head ≡ lifted (send_trailer behind id head)
@@ -116,8 +118,10 @@ module _ (mine : List Delivery) (held : Held) (incoming : Streams Incoming) (kep
 
       rules : Outgoing → List (Bool × Refusal)
       rules o =
-          (not (takes_body o), refusal.OutOfOrder) ∷ (has_pseudo head, refusal.PseudoInTrailer)
-          ∷ unless_malformed (early_trailer o.content) (unless_malformed (broken_trailer behind.announced fields) ((is_too_large behind.peer.settings fields, refusal.TooLarge (section_size fields)) ∷ []))
+          (not (takes_body o), refusal.OutOfOrder)
+          ∷ unless_malformed (broken_protocol behind.announced head)
+          ((has_pseudo head, refusal.PseudoInTrailer)
+          ∷ unless_malformed (early_trailer o.content) (unless_malformed (broken_trailer behind.announced fields) ((is_too_large behind.peer.settings fields, refusal.TooLarge (section_size fields)) ∷ [])))
 
   -- **The end of a message.**
   pub finish_ahead : (id : ℕ) → finish (ahead behind mine held incoming kept) id ≡ lifted (finish behind id)

@@ -5,7 +5,7 @@ use Rattle.std.proofs.lemmas.List.Sums.{sum_by-cons}
 use Rattle.std.proofs.lemmas.Grind.{common_steps}
 use Rattle.std.proofs.lemmas.Bool.{cases_eq}
 use Rattle.h3_field.specs.Field.{Field}
-use Rattle.h3_header.specs.HeadRead.{HeadRead, IsHead, IsNone, head_of}
+use Rattle.h3_header.specs.HeadRead.{HeadRead, IsHead, IsNone, head_by}
 use Rattle.h3_messages.specs.Content.{awaited_by}
 use Rattle.h3_messages.specs.declared.content.Content.{Content}
 use Rattle.h3_connection.specs.Bounds.{IsBounded, OfStream, StandsBounded, TriesTwice, WaitsOnce}
@@ -119,7 +119,7 @@ list_bounded cut act old new id fields (Some e) keeps s h = by (is_no_memory e) 
     by false is = same_bounded old new (s.same (λ x. cc) (λ x. let wrong : true ≡ false = ap (λ o. elim o [ None ↦ false | Some y ↦ is_no_memory y ]) (sym x) ∙ is in cc)) h
 
 pub fields_bounded : CutBounded → (old new : EndpointState) (id : ℕ) (fields : List Field) (result : Result Unit FieldsError) → SendsFieldList old new id fields result → StandsBounded old → StandsBounded new
-fields_bounded cut old new id fields result = list_bounded cut (λ e. send_fields e id fields) old new id fields (list_told result) (λ e. sends_head e id fields (head_of fields))
+fields_bounded cut old new id fields result = list_bounded cut (λ e. send_fields e id fields) old new id fields (list_told result) (λ e. sends_head e id fields (head_by e.announced.choices.extensions.any_protocol fields))
 
 pub trailer_bounded : CutBounded → (old new : EndpointState) (id : ℕ) (fields : List Field) (result : Result Unit FieldsError) → SendsTrailerList old new id fields result → StandsBounded old → StandsBounded new
-trailer_bounded cut old new id fields result = list_bounded cut (λ e. send_trailer_fields e id fields) old new id fields (list_told result) (λ e. sends_trailer e id fields (head_of fields))
+trailer_bounded cut old new id fields result = list_bounded cut (λ e. send_trailer_fields e id fields) old new id fields (list_told result) (λ e. sends_trailer e id fields (head_by e.announced.choices.extensions.any_protocol fields))

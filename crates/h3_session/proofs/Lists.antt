@@ -3,7 +3,8 @@ use Rattle.std.proofs.Common.{◌≡◌, ℕ, ◌<◌, Bool, true, false, if◌t
 use Rattle.std.specs.Prelude.{◌≢◌, not, option_map}
 use Rattle.h3_field.specs.Field.{Field, section_size}
 use Rattle.h3_header.specs.Head.{Head, has_pseudo}
-use Rattle.h3_header.specs.HeadRead.{HeadRead, IsHead, IsNone, head_of}
+use Rattle.h3_header.specs.HeadRead.{HeadRead, IsHead, IsNone, head_by}
+use Rattle.h3_header.specs.ReadTakenLaws.{heads_are_taken}
 use Rattle.h3_outgoing.specs.Sent as sent
 use Rattle.h3_proto.specs.declared.stream.Side.{Side}
 use Rattle.h3_connection.specs.Answers.{call_refused}
@@ -11,19 +12,21 @@ use Rattle.h3_connection.specs.Endpoint.{EndpointHistory}
 use Rattle.h3_connection.specs.OwnIds.{other}
 use Rattle.h3_connection.specs.Pulling.{is_for, is_interim}
 use Rattle.h3_connection.specs.Outgoing.{takes_head, takes_body}
-use Rattle.h3_connection.specs.Refusals.{first_of, is_too_large, wrong_side}
+use Rattle.h3_connection.specs.Refusals.{first_of, is_too_large, or_later, wrong_side}
 use Rattle.h3_connection.specs.Sending.{does, closed_or, is_open, outgoing_at}
-use Rattle.h3_connection.specs.SendingContracts.{MayLackMemory}
+use Rattle.h3_connection.specs.SendingContracts.{CutsOff, MayLackMemory}
 use Rattle.h3_connection.specs.State.{EndpointState, RequestState, StandsFor, kept_at}
-use Rattle.h3_connection.specs.StrictSending.{broken_head, broken_trailer, early_trailer, unless_malformed}
+use Rattle.h3_connection.specs.StrictSending.{broken_head, broken_protocol, broken_trailer, early_trailer, unless_malformed}
 use Rattle.h3_connection.specs.declared.event.Malformation.{Malformation}
+use Rattle.h3_connection.specs.declared.event.Malformation.TheVariants as malformation
+use Rattle.h3_connection.specs.declared.setup.Announced.{Announced}
 use Rattle.h3_connection.specs.declared.event.Refusal.{Refusal}
 use Rattle.h3_connection.specs.declared.event.Refusal.TheVariants as refusal
 use Rattle.h3_connection.specs.declared.place.SendPlace.{SendPlace}
 use Rattle.h3_connection.specs.declared.place.SendPlace.TheVariants.{NothingSent, HeadSent}
 use Rattle.h3_requests.specs.Refused.{head_refused_at, body_refused_at, seen_in}
 use Rattle.h3_session.specs.JudgedLists.{head_list_error, trailer_list_error, IsHeadAt, IsTrailer}
-use Rattle.h3_session.specs.Refused.{side_refused, pseudo_refused}
+use Rattle.h3_session.specs.Refused.{own_head_refused, own_trailer_refused, side_refused, pseudo_refused}
 use Rattle.h3_session.specs.SendingLists.{SendsList, SendsFieldList, SendsTrailerList, SendsJudged, SendsJudgedHead, SendsJudgedTrailer, NotMalformed, IsReadable, MayLackSize, MayLackMap, as_error, error_after, error_of, list_told, malformed, no_memory, order_refusal, place_refusal, send_fields, send_trailer_fields, send_read_head, send_read_trailer, send_listed_head, send_listed_trailer, listed_head_refusal, listed_trailer_refusal, after_head, after_trailer}
 use Rattle.h3_session.specs.declared.endpoint.lists.FieldsError.{FieldsError}
 use Rattle.h3_session.specs.declared.endpoint.lists.FieldsError.TheVariants as error
@@ -52,7 +55,7 @@ may_map (Some refusal.PseudoInTrailer) m = tt
 may_map (Some (refusal.Malformed why)) m = tt
 may_map (Some _) m = m
 
-listed : (act : EndpointHistory → Option Refusal × EndpointHistory) (old new : EndpointState) (id : ℕ) (fields : List Field) (refused : Option Refusal) → IsReadable (head_of fields)
+listed : (act : EndpointHistory → Option Refusal × EndpointHistory) (old new : EndpointState) (id : ℕ) (fields : List Field) (refused : Option Refusal) → IsReadable (head_by old.announced.choices.extensions.any_protocol fields)
     → SendsJudged act old new id fields refused → SendsList (λ e. as_error (act e)) old new id fields (option_map error_of refused)
 listed act old new id fields refused read judged =
     let h = judged.sends in
@@ -183,6 +186,11 @@ may_behind : (a : Bool) (p : Refusal) (broken : Option Malformation) (b : Bool) 
 may_behind true p broken b size may = may
 may_behind false p broken b size may = may_last broken b size
 
+-- a list whose protocol is not taken is malformed
+may_malformed : (why : Option Malformation) (rules : List (Bool × Refusal)) → MayLackMap (option_map error_of (first_of rules)) → MayLackMap (option_map error_of (first_of (unless_malformed why rules)))
+may_malformed None rules h = h
+may_malformed (Some why) rules h = tt
+
 -- the same of a trailer, behind the rule of what was sent in front of it
 abbrev judged_trailer : Option Malformation → Option Malformation → Bool → ℕ → Option Refusal
 judged_trailer early broken b size = first_of (unless_malformed early (unless_malformed broken ((b, refusal.TooLarge size) ∷ [])))
@@ -200,39 +208,76 @@ refused_later : (a : Bool) (p : Refusal) (later : FieldsError) → option_map er
 refused_later true p later is = let same : error.Refused p ≡ later = cc in same
 refused_later false p later is = absurd (cc)
 
+-- Two calls that are one of each history that the state stands for.
+alike : (one two : EndpointHistory → Option FieldsError × EndpointHistory) (s new : EndpointState) (id : ℕ) (fields : List Field) (told : Option FieldsError)
+    → ((e : EndpointHistory) → StandsFor s e → one e ≡ two e) → SendsList one s new id fields told → SendsList two s new id fields told
+alike one two s new id fields told same h =
+    record {
+      done = λ e stands ne. subst (λ (p : Option FieldsError × EndpointHistory). (told ≡ p.0) × StandsFor new p.1) (same e stands) (h.done e stands ne);
+      same = h.same;
+      memory = λ e stands memory. subst (λ (p : Option FieldsError × EndpointHistory). MayLackMap p.0 × CutsOff e id fields new) (same e stands) (h.memory e stands memory);
+      short = λ e stands memory few. subst (λ (p : Option FieldsError × EndpointHistory). MayLackSize p.0) (same e stands) (h.short e stands memory few);
+      readable = h.readable;
+      refused = λ e stands memory some. h.refused e stands memory (subst (λ (p : Option FieldsError × EndpointHistory). p.0 ≢ None) (sym (same e stands)) some);
+    }
+
 module _ (s : EndpointState) (id : ℕ) (fields : List Field) where
+  -- what the list reads as here
+  abbrev read : HeadRead
+  read = head_by s.announced.choices.extensions.any_protocol fields
+
+  -- so its protocol is taken
+  abbrev IsTakenBy : HeadRead → Type 0
+  IsTakenBy r = (h : Head) → r ≡ IsHead h → broken_protocol s.announced h ≡ None
+
+  taken : IsTakenBy read
+  taken h is = ap (λ b. let rule : Option Malformation = if b then None else Some malformation.Value in rule) (heads_are_taken s.announced.choices.extensions.any_protocol fields h is)
+
+  taken_in : (e : EndpointHistory) (h : Head) → StandsFor s e → broken_protocol s.announced h ≡ None → broken_protocol e.announced h ≡ None
+  taken_in e h stands none = subst (λ (own : Announced). broken_protocol own h ≡ None) stands.announced none
+
+  -- the rules of a head behind those of its stream
+  abbrev sides : EndpointHistory → Head → List (Bool × Refusal)
+  sides e head = (not (is_for (other e.side) head), refusal.WrongSide) ∷ unless_malformed (broken_head e.side e.announced e.peer.settings fields) ((is_too_large e.peer.settings fields, refusal.TooLarge (section_size fields)) ∷ [])
+
+  as_fields : (new : EndpointState) (told : Option FieldsError) → SendsList (λ e. send_read_head e id fields read) s new id fields told → SendsList (λ e. send_fields e id fields) s new id fields told
+  as_fields new told h =
+      alike (λ e. send_read_head e id fields read) (λ e. send_fields e id fields) s new id fields told
+      (λ e stands. ap (λ (own : Announced). send_read_head e id fields (head_by own.choices.extensions.any_protocol fields)) stands.announced) h
+
   head_first : (r : HeadRead) (e : EndpointHistory) (x : Refusal) → place_refusal e id ≡ Some x → send_read_head e id fields r ≡ (Some (error.Refused x), e)
   head_first (IsHead head) e x is =
       ap (λ o. as_error (does o e (after_head e id head fields)))
       (sized_first e.closed (not (is_open e id)) (not (takes_head (outgoing_at e id))) refusal.NotOpen refusal.OutOfOrder
-      (if not (is_for (other e.side) head) then Some refusal.WrongSide else judged_last (broken_head e.side e.announced e.peer.settings fields) (is_too_large e.peer.settings fields) (section_size fields)) x is)
+      (first_of (unless_malformed (broken_protocol e.announced head) (sides e head))) x is)
       ∙ ap (λ t. (Some t, e)) (plain_first e.closed (not (is_open e id)) (not (takes_head (outgoing_at e id))) x is)
   head_first (IsNone why) e x is = ap (λ o. (Some (error_after o (malformed why)), e)) is
 
   head_behind : (e : EndpointHistory) (head : Head) → place_refusal e id ≡ None
-      → listed_head_refusal e id head fields ≡ (if not (is_for (other e.side) head) then Some refusal.WrongSide else judged_last (broken_head e.side e.announced e.peer.settings fields) (is_too_large e.peer.settings fields) (section_size fields))
+      → listed_head_refusal e id head fields ≡ first_of (unless_malformed (broken_protocol e.announced head) (sides e head))
   head_behind e head is = sized_rest e.closed (not (is_open e id)) (not (takes_head (outgoing_at e id))) refusal.NotOpen refusal.OutOfOrder _ is
 
-  head_begins : (r : HeadRead) (later : FieldsError) → (later ≢ no_memory → head_list_error s.side r ≡ Some later) → (later ≡ no_memory → 24576 < length fields)
+  head_begins : (r : HeadRead) (later : FieldsError) → IsTakenBy r → (later ≢ no_memory → head_list_error s.side r ≡ Some later) → (later ≡ no_memory → 24576 < length fields)
       → Begins (λ e. send_read_head e id fields r) (λ e. place_refusal e id) s id fields later
-  head_begins (IsHead head) later errs many =
+  head_begins (IsHead head) later is_taken errs many =
       record {
         first = head_first (IsHead head);
         told = λ differs e stands is.
             let here : option_map error.Refused (first_of (wrong_side e.side head ∷ [])) ≡ Some later
             = subst (λ side. option_map error.Refused (side_refused side head) ≡ Some later) stands.side (errs differs) in
             ap (λ o. as_error (does o e (after_head e id head fields)))
-            (head_behind e head is ∙ behind_rule (not (is_for (other e.side) head)) refusal.WrongSide (judged_last (broken_head e.side e.announced e.peer.settings fields) (is_too_large e.peer.settings fields) (section_size fields)) later here)
+            (head_behind e head is ∙ ap (λ p. first_of (unless_malformed p (sides e head))) (taken_in e head stands (is_taken head refl)) ∙ behind_rule (not (is_for (other e.side) head)) refusal.WrongSide (judged_last (broken_head e.side e.announced e.peer.settings fields) (is_too_large e.peer.settings fields) (section_size fields)) later here)
             ∙ ap (λ t. (Some t, e)) (refused_later (not (is_for (other e.side) head)) refusal.WrongSide later here);
         map = λ memory. (
           many memory,
           λ e is.
               subst MayLackMap (ap (option_map error_of) (sym (head_behind e head is))
               ∙ sym (told_of (listed_head_refusal e id head fields) e (after_head e id head fields)))
-              (may_behind (not (is_for (other e.side) head)) refusal.WrongSide (broken_head e.side e.announced e.peer.settings fields) (is_too_large e.peer.settings fields) (section_size fields) tt),
+              (may_malformed (broken_protocol e.announced head) (sides e head)
+              (may_behind (not (is_for (other e.side) head)) refusal.WrongSide (broken_head e.side e.announced e.peer.settings fields) (is_too_large e.peer.settings fields) (section_size fields) tt)),
         );
       }
-  head_begins (IsNone why) later errs many =
+  head_begins (IsNone why) later is_taken errs many =
       record {
         first = head_first (IsNone why);
         told = λ differs e stands is. ap (λ o. (Some (error_after o (malformed why)), e)) is ∙ ap (λ t. (t, e)) (errs differs);
@@ -241,65 +286,80 @@ module _ (s : EndpointState) (id : ℕ) (fields : List Field) where
 
   pub head_list_closed : (code : ℕ) → s.closed ≡ Some code → SendsFieldList s s id fields (Err (error.Refused (refusal.Closed code)))
   head_list_closed code closed =
-      refuses (λ e. send_fields e id fields) s id fields (error.Refused (refusal.Closed code))
-      (λ e stands. head_first (head_of fields) e (refusal.Closed code)
-      (ap (λ c. closed_or c (first_of ((not (is_open e id), refusal.NotOpen) ∷ (not (takes_head (outgoing_at e id)), refusal.OutOfOrder) ∷ []))) (sym stands.closed ∙ closed))) (λ same. absurd (cc))
+      as_fields s (Some (error.Refused (refusal.Closed code)))
+      (refuses (λ e. send_read_head e id fields read) s id fields (error.Refused (refusal.Closed code))
+      (λ e stands. head_first read e (refusal.Closed code)
+      (ap (λ c. closed_or c (first_of ((not (is_open e id), refusal.NotOpen) ∷ (not (takes_head (outgoing_at e id)), refusal.OutOfOrder) ∷ []))) (sym stands.closed ∙ closed))) (λ same. absurd (cc)))
 
   pub head_list_early : (r : Refusal) → s.closed ≡ None → head_refused_at (kept_at s.requests id) ≡ Some r → SendsFieldList s s id fields (Err (error.Refused r))
   head_list_early r closed is =
-      refuses (λ e. send_fields e id fields) s id fields (error.Refused r)
-      (λ e stands. head_first (head_of fields) e r (sym (place_refusal_is s e id stands) ∙ ap (λ c. closed_or c (head_refused_at (kept_at s.requests id))) closed ∙ is))
-      (λ same. head_not_memory (kept_at s.requests id) (is ∙ (let memory : r ≡ refusal.OutOfMemory = cc in ap Some memory)))
+      as_fields s (Some (error.Refused r))
+      (refuses (λ e. send_read_head e id fields read) s id fields (error.Refused r)
+      (λ e stands. head_first read e r (sym (place_refusal_is s e id stands) ∙ ap (λ c. closed_or c (head_refused_at (kept_at s.requests id))) closed ∙ is))
+      (λ same. head_not_memory (kept_at s.requests id) (is ∙ (let memory : r ≡ refusal.OutOfMemory = cc in ap Some memory))))
 
-  pub head_list_refused : (later told : FieldsError) → s.closed ≡ None → (later ≢ no_memory → head_list_error s.side (head_of fields) ≡ Some later) → (later ≡ no_memory → 24576 < length fields)
+  pub head_list_refused : (later told : FieldsError) → s.closed ≡ None → (later ≢ no_memory → head_list_error s.side read ≡ Some later) → (later ≡ no_memory → 24576 < length fields)
       → told ≡ error_after (head_refused_at (kept_at s.requests id)) later → SendsFieldList s s id fields (Err told)
   head_list_refused later told closed errs many is =
       subst (λ t. SendsFieldList s s id fields (Err t)) (sym is)
-      (by_stream (λ e. send_fields e id fields) (λ e. place_refusal e id) s id fields later (head_refused_at (kept_at s.requests id)) (head_begins (head_of fields) later errs many)
-      (λ e stands. sym (place_refusal_is s e id stands) ∙ ap (λ c. closed_or c (head_refused_at (kept_at s.requests id))) closed) (head_not_memory (kept_at s.requests id)))
+      (as_fields s (Some (error_after (head_refused_at (kept_at s.requests id)) later))
+      (by_stream (λ e. send_read_head e id fields read) (λ e. place_refusal e id) s id fields later (head_refused_at (kept_at s.requests id)) (head_begins read later taken errs many)
+      (λ e stands. sym (place_refusal_is s e id stands) ∙ ap (λ c. closed_or c (head_refused_at (kept_at s.requests id))) closed) (head_not_memory (kept_at s.requests id))))
 
-  pub head_list_sent : (new : EndpointState) (place : SendPlace) (answer : Result Unit Refusal) (result : Result Unit FieldsError) → IsHeadAt s.side (head_of fields) place
-      → ((head : Head) → side_refused s.side head ≡ None → place ≡ (if is_interim head.status then NothingSent else HeadSent) → SendsJudgedHead s new id head fields answer)
+  pub head_list_sent : (new : EndpointState) (place : SendPlace) (answer : Result Unit Refusal) (result : Result Unit FieldsError) → IsHeadAt s.side read place
+      → ((head : Head) → own_head_refused s.announced s.side head ≡ None → place ≡ (if is_interim head.status then NothingSent else HeadSent) → SendsJudgedHead s new id head fields answer)
       → list_told result ≡ option_map error_of (call_refused answer) → SendsFieldList s new id fields result
-  head_list_sent new place answer result at sends is = by (head_of fields) at
+  head_list_sent new place answer result at sends is = as_fields new (list_told result) (by read taken at)
     where
-      by : (r : HeadRead) → IsHeadAt s.side r place → SendsList (λ e. send_read_head e id fields r) s new id fields (list_told result)
-      by (IsHead head) here =
+      by : (r : HeadRead) → IsTakenBy r → IsHeadAt s.side r place → SendsList (λ e. send_read_head e id fields r) s new id fields (list_told result)
+      by (IsHead head) is_taken here =
           subst (SendsList (λ e. as_error (send_listed_head e id head fields)) s new id fields) (sym is)
-          (listed (λ e. send_listed_head e id head fields) s new id fields (call_refused answer) (reads_head s.side (head_of fields) place at) (sends head here.0 here.1))
-      by (IsNone why) here = absurd here
+          (listed (λ e. send_listed_head e id head fields) s new id fields (call_refused answer) (reads_head s.side read place at)
+          (sends head (ap (λ p. or_later (first_of (unless_malformed p [])) (side_refused s.side head)) (is_taken head refl) ∙ here.0) here.1))
+      by (IsNone why) is_taken here = absurd here
 
   -- a list in the place of a trailer
+  abbrev pseudo : EndpointHistory → Head → List (Bool × Refusal)
+  pseudo e trailer =
+      (has_pseudo trailer, refusal.PseudoInTrailer) ∷
+      unless_malformed (early_trailer (outgoing_at e id).content) (unless_malformed (broken_trailer e.announced fields) ((is_too_large e.peer.settings fields, refusal.TooLarge (section_size fields)) ∷ []))
+
+  as_trailer_fields : (new : EndpointState) (told : Option FieldsError) → SendsList (λ e. send_read_trailer e id fields read) s new id fields told → SendsList (λ e. send_trailer_fields e id fields) s new id fields told
+  as_trailer_fields new told h =
+      alike (λ e. send_read_trailer e id fields read) (λ e. send_trailer_fields e id fields) s new id fields told
+      (λ e stands. ap (λ (own : Announced). send_read_trailer e id fields (head_by own.choices.extensions.any_protocol fields)) stands.announced) h
+
   trailer_first : (r : HeadRead) (e : EndpointHistory) (x : Refusal) → order_refusal e id ≡ Some x → send_read_trailer e id fields r ≡ (Some (error.Refused x), e)
   trailer_first (IsHead trailer) e x is =
       ap (λ o. as_error (does o e (after_trailer e id fields)))
       (sized_first e.closed (not (is_open e id)) (not (takes_body (outgoing_at e id))) refusal.NotOpen refusal.OutOfOrder
-      (if has_pseudo trailer then Some refusal.PseudoInTrailer else judged_trailer (early_trailer (outgoing_at e id).content) (broken_trailer e.announced fields) (is_too_large e.peer.settings fields) (section_size fields)) x is)
+      (first_of (unless_malformed (broken_protocol e.announced trailer) (pseudo e trailer))) x is)
       ∙ ap (λ t. (Some t, e)) (plain_first e.closed (not (is_open e id)) (not (takes_body (outgoing_at e id))) x is)
   trailer_first (IsNone why) e x is = ap (λ o. (Some (error_after o (malformed why)), e)) is
 
   trailer_behind : (e : EndpointHistory) (trailer : Head) → order_refusal e id ≡ None
-      → listed_trailer_refusal e id trailer fields ≡ (if has_pseudo trailer then Some refusal.PseudoInTrailer else judged_trailer (early_trailer (outgoing_at e id).content) (broken_trailer e.announced fields) (is_too_large e.peer.settings fields) (section_size fields))
+      → listed_trailer_refusal e id trailer fields ≡ first_of (unless_malformed (broken_protocol e.announced trailer) (pseudo e trailer))
   trailer_behind e trailer is = sized_rest e.closed (not (is_open e id)) (not (takes_body (outgoing_at e id))) refusal.NotOpen refusal.OutOfOrder _ is
 
-  trailer_begins : (r : HeadRead) (later : FieldsError) → (later ≢ no_memory → trailer_list_error r ≡ Some later) → (later ≡ no_memory → 24576 < length fields)
+  trailer_begins : (r : HeadRead) (later : FieldsError) → IsTakenBy r → (later ≢ no_memory → trailer_list_error r ≡ Some later) → (later ≡ no_memory → 24576 < length fields)
       → Begins (λ e. send_read_trailer e id fields r) (λ e. order_refusal e id) s id fields later
-  trailer_begins (IsHead trailer) later errs many =
+  trailer_begins (IsHead trailer) later is_taken errs many =
       record {
         first = trailer_first (IsHead trailer);
         told = λ differs e stands is.
             ap (λ o. as_error (does o e (after_trailer e id fields)))
-            (trailer_behind e trailer is ∙ behind_rule (has_pseudo trailer) refusal.PseudoInTrailer (judged_trailer (early_trailer (outgoing_at e id).content) (broken_trailer e.announced fields) (is_too_large e.peer.settings fields) (section_size fields)) later (errs differs))
+            (trailer_behind e trailer is ∙ ap (λ p. first_of (unless_malformed p (pseudo e trailer))) (taken_in e trailer stands (is_taken trailer refl)) ∙ behind_rule (has_pseudo trailer) refusal.PseudoInTrailer (judged_trailer (early_trailer (outgoing_at e id).content) (broken_trailer e.announced fields) (is_too_large e.peer.settings fields) (section_size fields)) later (errs differs))
             ∙ ap (λ t. (Some t, e)) (refused_later (has_pseudo trailer) refusal.PseudoInTrailer later (errs differs));
         map = λ memory. (
           many memory,
           λ e is.
               subst MayLackMap (ap (option_map error_of) (sym (trailer_behind e trailer is))
               ∙ sym (told_of (listed_trailer_refusal e id trailer fields) e (after_trailer e id fields)))
-              (may_behind_early (has_pseudo trailer) refusal.PseudoInTrailer (early_trailer (outgoing_at e id).content) (broken_trailer e.announced fields) (is_too_large e.peer.settings fields) (section_size fields) tt),
+              (may_malformed (broken_protocol e.announced trailer) (pseudo e trailer)
+              (may_behind_early (has_pseudo trailer) refusal.PseudoInTrailer (early_trailer (outgoing_at e id).content) (broken_trailer e.announced fields) (is_too_large e.peer.settings fields) (section_size fields) tt)),
         );
       }
-  trailer_begins (IsNone why) later errs many =
+  trailer_begins (IsNone why) later is_taken errs many =
       record {
         first = trailer_first (IsNone why);
         told = λ differs e stands is. ap (λ o. (Some (error_after o (malformed why)), e)) is ∙ ap (λ t. (t, e)) (errs differs);
@@ -308,29 +368,33 @@ module _ (s : EndpointState) (id : ℕ) (fields : List Field) where
 
   pub trailer_list_closed : (code : ℕ) → s.closed ≡ Some code → SendsTrailerList s s id fields (Err (error.Refused (refusal.Closed code)))
   trailer_list_closed code closed =
-      refuses (λ e. send_trailer_fields e id fields) s id fields (error.Refused (refusal.Closed code))
-      (λ e stands. trailer_first (head_of fields) e (refusal.Closed code)
-      (ap (λ c. closed_or c (first_of ((not (is_open e id), refusal.NotOpen) ∷ (not (takes_body (outgoing_at e id)), refusal.OutOfOrder) ∷ []))) (sym stands.closed ∙ closed))) (λ same. absurd (cc))
+      as_trailer_fields s (Some (error.Refused (refusal.Closed code)))
+      (refuses (λ e. send_read_trailer e id fields read) s id fields (error.Refused (refusal.Closed code))
+      (λ e stands. trailer_first read e (refusal.Closed code)
+      (ap (λ c. closed_or c (first_of ((not (is_open e id), refusal.NotOpen) ∷ (not (takes_body (outgoing_at e id)), refusal.OutOfOrder) ∷ []))) (sym stands.closed ∙ closed))) (λ same. absurd (cc)))
 
   pub trailer_list_early : (r : Refusal) → s.closed ≡ None → body_refused_at (kept_at s.requests id) ≡ Some r → SendsTrailerList s s id fields (Err (error.Refused r))
   trailer_list_early r closed is =
-      refuses (λ e. send_trailer_fields e id fields) s id fields (error.Refused r)
-      (λ e stands. trailer_first (head_of fields) e r (sym (order_refusal_is s e id stands) ∙ ap (λ c. closed_or c (body_refused_at (kept_at s.requests id))) closed ∙ is))
-      (λ same. body_not_memory (kept_at s.requests id) (is ∙ (let memory : r ≡ refusal.OutOfMemory = cc in ap Some memory)))
+      as_trailer_fields s (Some (error.Refused r))
+      (refuses (λ e. send_read_trailer e id fields read) s id fields (error.Refused r)
+      (λ e stands. trailer_first read e r (sym (order_refusal_is s e id stands) ∙ ap (λ c. closed_or c (body_refused_at (kept_at s.requests id))) closed ∙ is))
+      (λ same. body_not_memory (kept_at s.requests id) (is ∙ (let memory : r ≡ refusal.OutOfMemory = cc in ap Some memory))))
 
-  pub trailer_list_refused : (later told : FieldsError) → s.closed ≡ None → (later ≢ no_memory → trailer_list_error (head_of fields) ≡ Some later) → (later ≡ no_memory → 24576 < length fields)
+  pub trailer_list_refused : (later told : FieldsError) → s.closed ≡ None → (later ≢ no_memory → trailer_list_error read ≡ Some later) → (later ≡ no_memory → 24576 < length fields)
       → told ≡ error_after (body_refused_at (kept_at s.requests id)) later → SendsTrailerList s s id fields (Err told)
   trailer_list_refused later told closed errs many is =
       subst (λ t. SendsTrailerList s s id fields (Err t)) (sym is)
-      (by_stream (λ e. send_trailer_fields e id fields) (λ e. order_refusal e id) s id fields later (body_refused_at (kept_at s.requests id)) (trailer_begins (head_of fields) later errs many)
-      (λ e stands. sym (order_refusal_is s e id stands) ∙ ap (λ c. closed_or c (body_refused_at (kept_at s.requests id))) closed) (body_not_memory (kept_at s.requests id)))
+      (as_trailer_fields s (Some (error_after (body_refused_at (kept_at s.requests id)) later))
+      (by_stream (λ e. send_read_trailer e id fields read) (λ e. order_refusal e id) s id fields later (body_refused_at (kept_at s.requests id)) (trailer_begins read later taken errs many)
+      (λ e stands. sym (order_refusal_is s e id stands) ∙ ap (λ c. closed_or c (body_refused_at (kept_at s.requests id))) closed) (body_not_memory (kept_at s.requests id))))
 
-  pub trailer_list_sent : (new : EndpointState) (answer : Result Unit Refusal) (result : Result Unit FieldsError) → IsTrailer (head_of fields)
-      → ((trailer : Head) → pseudo_refused trailer ≡ None → SendsJudgedTrailer s new id trailer fields answer) → list_told result ≡ option_map error_of (call_refused answer) → SendsTrailerList s new id fields result
-  trailer_list_sent new answer result at sends is = by (head_of fields) at
+  pub trailer_list_sent : (new : EndpointState) (answer : Result Unit Refusal) (result : Result Unit FieldsError) → IsTrailer read
+      → ((trailer : Head) → own_trailer_refused s.announced trailer ≡ None → SendsJudgedTrailer s new id trailer fields answer) → list_told result ≡ option_map error_of (call_refused answer) → SendsTrailerList s new id fields result
+  trailer_list_sent new answer result at sends is = as_trailer_fields new (list_told result) (by read taken at)
     where
-      by : (r : HeadRead) → IsTrailer r → SendsList (λ e. send_read_trailer e id fields r) s new id fields (list_told result)
-      by (IsHead trailer) here =
+      by : (r : HeadRead) → IsTakenBy r → IsTrailer r → SendsList (λ e. send_read_trailer e id fields r) s new id fields (list_told result)
+      by (IsHead trailer) is_taken here =
           subst (SendsList (λ e. as_error (send_listed_trailer e id trailer fields)) s new id fields) (sym is)
-          (listed (λ e. send_listed_trailer e id trailer fields) s new id fields (call_refused answer) (reads_trailer (head_of fields) at) (sends trailer here))
-      by (IsNone why) here = absurd here
+          (listed (λ e. send_listed_trailer e id trailer fields) s new id fields (call_refused answer) (reads_trailer read at)
+          (sends trailer (ap (λ p. or_later (first_of (unless_malformed p [])) (pseudo_refused trailer)) (is_taken trailer refl) ∙ here)))
+      by (IsNone why) is_taken here = absurd here

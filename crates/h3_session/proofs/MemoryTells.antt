@@ -19,7 +19,7 @@ use Rattle.h3_connection.specs.Pulling.{is_client, is_for}
 use Rattle.h3_connection.specs.Refusals as refusals
 use Rattle.h3_connection.specs.Sending as sender
 use Rattle.h3_connection.specs.StreamSets.{stream_at}
-use Rattle.h3_connection.specs.StrictSending.{broken_head, broken_trailer, early_trailer, passes_content, unless_malformed}
+use Rattle.h3_connection.specs.StrictSending.{broken_head, broken_protocol, broken_trailer, early_trailer, passes_content, unless_malformed}
 use Rattle.h3_connection.specs.Unidirectional.{is_closed}
 use Rattle.h3_connection.specs.declared.arrival.Arrival.{Arrival}
 use Rattle.h3_messages.specs.Content.{may_end}
@@ -123,15 +123,23 @@ both_tell : (early broken : Option Malformation) (large : Bool) (size : ℕ) →
 both_tell (Some why) broken large size = refl
 both_tell None broken large size = list_tells broken large size
 
+-- a malformed list tells none either
+malformed_tells : (why : Option Malformation) (rules : List (Bool × Refusal)) → TellsNoMemory (refusals.first_of rules) → TellsNoMemory (refusals.first_of (unless_malformed why rules))
+malformed_tells None rules h = h
+malformed_tells (Some why) rules h = refl
+
 pub head_tells : (e : EndpointHistory) (id : ℕ) (head : Head) → TellsNoMemory (sender.send_head e id head).0
 head_tells e id head =
     let broken = broken_head e.side e.announced e.peer.settings (head_fields head) in
     let listed = by_list broken (refusals.is_too_large e.peer.settings (head_fields head)) (section_size (head_fields head)) in
+    let rules = unless_malformed broken ((refusals.is_too_large e.peer.settings (head_fields head), refusal.TooLarge (section_size (head_fields head))) ∷ []) in
+    let sides : Bool × Refusal = (not (is_for (other e.side) head), refusal.WrongSide) in
     does_tells (sender.head_refusal e id head) e _
     (unless_closed_tells e.closed _
-    (unordered_tells (not (sender.is_open e id)) (not (takes_head (sender.outgoing_at e id))) (if not (is_for (other e.side) head) then Some refusal.WrongSide else listed)
+    (unordered_tells (not (sender.is_open e id)) (not (takes_head (sender.outgoing_at e id))) (refusals.first_of (unless_malformed (broken_protocol e.announced head) (sides ∷ rules)))
+    (malformed_tells (broken_protocol e.announced head) (sides ∷ rules)
     (if_tells (not (is_for (other e.side) head)) (Some refusal.WrongSide) listed refl
-    (list_tells broken (refusals.is_too_large e.peer.settings (head_fields head)) (section_size (head_fields head))))))
+    (list_tells broken (refusals.is_too_large e.peer.settings (head_fields head)) (section_size (head_fields head)))))))
 
 -- more content than the head said, or less
 content_tells : (b : Bool) → TellsNoMemory (if b then Some (refusal.Malformed malformation.ContentLength) else None)
@@ -149,11 +157,14 @@ trailer_tells e id head =
     let broken = broken_trailer e.announced (head_fields head) in
     let early = early_trailer (sender.outgoing_at e id).content in
     let listed = by_both early broken (refusals.is_too_large e.peer.settings (head_fields head)) (section_size (head_fields head)) in
+    let rules = unless_malformed early (unless_malformed broken ((refusals.is_too_large e.peer.settings (head_fields head), refusal.TooLarge (section_size (head_fields head))) ∷ [])) in
+    let pseudo : Bool × Refusal = (has_pseudo head, refusal.PseudoInTrailer) in
     does_tells (sender.trailer_refusal e id head) e _
     (unless_closed_tells e.closed _
-    (unordered_tells (not (sender.is_open e id)) (not (takes_body (sender.outgoing_at e id))) (if has_pseudo head then Some refusal.PseudoInTrailer else listed)
+    (unordered_tells (not (sender.is_open e id)) (not (takes_body (sender.outgoing_at e id))) (refusals.first_of (unless_malformed (broken_protocol e.announced head) (pseudo ∷ rules)))
+    (malformed_tells (broken_protocol e.announced head) (pseudo ∷ rules)
     (if_tells (has_pseudo head) (Some refusal.PseudoInTrailer) listed refl
-    (both_tell early broken (refusals.is_too_large e.peer.settings (head_fields head)) (section_size (head_fields head))))))
+    (both_tell early broken (refusals.is_too_large e.peer.settings (head_fields head)) (section_size (head_fields head)))))))
 
 pub finish_tells : (e : EndpointHistory) (id : ℕ) → TellsNoMemory (sender.finish e id).0
 finish_tells e id =

@@ -25,7 +25,7 @@ use Rattle.h3_connection.specs.declared.place.SendPlace.TheVariants.{NothingSent
 use Rattle.h3_requests.specs.Refused.{head_refused_at, body_refused_at, early_trailer_at}
 use Rattle.h3_session.proofs.Opened.{stands_same}
 use Rattle.h3_session.specs.SendingLists.{IsJudgedOr, NotMalformed, SendsJudged, SendsJudgedHead, SendsJudgedTrailer, SendsListedHead, SendsListedTrailer, after_head, after_trailer, listed_head_refusal, listed_trailer_refusal, send_listed_head, send_listed_trailer}
-use Rattle.h3_session.specs.Refused.{list_refused, refused_behind, broken_behind, side_refused, pseudo_refused, head_refused, trailer_refused}
+use Rattle.h3_session.specs.Refused.{list_refused, refused_behind, broken_behind, own_head_refused, own_trailer_refused, head_refused, trailer_refused}
 use Rattle.h3_session.proofs.ReceivingCancel.{requests_same}
 use Rattle.h3_session.specs.SendingFields.{IsPart, SendsFields, asking}
 use Rattle.h3_session.proofs.Parts.{before_head, in_body, place_pushed}
@@ -237,42 +237,42 @@ head_sends old new id head given fields place result none are at h =
     let sent_here : SendsFields (asking id fields) old new id fields (place_behind (is_interim head.status)) (call_refused result)
     = subst (λ p. SendsFields (asking id fields) old new id fields p (call_refused result)) at (subst (λ fs. SendsFields (asking id fs) old new id fs place (call_refused result)) are h) in
     section_sends (λ e. listed_head_refusal e id head fields) (λ e. after_head e id head fields) old id fields (broken_head old.side old.announced old.peer.settings fields) (asking id fields) new (place_behind (is_interim head.status)) (call_refused result) (λ e. head_part head (written_section e.encoder id fields))
-    (head_rule old id head fields none) (λ e stands. head_is old e id head fields (kept_at old.requests id) stands refl (head_allowed (side_refused old.side head) old.closed (kept_at old.requests id) none)) (λ e. refl)
+    (head_rule old id head fields none) (λ e stands. head_is old e id head fields (kept_at old.requests id) stands refl (head_allowed (own_head_refused old.announced old.side head) old.closed (kept_at old.requests id) none)) (λ e. refl)
     (behind_head (is_interim head.status) old fields) sent_here
 
-head_open : (s : EndpointState) (id : ℕ) (head : Head) → s.closed ≡ None → head_refused s id head ≡ or_later (head_refused_at (kept_at s.requests id)) (side_refused s.side head)
-head_open s id head closed = ap (λ c. closed_or c (or_later (head_refused_at (kept_at s.requests id)) (side_refused s.side head))) closed
+head_open : (s : EndpointState) (id : ℕ) (head : Head) → s.closed ≡ None → head_refused s id head ≡ or_later (head_refused_at (kept_at s.requests id)) (own_head_refused s.announced s.side head)
+head_open s id head closed = ap (λ c. closed_or c (or_later (head_refused_at (kept_at s.requests id)) (own_head_refused s.announced s.side head))) closed
 
 head_refused_by : (s : EndpointState) (id : ℕ) (head : Head) (fields : List Field) (rule : Option Refusal) → head_refused s id head ≡ rule → SendsListedHead s s id head fields (Err (unwrap_or rule refusal.OutOfMemory))
 head_refused_by s id head fields (Some r) is = head_refuses s id head fields r is
 head_refused_by s id head fields None is = head_lacks s id head fields is
 
 pub head_closed : (s : EndpointState) (id : ℕ) (head : Head) (fields : List Field) (code : ℕ) → s.closed ≡ Some code → SendsListedHead s s id head fields (Err (refusal.Closed code))
-head_closed s id head fields code closed = head_refuses s id head fields (refusal.Closed code) (ap (λ c. closed_or c (or_later (head_refused_at (kept_at s.requests id)) (side_refused s.side head))) closed)
+head_closed s id head fields code closed = head_refuses s id head fields (refusal.Closed code) (ap (λ c. closed_or c (or_later (head_refused_at (kept_at s.requests id)) (own_head_refused s.announced s.side head))) closed)
 
 -- no room was made for it,
-pub head_unreserved : (s n : EndpointState) (id : ℕ) (head : Head) (fields : List Field) (later : Option Refusal) (r : Refusal) → s.closed ≡ None → later ≡ side_refused s.side head → n ≡ record s { requests = n.requests } → AllSame s.requests n.requests
+pub head_unreserved : (s n : EndpointState) (id : ℕ) (head : Head) (fields : List Field) (later : Option Refusal) (r : Refusal) → s.closed ≡ None → later ≡ own_head_refused s.announced s.side head → n ≡ record s { requests = n.requests } → AllSame s.requests n.requests
     → r ≡ unwrap_or (or_later (head_refused_at (kept_at s.requests id)) later) refusal.OutOfMemory → SendsListedHead s n id head fields (Err r)
 head_unreserved s n id head fields later r closed is rest same why =
-    let rule = or_later (head_refused_at (kept_at s.requests id)) (side_refused s.side head) in
+    let rule = or_later (head_refused_at (kept_at s.requests id)) (own_head_refused s.announced s.side head) in
     subst (λ v. SendsListedHead s v id head fields (Err r)) (sym rest)
     (subst (λ r. SendsListedHead s (record s { requests = n.requests }) id head fields (Err r)) (sym (why ∙ ap (λ l. unwrap_or (or_later (head_refused_at (kept_at s.requests id)) l) refusal.OutOfMemory) is))
     (section_alike (λ e. send_listed_head e id head fields) s id fields n.requests same (unwrap_or rule refusal.OutOfMemory) (head_refused_by s id head fields rule (head_open s id head closed))))
 
 -- its fields could not be listed,
-pub head_unlisted : (s n : EndpointState) (id : ℕ) (head : Head) (fields : List Field) (later : Option Refusal) → s.closed ≡ None → later ≡ side_refused s.side head → n ≡ record s { requests = n.requests } → AllSame s.requests n.requests
+pub head_unlisted : (s n : EndpointState) (id : ℕ) (head : Head) (fields : List Field) (later : Option Refusal) → s.closed ≡ None → later ≡ own_head_refused s.announced s.side head → n ≡ record s { requests = n.requests } → AllSame s.requests n.requests
     → or_later (head_refused_at (kept_at s.requests id)) later ≡ None → SendsListedHead s n id head fields (Err refusal.OutOfMemory)
 head_unlisted s n id head fields later closed is rest same none =
     head_unreserved s n id head fields later refusal.OutOfMemory closed is rest same (ap (λ o. unwrap_or o refusal.OutOfMemory) (sym none))
 
 -- or they were sent
-pub head_sent : (s m n : EndpointState) (id : ℕ) (head : Head) (later : Option Refusal) (given fields : List Field) (place : SendPlace) (result : Result Unit Refusal) → s.closed ≡ None → later ≡ side_refused s.side head
+pub head_sent : (s m n : EndpointState) (id : ℕ) (head : Head) (later : Option Refusal) (given fields : List Field) (place : SendPlace) (result : Result Unit Refusal) → s.closed ≡ None → later ≡ own_head_refused s.announced s.side head
     → m ≡ record s { requests = m.requests } → AllSame s.requests m.requests → or_later (head_refused_at (kept_at s.requests id)) later ≡ None → given ≡ fields
     → place ≡ (if is_interim head.status then NothingSent else HeadSent) → SendsFields (asking id given) m n id given place (call_refused result) → SendsListedHead s n id head fields result
 head_sent s m n id head later given fields place result closed is rest same none are at h =
     let mid = record s { requests = m.requests } in
     let taken : head_refused mid id head ≡ None = head_open mid id head closed
-    ∙ ap (λ o. or_later (head_refused_at o) (side_refused s.side head)) (same.each id) ∙ ap (or_later (head_refused_at (kept_at s.requests id))) (sym is) ∙ none in
+    ∙ ap (λ o. or_later (head_refused_at o) (own_head_refused s.announced s.side head)) (same.each id) ∙ ap (or_later (head_refused_at (kept_at s.requests id))) (sym is) ∙ none in
     section_begun (λ e. send_listed_head e id head fields) s id fields m.requests same n (call_refused result)
     (head_sends mid n id head given fields place result taken are at (subst (λ v. SendsFields (asking id given) v n id given place (call_refused result)) rest h))
 
@@ -282,7 +282,7 @@ rules_at : (s n : EndpointState) (head : Head) (fields : List Field) (place : Se
 rules_at s n head fields place at rest =
     behind_head (is_interim head.status) s fields ∙ ap (λ p. broken_behind p s fields) (sym at) ∙ behind_alike place s n.requests fields ∙ ap (λ v. broken_behind place v fields) (sym rest)
 
-pub head_judged : (s n : EndpointState) (id : ℕ) (head : Head) (fields : List Field) (place : SendPlace) (refused r : Refusal) → s.closed ≡ None → side_refused s.side head ≡ None
+pub head_judged : (s n : EndpointState) (id : ℕ) (head : Head) (fields : List Field) (place : SendPlace) (refused r : Refusal) → s.closed ≡ None → own_head_refused s.announced s.side head ≡ None
     → place ≡ (if is_interim head.status then NothingSent else HeadSent) → n ≡ record s { requests = n.requests } → AllSame s.requests n.requests
     → refused ≡ unwrap_or (or_later (head_refused_at (kept_at s.requests id)) None) refusal.OutOfMemory → IsJudgedOr n place fields refused r → SendsJudgedHead s n id head fields (Err r)
 head_judged s n id head fields place refused r closed sent at rest same why judged = by (or_later (head_refused_at (kept_at s.requests id)) None) refl
@@ -310,7 +310,7 @@ head_judged s n id head fields place refused r closed sent at rest same why judg
         (λ memory. rules ∙ judged.unbroken want memory))
 
 -- or it was sent
-pub head_sent_judged : (s m n : EndpointState) (id : ℕ) (head : Head) (later : Option Refusal) (given fields : List Field) (place : SendPlace) (result : Result Unit Refusal) → s.closed ≡ None → later ≡ side_refused s.side head
+pub head_sent_judged : (s m n : EndpointState) (id : ℕ) (head : Head) (later : Option Refusal) (given fields : List Field) (place : SendPlace) (result : Result Unit Refusal) → s.closed ≡ None → later ≡ own_head_refused s.announced s.side head
     → m ≡ record s { requests = m.requests } → AllSame s.requests m.requests → or_later (head_refused_at (kept_at s.requests id)) later ≡ None → given ≡ fields
     → place ≡ (if is_interim head.status then NothingSent else HeadSent) → SendsFields (asking id given) m n id given place (call_refused result) → SendsJudgedHead s n id head fields result
 head_sent_judged s m n id head later given fields place result closed is rest same none are at h =
@@ -360,47 +360,47 @@ trailer_sends : (old new : EndpointState) (id : ℕ) (trailer : Head) (given fie
 trailer_sends old new id trailer given fields result none are h =
     section_sends (λ e. listed_trailer_refusal e id trailer fields) (λ e. after_trailer e id fields) old id fields (broken_trailer old.announced fields) (λ e. e) new TrailerSent (call_refused result) (λ e. OwnTrailer (written_section e.encoder id fields))
     (trailer_rule old id trailer fields none)
-    (λ e stands. trailer_is old e id fields (kept_at old.requests id) stands refl (trailer_allowed (behind_order old id (pseudo_refused trailer)) old.closed (kept_at old.requests id) none)) (λ e. refl) refl
+    (λ e stands. trailer_is old e id fields (kept_at old.requests id) stands refl (trailer_allowed (behind_order old id (own_trailer_refused old.announced trailer)) old.closed (kept_at old.requests id) none)) (λ e. refl) refl
     (subst (λ fs. SendsFields (λ e. e) old new id fs TrailerSent (call_refused result)) are h)
 
-trailer_open : (s : EndpointState) (id : ℕ) (trailer : Head) → s.closed ≡ None → trailer_refused s id trailer ≡ or_later (body_refused_at (kept_at s.requests id)) (behind_order s id (pseudo_refused trailer))
-trailer_open s id trailer closed = ap (λ c. closed_or c (or_later (body_refused_at (kept_at s.requests id)) (behind_order s id (pseudo_refused trailer)))) closed
+trailer_open : (s : EndpointState) (id : ℕ) (trailer : Head) → s.closed ≡ None → trailer_refused s id trailer ≡ or_later (body_refused_at (kept_at s.requests id)) (behind_order s id (own_trailer_refused s.announced trailer))
+trailer_open s id trailer closed = ap (λ c. closed_or c (or_later (body_refused_at (kept_at s.requests id)) (behind_order s id (own_trailer_refused s.announced trailer)))) closed
 
 trailer_refused_by : (s : EndpointState) (id : ℕ) (trailer : Head) (fields : List Field) (rule : Option Refusal) → trailer_refused s id trailer ≡ rule → SendsListedTrailer s s id trailer fields (Err (unwrap_or rule refusal.OutOfMemory))
 trailer_refused_by s id trailer fields (Some r) is = trailer_refuses s id trailer fields r is
 trailer_refused_by s id trailer fields None is = trailer_lacks s id trailer fields is
 
 pub trailer_closed : (s : EndpointState) (id : ℕ) (trailer : Head) (fields : List Field) (code : ℕ) → s.closed ≡ Some code → SendsListedTrailer s s id trailer fields (Err (refusal.Closed code))
-trailer_closed s id trailer fields code closed = trailer_refuses s id trailer fields (refusal.Closed code) (ap (λ c. closed_or c (or_later (body_refused_at (kept_at s.requests id)) (behind_order s id (pseudo_refused trailer)))) closed)
+trailer_closed s id trailer fields code closed = trailer_refuses s id trailer fields (refusal.Closed code) (ap (λ c. closed_or c (or_later (body_refused_at (kept_at s.requests id)) (behind_order s id (own_trailer_refused s.announced trailer)))) closed)
 
 -- no room was made for it,
-pub trailer_unreserved : (s n : EndpointState) (id : ℕ) (trailer : Head) (fields : List Field) (later : Option Refusal) (r : Refusal) → s.closed ≡ None → later ≡ pseudo_refused trailer → n ≡ record s { requests = n.requests } → AllSame s.requests n.requests
+pub trailer_unreserved : (s n : EndpointState) (id : ℕ) (trailer : Head) (fields : List Field) (later : Option Refusal) (r : Refusal) → s.closed ≡ None → later ≡ own_trailer_refused s.announced trailer → n ≡ record s { requests = n.requests } → AllSame s.requests n.requests
     → r ≡ unwrap_or (or_later (body_refused_at (kept_at s.requests id)) (or_later later (early_trailer_at (kept_at s.requests id)))) refusal.OutOfMemory → SendsListedTrailer s n id trailer fields (Err r)
 trailer_unreserved s n id trailer fields later r closed is rest same why =
-    let rule = or_later (body_refused_at (kept_at s.requests id)) (behind_order s id (pseudo_refused trailer)) in
+    let rule = or_later (body_refused_at (kept_at s.requests id)) (behind_order s id (own_trailer_refused s.announced trailer)) in
     subst (λ v. SendsListedTrailer s v id trailer fields (Err r)) (sym rest)
     (subst (λ r. SendsListedTrailer s (record s { requests = n.requests }) id trailer fields (Err r)) (sym (why ∙ ap (λ l. unwrap_or (or_later (body_refused_at (kept_at s.requests id)) (behind_order s id l)) refusal.OutOfMemory) is))
     (section_alike (λ e. send_listed_trailer e id trailer fields) s id fields n.requests same (unwrap_or rule refusal.OutOfMemory) (trailer_refused_by s id trailer fields rule (trailer_open s id trailer closed))))
 
 -- its fields could not be listed,
-pub trailer_unlisted : (s n : EndpointState) (id : ℕ) (trailer : Head) (fields : List Field) (later : Option Refusal) → s.closed ≡ None → later ≡ pseudo_refused trailer → n ≡ record s { requests = n.requests } → AllSame s.requests n.requests
+pub trailer_unlisted : (s n : EndpointState) (id : ℕ) (trailer : Head) (fields : List Field) (later : Option Refusal) → s.closed ≡ None → later ≡ own_trailer_refused s.announced trailer → n ≡ record s { requests = n.requests } → AllSame s.requests n.requests
     → or_later (body_refused_at (kept_at s.requests id)) (or_later later (early_trailer_at (kept_at s.requests id))) ≡ None → SendsListedTrailer s n id trailer fields (Err refusal.OutOfMemory)
 trailer_unlisted s n id trailer fields later closed is rest same none =
     trailer_unreserved s n id trailer fields later refusal.OutOfMemory closed is rest same (ap (λ o. unwrap_or o refusal.OutOfMemory) (sym none))
 
 -- or they were sent
-pub trailer_sent : (s m n : EndpointState) (id : ℕ) (trailer : Head) (later : Option Refusal) (given fields : List Field) (result : Result Unit Refusal) → s.closed ≡ None → later ≡ pseudo_refused trailer
+pub trailer_sent : (s m n : EndpointState) (id : ℕ) (trailer : Head) (later : Option Refusal) (given fields : List Field) (result : Result Unit Refusal) → s.closed ≡ None → later ≡ own_trailer_refused s.announced trailer
     → m ≡ record s { requests = m.requests } → AllSame s.requests m.requests → or_later (body_refused_at (kept_at s.requests id)) (or_later later (early_trailer_at (kept_at s.requests id))) ≡ None → given ≡ fields
     → SendsFields (λ e. e) m n id given TrailerSent (call_refused result) → SendsListedTrailer s n id trailer fields result
 trailer_sent s m n id trailer later given fields result closed is rest same none are h =
     let mid = record s { requests = m.requests } in
     let taken : trailer_refused mid id trailer ≡ None = trailer_open mid id trailer closed
-    ∙ ap (λ o. or_later (body_refused_at o) (or_later (pseudo_refused trailer) (early_trailer_at o))) (same.each id) ∙ ap (λ l. or_later (body_refused_at (kept_at s.requests id)) (behind_order s id l)) (sym is) ∙ none in
+    ∙ ap (λ o. or_later (body_refused_at o) (or_later (own_trailer_refused s.announced trailer) (early_trailer_at o))) (same.each id) ∙ ap (λ l. or_later (body_refused_at (kept_at s.requests id)) (behind_order s id l)) (sym is) ∙ none in
     section_begun (λ e. send_listed_trailer e id trailer fields) s id fields m.requests same n (call_refused result)
     (trailer_sends mid n id trailer given fields result taken are (subst (λ v. SendsFields (λ e. e) v n id given TrailerSent (call_refused result)) rest h))
 
 -- The same where its list is at hand: no room was made for it,
-pub trailer_judged : (s n : EndpointState) (id : ℕ) (trailer : Head) (fields : List Field) (refused r : Refusal) → s.closed ≡ None → pseudo_refused trailer ≡ None → n ≡ record s { requests = n.requests } → AllSame s.requests n.requests
+pub trailer_judged : (s n : EndpointState) (id : ℕ) (trailer : Head) (fields : List Field) (refused r : Refusal) → s.closed ≡ None → own_trailer_refused s.announced trailer ≡ None → n ≡ record s { requests = n.requests } → AllSame s.requests n.requests
     → refused ≡ unwrap_or (or_later (body_refused_at (kept_at s.requests id)) (or_later None (early_trailer_at (kept_at s.requests id)))) refusal.OutOfMemory → IsJudgedOr n TrailerSent fields refused r
     → SendsJudgedTrailer s n id trailer fields (Err r)
 trailer_judged s n id trailer fields refused r closed sent rest same why judged = by (or_later (body_refused_at (kept_at s.requests id)) (behind_order s id None)) refl
@@ -428,7 +428,7 @@ trailer_judged s n id trailer fields refused r closed sent rest same why judged 
         (λ memory. rules ∙ judged.unbroken want memory))
 
 -- or it was sent
-pub trailer_sent_judged : (s m n : EndpointState) (id : ℕ) (trailer : Head) (later : Option Refusal) (given fields : List Field) (result : Result Unit Refusal) → s.closed ≡ None → later ≡ pseudo_refused trailer
+pub trailer_sent_judged : (s m n : EndpointState) (id : ℕ) (trailer : Head) (later : Option Refusal) (given fields : List Field) (result : Result Unit Refusal) → s.closed ≡ None → later ≡ own_trailer_refused s.announced trailer
     → m ≡ record s { requests = m.requests } → AllSame s.requests m.requests → or_later (body_refused_at (kept_at s.requests id)) (or_later later (early_trailer_at (kept_at s.requests id))) ≡ None → given ≡ fields
     → SendsFields (λ e. e) m n id given TrailerSent (call_refused result) → SendsJudgedTrailer s n id trailer fields result
 trailer_sent_judged s m n id trailer later given fields result closed is rest same none are h =

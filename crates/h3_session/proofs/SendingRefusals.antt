@@ -20,14 +20,14 @@ use Rattle.h3_connection.specs.Refusals.{Sender, SenderStream, first_of, going_a
 use Rattle.h3_connection.specs.Sending.{closed_or, outgoing_at, is_open, open_refusal, body_refusal, finish_refusal, reset_refusal, goaway_refusal, seen_at, sender_at}
 use Rattle.h3_connection.specs.State.{EndpointState, RequestState, StandsFor, IsOfOutgoing, SameAt, kept_at}
 use Rattle.h3_connection.specs.StreamSets.{stream_at}
-use Rattle.h3_connection.specs.StrictSending.{broken_head, broken_trailer, early_trailer, passes_content, unless_malformed}
+use Rattle.h3_connection.specs.StrictSending.{broken_head, broken_protocol, broken_trailer, early_trailer, passes_content, unless_malformed}
 use Rattle.h3_connection.specs.declared.event.Malformation.{Malformation}
 use Rattle.h3_connection.specs.declared.event.Malformation.TheVariants as malformation
 use Rattle.h3_connection.specs.declared.event.Refusal.{Refusal}
 use Rattle.h3_connection.specs.declared.event.Refusal.TheVariants as refusal
 use Rattle.h3_requests.specs.Refused.{body_refused_at, data_refused_at, early_trailer_at, end_refused_at, head_refused_at, outgoing_in, seen_in}
 use Rattle.h3_session.specs.SendingLists.{listed_head_refusal, listed_trailer_refusal, order_refusal, place_refusal}
-use Rattle.h3_session.specs.Refused.{body_refused, end_refused, goaway_refused, head_refused, is_critical_in, list_refused, open_refused, pseudo_refused, reset_refused, sender_on, side_refused, streams_of, trailer_refused}
+use Rattle.h3_session.specs.Refused.{body_refused, end_refused, goaway_refused, head_refused, is_critical_in, list_refused, open_refused, own_head_refused, own_trailer_refused, protocol_refused, pseudo_refused, reset_refused, sender_on, side_refused, streams_of, trailer_refused}
 
 -- a stream, by what is stored of its sender's part
 record SameSender (o : Option Outgoing) (r : Option RequestState) : Type 0 where
@@ -116,24 +116,27 @@ place_refusal_is s e id h =
     ap (λ c. closed_or c (head_refused_at (kept_at s.requests id))) h.closed ∙ ap (λ v. closed_or e.closed (first_of (not_next v v.takes_head []))) (seen_same s e id h)
 
 -- The rules of a head are asked in parts, one behind the other: that of the stream, that of the side, and those of the list.
-in_parts : (closed : Option ℕ) (a b c : Bool) (p q r : Refusal) (list : List (Bool × Refusal))
-    → or_later (closed_or closed (or_later (first_of ((a, p) ∷ (b, q) ∷ [])) (first_of ((c, r) ∷ [])))) (first_of list) ≡ closed_or closed (first_of ((a, p) ∷ (b, q) ∷ (c, r) ∷ list))
-in_parts (Some code) a b c p q r list = refl
-in_parts None true b c p q r list = refl
-in_parts None false true c p q r list = refl
-in_parts None false false true p q r list = refl
-in_parts None false false false p q r list = refl
+in_parts : (closed : Option ℕ) (a b c : Bool) (p q r : Refusal) (protocol : Option Malformation) (list : List (Bool × Refusal))
+    → or_later (closed_or closed (or_later (first_of ((a, p) ∷ (b, q) ∷ [])) (or_later (first_of (unless_malformed protocol [])) (first_of ((c, r) ∷ []))))) (first_of list)
+    ≡ closed_or closed (first_of ((a, p) ∷ (b, q) ∷ unless_malformed protocol ((c, r) ∷ list)))
+in_parts (Some code) a b c p q r protocol list = refl
+in_parts None true b c p q r protocol list = refl
+in_parts None false true c p q r protocol list = refl
+in_parts None false false c p q r (Some why) list = refl
+in_parts None false false true p q r None list = refl
+in_parts None false false false p q r None list = refl
 
 -- of a trailer, also what was sent in front of it
-in_more_parts : (closed : Option ℕ) (a b c : Bool) (p q r : Refusal) (early : Option Malformation) (list : List (Bool × Refusal))
-    → or_later (closed_or closed (or_later (first_of ((a, p) ∷ (b, q) ∷ [])) (or_later (first_of ((c, r) ∷ [])) (option_map refusal.Malformed early)))) (first_of list)
-    ≡ closed_or closed (first_of ((a, p) ∷ (b, q) ∷ (c, r) ∷ unless_malformed early list))
-in_more_parts (Some code) a b c p q r early list = refl
-in_more_parts None true b c p q r early list = refl
-in_more_parts None false true c p q r early list = refl
-in_more_parts None false false true p q r early list = refl
-in_more_parts None false false false p q r None list = refl
-in_more_parts None false false false p q r (Some why) list = refl
+in_more_parts : (closed : Option ℕ) (a b c : Bool) (p q r : Refusal) (protocol early : Option Malformation) (list : List (Bool × Refusal))
+    → or_later (closed_or closed (or_later (first_of ((a, p) ∷ (b, q) ∷ [])) (or_later (or_later (first_of (unless_malformed protocol [])) (first_of ((c, r) ∷ []))) (option_map refusal.Malformed early)))) (first_of list)
+    ≡ closed_or closed (first_of ((a, p) ∷ (b, q) ∷ unless_malformed protocol ((c, r) ∷ unless_malformed early list)))
+in_more_parts (Some code) a b c p q r protocol early list = refl
+in_more_parts None true b c p q r protocol early list = refl
+in_more_parts None false true c p q r protocol early list = refl
+in_more_parts None false false c p q r (Some why) early list = refl
+in_more_parts None false false true p q r None early list = refl
+in_more_parts None false false false p q r None None list = refl
+in_more_parts None false false false p q r None (Some why) list = refl
 
 -- Sending a head, as a list.
 pub head_refusal_is : (s : EndpointState) (e : EndpointHistory) (id : ℕ) (head : Head) (fields : List Field) → StandsFor s e
@@ -141,10 +144,11 @@ pub head_refusal_is : (s : EndpointState) (e : EndpointHistory) (id : ℕ) (head
 head_refusal_is s e id head fields h =
     let v = seen_in (kept_at s.requests id) in
     let broken = broken_head s.side s.announced s.peer.settings fields in
-    in_parts s.closed (not v.is_open) (not v.takes_head) (not (is_for (other s.side) head)) refusal.NotOpen refusal.OutOfOrder refusal.WrongSide (of_list broken s.peer.settings fields)
-    ∙ ap (λ c. closed_or c (refusal_of_head (sender_on s id) broken head fields)) h.closed
-    ∙ ap (λ v. closed_or e.closed (refusal_of_head v broken head fields)) (sender_same s e id h)
-    ∙ ap (λ b. closed_or e.closed (refusal_of_head (sender_at e id) b head fields)) (broken_same s e fields h)
+    in_parts s.closed (not v.is_open) (not v.takes_head) (not (is_for (other s.side) head)) refusal.NotOpen refusal.OutOfOrder refusal.WrongSide (broken_protocol s.announced head) (of_list broken s.peer.settings fields)
+    ∙ ap (λ c. closed_or c (refusal_of_head (sender_on s id) (broken_protocol s.announced head) broken head fields)) h.closed
+    ∙ ap (λ v. closed_or e.closed (refusal_of_head v (broken_protocol s.announced head) broken head fields)) (sender_same s e id h)
+    ∙ ap (λ own. closed_or e.closed (refusal_of_head (sender_at e id) (broken_protocol own head) broken head fields)) h.announced
+    ∙ ap (λ b. closed_or e.closed (refusal_of_head (sender_at e id) (broken_protocol e.announced head) b head fields)) (broken_same s e fields h)
 
 -- Sending a trailer, as a list.
 pub trailer_refusal_is : (s : EndpointState) (e : EndpointHistory) (id : ℕ) (head : Head) (fields : List Field) → StandsFor s e
@@ -153,11 +157,11 @@ trailer_refusal_is s e id head fields h =
     let v = seen_in (kept_at s.requests id) in
     let broken = broken_trailer s.announced fields in
     let early = early_trailer (outgoing_in (kept_at s.requests id)).content in
-    in_more_parts s.closed (not v.is_open) (not v.takes_body) (has_pseudo head) refusal.NotOpen refusal.OutOfOrder refusal.PseudoInTrailer early (of_list broken s.peer.settings fields)
-    ∙ ap (λ c. closed_or c (refusal_of_trailer (sender_on s id) early broken head fields)) h.closed
-    ∙ ap (λ v. closed_or e.closed (refusal_of_trailer v early broken head fields)) (sender_same s e id h)
-    ∙ ap (λ c. closed_or e.closed (refusal_of_trailer (sender_at e id) (early_trailer c) broken head fields)) (content_same s e id h)
-    ∙ ap (λ own. closed_or e.closed (refusal_of_trailer (sender_at e id) (early_trailer (outgoing_at e id).content) (broken_trailer own fields) head fields)) h.announced
+    in_more_parts s.closed (not v.is_open) (not v.takes_body) (has_pseudo head) refusal.NotOpen refusal.OutOfOrder refusal.PseudoInTrailer (broken_protocol s.announced head) early (of_list broken s.peer.settings fields)
+    ∙ ap (λ c. closed_or c (refusal_of_trailer (sender_on s id) (broken_protocol s.announced head) early broken head fields)) h.closed
+    ∙ ap (λ v. closed_or e.closed (refusal_of_trailer v (broken_protocol s.announced head) early broken head fields)) (sender_same s e id h)
+    ∙ ap (λ c. closed_or e.closed (refusal_of_trailer (sender_at e id) (broken_protocol s.announced head) (early_trailer c) broken head fields)) (content_same s e id h)
+    ∙ ap (λ own. closed_or e.closed (refusal_of_trailer (sender_at e id) (broken_protocol own head) (early_trailer (outgoing_at e id).content) (broken_trailer own fields) head fields)) h.announced
 
 -- What refuses a stream whatever is stored of it comes before the stream's own rules, and where nothing does, these are left.
 pub critical_first : (closed : Option ℕ) (b : Bool) (rules : List (Bool × Refusal)) (r : Refusal) → closed_or closed (first_of (needed b ∷ [])) ≡ Some r → closed_or closed (first_of (needed b ∷ rules)) ≡ Some r
@@ -258,17 +262,24 @@ rule_takes_none : (why : Option Malformation) → option_map refusal.Malformed w
 rule_takes_none None is = absurd (cc)
 rule_takes_none (Some why) is = absurd (cc)
 
+malformed_takes_none : (why : Option Malformation) → first_of (unless_malformed why []) ≢ Some refusal.OutOfMemory
+malformed_takes_none None is = absurd (cc)
+malformed_takes_none (Some why) is = absurd (cc)
+
 pub head_takes_none : (s : EndpointState) (id : ℕ) (head : Head) → head_refused s id head ≢ Some refusal.OutOfMemory
 head_takes_none s id head =
     let v = seen_in (kept_at s.requests id) in
-    unless_it_closed s.closed (or_later (head_refused_at (kept_at s.requests id)) (side_refused s.side head)) (later_takes_none (head_refused_at (kept_at s.requests id)) (side_refused s.side head)
+    unless_it_closed s.closed (or_later (head_refused_at (kept_at s.requests id)) (own_head_refused s.announced s.side head)) (later_takes_none (head_refused_at (kept_at s.requests id)) (own_head_refused s.announced s.side head)
     (two_take_none (not v.is_open) (not v.takes_head) refusal.NotOpen refusal.OutOfOrder (λ same. absurd (cc)) (λ same. absurd (cc)))
-    (one_takes_none (not (is_for (other s.side) head)) refusal.WrongSide (λ same. absurd (cc))))
+    (later_takes_none (protocol_refused s.announced head) (side_refused s.side head) (malformed_takes_none (broken_protocol s.announced head))
+    (one_takes_none (not (is_for (other s.side) head)) refusal.WrongSide (λ same. absurd (cc)))))
 
 pub trailer_takes_none : (s : EndpointState) (id : ℕ) (trailer : Head) → trailer_refused s id trailer ≢ Some refusal.OutOfMemory
 trailer_takes_none s id trailer =
     let v = seen_in (kept_at s.requests id) in
     let early = early_trailer_at (kept_at s.requests id) in
-    unless_it_closed s.closed (or_later (body_refused_at (kept_at s.requests id)) (or_later (pseudo_refused trailer) early)) (later_takes_none (body_refused_at (kept_at s.requests id)) (or_later (pseudo_refused trailer) early)
+    let own = own_trailer_refused s.announced trailer in
+    unless_it_closed s.closed (or_later (body_refused_at (kept_at s.requests id)) (or_later own early)) (later_takes_none (body_refused_at (kept_at s.requests id)) (or_later own early)
     (two_take_none (not v.is_open) (not v.takes_body) refusal.NotOpen refusal.OutOfOrder (λ same. absurd (cc)) (λ same. absurd (cc)))
-    (later_takes_none (pseudo_refused trailer) early (one_takes_none (has_pseudo trailer) refusal.PseudoInTrailer (λ same. absurd (cc))) (rule_takes_none (early_trailer (outgoing_in (kept_at s.requests id)).content))))
+    (later_takes_none own early
+    (later_takes_none (protocol_refused s.announced trailer) (pseudo_refused trailer) (malformed_takes_none (broken_protocol s.announced trailer)) (one_takes_none (has_pseudo trailer) refusal.PseudoInTrailer (λ same. absurd (cc)))) (rule_takes_none (early_trailer (outgoing_in (kept_at s.requests id)).content))))

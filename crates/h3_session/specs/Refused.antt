@@ -12,9 +12,10 @@ use Rattle.h3_connection.specs.Refusals.{Sender, first_of, needed, of_list, or_l
 use Rattle.h3_connection.specs.Sending.{closed_or}
 use Rattle.h3_connection.specs.State.{EndpointState, OutgoingState, kept_at}
 use Rattle.h3_connection.specs.StrictMessages.{malformation_by}
-use Rattle.h3_connection.specs.StrictSending.{violation_of_own_head}
+use Rattle.h3_connection.specs.StrictSending.{broken_protocol, unless_malformed, violation_of_own_head}
 use Rattle.h3_connection.specs.declared.event.Malformation.{Malformation}
 use Rattle.h3_connection.specs.declared.event.Refusal.{Refusal}
+use Rattle.h3_connection.specs.declared.setup.Announced.{Announced}
 use Rattle.h3_connection.specs.declared.place.SendPlace.{SendPlace}
 use Rattle.h3_connection.specs.declared.place.SendPlace.TheVariants.{NothingSent, HeadSent, TrailerSent}
 use Rattle.h3_requests.specs.Refused.{body_refused_at, data_refused_at, early_trailer_at, end_refused_at, head_refused_at, outgoing_in, seen_in}
@@ -36,13 +37,25 @@ side_refused side head = first_of (wrong_side side head ∷ [])
 abbrev pub pseudo_refused : Head → Option Refusal
 pseudo_refused trailer = first_of (with_pseudo trailer ∷ [])
 
+-- the protocol of a header, which is judged in front of both. That of a list is judged where the list is read
+abbrev pub protocol_refused : Announced → Head → Option Refusal
+protocol_refused own head = first_of (unless_malformed (broken_protocol own head) [])
+
+abbrev pub own_head_refused : Announced → Side → Head → Option Refusal
+own_head_refused own side head = or_later (protocol_refused own head) (side_refused side head)
+
+abbrev pub own_trailer_refused : Announced → Head → Option Refusal
+own_trailer_refused own trailer = or_later (protocol_refused own trailer) (pseudo_refused trailer)
+
 -- a head, its list apart
 abbrev pub head_refused : EndpointState → ℕ → Head → Option Refusal
-head_refused s id head = closed_or s.closed (or_later (head_refused_at (kept_at s.requests id)) (side_refused s.side head))
+head_refused s id head = closed_or s.closed (or_later (head_refused_at (kept_at s.requests id)) (own_head_refused s.announced s.side head))
 
 -- a trailer, its list apart
 abbrev pub trailer_refused : EndpointState → ℕ → Head → Option Refusal
-trailer_refused s id trailer = closed_or s.closed (or_later (body_refused_at (kept_at s.requests id)) (or_later (pseudo_refused trailer) (early_trailer_at (kept_at s.requests id))))
+trailer_refused s id trailer =
+    closed_or s.closed
+    (or_later (body_refused_at (kept_at s.requests id)) (or_later (own_trailer_refused s.announced trailer) (early_trailer_at (kept_at s.requests id))))
 
 -- a body of so many bytes
 abbrev pub body_refused : EndpointState → ℕ → ℕ → Option Refusal

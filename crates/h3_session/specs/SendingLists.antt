@@ -3,7 +3,7 @@
 use Rattle.std.specs.Prelude.{◌≡◌, ◌≢◌, ℕ, ◌≤◌, List, [], length, Option, Some, None, option_map, Result, Ok, Err}
 use Rattle.h3_field.specs.Field.{Field}
 use Rattle.h3_header.specs.Head.{Head}
-use Rattle.h3_header.specs.HeadRead.{HeadRead, HeadRefusal, IsHead, IsNone, head_of}
+use Rattle.h3_header.specs.HeadRead.{HeadRead, HeadRefusal, IsHead, IsNone, head_by}
 use Rattle.h3_connection.specs.Answers.{call_refused}
 use Rattle.h3_connection.specs.Calls.{IsSame}
 use Rattle.h3_connection.specs.Endpoint.{EndpointHistory}
@@ -14,7 +14,7 @@ use Rattle.h3_connection.specs.Refusals.{first_of, not_next, refusal_of_head, re
 use Rattle.h3_connection.specs.Sending.{does, unless_closed, outgoing_at, seen_at, sender_at, appended, asked, counted, encoded, fields_cost, head_part}
 use Rattle.h3_connection.specs.SendingContracts.{CutsOff, MayLackMemory, SendsSection}
 use Rattle.h3_connection.specs.State.{EndpointState, StandsFor}
-use Rattle.h3_connection.specs.StrictSending.{broken_head, broken_trailer, early_trailer}
+use Rattle.h3_connection.specs.StrictSending.{broken_head, broken_protocol, broken_trailer, early_trailer}
 use Rattle.h3_connection.specs.declared.event.Refusal.{Refusal}
 use Rattle.h3_connection.specs.declared.event.Refusal.TheVariants as refusal
 use Rattle.h3_connection.specs.declared.place.SendPlace.{SendPlace}
@@ -22,9 +22,9 @@ use Rattle.h3_session.specs.Refused.{broken_behind, refused_behind}
 use Rattle.h3_session.specs.declared.endpoint.lists.FieldsError.{FieldsError}
 use Rattle.h3_session.specs.declared.endpoint.lists.FieldsError.TheVariants as error
 
--- A head that is sent as this list: as `send_head`, which sends `head_fields`.
+-- A head that is sent as this list: as `send_head`, which sends `head_fields`. What was read of a list has a protocol that is taken.
 abbrev pub listed_head_refusal : EndpointHistory → ℕ → Head → List Field → Option Refusal
-listed_head_refusal e id head fields = unless_closed e (refusal_of_head (sender_at e id) (broken_head e.side e.announced e.peer.settings fields) head fields)
+listed_head_refusal e id head fields = unless_closed e (refusal_of_head (sender_at e id) (broken_protocol e.announced head) (broken_head e.side e.announced e.peer.settings fields) head fields)
 
 abbrev pub after_head : EndpointHistory → ℕ → Head → List Field → EndpointHistory
 after_head e id head fields = asked (counted (appended (encoded e id fields) id (head_part head (written_section e.encoder id fields))) (fields_cost fields)) id fields
@@ -35,7 +35,7 @@ send_listed_head e id head fields = does (listed_head_refusal e id head fields) 
 -- A trailer that is sent as this list: as `send_trailer`.
 abbrev pub listed_trailer_refusal : EndpointHistory → ℕ → Head → List Field → Option Refusal
 listed_trailer_refusal e id trailer fields =
-    unless_closed e (refusal_of_trailer (sender_at e id) (early_trailer (outgoing_at e id).content) (broken_trailer e.announced fields) trailer fields)
+    unless_closed e (refusal_of_trailer (sender_at e id) (broken_protocol e.announced trailer) (early_trailer (outgoing_at e id).content) (broken_trailer e.announced fields) trailer fields)
 
 abbrev pub after_trailer : EndpointHistory → ℕ → List Field → EndpointHistory
 after_trailer e id fields = counted (appended (encoded e id fields) id (OwnTrailer (written_section e.encoder id fields))) (fields_cost fields)
@@ -106,10 +106,10 @@ send_read_trailer e id fields (IsNone why) = (Some (error_after (order_refusal e
 
 -- A list goes out as a head, or as a trailer, where it reads as one.
 abbrev pub send_fields : EndpointHistory → ℕ → List Field → Option FieldsError × EndpointHistory
-send_fields e id fields = send_read_head e id fields (head_of fields)
+send_fields e id fields = send_read_head e id fields (head_by e.announced.choices.extensions.any_protocol fields)
 
 abbrev pub send_trailer_fields : EndpointHistory → ℕ → List Field → Option FieldsError × EndpointHistory
-send_trailer_fields e id fields = send_read_trailer e id fields (head_of fields)
+send_trailer_fields e id fields = send_read_trailer e id fields (head_by e.announced.choices.extensions.any_protocol fields)
 
 abbrev pub no_memory : FieldsError
 no_memory = error.Refused refusal.OutOfMemory
@@ -140,7 +140,7 @@ pub record SendsList (act : EndpointHistory → Option FieldsError × EndpointHi
   pub memory : (e : EndpointHistory) → StandsFor old e → told ≡ Some no_memory → MayLackMap (act e).0 × CutsOff e id fields new
   -- no map is made of so few fields
   pub short : (e : EndpointHistory) → StandsFor old e → told ≡ Some no_memory → length fields ≤ 24576 → MayLackSize (act e).0
-  pub readable : told ≡ Some no_memory → length fields ≤ 24576 → IsReadable (head_of fields)
+  pub readable : told ≡ Some no_memory → length fields ≤ 24576 → IsReadable (head_by old.announced.choices.extensions.any_protocol fields)
   -- of a list that is refused nothing was inserted
   pub refused : (e : EndpointHistory) → StandsFor old e → told ≡ Some no_memory → (act e).0 ≢ None → IsSame old new
 

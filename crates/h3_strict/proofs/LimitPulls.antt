@@ -4,7 +4,7 @@ use Rattle.std.specs.Prelude.{nat_lt, option_map, ◌||◌}
 use Rattle.std.specs.List.{concat}
 use Rattle.h3_field.specs.Field.{Field}
 use Rattle.h3_field.specs.Instruction.{DecoderInstruction}
-use Rattle.h3_header.specs.HeadRead.{head_of}
+use Rattle.h3_header.specs.HeadRead.{head_by}
 use Rattle.h3_messages.specs.Content.{takes_trailer}
 use Rattle.h3_proto.specs.declared.stream.Side.{Side}
 use Rattle.h3_proto.specs.declared.stream.Side.TheVariants.{Client, Server}
@@ -72,7 +72,7 @@ module _ (most : ℕ) (side : Side) (own : Announced) (id : ℕ) (r : DecoderSta
   read_same : (i : Incoming) (replies : List DecoderInstruction) (fields : List Field) → read_section side any id r i replies fields ≡ read_section side own id r i replies fields
   read_same i replies fields =
       either (nat_lt (section_of own) (told_size fields)) _ _ _ _ refl
-      (ap (λ o. judged side id (with_content side own i fields) replies (if_whole i.content (if own.choices.strict_messages then option_map malformation_by o else None)) (head_of fields)) (violation_same most side own i.place fields))
+      (ap (λ o. judged side id (with_content side own i fields) replies (if_whole i.content (if own.choices.strict_messages then option_map malformation_by o else None)) (head_by own.choices.extensions.any_protocol fields)) (violation_same most side own i.place fields))
 
   decoded_same : (i : Incoming) (d : DecodedSection) → decoded side any id r i d ≡ decoded side own id r i d
   decoded_same i (Fields fields count) = read_same (past_section i) (acknowledgment id count) fields

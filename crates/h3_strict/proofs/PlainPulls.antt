@@ -7,7 +7,7 @@ use Rattle.h3_field.specs.Instruction.{DecoderInstruction}
 use Rattle.h3_qpack.specs.DecoderState.{DecoderState}
 use Rattle.h3_qpack.specs.DecodedSection.{DecodedSection, Fields, Missing, BadSection, decode_section}
 use Rattle.h3_header.specs.Head.{Head, has_pseudo}
-use Rattle.h3_header.specs.HeadRead.{HeadRead, IsHead, IsNone, head_of}
+use Rattle.h3_header.specs.HeadRead.{HeadRead, IsHead, IsNone, head_by}
 use Rattle.h3_messages.specs.Content.{is_exceeded, may_end, takes_trailer}
 use Rattle.h3_proto.specs.declared.stream.Side.{Side}
 use Rattle.h3_proto.specs.declared.stream.Side.TheVariants.{Client, Server}
@@ -103,7 +103,7 @@ module _ (side : Side) (own : Announced) (id : ℕ) (r : DecoderState) where
   read_plain : (n : ℕ) (i : Incoming) (replies : List DecoderInstruction) (fields : List Field) → PullsPlainly n (read_section side own id r i replies fields) (read_section side (plain own) id r (plain_incoming i) replies fields)
   read_plain n i replies fields =
       either n (nat_lt (section_of own) (told_size fields)) _ _ _ _ (Same refl)
-      (judged_plain n side id (with_content side own i fields) replies (if_whole i.content (broken_rule side own i.place fields)) (head_of fields))
+      (judged_plain n side id (with_content side own i fields) replies (if_whole i.content (broken_rule side own i.place fields)) (head_by own.choices.extensions.any_protocol fields))
 
   decoded_plain : (n : ℕ) (i : Incoming) (d : DecodedSection) → PullsPlainly n (decoded side own id r i d) (decoded side (plain own) id r (plain_incoming i) d)
   decoded_plain n i (Fields fields count) = read_plain n (past_section i) (acknowledgment id count) fields

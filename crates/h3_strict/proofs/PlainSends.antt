@@ -16,7 +16,7 @@ use Rattle.h3_connection.specs.Sections.{written_section}
 use Rattle.h3_connection.specs.Refusals.{first_of, is_too_large}
 use Rattle.h3_connection.specs.Sending.{closed_or, open_refusal, open_request, head_refusal, body_refusal, trailer_refusal, finish_refusal, reset_refusal, goaway_refusal, goaway, cancel_refusal, cancel, send_head, send_body, send_trailer, finish, reset, sent_bytes, counted, encoded, appended, head_part, fields_cost, outgoing_at, asked, awaiting_at, content_of_own, known_of, remembers, saying_at, advance_at, advance}
 use Rattle.h3_connection.specs.StreamSets.{Streams, stream_at, set_stream}
-use Rattle.h3_connection.specs.StrictSending.{broken_head, broken_trailer, early_trailer, passes_content, unless_malformed}
+use Rattle.h3_connection.specs.StrictSending.{broken_head, broken_protocol, broken_trailer, early_trailer, passes_content, unless_malformed}
 use Rattle.h3_connection.specs.declared.event.Malformation.{Malformation}
 use Rattle.h3_connection.specs.declared.event.Malformation.TheVariants as malformation
 use Rattle.h3_connection.specs.declared.event.Refusal.{Refusal}
@@ -39,13 +39,14 @@ with_out : (e f : EndpointHistory) (id : ℕ) (g : Outgoing → Outgoing) → ((
 with_out e f id g same = ap (λ (t : Streams Outgoing). record (plainly f) { outgoing = t }) (sets_out e id g same)
 
 -- the rules of a sender, by what is there of the stream
-abbrev head_rules : EndpointHistory → Option Outgoing → Head → Option Malformation → Option Refusal
-head_rules e o head broken = closed_or e.closed (first_of (
+abbrev head_rules : EndpointHistory → Option Outgoing → Head → Option Malformation → Option Malformation → Option Refusal
+head_rules e o head protocol broken = closed_or e.closed (first_of (
     (not (is_some o), refusal.NotOpen) ∷
     (not (takes_head (unwrap_or o nothing_sent)), refusal.OutOfOrder) ∷
+    unless_malformed protocol (
     (not (is_for (other e.side) head), refusal.WrongSide) ∷
     unless_malformed broken (
-    (is_too_large e.peer.settings (head_fields head), refusal.TooLarge (section_size (head_fields head))) ∷ [])))
+    (is_too_large e.peer.settings (head_fields head), refusal.TooLarge (section_size (head_fields head))) ∷ []))))
 
 abbrev body_rules : EndpointHistory → Option Outgoing → ℕ → Option Refusal
 body_rules e o size = closed_or e.closed (first_of (
@@ -53,13 +54,14 @@ body_rules e o size = closed_or e.closed (first_of (
     (not (takes_body (unwrap_or o nothing_sent)), refusal.OutOfOrder) ∷
     (passes_content (unwrap_or o nothing_sent).content size, refusal.Malformed malformation.ContentLength) ∷ []))
 
-abbrev trailer_rules : EndpointHistory → Option Outgoing → Head → Option Malformation → Option Refusal
-trailer_rules e o head broken = closed_or e.closed (first_of (
+abbrev trailer_rules : EndpointHistory → Option Outgoing → Head → Option Malformation → Option Malformation → Option Refusal
+trailer_rules e o head protocol broken = closed_or e.closed (first_of (
     (not (is_some o), refusal.NotOpen) ∷
     (not (takes_body (unwrap_or o nothing_sent)), refusal.OutOfOrder) ∷
+    unless_malformed protocol (
     (has_pseudo head, refusal.PseudoInTrailer) ∷
     unless_malformed (early_trailer (unwrap_or o nothing_sent).content) (unless_malformed broken (
-    (is_too_large e.peer.settings (head_fields head), refusal.TooLarge (section_size (head_fields head))) ∷ []))))
+    (is_too_large e.peer.settings (head_fields head), refusal.TooLarge (section_size (head_fields head))) ∷ [])))))
 
 abbrev finish_rules : EndpointHistory → Option Outgoing → Option Refusal
 finish_rules e o = closed_or e.closed (first_of (
@@ -90,23 +92,32 @@ module _ (e : EndpointHistory) (id : ℕ) where
   abbrev too_large : Head → List (Bool × Refusal)
   too_large head = (is_too_large e.peer.settings (head_fields head), refusal.TooLarge (section_size (head_fields head))) ∷ []
 
-  head_rules_plain : (head : Head) (broken : Option Malformation) (o : Option Outgoing) → RulesPlainly (head_rules e o head broken) (head_rules e (option_map plain_outgoing o) head None)
-  head_rules_plain head broken None = if_open e.closed _ _ (Agrees refl)
-  head_rules_plain head broken (Some o) =
+  -- a rule that both ends ask
+  both_unless : (rule : Option Malformation) (one two : List (Bool × Refusal)) → RulesPlainly (first_of one) (first_of two) → RulesPlainly (first_of (unless_malformed rule one)) (first_of (unless_malformed rule two))
+  both_unless None one two h = h
+  both_unless (Some why) one two h = Agrees refl
+
+  head_rules_plain : (head : Head) (protocol broken : Option Malformation) (o : Option Outgoing) → RulesPlainly (head_rules e o head protocol broken) (head_rules e (option_map plain_outgoing o) head protocol None)
+  head_rules_plain head protocol broken None = if_open e.closed _ _ (Agrees refl)
+  head_rules_plain head protocol broken (Some o) =
       let size = too_large head in
       let judges = unless_malformed broken size in
       let sides : Bool × Refusal = (not (is_for (other e.side) head), refusal.WrongSide) in
-      if_open e.closed _ _ (behind (not (takes_head o)) refusal.OutOfOrder (sides ∷ judges) (sides ∷ size) (behind sides.0 sides.1 judges size (unless_broken broken size size (Agrees refl))))
+      if_open e.closed _ _ (behind (not (takes_head o)) refusal.OutOfOrder (unless_malformed protocol (sides ∷ judges)) (unless_malformed protocol (sides ∷ size))
+      (both_unless protocol (sides ∷ judges) (sides ∷ size) (behind sides.0 sides.1 judges size (unless_broken broken size size (Agrees refl)))))
 
   pub heads_plainly : (head : Head) → CallsPlainly e (send_head e id head) (send_head (plainly e) id head)
   heads_plainly head =
       does_plainly (head_refusal e id head) (head_refusal (plainly e) id head) e _ _
-      (found (λ o. RulesPlainly (head_rules e sent head broken) (head_rules e o head None)) (head_rules_plain head broken sent))
+      (found (λ o. RulesPlainly (head_rules e sent head protocol broken) (head_rules e o head protocol None)) (head_rules_plain head protocol broken sent))
       (ap (λ (t : Streams Outgoing). record (plainly new) { incoming = each_stream plain_incoming e.incoming; outgoing = t }) outgoing_is
       ∙ ap (λ (s : Streams Incoming). record (plainly new) { incoming = s }) (sym incoming_is))
     where
       fields : List Field
       fields = head_fields head
+
+      protocol : Option Malformation
+      protocol = broken_protocol e.announced head
 
       broken : Option Malformation
       broken = broken_head e.side e.announced e.peer.settings fields
@@ -164,24 +175,26 @@ module _ (e : EndpointHistory) (id : ℕ) where
       does_plainly (body_refusal e id (length bytes)) (body_refusal (plainly e) id (length bytes)) e _ _
       (found (λ o. RulesPlainly (body_rules e sent (length bytes)) (body_rules e o (length bytes))) (body_rules_plain (length bytes) sent)) (body_is bytes)
 
-  trailer_rules_plain : (head : Head) (broken : Option Malformation) (o : Option Outgoing) → RulesPlainly (trailer_rules e o head broken) (trailer_rules e (option_map plain_outgoing o) head None)
-  trailer_rules_plain head broken None = if_open e.closed _ _ (Agrees refl)
-  trailer_rules_plain head broken (Some o) =
+  trailer_rules_plain : (head : Head) (protocol broken : Option Malformation) (o : Option Outgoing) → RulesPlainly (trailer_rules e o head protocol broken) (trailer_rules e (option_map plain_outgoing o) head protocol None)
+  trailer_rules_plain head protocol broken None = if_open e.closed _ _ (Agrees refl)
+  trailer_rules_plain head protocol broken (Some o) =
       let size = too_large head in
       let judges = unless_malformed broken size in
       let early = unless_malformed (early_trailer o.content) judges in
       let pseudo : Bool × Refusal = (has_pseudo head, refusal.PseudoInTrailer) in
-      if_open e.closed _ _ (behind (not (takes_body o)) refusal.OutOfOrder (pseudo ∷ early) (pseudo ∷ size) (behind pseudo.0 pseudo.1 early size
-      (unless_broken (early_trailer o.content) judges size (unless_broken broken size size (Agrees refl)))))
+      if_open e.closed _ _ (behind (not (takes_body o)) refusal.OutOfOrder (unless_malformed protocol (pseudo ∷ early)) (unless_malformed protocol (pseudo ∷ size))
+      (both_unless protocol (pseudo ∷ early) (pseudo ∷ size) (behind pseudo.0 pseudo.1 early size
+      (unless_broken (early_trailer o.content) judges size (unless_broken broken size size (Agrees refl))))))
 
   pub trailers_plainly : (head : Head) → CallsPlainly e (send_trailer e id head) (send_trailer (plainly e) id head)
   trailers_plainly head =
       let fields = head_fields head in
+      let protocol = broken_protocol e.announced head in
       let broken = broken_trailer e.announced fields in
       let part : OwnPart = OwnTrailer (written_section e.encoder id fields) in
       let new : EndpointHistory = counted (appended (encoded e id fields) id part) (fields_cost fields) in
       does_plainly (trailer_refusal e id head) (trailer_refusal (plainly e) id head) e _ _
-      (found (λ o. RulesPlainly (trailer_rules e sent head broken) (trailer_rules e o head None)) (trailer_rules_plain head broken sent))
+      (found (λ o. RulesPlainly (trailer_rules e sent head protocol broken) (trailer_rules e o head protocol None)) (trailer_rules_plain head protocol broken sent))
       (with_out e new id (λ o. record o { parts = o.parts ++ part ∷ [] }) (λ o. refl))
 
   finish_rules_plain : (o : Option Outgoing) → RulesPlainly (finish_rules e o) (finish_rules e (option_map plain_outgoing o))

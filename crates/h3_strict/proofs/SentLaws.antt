@@ -17,7 +17,7 @@ use Rattle.h3_connection.specs.OwnIds.{other}
 use Rattle.h3_connection.specs.Pulling.{is_for}
 use Rattle.h3_connection.specs.Refusals.{first_of, is_too_large}
 use Rattle.h3_connection.specs.Sending.{body_refusal, finish_refusal, head_refusal, is_open, outgoing_at, trailer_refusal}
-use Rattle.h3_connection.specs.StrictSending.{broken_head, broken_trailer, early_trailer, passes_content, unless_malformed}
+use Rattle.h3_connection.specs.StrictSending.{broken_head, broken_protocol, broken_trailer, early_trailer, passes_content, unless_malformed}
 use Rattle.h3_connection.specs.StrictSendingLaws.{not_closed, not_early, not_malformed, passed}
 use Rattle.h3_connection.specs.declared.event.Malformation.{Malformation}
 use Rattle.h3_connection.specs.declared.event.Malformation.TheVariants as malformation
@@ -51,10 +51,11 @@ head_rules e id head done =
     let large = (is_too_large e.peer.settings fields, refusal.TooLarge (section_size fields)) ∷ [] in
     let broken = broken_head e.side e.announced e.peer.settings fields in
     let wrong = (not (is_for (other e.side) head), refusal.WrongSide) ∷ unless_malformed broken large in
-    let there = passed (not (is_open e id)) refusal.NotOpen ((not (takes_head (outgoing_at e id)), refusal.OutOfOrder) ∷ wrong) (not_closed e.closed _ done) in
-    let placed = passed (not (takes_head (outgoing_at e id))) refusal.OutOfOrder wrong there in
+    let protocol = broken_protocol e.announced head in
+    let there = passed (not (is_open e id)) refusal.NotOpen ((not (takes_head (outgoing_at e id)), refusal.OutOfOrder) ∷ unless_malformed protocol wrong) (not_closed e.closed _ done) in
+    let placed = not_early protocol wrong (passed (not (takes_head (outgoing_at e id))) refusal.OutOfOrder (unless_malformed protocol wrong) there) in
     record {
-      takes = is_true (takes_head (outgoing_at e id)) (held (not (takes_head (outgoing_at e id))) refusal.OutOfOrder wrong there);
+      takes = is_true (takes_head (outgoing_at e id)) (held (not (takes_head (outgoing_at e id))) refusal.OutOfOrder (unless_malformed protocol wrong) there);
       fits = is_true (is_for (other e.side) head) (held (not (is_for (other e.side) head)) refusal.WrongSide (unless_malformed broken large) placed);
       rule = not_malformed broken large (passed (not (is_for (other e.side) head)) refusal.WrongSide (unless_malformed broken large) placed);
       small = held (is_too_large e.peer.settings fields) (refusal.TooLarge (section_size fields)) [] (not_early broken large (passed (not (is_for (other e.side) head)) refusal.WrongSide (unless_malformed broken large) placed));
@@ -88,11 +89,12 @@ trailer_rules e id trailer done =
     let broken = broken_trailer e.announced fields in
     let early = early_trailer (outgoing_at e id).content in
     let pseudo = (has_pseudo trailer, refusal.PseudoInTrailer) ∷ unless_malformed early (unless_malformed broken large) in
-    let there = passed (not (is_open e id)) refusal.NotOpen ((not (takes_body (outgoing_at e id)), refusal.OutOfOrder) ∷ pseudo) (not_closed e.closed _ done) in
-    let placed = passed (not (takes_body (outgoing_at e id))) refusal.OutOfOrder pseudo there in
+    let protocol = broken_protocol e.announced trailer in
+    let there = passed (not (is_open e id)) refusal.NotOpen ((not (takes_body (outgoing_at e id)), refusal.OutOfOrder) ∷ unless_malformed protocol pseudo) (not_closed e.closed _ done) in
+    let placed = not_early protocol pseudo (passed (not (takes_body (outgoing_at e id))) refusal.OutOfOrder (unless_malformed protocol pseudo) there) in
     let behind = passed (has_pseudo trailer) refusal.PseudoInTrailer (unless_malformed early (unless_malformed broken large)) placed in
     record {
-      takes = is_true (takes_body (outgoing_at e id)) (held (not (takes_body (outgoing_at e id))) refusal.OutOfOrder pseudo there);
+      takes = is_true (takes_body (outgoing_at e id)) (held (not (takes_body (outgoing_at e id))) refusal.OutOfOrder (unless_malformed protocol pseudo) there);
       early = not_malformed early (unless_malformed broken large) behind;
       rule = not_malformed broken large (not_early early (unless_malformed broken large) behind);
       small = held (is_too_large e.peer.settings fields) (refusal.TooLarge (section_size fields)) [] (not_early broken large (not_early early (unless_malformed broken large) behind));

@@ -4,7 +4,7 @@ use Rattle.std.specs.Prelude.{not, codes, option_map, unwrap_or, ◌&&◌, ◌==
 use Rattle.h3_field.specs.Field.{Field}
 use Rattle.h3_field.specs.Instruction.{DecoderInstruction}
 use Rattle.h3_header.specs.Head as header
-use Rattle.h3_header.specs.HeadRead.{head_of}
+use Rattle.h3_header.specs.HeadRead.{head_by}
 use Rattle.h3_header.specs.Reads.{head_of_fields}
 use Rattle.h3_header.specs.ReadsBack.{ReadsBack}
 use Rattle.h3_messages.specs.Content.{asked_for, content_behind_status, content_expected, content_of_status, is_interim_status, is_without_content, may_end, said}
@@ -128,7 +128,7 @@ module _ (lists : ListsAreTheirValue) (side : Side) (own : Announced) (id : ℕ)
       (item_good f kind s part is next (item.TooLarge (told_size s.fields)) (past_large side own x s.fields) replies none
       (subst (λ b. CountsAlong side awaited f.sent (f.parts_out + 1) 0 (if b then content_behind_large side x.place x.content status else x.content)) (sym strict) h.large) h.known_is)
       (subst (PullsOn side awaited known f)
-      (sym (ap (λ b. judged side id y replies b (head_of s.fields)) h.rule ∙ ap (judged side id y replies None) (lists s.fields (head_of_fields s.fields) (back.0, refl))))
+      (sym (ap (λ b. judged side id y replies b (head_by own.choices.extensions.any_protocol s.fields)) h.rule ∙ ap (judged side id y replies None) (lists own.choices.extensions.any_protocol s.fields (head_of_fields s.fields) (back.0, refl))))
       (h.out y none (subst (λ b. CountsAlong side awaited f.sent (f.parts_out + 1) 0 (if b then content_behind side x.place x.content s.fields else x.content)) (sym strict) h.whole) (ap (λ b. if b then response_behind side x.place x.response s.fields else x.response) strict)))
 
   client_is : (d : Side) → is_client d ≡ true → d ≡ Client

@@ -1,11 +1,13 @@
 -- What a run asks for of its events.
 use Rattle.std.specs.Prelude.{◌^◌, ◌<◌, List, length, sum_by}
+use Rattle.std.specs.List.{AllByRecursion}
 use Rattle.h3_proto.specs.declared.stream.Side.TheVariants.{Client, Server}
-use Rattle.h3_world.specs.Sendable.{sent_by}
+use Rattle.h3_world.specs.Sendable.{NamesProtocol, sent_by}
 use Rattle.h3_world.specs.declared.event.Event.{Event}
 
--- fewer than 2^48 events, of which each side is handed less than 2^56 bytes to send
+-- Fewer than 2^48 events, of which each side is handed less than 2^56 bytes to send, and in whose headers `:protocol` is one of the two names.
 pub record AreFew (events : List Event) : Type 0 where
   pub count : length events < 2 ^ 48
   pub client_sends : sum_by (sent_by Client) events < 2 ^ 56
   pub server_sends : sum_by (sent_by Server) events < 2 ^ 56
+  pub names : AllByRecursion NamesProtocol events

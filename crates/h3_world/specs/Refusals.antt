@@ -30,13 +30,13 @@ abbrev pub sender_at : Setup → World → Side → ℕ → Sender
 sender_at setup w side id = record { side = side; stream = seen_at w side id; settings = settings_known setup w side }
 
 abbrev pub head_refusal : Setup → World → Side → ℕ → Head → Option Refusal
-head_refusal setup w side id head = refusal_of_head (sender_at setup w side id) None head (head_fields head)
+head_refusal setup w side id head = refusal_of_head (sender_at setup w side id) None None head (head_fields head)
 
 abbrev pub body_refusal : World → Side → ℕ → Option Refusal
 body_refusal w side id = refusal_of_body (seen_at w side id) false
 
 abbrev pub trailer_refusal : Setup → World → Side → ℕ → Head → Option Refusal
-trailer_refusal setup w side id trailer = refusal_of_trailer (sender_at setup w side id) None None trailer (head_fields trailer)
+trailer_refusal setup w side id trailer = refusal_of_trailer (sender_at setup w side id) None None None trailer (head_fields trailer)
 
 abbrev pub finish_refusal : World → Side → ℕ → Option Refusal
 finish_refusal w side id = refusal_of_end (seen_at w side id) false

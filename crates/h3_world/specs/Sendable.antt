@@ -1,9 +1,10 @@
 -- What an event may send, and how much each side is handed to send.
-use Rattle.std.specs.Prelude.{◌≡◌, ℕ, ◌+◌, ◌^◌, ◌<◌, List, length}
+use Rattle.std.specs.Prelude.{◌≡◌, ℕ, ◌+◌, ◌^◌, ◌<◌, List, length, IfSome}
 use Rattle.std.specs.List.{AllByRecursion}
 use Rattle.h3_field.specs.Field.{Field, section_size}
 use Rattle.h3_field.specs.ReadBack.{IsFieldOfBytes}
 use Rattle.h3_header.specs.Head.{Head as Fields, head_fields}
+use Rattle.h3_header.specs.ProtocolText.{IsProtocolText}
 use Rattle.h3_header.specs.Reads.{head_of_fields}
 use Rattle.h3_header.specs.ReadsBack.{ReadsBack, as_read}
 use Rattle.h3_proto.specs.declared.stream.Side.{Side}
@@ -18,8 +19,9 @@ pub record IsSendableSection (fields : List Field) : Type 0 where
   pub reads_back : ReadsBack fields
   pub small : section_size fields < 2 ^ 56
 
--- such a section, and that its fields are read as this head
+-- such a section, whose protocol is one of the two names, if it has one, and that its fields are read as this head
 pub record IsSendableHead (head : Fields) : Type 0 where
+  pub named : IfSome head.protocol IsProtocolText
   pub section : IsSendableSection (head_fields head)
   pub read_as : head_of_fields (head_fields head) ≡ as_read head
 
@@ -30,6 +32,12 @@ IsSendable (event.Trailer acting id trailer) = IsSendableHead trailer
 IsSendable (event.Body acting id bytes) = length bytes < 2 ^ 56
 IsSendable (event.Goaway acting id) = id < 2 ^ 62
 IsSendable _ = Unit {0}
+
+-- The protocol of what the event sends is one of the two names: another one is malformed, unless both sides take any (RFC 8441, section 4).
+abbrev pub NamesProtocol : Event → Type 0
+NamesProtocol (event.Head acting id head) = IfSome head.protocol IsProtocolText
+NamesProtocol (event.Trailer acting id trailer) = IfSome trailer.protocol IsProtocolText
+NamesProtocol _ = Unit {0}
 
 abbrev pub if_by : Side → Side → ℕ → ℕ
 if_by Client Client n = n

@@ -16,15 +16,16 @@ ghost use Rattle.h3_connection.specs.State.{StandsFor, kept_at};
 ghost use Rattle.h3_connection.specs.declared.event.Refusal.TheVariants.{OutOfMemory};
 ghost use Rattle.h3_connection.specs.declared.place.SendPlace.TheVariants.{TrailerSent};
 ghost use Rattle.h3_requests.specs.Refused.{head_refused_at, body_refused_at, early_trailer_at};
-ghost use Rattle.h3_session.specs.Refused.{broken_behind, side_refused, pseudo_refused, size_refused, refused_behind};
+ghost use Rattle.h3_session.specs.Refused.{broken_behind, own_head_refused, own_trailer_refused, protocol_refused, side_refused, pseudo_refused, size_refused, refused_behind};
 ghost use Rattle.h3_session.specs.SendingFields.{Encodes, StopsEncoding, Queues, Remembers, SendsFields, IsJudged, asking};
 ghost use Rattle.h3_session.specs.SentHeads.{IsReadOf, IsSaid};
 
 use super::Endpoint;
 use super::strict::{Said, SentRead};
 use h3_coding::varint::VarInt;
-use h3_connection::event::Refusal;
+use h3_connection::event::{Malformation, Refusal};
 use h3_connection::place::SendPlace;
+use h3_connection::setup::Announced;
 use h3_field::{HeaderField, section_size};
 use h3_header::Header;
 use h3_outgoing::EncodedSection;
@@ -49,7 +50,8 @@ const SIZE_LIMIT: u64 = 1 << 62;
 impl Endpoint {
     /// Sends a header section on a stream: an encoded field section in a HEADERS frame (RFC 9114, section 4.3), and its insertions on the
     /// encoder stream. One with a status from 100 to 199 is not the last one. Refused are first every call after a connection fault, then a
-    /// stream that is not open, then one whose final header section or end was sent. Next is a header section of the other side's messages.
+    /// stream that is not open, then one whose final header section or end was sent. Next is a header section with another protocol than the
+    /// two names of `Protocol`, unless the configuration takes any (`Config::with_any_protocol`), and then one of the other side's messages.
     /// An endpoint that asks for strict messages then refuses one that a strict peer would call malformed. Last is one whose size is above
     /// what the peer's settings allow. If an allocation fails the encoder stream may have gained whole instructions, and the stream is as
     /// it was.
@@ -59,7 +61,7 @@ impl Endpoint {
         if let Some(code) = self.closed {
             return Err(Refusal::Closed(code));
         }
-        let later = side_refusal(self.side, head);
+        let later = head_refusal(&self.announced, self.side, head);
         let room = match self.reserve_head(id, later) {
             Ok(room) => room,
             Err(refusal) => return Err(refusal),
@@ -96,7 +98,7 @@ impl Endpoint {
         if let Some(code) = self.closed {
             return Err(Refusal::Closed(code));
         }
-        let later = pseudo_refusal(trailer);
+        let later = trailer_refusal(&self.announced, trailer);
         let room = match self.reserve_trailer(id, later) {
             Ok(room) => room,
             Err(refusal) => return Err(refusal),
@@ -354,6 +356,36 @@ fn size_of(fields: &[HeaderField]) -> Option<u64>
         return None;
     }
     Some(size)
+}
+
+/// Why a header section is refused for its protocol, or as one of the other side's messages.
+fn head_refusal(announced: &Announced, side: Side, head: &Header) -> Option<Refusal>
+    ensures { result ≡ own_head_refused announced.now side head.now }
+{
+    match protocol_refusal(announced, head) {
+        Some(refusal) => Some(refusal),
+        None => side_refusal(side, head),
+    }
+}
+
+/// Why a trailer is refused for its protocol, or for any pseudo-header field.
+fn trailer_refusal(announced: &Announced, trailer: &Header) -> Option<Refusal>
+    ensures { result ≡ own_trailer_refused announced.now trailer.now }
+{
+    match protocol_refusal(announced, trailer) {
+        Some(refusal) => Some(refusal),
+        None => pseudo_refusal(trailer),
+    }
+}
+
+/// Why a header is refused whose protocol the endpoint takes from no peer (RFC 8441, section 4).
+fn protocol_refusal(announced: &Announced, header: &Header) -> Option<Refusal>
+    ensures { result ≡ protocol_refused announced.now header.now }
+{
+    if header.takes_protocol(announced.choices.extensions.any_protocol) {
+        return None;
+    }
+    Some(Refusal::Malformed(Malformation::Value))
 }
 
 /// Why a header section is refused that is one of the other side's messages.

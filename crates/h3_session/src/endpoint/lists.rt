@@ -1,13 +1,13 @@
 //! Lists of fields that an endpoint sends as they are, with no header made of them.
 ghost use Rattle.std.specs.Prelude.{◌≡◌, ◌≢◌, ◌<◌, ◌≤◌, true, false, None, Some, IfOk, IfErr, IfSome, OnErr, OnOk, length, option_map, if◌then◌else◌};
 ghost use Rattle.h3_header.specs.Head.{Head};
-ghost use Rattle.h3_header.specs.HeadRead.{head_of};
+ghost use Rattle.h3_header.specs.HeadRead.{head_by};
 ghost use Rattle.h3_connection.specs.Answers.{call_refused};
 ghost use Rattle.h3_connection.specs.Pulling.{is_interim};
 ghost use Rattle.h3_connection.specs.State.{kept_at};
 ghost use Rattle.h3_connection.specs.declared.event.Refusal.TheVariants as refusal;
 ghost use Rattle.h3_requests.specs.Refused.{head_refused_at, body_refused_at};
-ghost use Rattle.h3_session.specs.Refused.{side_refused, pseudo_refused};
+ghost use Rattle.h3_session.specs.Refused.{own_head_refused, own_trailer_refused};
 ghost use Rattle.h3_session.specs.SendingLists.{IsJudgedOr, SendsFieldList, SendsTrailerList, SendsJudgedHead, SendsJudgedTrailer, error_after, error_of, no_memory, list_told};
 ghost use Rattle.h3_incoming.specs.Outline.{is_sent_outline, list_read};
 ghost use Rattle.h3_session.specs.declared.endpoint.lists.FieldsError.TheVariants as error;
@@ -39,7 +39,8 @@ pub enum FieldsError {
 impl Endpoint {
     /// Sends a header section on a stream, as `send_head` does, but as the list that it is given as: in its order, and from the memory of
     /// its fields. No header is made of it. Refused are first every call after a connection fault, then a stream that is not open, then one
-    /// whose final header section or end was sent. Next is a list that `Header::try_from` refuses, then a header section of the other
+    /// whose final header section or end was sent. Next is a list that `Header::try_from` refuses, but that any short token is taken as
+    /// `:protocol` if the configuration says so (`Config::with_any_protocol`). Then comes a header section of the other
     /// side's messages. An endpoint that asks for strict messages then refuses one that a strict peer would call malformed. Last is one
     /// whose size is above what the peer's settings allow. If an allocation fails the encoder stream may have gained whole instructions,
     /// and the stream is as it was. A list of more than 24,576 fields also takes memory to be judged.
@@ -71,7 +72,8 @@ impl Endpoint {
         if let Some(code) = self.closed {
             return Err(FieldsError::Refused(Refusal::Closed(code)));
         }
-        if let Err(later) = judge_trailer(self.alloc, fields) {
+        let any = self.announced.choices.extensions.any_protocol;
+        if let Err(later) = judge_trailer(self.alloc, fields, any) {
             return Err(self.trailer_error(id, later));
         }
         as_error(self.send_trailer_list(id, fields))
@@ -83,15 +85,16 @@ impl Endpoint {
         &self,
         fields: &[HeaderField],
     ) -> Result<(SendPlace, Option<SentRead>), FieldsError>
-        ensures ok { IfOk result (λ judged. IsHeadAt self.now.side (head_of fields.now) judged.0) }
+        ensures ok { IfOk result (λ judged. IsHeadAt self.now.side (head_by self.now.announced.choices.extensions.any_protocol fields.now) judged.0) }
         ensures read { IfOk result (λ judged. IfSome judged.1 (IsReadOf self.now.side self.now.peer.settings fields.now)) }
-        ensures err { IfErr result (λ e. e ≢ no_memory → head_list_error self.now.side (head_of fields.now) ≡ Some e) }
+        ensures err { IfErr result (λ e. e ≢ no_memory → head_list_error self.now.side (head_by self.now.announced.choices.extensions.any_protocol fields.now) ≡ Some e) }
         ensures memory { IfErr result (λ e. e ≡ no_memory → 24576 < length fields.now) }
     {
         if self.announced.choices.strict_messages && fields.len() <= MOST_NAMES {
             return self.judge_once(fields);
         }
-        match judge_place(None, self.alloc, self.side, fields) {
+        let any = self.announced.choices.extensions.any_protocol;
+        match judge_place(None, self.alloc, self.side, fields, any) {
             Ok(place) => Ok((place, None)),
             Err(e) => Err(e),
         }
@@ -103,18 +106,25 @@ impl Endpoint {
         fields: &[HeaderField],
     ) -> Result<(SendPlace, Option<SentRead>), FieldsError>
         requires { length fields.now ≤ 24576 }
-        ensures ok { IfOk result (λ judged. IsHeadAt self.now.side (head_of fields.now) judged.0) }
+        ensures ok { IfOk result (λ judged. IsHeadAt self.now.side (head_by self.now.announced.choices.extensions.any_protocol fields.now) judged.0) }
         ensures read { IfOk result (λ judged. IfSome judged.1 (IsReadOf self.now.side self.now.peer.settings fields.now)) }
-        ensures err { IfErr result (λ e. e ≢ no_memory → head_list_error self.now.side (head_of fields.now) ≡ Some e) }
+        ensures err { IfErr result (λ e. e ≢ no_memory → head_list_error self.now.side (head_by self.now.announced.choices.extensions.any_protocol fields.now) ≡ Some e) }
         ensures memory { IfErr result (λ e. e ≡ no_memory → 24576 < length fields.now) }
     {
+        let any = self.announced.choices.extensions.any_protocol;
         let list = Fields::of(fields);
         let mut seen = Seen::new();
-        if let Err(part) = seen.take_good(&list, false) {
+        if let Err(part) = seen.take_good(&list, any) {
             return Err(FieldsError::Malformed(malformation_by(part)));
         }
         let survey = Survey::of(&list, &seen);
-        match judge_place(read_survey(&survey), self.alloc, self.side, fields) {
+        match judge_place(
+            read_survey(&survey, any),
+            self.alloc,
+            self.side,
+            fields,
+            any,
+        ) {
             Ok(place) => Ok((place, Some(self.read_survey(&survey)))),
             Err(e) => Err(e),
         }
@@ -150,7 +160,7 @@ impl Endpoint {
     ) -> Result<(), Refusal>
         requires open { self.old.closed ≡ None }
         requires read { IfSome read (IsReadOf self.old.side self.old.peer.settings fields.now) }
-        ensures { (head : Head) → side_refused self.old.side head ≡ None → place ≡ (if is_interim head.status then SendPlace.NothingSent else SendPlace.HeadSent) → SendsJudgedHead self.old self.new id head fields.now result }
+        ensures { (head : Head) → own_head_refused self.old.announced self.old.side head ≡ None → place ≡ (if is_interim head.status then SendPlace.NothingSent else SendPlace.HeadSent) → SendsJudgedHead self.old self.new id head fields.now result }
     {
         let room = match self.reserve_head(id, None) {
             Ok(room) => room,
@@ -162,7 +172,7 @@ impl Endpoint {
     // A list that reads as a trailer goes out.
     fn send_trailer_list(&mut self, id: StreamId, fields: &[HeaderField]) -> Result<(), Refusal>
         requires { self.old.closed ≡ None }
-        ensures { (trailer : Head) → pseudo_refused trailer ≡ None → SendsJudgedTrailer self.old self.new id trailer fields.now result }
+        ensures { (trailer : Head) → own_trailer_refused self.old.announced trailer ≡ None → SendsJudgedTrailer self.old self.new id trailer fields.now result }
     {
         let room = match self.reserve_trailer(id, None) {
             Ok(room) => room,
@@ -202,13 +212,14 @@ fn judge_place(
     alloc: Global,
     side: Side,
     fields: &[HeaderField],
+    any_protocol: bool,
 ) -> Result<SendPlace, FieldsError>
-    requires { IfSome known (λ read. read ≡ list_read (head_of fields.now)) }
-    ensures ok { IfOk result (IsHeadAt side (head_of fields.now)) }
-    ensures err { IfErr result (λ e. e ≢ no_memory → head_list_error side (head_of fields.now) ≡ Some e) }
+    requires { IfSome known (λ read. read ≡ list_read (head_by any_protocol fields.now)) }
+    ensures ok { IfOk result (IsHeadAt side (head_by any_protocol fields.now)) }
+    ensures err { IfErr result (λ e. e ≢ no_memory → head_list_error side (head_by any_protocol fields.now) ≡ Some e) }
     ensures memory { IfErr result (λ e. e ≡ no_memory → 24576 < length fields.now) }
 {
-    let Ok(read) = read_unless(known, alloc, fields) else {
+    let Ok(read) = read_unless(known, alloc, fields, any_protocol) else {
         return Err(FieldsError::Refused(Refusal::OutOfMemory));
     };
     match read {
@@ -223,14 +234,15 @@ fn read_unless(
     known: Option<ListRead>,
     alloc: Global,
     fields: &[HeaderField],
+    any_protocol: bool,
 ) -> Result<ListRead, AllocError>
-    requires { IfSome known (λ read. read ≡ list_read (head_of fields.now)) }
-    ensures ok { IfOk result (λ read. read ≡ list_read (head_of fields.now)) }
+    requires { IfSome known (λ read. read ≡ list_read (head_by any_protocol fields.now)) }
+    ensures ok { IfOk result (λ read. read ≡ list_read (head_by any_protocol fields.now)) }
     ensures err { OnErr result (24576 < length fields.now) }
 {
     match known {
         Some(read) => Ok(read),
-        None => read_list(alloc, &Fields::of(fields)),
+        None => read_list(alloc, &Fields::of(fields), any_protocol),
     }
 }
 
@@ -246,12 +258,16 @@ fn place_behind(side: Side, outline: &Outline) -> Result<SendPlace, FieldsError>
 }
 
 // Why a list is no trailer.
-fn judge_trailer(alloc: Global, fields: &[HeaderField]) -> Result<(), FieldsError>
-    ensures ok { OnOk result (IsTrailer (head_of fields.now)) }
-    ensures err { IfErr result (λ e. e ≢ no_memory → trailer_list_error (head_of fields.now) ≡ Some e) }
+fn judge_trailer(
+    alloc: Global,
+    fields: &[HeaderField],
+    any_protocol: bool,
+) -> Result<(), FieldsError>
+    ensures ok { OnOk result (IsTrailer (head_by any_protocol fields.now)) }
+    ensures err { IfErr result (λ e. e ≢ no_memory → trailer_list_error (head_by any_protocol fields.now) ≡ Some e) }
     ensures memory { IfErr result (λ e. e ≡ no_memory → 24576 < length fields.now) }
 {
-    let Ok(read) = read_list(alloc, &Fields::of(fields)) else {
+    let Ok(read) = read_list(alloc, &Fields::of(fields), any_protocol) else {
         return Err(FieldsError::Refused(Refusal::OutOfMemory));
     };
     match read {

@@ -2,7 +2,7 @@ use Rattle.std.proofs.Common.{◌≡◌, ◌∙◌, ap, sym}
 use Rattle.h3_connection.specs.Pulling.{head_or_trailer, with_content}
 use Rattle.h3_connection.specs.StrictMessages.{broken_rule, if_whole, content_at, response_at}
 use Rattle.h3_connection.specs.declared.event.Pull.TheVariants as pull
-use Rattle.h3_header.specs.HeadRead.{head_of}
+use Rattle.h3_header.specs.HeadRead.{head_by}
 use Rattle.h3_incoming.specs.Answering.{message_at}
 use Rattle.h3_incoming.specs.Judging.{judged_as}
 use Rattle.h3_incoming.proofs.JudgeLaws.{read_head, read_none, reads_head, reads_none, has_item, has_list, judged_behind}
@@ -15,7 +15,7 @@ returns-in-Ok-Head-clause-judged g c = λ id r i replies few at left told.
     let place = c.args.place in
     let fields = c.args.fields in
     let list = c.fields.ensures in
-    reads_head (head_of fields) c.in-Ok-Head.outline (rw c.in-Ok-Head.field-0-is at c.in-Ok-Head.ensures.read) _ (λ h head is.
+    reads_head (head_by own.choices.extensions.any_protocol fields) c.in-Ok-Head.outline (rw c.in-Ok-Head.field-0-is at c.in-Ok-Head.ensures.read) _ (λ h head is.
     let rule : if_whole i.content (broken_rule side own place fields) ≡ c.if_whole-broken.result =
     ap (λ l. if_whole l (broken_rule side own place fields)) left ∙ ap (λ l. if_whole c.args.content (broken_rule side own place l)) (sym list)
     ∙ ap (if_whole c.args.content) (sym (c.read_at-read.ensures.broken)) ∙ sym c.if_whole-broken.ensures in
@@ -31,12 +31,12 @@ returns-in-Ok-Head-clause-judged g c = λ id r i replies few at left told.
 
 pub returns-in-Ok-Head-clause-item : goal.returns-in-Ok-Head-clause-item
 returns-in-Ok-Head-clause-item g c =
-    reads_head (head_of c.args.fields) c.in-Ok-Head.outline (rw c.in-Ok-Head.field-0-is at c.in-Ok-Head.ensures.read) _ (λ h head is.
+    reads_head (head_by c.args.announced.now.choices.extensions.any_protocol c.args.fields) c.in-Ok-Head.outline (rw c.in-Ok-Head.field-0-is at c.in-Ok-Head.ensures.read) _ (λ h head is.
     has_item c.judge_message.result _ (message_at c.args.side c.args.place h) (c.in-Ok-Head.ensures.head h head))
 
 pub returns-in-Ok-Head-clause-list : goal.returns-in-Ok-Head-clause-list
 returns-in-Ok-Head-clause-list g c =
-    reads_head (head_of c.args.fields) c.in-Ok-Head.outline (rw c.in-Ok-Head.field-0-is at c.in-Ok-Head.ensures.read) _ (λ h head is.
+    reads_head (head_by c.args.announced.now.choices.extensions.any_protocol c.args.fields) c.in-Ok-Head.outline (rw c.in-Ok-Head.field-0-is at c.in-Ok-Head.ensures.read) _ (λ h head is.
     has_list c.judge_message.result _ c.args.fields (c.in-Ok-Head.ensures.list h head))
 
 pub returns-in-Ok-Malformed-clause-judged : goal.returns-in-Ok-Malformed-clause-judged
@@ -44,5 +44,5 @@ returns-in-Ok-Malformed-clause-judged g c = λ id r i replies few at left told.
     let own = c.args.announced.now in
     let side = c.args.side in
     let response = c.read_at-read.ensures.response ∙ ap (response_at side own c.args.place c.args.known) c.fields.ensures in
-    reads_none (head_of c.args.fields) c.in-Ok-Malformed.why (rw c.in-Ok-Malformed.field-0-is at c.in-Ok-Malformed.ensures.read) _ (λ why none is.
+    reads_none (head_by c.args.announced.now.choices.extensions.any_protocol c.args.fields) c.in-Ok-Malformed.why (rw c.in-Ok-Malformed.field-0-is at c.in-Ok-Malformed.ensures.read) _ (λ why none is.
     read_none side own id r i replies c.args.fields c.args.place c.args.known c.read_at-read.result.strict.response c.in-Ok-Malformed.why why few none is at told response)
