@@ -52,6 +52,10 @@ value_is_good any at f is = by (is_name_at at f.name) (is_value_at any at f.valu
     by true false is = absurd (cc)
     by false value is = absurd (cc)
 
+-- of a status this does not hang on which protocols are taken
+pub status_is_good : (any : Bool) (f : Field) → bad_part any f ≡ None → kind_of f.name ≡ Status → is_value_at false Status f.value ≡ true
+status_is_good any f good is = value_is_good any Status f (subst (λ at. bad_part_at any at f ≡ None) is good)
+
 -- one of several is there
 this : (a : Bool) → (a || true) ≡ true
 this true = refl

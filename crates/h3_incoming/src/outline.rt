@@ -5,7 +5,7 @@ ghost use Rattle.h3_header.specs.Head.{trailer_head};
 ghost use Rattle.h3_header.specs.BadPart.{IsHeadUnlessMany};
 ghost use Rattle.h3_header.specs.HeadRead.{HeadRefusal, head_by, is_value_at, told};
 ghost use Rattle.h3_header.specs.Reads.{kind_of, status_number, RefusesOne};
-ghost use Rattle.h3_header.specs.declared.headers.kind.FieldKind.TheVariants as kind;
+ghost use Rattle.h3_header.specs.declared.headers.kind.FieldKind.TheVariants.{Status};
 ghost use Rattle.h3_connection.specs.Pulling.{malformation_of};
 ghost use Rattle.h3_connection.specs.Pulling.{is_interim};
 ghost use Rattle.h3_incoming.specs.Judging.{Tells};
@@ -103,9 +103,9 @@ impl Outline {
         self.pseudo
     }
 
-    // With one field more, of that kind, of which nothing is malformed.
+    // With one field more, of that kind. A status has three digits.
     fn with(self, kind: FieldKind, field: &FieldRef<'_>) -> Outline
-        requires { is_value_at false kind field.now.value ≡ true }
+        requires { kind ≡ Status → is_value_at false Status field.now.value ≡ true }
         ensures { result ≡ outlined_by kind self field.now }
     {
         match kind {
@@ -251,7 +251,7 @@ fn has_method(header: &Header) -> bool
 // The status that three digits are.
 #[tactic(auto, using(crate::proofs::Outlines::is_status))]
 fn status_of(digits: &[u8]) -> Option<StatusCode>
-    requires { is_value_at false kind.Status digits.now ≡ true }
+    requires { is_value_at false Status digits.now ≡ true }
     ensures { result ≡ Some (status_number digits.now) }
 {
     match StatusCode::from_bytes(digits) {

@@ -2,9 +2,10 @@ use Rattle.std.proofs.Common.{◌≡◌, ◌+◌, None, Some, rules, get_or, ap,
 use Rattle.std.proofs.lemmas.List.Elements.{All-more}
 use Rattle.std.proofs.lemmas.Option.{get_or_from_slice_get, slice_get_within}
 use Rattle.h3_header.specs.BadPart.{bad_part}
+use Rattle.h3_header.specs.Reads.{kind_of}
 use Rattle.h3_incoming.specs.Outline.{empty_outline, outlined, list_read}
 use Rattle.h3_incoming.specs.declared.outline.ListRead.TheVariants as read
-use Rattle.h3_incoming.proofs.Outlines.{next_outline, last_outline, all_good, short_head}
+use Rattle.h3_incoming.proofs.Outlines.{next_outline, last_outline, all_good, short_head, status_is_good}
 use Rattle.h3_incoming.proofs.outline.read_short.Goals as goal
 
 pub returns-in-Err : goal.returns-in-Err
@@ -16,6 +17,13 @@ returns-in-Err c =
     let here = subst (λ f. bad_part c.args.any_protocol f ≡ Some c.in-Err.part) (sym (get_or_from_slice_get fields i field field c.get-field.ensures)) found in
     let refused = c.fields_are_judged_alone.ensures.refused c.args.any_protocol fields i field c.in-Err.part c.requires (slice_get_within fields i field c.get-field.ensures) c.fields.invariant.0 here in
     ap read.Malformed c.malformation_by.ensures ∙ sym (ap list_read refused)
+
+pub with-outline-requires : goal.with-outline-requires
+with-outline-requires c is =
+    let field = c.get-field.result in
+    let good : bad_part c.args.any_protocol field ≡ None = search rules in
+    let same : c.in-Ok.kind ≡ kind_of field.name = search rules in
+    status_is_good c.args.any_protocol field good (sym same ∙ is)
 
 pub fields-preserved : goal.fields-preserved
 fields-preserved c =
