@@ -22,3 +22,4 @@ pub mod Seen
 pub mod Stored
 pub mod UnderWayLending
 pub mod Words
+pub mod Unblocked

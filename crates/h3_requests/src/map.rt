@@ -15,6 +15,7 @@ ghost use Rattle.h3_requests.specs.Over.{with_end_taken, AreAlike, IsOver};
 ghost use Rattle.h3_requests.specs.Refused.{refused_over};
 ghost use Rattle.h3_requests.specs.Stored.{over_at, streams_in, under_way_at};
 ghost use Rattle.h3_requests.specs.Listed.{either};
+ghost use Rattle.h3_requests.specs.Unblocked.{is_next, IsFirst};
 
 use crate::boxed::BoxedStream;
 use crate::greatest::greater;
@@ -102,6 +103,15 @@ impl StreamMap {
         // (for the proof: the others are over)
         self.over.are_over();
         self.under_way.greatest(true)
+    }
+
+    // The least id from `from` on of a stream that goes on after so many insertions. It looks at those under way alone: no other waits.
+    pub(crate) fn next_unblocked(&self, inserted: usize, from: u64) -> Option<u64>
+        ensures { IsFirst (λ id. is_next inserted from id (kept_at (streams_in self.now) id)) result }
+    {
+        // (for the proof: the others are over)
+        self.over.are_over();
+        self.under_way.next_unblocked(inserted, from)
     }
 
     // Why a call is refused on a stream that is not under way: for this on one that is over, and else since none is there.

@@ -7,10 +7,12 @@ ghost use Rattle.h3_connection.specs.Calls.{fresh_request, Sets};
 ghost use Rattle.h3_connection.specs.State.{kept_at};
 ghost use Rattle.h3_requests.specs.Done.{is_sought};
 ghost use Rattle.h3_requests.specs.Greatest.{IsGreatest};
+ghost use Rattle.h3_requests.specs.Unblocked.{is_next, IsFirst};
 ghost use Rattle.h3_requests.specs.UnderWayLending.{LendsUnderWay};
 
 use crate::boxed::BoxedStream;
 use crate::greatest::greater;
+use crate::lesser::lesser;
 use crate::spare::Spare;
 use crate::stream::RequestStream;
 use std::alloc::{AllocError, Global};
@@ -90,6 +92,17 @@ impl StreamsUnderWay {
         ensures fits { IfSome result (λ id. id < 2 ^ 64) }
     {
         greater(self.row.greatest(undone), self.others.greatest(undone))
+    }
+
+    /// The least id from `from` on of a stream that goes on after so many insertions. It looks at each stream that is under way.
+    pub(crate) fn next_unblocked(&self, inserted: usize, from: u64) -> Option<u64>
+        ensures value { IsFirst (λ id. is_next inserted from id (kept_at self.now id)) result }
+        ensures fits { IfSome result (λ id. id < 2 ^ 64) }
+    {
+        lesser(
+            self.row.next_unblocked(inserted, from),
+            self.others.next_unblocked(inserted, from),
+        )
     }
 
     /// The stream of this id, to be changed.

@@ -15,6 +15,8 @@ ghost use Rattle.h3_requests.specs.Coming.{fields_at};
 ghost use Rattle.h3_requests.specs.Limited.{AnswersOver, AreReceivers, PullsWithin, ResumesThere, unopened_answer};
 ghost use Rattle.h3_requests.specs.Over.{IsOver};
 ghost use Rattle.h3_requests.specs.Stored.{over_at};
+ghost use Rattle.h3_requests.specs.Unblocked.{is_unblocked};
+ghost use Rattle.h3_connection.specs.NextWaiting.{IsLeast};
 
 use super::RequestStreams;
 use crate::map::StreamMap;
@@ -35,6 +37,18 @@ impl RequestStreams {
         ensures { (receivers : Streams Incoming) → AreReceivers receivers self.now → result ≡ count_by (λ s. nat_lt inserted s.1.waits_for) receivers }
     {
         self.blocked.above(inserted)
+    }
+
+    /// The least id from this one on of a stream that goes on: a pull of it answered that it waits, and so many insertions came. If no stream
+    /// has waited it looks at none, and else at those under way.
+    #[tactic(auto, using(crate::proofs::Unblocked::none_waits, crate::proofs::Unblocked::least_from))]
+    pub fn next_unblocked(&self, inserted: usize, from: u64) -> Option<u64>
+        ensures { IsLeast (λ id. is_unblocked inserted (kept_at self.now id)) from result }
+    {
+        if self.blocked.above(0) == 0 {
+            return None;
+        }
+        self.streams.next_unblocked(inserted, from)
     }
 
     /// The next item of a stream's message, or why there is none now. More streams than were announced that would wait are a fault of the

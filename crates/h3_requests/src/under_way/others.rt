@@ -8,9 +8,11 @@ ghost use Rattle.h3_requests.specs.Done.{is_sought};
 ghost use Rattle.h3_requests.specs.Greatest.{IsGreatest};
 ghost use Rattle.h3_requests.specs.OthersLending.{LendsOther};
 ghost use Rattle.h3_requests.specs.Row.{KeepsOthers};
+ghost use Rattle.h3_requests.specs.Unblocked.{is_next, IsFirst};
 
 use crate::boxed::BoxedStream;
 use crate::greatest::greater;
+use crate::lesser::lesser;
 use crate::stream::RequestStream;
 use std::alloc::{AllocError, Global};
 use std::collections::BTreeMap;
@@ -71,6 +73,35 @@ impl Others {
         'ids: for id in self.streams.keys() {
             if self.seeks(*id, undone) {
                 found = greater(found, Some(*id));
+            }
+        }
+        found
+    }
+
+    // Whether the stream of this id is there, is not before `from`, and goes on.
+    fn is_next(&self, id: u64, inserted: usize, from: u64) -> bool
+        ensures { result ≡ is_next inserted from id (kept_at self.now.streams.entries id) }
+    {
+        if id < from {
+            return false;
+        }
+        match self.streams.get(&id) {
+            Some(stream) => stream.get().is_unblocked(inserted),
+            None => false,
+        }
+    }
+
+    /// The least id from `from` on of a stream that goes on after so many insertions.
+    #[inline(never)]
+    pub(crate) fn next_unblocked(&self, inserted: usize, from: u64) -> Option<u64>
+        ensures value { IsFirst (λ id. is_next inserted from id (kept_at self.now.streams.entries id)) result }
+        ensures fits { IfSome result (λ id. id < 2 ^ 64) }
+    {
+        let mut found = None;
+        // (the label names the loop in its proof)
+        'ids: for id in self.streams.keys() {
+            if self.is_next(*id, inserted, from) {
+                found = lesser(found, Some(*id));
             }
         }
         found

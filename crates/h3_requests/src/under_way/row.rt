@@ -4,10 +4,12 @@ ghost use Rattle.std.specs.Prelude.{◌≡◌, ◌<◌, ◌/◌, ◌%◌, ◌^�
 ghost use Rattle.h3_requests.specs.Done.{is_sought};
 ghost use Rattle.h3_requests.specs.Greatest.{IsGreatest};
 ghost use Rattle.h3_requests.specs.Row.{held_at, in_place, HasFreePlace, IsOneHeld, HoldSame};
+ghost use Rattle.h3_requests.specs.Unblocked.{is_next, IsFirst};
 ghost use Rattle.h3_requests.specs.RowLending.{LendsHeld, LendsPlaced};
 
 use crate::boxed::BoxedStream;
 use crate::greatest::greater;
+use crate::lesser::lesser;
 use crate::stream::RequestStream;
 use std::alloc::{AllocError, Global};
 use std::mem;
@@ -142,6 +144,34 @@ impl Row {
         'places: for place in &self.places {
             if self.seeks(place.id, undone) {
                 found = greater(found, Some(place.id));
+            }
+        }
+        found
+    }
+
+    // Whether the stream of this id has a place, is not before `from`, and goes on.
+    fn is_next(&self, id: u64, inserted: usize, from: u64) -> bool
+        ensures { result ≡ is_next inserted from id (held_at self.now id) }
+    {
+        if id < from {
+            return false;
+        }
+        match self.get(id) {
+            Some(stream) => stream.is_unblocked(inserted),
+            None => false,
+        }
+    }
+
+    /// The least id from `from` on of a stream that has a place and goes on after so many insertions.
+    pub(crate) fn next_unblocked(&self, inserted: usize, from: u64) -> Option<u64>
+        ensures value { IsFirst (λ id. is_next inserted from id (held_at self.now id)) result }
+        ensures fits { IfSome result (λ id. id < 2 ^ 64) }
+    {
+        let mut found = None;
+        // (the label names the loop in its proof)
+        'places: for place in &self.places {
+            if self.is_next(place.id, inserted, from) {
+                found = lesser(found, Some(place.id));
             }
         }
         found
