@@ -1,5 +1,6 @@
 /* Streams by their ids: what the peer's unidirectional streams are, streams that are given up both ways in one call, requests that are
- * opened by an id that QUIC gave, and streams that waited for insertions. Linked with --wrap for malloc and realloc. One line 'ok NAME' or 'failed NAME'. */
+ * opened by an id that QUIC gave, and streams that waited for insertions. Linked with --wrap for malloc and realloc. One line 'ok NAME' or
+ * 'failed NAME'. */
 #include "h3.h"
 #include <stdlib.h>
 #include <string.h>
@@ -421,20 +422,20 @@ static void of_ids_without_memory(void) {
 
 /* ---- streams that waited for insertions ---- */
 
-static void goes_on(uint64_t from, uint64_t wanted) {
+static void unblocked(uint64_t from, uint64_t wanted) {
   uint64_t id = 99;
   IS(h3_next_unblocked(&ends[SERVER], from, &id), H3_OK);
   HOLDS(id == wanted);
 }
 
-static void goes_on_not(uint64_t from) {
+static void none_unblocked(uint64_t from) {
   uint64_t id = 99;
   IS(h3_next_unblocked(&ends[SERVER], from, &id), H3_NONE);
   HOLDS(id == 99);
 }
 
-/* HEADERS with :method GET and :scheme https of the static table, and fields of a table of 220 bytes (RFC 9204, appendix B.2): the first one,
- * and :path "/" of the static table; or the first and the second one */
+/* HEADERS with :method GET and :scheme https of the static table, and fields of a table of 220 bytes (RFC 9204, appendix B.2): the first
+ * one, and :path "/" of the static table; or the first and the second one */
 #define WAITS_FOR_ONE "\x01\x06\x02\x80\xd1\xd7\x10\xc1"
 #define WAITS_FOR_TWO "\x01\x06\x03\x81\xd1\xd7\x10\x11"
 #define INSERTS_FIRST "\x02\x3f\xbd\x01\xc0\x0fwww.example.com"
@@ -456,38 +457,38 @@ static void waits(uint64_t id, uint64_t count) {
 
 static void of_unblocked(void) {
   make_server(5);
-  goes_on_not(0);
+  none_unblocked(0);
   for (uint64_t id = 0; id < 12; id += 4) {
     COMES(SERVER, id, WAITS_FOR_TWO);
-    goes_on_not(0);
+    none_unblocked(0);
     waits(id, 2);
   }
   COMES(SERVER, 12, WAITS_FOR_ONE);
   waits(12, 1);
   COMES(SERVER, 16, WAITS_FOR_TWO); /* no pull has told that it waits */
-  goes_on_not(0);
+  none_unblocked(0);
   COMES(SERVER, 6, INSERTS_FIRST);
-  goes_on(0, 12);
-  goes_on(12, 12);
-  goes_on_not(13);
+  unblocked(0, 12);
+  unblocked(12, 12);
+  none_unblocked(13);
   waits(0, 2);
   HOLDS(pull(SERVER, 12).kind == H3_HEAD);
-  goes_on_not(0);
+  none_unblocked(0);
   COMES(SERVER, 6, INSERTS_SECOND);
-  goes_on(0, 0);
-  goes_on(1, 4);
-  goes_on(4, 4);
-  goes_on(5, 8);
-  goes_on_not(9);
-  goes_on_not(UINT64_MAX);
+  unblocked(0, 0);
+  unblocked(1, 4);
+  unblocked(4, 4);
+  unblocked(5, 8);
+  none_unblocked(9);
+  none_unblocked(UINT64_MAX);
   IS(h3_cancel(&ends[SERVER], 4, NULL), H3_OK);
-  goes_on(1, 8);
+  unblocked(1, 8);
   HOLDS(pull(SERVER, 0).kind == H3_HEAD);
-  goes_on(0, 8);
+  unblocked(0, 8);
   IS(h3_deliver_reset(&ends[SERVER], 8, 0x10c, NULL), H3_OK);
-  goes_on_not(0);
+  none_unblocked(0);
   HOLDS(pull(SERVER, 16).kind == H3_HEAD);
-  goes_on_not(0);
+  none_unblocked(0);
   h3_free(&ends[SERVER]);
 }
 
@@ -503,7 +504,7 @@ static void of_many_unblocked(void) {
     waits(other, 2);
   }
   COMES(SERVER, 6, INSERTS_FIRST);
-  goes_on_not(0);
+  none_unblocked(0);
   COMES(SERVER, 6, INSERTS_SECOND);
   for (id = 0; h3_next_unblocked(&ends[SERVER], id, &id) == H3_OK; id++) {
     HOLDS(named == 0 || id > before);

@@ -1,6 +1,6 @@
 //! The lesser of two numbers, of which either may be missing.
 ghost use Rattle.std.specs.Prelude.{◌≡◌};
-ghost use Rattle.h3_requests.specs.Unblocked.{lesser_of};
+ghost use Rattle.h3_requests.specs.Lesser.{lesser_of};
 
 /// The lesser of both, or the one that is there.
 pub(crate) fn lesser(one: Option<u64>, other: Option<u64>) -> Option<u64>

@@ -105,12 +105,12 @@ impl RequestStream {
         self.is_settled() && self.outgoing.is_sent_off()
     }
 
-    // Whether its pull goes on: it waited for insertions, and so many came.
+    // Whether so many insertions unblock it: a pull answered that it waits, and for no more than these.
     pub(crate) fn is_unblocked(&self, inserted: usize) -> bool
         ensures { result ≡ is_unblocked inserted (Some self.now) }
     {
-        let count = self.incoming.waits_for();
-        count > 0 && count <= inserted
+        let required = self.incoming.waits_for();
+        required > 0 && required <= inserted
     }
 
     // Whether it counts: all streams do, or, if `undone`, those alone that are not done.

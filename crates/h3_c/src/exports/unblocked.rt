@@ -1,4 +1,4 @@
-//! What C calls: the next stream that waited for insertions and goes on.
+//! What C calls: the next stream that waited for insertions, which came.
 ghost use Rattle.std.specs.Prelude.{◌≡◌, IsSome};
 ghost use Rattle.h3_c.specs.Exported.{Steps};
 ghost use Rattle.h3_c.specs.Numbers.{number};
@@ -7,7 +7,7 @@ ghost use Rattle.h3_c.specs.Unblocked.{UnblocksNext};
 use crate::handle::{Handle, kept, opened};
 use std::alloc::Global;
 
-/// The lowest id from `from` on of a stream that goes on.
+/// The lowest id from `from` on of a stream that is unblocked.
 #[unsafe(no_mangle)]
 pub extern "C" fn h3_raw_next_unblocked(
     alloc: Global,

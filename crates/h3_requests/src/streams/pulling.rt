@@ -6,6 +6,7 @@ ghost use Rattle.h3_qpack.specs.DecoderState.{DecoderState};
 ghost use Rattle.h3_blocked.specs.Counting.{above, HasCount, IsSound, Replaces};
 ghost use Rattle.h3_connection.specs.Incoming.{Incoming};
 ghost use Rattle.h3_connection.specs.Keeping.{is_settled_request};
+ghost use Rattle.h3_connection.specs.NextWaiting.{IsLeast};
 ghost use Rattle.h3_connection.specs.Pulling.{is_memory, just, pull_stream};
 ghost use Rattle.h3_connection.specs.Sending.{if_too_many};
 ghost use Rattle.h3_connection.specs.State.{kept_at};
@@ -16,7 +17,6 @@ ghost use Rattle.h3_requests.specs.Limited.{AnswersOver, AreReceivers, PullsWith
 ghost use Rattle.h3_requests.specs.Over.{IsOver};
 ghost use Rattle.h3_requests.specs.Stored.{over_at};
 ghost use Rattle.h3_requests.specs.Unblocked.{is_unblocked};
-ghost use Rattle.h3_connection.specs.NextWaiting.{IsLeast};
 
 use super::RequestStreams;
 use crate::map::StreamMap;
@@ -39,13 +39,13 @@ impl RequestStreams {
         self.blocked.above(inserted)
     }
 
-    /// The least id from this one on of a stream that goes on: a pull of it answered that it waits, and so many insertions came. If no stream
-    /// has waited it looks at none, and else at those under way.
-    #[tactic(auto, using(crate::proofs::Unblocked::none_waits, crate::proofs::Unblocked::least_from))]
+    /// The least id from this one on of a stream that so many insertions unblock: a pull of it answered that it waits, and for no more than
+    /// these (RFC 9204, section 2.1.2). It looks at those under way, and at none if all that wait do so for more.
+    #[tactic(auto, using(crate::proofs::Unblocked::none_unblocked))]
     pub fn next_unblocked(&self, inserted: usize, from: u64) -> Option<u64>
         ensures { IsLeast (λ id. is_unblocked inserted (kept_at self.now id)) from result }
     {
-        if self.blocked.above(0) == 0 {
+        if self.blocked.above(inserted) == self.blocked.above(0) {
             return None;
         }
         self.streams.next_unblocked(inserted, from)

@@ -3,12 +3,13 @@
 ghost use Rattle.std.specs.Borrow.{sem};
 ghost use Rattle.std.specs.Option.{option_copied_mut};
 ghost use Rattle.std.specs.Prelude.{◌≡◌, ◌<◌, ◌^◌, [], None, Some, is_some, option_copied, IfSome, OnErr, OnOk};
+ghost use Rattle.h3_connection.specs.NextWaiting.{IsLeast};
 ghost use Rattle.h3_connection.specs.State.{kept_at};
 ghost use Rattle.h3_requests.specs.Done.{is_sought};
 ghost use Rattle.h3_requests.specs.Greatest.{IsGreatest};
 ghost use Rattle.h3_requests.specs.OthersLending.{LendsOther};
 ghost use Rattle.h3_requests.specs.Row.{KeepsOthers};
-ghost use Rattle.h3_requests.specs.Unblocked.{is_next, IsFirst};
+ghost use Rattle.h3_requests.specs.Unblocked.{is_next, is_unblocked};
 
 use crate::boxed::BoxedStream;
 use crate::greatest::greater;
@@ -78,7 +79,7 @@ impl Others {
         found
     }
 
-    // Whether the stream of this id is there, is not before `from`, and goes on.
+    // Whether the stream of this id is there, is not before `from`, and so many insertions unblock it.
     fn is_next(&self, id: u64, inserted: usize, from: u64) -> bool
         ensures { result ≡ is_next inserted from id (kept_at self.now.streams.entries id) }
     {
@@ -91,10 +92,10 @@ impl Others {
         }
     }
 
-    /// The least id from `from` on of a stream that goes on after so many insertions.
+    /// The least id from `from` on of a stream that so many insertions unblock.
     #[inline(never)]
     pub(crate) fn next_unblocked(&self, inserted: usize, from: u64) -> Option<u64>
-        ensures value { IsFirst (λ id. is_next inserted from id (kept_at self.now.streams.entries id)) result }
+        ensures value { IsLeast (λ id. is_unblocked inserted (kept_at self.now.streams.entries id)) from result }
         ensures fits { IfSome result (λ id. id < 2 ^ 64) }
     {
         let mut found = None;

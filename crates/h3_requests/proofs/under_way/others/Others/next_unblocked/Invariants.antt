@@ -1,4 +1,4 @@
--- The least that goes on of those that are not left.
+-- The least that is unblocked of those that are not left.
 use Rattle.std.proofs.Common.{◌≡◌, false}
 use Rattle.std.specs.Ordering.{eq_by_cmp, nat_cmp}
 use Rattle.std.specs.Set.{is_member}

@@ -1,4 +1,4 @@
--- The least that goes on of those in the places so far.
+-- The least that is unblocked of those in the places so far.
 use Rattle.std.proofs.Common.{◌<◌, ◌/◌, ◌%◌}
 use Rattle.h3_requests.specs.Row.{held_at}
 use Rattle.h3_requests.specs.Unblocked.{is_next}
