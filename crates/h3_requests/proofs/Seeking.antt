@@ -1,7 +1,7 @@
 -- The greatest number that passes a test, found in parts.
 use Rattle.std.proofs.Common.{◌≡◌, ◌<◌, ◌≤◌, ℕ, zero, suc, ◌+◌, ◌-◌, ◌/◌, ◌%◌, ◌^◌, Bool, true, false, ◌||◌, ◌&&◌, List, [], ◌∷◌, length, refl, sym, ◌∙◌, ap, subst, inl, inr, arith, if◌then◌else◌, slice_get}
-use Rattle.std.specs.Prelude.{◌==◌, ◌≢◌, ◌⊎◌, not, Option, Some, None, IfSome, IsSome, is_some, nat_lt}
-use Rattle.std.specs.List.{list_any, range_with_len}
+use Rattle.std.specs.Prelude.{◌==◌, ◌⊎◌, not, Option, Some, None, IfSome, IsSome, is_some, nat_lt}
+use Rattle.std.specs.List.{range_with_len}
 use Rattle.std.specs.Ordering.{eq_by_cmp, nat_cmp}
 use Rattle.std.specs.Set.{is_member}
 use Rattle.std.proofs.lemmas.Bool.{cases_eq}
@@ -9,7 +9,7 @@ use Rattle.std.proofs.lemmas.Grind.{common_steps}
 use Rattle.h3_connection.specs.State.{RequestState, kept_at}
 use Rattle.h3_connection.specs.StreamSets.{Streams, stream_at}
 use Rattle.h3_blocked.specs.SumLaws.{kept_is_at}
-use Rattle.h3_requests.specs.Done.{is_done, is_sought}
+use Rattle.h3_requests.specs.Done.{is_sought}
 use Rattle.h3_requests.specs.Greatest.{IsGreatest, IsOneOf, greater_of}
 use Rattle.h3_requests.specs.Listed.{either, listed_at, put_first, streams_of}
 use Rattle.h3_requests.specs.Over.{AreMarked, IsOver, over_in, way_at}

@@ -133,7 +133,7 @@ least_listed test f model from (Some id) view none few h = (
 
 over_not : (inserted : ℕ) (o : Option RequestState) → IfSome o IsOver → is_unblocked inserted o ≡ false
 over_not inserted None h = refl
-over_not inserted (Some r) h = ap (unblocks inserted) (over_waits r h)
+over_not inserted (Some r) h = ap (unblocks inserted) (over_waits (Some r) h)
 
 -- what is over is not unblocked
 pub under_way_alone : (inserted : ℕ) (a b : Option RequestState) → IfSome b IsOver → is_unblocked inserted (either a b) ≡ is_unblocked inserted a
@@ -176,9 +176,9 @@ none_at inserted streams id (Some r) there same = by_test (unblocks inserted r.i
     by_test : (t : Bool) → unblocks inserted r.incoming.waits_for ≡ t → t ≡ false
     by_test false is = refl
     by_test true is =
-        let waits : nat_lt 0 r.incoming.waits_for ≡ true = first_true _ _ is in
+        let waits : nat_lt 0 r.incoming.waits_for ≡ true = first_true (nat_lt 0 r.incoming.waits_for) (nat_le r.incoming.waits_for inserted) is in
         let some : 0 < r.incoming.waits_for = grind (arith, common_steps, waits) in
-        let reached : r.incoming.waits_for ≤ inserted = there_from r.incoming.waits_for inserted (second_true _ _ is) in
+        let reached : r.incoming.waits_for ≤ inserted = there_from r.incoming.waits_for inserted (second_true (nat_lt 0 r.incoming.waits_for) (nat_le r.incoming.waits_for inserted) is) in
         let more : waiting_above inserted streams < waiting_above 0 streams = more_wait inserted streams id r there some reached in
         absurd (omega (arith, more, same))
 

@@ -114,10 +114,6 @@ over_ended r h = (parts r h).ended
 pub over_settled : (r : RequestState) → IsOver r → (r.incoming.is_over || is_some r.incoming.fault) ≡ true
 over_settled r h = (parts r h).settled
 
--- it waits for nothing
-pub over_waits : (r : RequestState) → IsOver r → r.incoming.waits_for ≡ 0
-over_waits r h = (parts r h).waits_for
-
 -- and nothing more is sent on it
 pub over_sent : (r : RequestState) → IsOver r → is_sent_off r.outgoing ≡ true
 over_sent r h = (parts r h).sent_off

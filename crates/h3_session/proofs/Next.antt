@@ -1,5 +1,5 @@
 -- The next stream on which bytes wait is the first of the request streams or of the own ones.
-use Rattle.std.proofs.Common.{arith, ◌≡◌, ◌∙◌, ◌≤◌, ◌<◌, ◌+◌, ◌==◌, ℕ, Bool, true, false, if◌then◌else◌, length, sym, refl, ap, subst, inl, inr}
+use Rattle.std.proofs.Common.{arith, ◌≡◌, ◌∙◌, ◌≤◌, ◌<◌, ◌+◌, ◌==◌, ℕ, Bool, true, false, length, sym, refl, ap, subst, inl, inr}
 use Rattle.std.specs.Prelude.{◌≢◌, ◌||◌, ◌&&◌, not, nat_lt, Option, Some, None, is_some, option_map}
 use Rattle.std.proofs.lemmas.Bool.{cases_eq}
 use Rattle.std.proofs.lemmas.Grind.{common_steps}

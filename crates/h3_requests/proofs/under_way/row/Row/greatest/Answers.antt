@@ -1,5 +1,5 @@
 -- Each place is looked at in turn.
-use Rattle.std.proofs.Common.{arith, rules, ◌≡◌, ◌<◌, ◌+◌, ◌/◌, ◌%◌, ◌^◌, ℕ, true, false, length, refl, sym, subst, ap, ◌∙◌, slice_get}
+use Rattle.std.proofs.Common.{arith, rules, ◌≡◌, ◌<◌, ◌+◌, ◌/◌, ◌%◌, ◌^◌, ℕ, true, length, refl, sym, subst, ap, ◌∙◌, slice_get}
 use Rattle.std.specs.Prelude.{◌⊎◌, Some}
 use Rattle.std.proofs.lemmas.Option.{slice_get_read}
 use Rattle.h3_requests.specs.Done.{is_sought}
