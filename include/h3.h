@@ -81,8 +81,8 @@
  * what was taken, or the next pull of a stream that may still deliver something: not of one whose
  * pull returns H3_END or a fault of the stream again. If there is no such stream, pull
  * h3_control_id, which delivers nothing. h3_finish, h3_reset, h3_advance, h3_end_taken,
- * h3_outgoing, h3_next_to_send, h3_next_request_id, h3_first_unseen, h3_is_drained, the calls for
- * datagrams and capsules, the states and h3_free take no memory.
+ * h3_outgoing, h3_next_to_send, h3_next_request_id, h3_next_unblocked, h3_first_unseen,
+ * h3_is_drained, the calls for datagrams and capsules, the states and h3_free take no memory.
  *
  * WHAT TO CALL FROM QUIC'S CALLBACKS
  *
@@ -97,7 +97,7 @@
  *   the stream's FIN         again with those that are left until a pause (H3_PENDING, H3_WAITING,
  *                            H3_NO_MESSAGES), H3_END or a fault. After data on a unidirectional
  *                            stream of the peer (id % 4 is 2 or 3) also pull (h3_pull) each stream
- *                            whose last item was H3_WAITING, until a pause, H3_END or a fault.
+ *                            that h3_next_unblocked names, until a pause, H3_END or a fault.
  *   RESET_STREAM came        h3_deliver_reset(id, code), then pull; drop later data of that stream
  *   STOP_SENDING came        h3_reset(id), and send RESET_STREAM (RFC 9000, section 3.5)
  *   a DATAGRAM frame came    h3_read_datagram, if HTTP datagrams are announced
@@ -806,6 +806,13 @@ static inline uint32_t h3_deliver_reset(h3_endpoint *endpoint, uint64_t id, uint
  * Refused: H3_ARGUMENT (id not below 2^62); *item is not written, and the item before stays. */
 static inline uint32_t h3_pull(h3_endpoint *endpoint, uint64_t id, h3_item *item);
 
+/* The lowest id, from `from` on, of a stream whose last item was H3_WAITING and whose insertions
+ * have come since: pull it. H3_NONE if there is none (*id is not written then). Ask it after data
+ * on a unidirectional stream of the peer:
+ *   for (uint64_t id = 0; h3_next_unblocked(&e, id, &id) == H3_OK; id++) ..
+ * It takes no memory. It looks at no stream if there is none, and else at those not over. */
+static inline uint32_t h3_next_unblocked(h3_endpoint *endpoint, uint64_t from, uint64_t *id);
+
 /* All fields of the header or trailer section that was pulled last, as they came and in their
  * order: the sizes of each at `sizes`, and all names and values at `bytes` (name, value, name,
  * value, ..), as h3_send_head takes them. `most` sizes and `room` bytes fit there: `fields` and
@@ -1011,6 +1018,7 @@ uint32_t h3_raw_deliver_reset(h3_endpoint endpoint, uint64_t id, uint64_t code, 
 uint32_t h3_raw_pull(h3_endpoint endpoint, uint64_t id, h3_item *item, h3_endpoint *out);
 uint32_t h3_raw_read(h3_endpoint endpoint, uint64_t id, const uint8_t *bytes, size_t len,
                      uint32_t fin, size_t *used, h3_item *item, uint64_t *detail, h3_endpoint *out);
+uint32_t h3_raw_next_unblocked(h3_endpoint endpoint, uint64_t from, uint64_t *id, h3_endpoint *out);
 uint32_t h3_raw_item_fields(h3_endpoint endpoint, h3_field_size *sizes, size_t most, uint8_t *bytes,
                             size_t room, h3_endpoint *out);
 uint32_t h3_raw_item_bytes(h3_endpoint endpoint, size_t from, uint8_t *buffer, size_t room,
@@ -1230,6 +1238,11 @@ static inline uint32_t h3_read(h3_endpoint *endpoint, uint64_t id, const void *b
            (item->kind == H3_PENDING || item->kind == H3_WAITING || item->kind == H3_NO_MESSAGES));
   *used = at;
   return told;
+}
+static inline uint32_t h3_next_unblocked(h3_endpoint *endpoint, uint64_t from, uint64_t *id) {
+  if (!endpoint || !endpoint->at) return H3_NO_ENDPOINT;
+  if (!id) return H3_ARGUMENT;
+  return h3_raw_next_unblocked(*endpoint, from, id, endpoint);
 }
 static inline uint32_t h3_item_fields(h3_endpoint *endpoint, h3_field_size *sizes, size_t most,
                                       void *bytes, size_t room) {

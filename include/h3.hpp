@@ -341,6 +341,13 @@ class endpoint {
   result deliver_end(std::uint64_t id) noexcept { return delivered(h3_deliver_end, id); }
   result deliver_reset(std::uint64_t id, std::uint64_t code) noexcept { return delivered(h3_deliver_reset, id, code); }
 
+  /* The lowest stream from `from` on that waited for insertions, which have come: pull it. */
+  std::optional<std::uint64_t> next_unblocked(std::uint64_t from) noexcept {
+    std::uint64_t id;
+    if (h3_next_unblocked(&raw_, from, &id) != H3_OK) return std::nullopt;
+    return id;
+  }
+
   /* Puts what comes next on a stream into `into`. */
   result pull(std::uint64_t id, item &into) {
     h3_item raw;

@@ -199,6 +199,13 @@ func (e *Endpoint) NextToSend(from uint64) (uint64, bool) {
 	return uint64(id), answer == C.H3_OK
 }
 
+// NextUnblocked is the lowest stream from an id on whose last item was a Waiting and whose insertions came since; false: there is none.
+func (e *Endpoint) NextUnblocked(from uint64) (uint64, bool) {
+	var id C.uint64_t
+	answer := C.h3_next_unblocked(&e.raw, C.uint64_t(from), &id)
+	return uint64(id), answer == C.H3_OK
+}
+
 // Outgoing copies the first bytes that wait on a stream into the buffer, and returns whether the stream ends after them. They wait until
 // Advance. It is for streams without a body of SendBodyOf: if bytes of one follow it returns none, and OutgoingPast tells of them.
 func (e *Endpoint) Outgoing(id uint64, buffer []byte) (count int, end bool) {

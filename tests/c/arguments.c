@@ -50,6 +50,7 @@ static void of_none(h3_endpoint *e) {
   IS(h3_read_datagram(e, "ab", 2, &id, &n, &detail), H3_NO_ENDPOINT);
   IS(h3_next_to_send(e, 0, &id), H3_NO_ENDPOINT);
   IS(h3_end_taken(e, 0), H3_NO_ENDPOINT);
+  IS(h3_next_unblocked(e, 0, &id), H3_NO_ENDPOINT);
   IS(h3_outgoing(e, 0, b, 4, &n, NULL, &fin), H3_NO_ENDPOINT);
   IS(h3_advance(e, 0, 0), H3_NO_ENDPOINT);
   IS(h3_deliver(e, 0, "ab", 2, &detail), H3_NO_ENDPOINT);
@@ -101,6 +102,7 @@ static void of_pointers(h3_endpoint *e, uint64_t id) {
   IS(h3_deliver(e, id, NULL, 64, NULL), H3_ARGUMENT);
   IS(h3_deliver(e, id, NULL, 0, NULL), H3_OK);
   IS(h3_next_to_send(e, 0, NULL), H3_ARGUMENT);
+  IS(h3_next_unblocked(e, 0, NULL), H3_ARGUMENT);
   IS(h3_outgoing(e, id, b, 4, NULL, NULL, &fin), H3_ARGUMENT);
   IS(h3_outgoing(e, id, NULL, 4, &n, NULL, NULL), H3_OK);
   HOLDS(n == 0);

@@ -240,6 +240,7 @@ static void streams(void) {
       seen++;
     }
     WANT(seen == STREAMS, "streams to be sent are left out", 0, seen);
+    WANT(h3_next_unblocked(&ends[!side], 0, &id) == H3_NONE, "a stream is unblocked that did not wait", 0, id);
     for (uint64_t n = 0; n < STREAMS; n++) take(!side, 4 * n, &head, 100, NULL);
     carry_own();
   }

@@ -1,5 +1,6 @@
-/* Streams by their ids: what the peer's unidirectional streams are, streams that are given up both ways in one call, and requests that are
- * opened by an id that QUIC gave. Linked with --wrap for malloc and realloc. One line 'ok NAME' or 'failed NAME'. */
+/* Streams by their ids: what the peer's unidirectional streams are, streams that are given up both ways in one call, requests that are
+ * opened by an id that QUIC gave, and streams that waited for insertions. Linked with --wrap for malloc and realloc. One line 'ok NAME' or
+ * 'failed NAME'. */
 #include "h3.h"
 #include <stdlib.h>
 #include <string.h>
@@ -419,6 +420,105 @@ static void of_ids_without_memory(void) {
   drop();
 }
 
+/* ---- streams that waited for insertions ---- */
+
+static void unblocked(uint64_t from, uint64_t wanted) {
+  uint64_t id = 99;
+  IS(h3_next_unblocked(&ends[SERVER], from, &id), H3_OK);
+  HOLDS(id == wanted);
+}
+
+static void none_unblocked(uint64_t from) {
+  uint64_t id = 99;
+  IS(h3_next_unblocked(&ends[SERVER], from, &id), H3_NONE);
+  HOLDS(id == 99);
+}
+
+/* HEADERS with :method GET and :scheme https of the static table, and fields of a table of 220 bytes (RFC 9204, appendix B.2): the first
+ * one, and :path "/" of the static table; or the first and the second one */
+#define WAITS_FOR_ONE "\x01\x06\x02\x80\xd1\xd7\x10\xc1"
+#define WAITS_FOR_TWO "\x01\x06\x03\x81\xd1\xd7\x10\x11"
+#define INSERTS_FIRST "\x02\x3f\xbd\x01\xc0\x0fwww.example.com"
+#define INSERTS_SECOND "\xc1\x0c/sample/path"
+
+static void make_server(uint64_t blocked) {
+  h3_config config;
+  h3_config_default(&config);
+  config.server = 1;
+  config.table = 220;
+  config.blocked = blocked;
+  IS(h3_new(&ends[SERVER], &config, NULL), H3_OK);
+}
+
+static void waits(uint64_t id, uint64_t count) {
+  h3_item item = pull(SERVER, id);
+  HOLDS(item.kind == H3_WAITING && item.number == count);
+}
+
+static void of_unblocked(void) {
+  make_server(5);
+  none_unblocked(0);
+  for (uint64_t id = 0; id < 12; id += 4) {
+    COMES(SERVER, id, WAITS_FOR_TWO);
+    none_unblocked(0);
+    waits(id, 2);
+  }
+  COMES(SERVER, 12, WAITS_FOR_ONE);
+  waits(12, 1);
+  COMES(SERVER, 16, WAITS_FOR_TWO); /* no pull has told that it waits */
+  none_unblocked(0);
+  COMES(SERVER, 6, INSERTS_FIRST);
+  unblocked(0, 12);
+  unblocked(12, 12);
+  none_unblocked(13);
+  waits(0, 2);
+  HOLDS(pull(SERVER, 12).kind == H3_HEAD);
+  none_unblocked(0);
+  COMES(SERVER, 6, INSERTS_SECOND);
+  unblocked(0, 0);
+  unblocked(1, 4);
+  unblocked(4, 4);
+  unblocked(5, 8);
+  none_unblocked(9);
+  none_unblocked(UINT64_MAX);
+  IS(h3_cancel(&ends[SERVER], 4, NULL), H3_OK);
+  unblocked(1, 8);
+  HOLDS(pull(SERVER, 0).kind == H3_HEAD);
+  unblocked(0, 8);
+  IS(h3_deliver_reset(&ends[SERVER], 8, 0x10c, NULL), H3_OK);
+  none_unblocked(0);
+  HOLDS(pull(SERVER, 16).kind == H3_HEAD);
+  none_unblocked(0);
+  h3_free(&ends[SERVER]);
+}
+
+/* Many streams, near and far, that came and were pulled in another order: each is named once, in the order of the ids. */
+static void of_many_unblocked(void) {
+  enum { MANY = 600 };
+  uint64_t id, named = 0, before = 0;
+  make_server(MANY);
+  for (uint64_t n = 0; n < MANY; n++) {
+    uint64_t other = 4 * (n * 7 % MANY); /* 7 and 600 have no common divisor */
+    if (other % 8 == 4) other += UINT64_C(1) << 40;
+    COMES(SERVER, other, WAITS_FOR_TWO);
+    waits(other, 2);
+  }
+  COMES(SERVER, 6, INSERTS_FIRST);
+  none_unblocked(0);
+  COMES(SERVER, 6, INSERTS_SECOND);
+  for (id = 0; h3_next_unblocked(&ends[SERVER], id, &id) == H3_OK; id++) {
+    HOLDS(named == 0 || id > before);
+    before = id;
+    HOLDS(id % 8 == 0 ? id < 4 * MANY : id - (UINT64_C(1) << 40) < 4 * MANY);
+    if (named % 2) HOLDS(pull(SERVER, id).kind == H3_HEAD);
+    named++;
+  }
+  HOLDS(named == MANY);
+  for (named = 0, id = 0; h3_next_unblocked(&ends[SERVER], id, &id) == H3_OK; named++) HOLDS(pull(SERVER, id).kind == H3_HEAD);
+  HOLDS(named == MANY / 2);
+  h3_free(&ends[SERVER]);
+}
+
 int main(void) {
   begin_request(&request, "GET");
   begin_response(&response, "200");
@@ -431,6 +531,8 @@ int main(void) {
   of_memory();
   of_ids();
   of_ids_without_memory();
-  if (!bad) puts("ok streams: the types of the peer's streams, streams that are given up both ways, and requests by their ids");
+  of_unblocked();
+  of_many_unblocked();
+  if (!bad) puts("ok streams: the types of the peer's streams, streams that are given up both ways, requests by their ids, and streams that waited");
   return bad;
 }

@@ -361,6 +361,10 @@ class Endpoint:
             self._plain_call("h3_raw_pull", _number(id), byref(item))
             return self._held(item)
 
+    def next_unblocked(self, start: int = 0) -> int | None:
+        """The lowest stream id from `start` on of a stream whose last item was `Waiting` and whose insertions have come since."""
+        return self._found("h3_raw_next_unblocked", start)
+
     def _held(self, item: raw.RawItem) -> Item | Pause:
         """What the item has that the endpoint holds."""
         if item.kind == Kind.FAULT_CONNECTION:

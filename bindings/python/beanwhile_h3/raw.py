@@ -157,6 +157,7 @@ DECLARATIONS: dict[str, tuple[Any, list[Any]]] = {
     "h3_raw_deliver_reset": (c_uint32, [Handle, c_uint64, c_uint64, U64_OUT, OUT]),
     "h3_raw_pull": (c_uint32, [Handle, c_uint64, POINTER(RawItem), OUT]),
     "h3_raw_read": (c_uint32, [Handle, c_uint64, BYTES, c_size_t, c_uint32, SIZE_OUT, POINTER(RawItem), U64_OUT, OUT]),
+    "h3_raw_next_unblocked": FINDS_NUMBER,
     "h3_raw_item_fields": (c_uint32, [Handle, SIZES, c_size_t, BUFFER, c_size_t, OUT]),
     "h3_raw_item_bytes": (c_uint32, [Handle, c_size_t, BUFFER, c_size_t, SIZE_OUT, OUT]),
     "h3_raw_datagram_head": (c_uint32, [Handle, c_uint64, BUFFER, c_size_t, SIZE_OUT, U64_OUT, OUT]),

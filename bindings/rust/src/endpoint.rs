@@ -275,6 +275,13 @@ impl Endpoint {
         self.call(|handle, _, out| unsafe { raw::h3_raw_is_drained(handle, &mut drained, out) }).is_ok() && drained == 1
     }
 
+    /// The lowest stream from an id on whose last item was [`Pause::Waiting`] and whose insertions have come since.
+    pub fn next_unblocked(&mut self, from: u64) -> Option<u64> {
+        let mut id = 0;
+        self.call(|handle, _, out| unsafe { raw::h3_raw_next_unblocked(handle, from, &mut id, out) }).ok()?;
+        Some(id)
+    }
+
     /// The lowest stream from an id on on which bytes wait, or an end that `end_taken` did not speak of.
     pub fn next_to_send(&mut self, from: u64) -> Option<u64> {
         let mut id = 0;

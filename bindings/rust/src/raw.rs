@@ -103,6 +103,7 @@ extern "C" {
     pub(crate) fn h3_raw_deliver_reset(endpoint: Handle, id: u64, code: u64, detail: *mut u64, out: *mut Handle) -> u32;
     pub(crate) fn h3_raw_pull(endpoint: Handle, id: u64, item: *mut RawItem, out: *mut Handle) -> u32;
     pub(crate) fn h3_raw_read(endpoint: Handle, id: u64, bytes: *const u8, len: usize, fin: u32, used: *mut usize, item: *mut RawItem, detail: *mut u64, out: *mut Handle) -> u32;
+    pub(crate) fn h3_raw_next_unblocked(endpoint: Handle, from: u64, id: *mut u64, out: *mut Handle) -> u32;
     pub(crate) fn h3_raw_item_fields(endpoint: Handle, sizes: *mut FieldSize, most: usize, bytes: *mut u8, room: usize, out: *mut Handle) -> u32;
     pub(crate) fn h3_raw_item_bytes(endpoint: Handle, from: usize, buffer: *mut u8, room: usize, n: *mut usize, out: *mut Handle) -> u32;
     pub(crate) fn h3_raw_datagram_head(endpoint: Handle, id: u64, buffer: *mut u8, room: usize, n: *mut usize, detail: *mut u64, out: *mut Handle) -> u32;

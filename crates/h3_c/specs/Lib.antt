@@ -12,6 +12,7 @@ pub mod Rows
 pub mod Numbers
 pub mod Priorities
 pub mod Seen
+pub mod Unblocked
 pub mod Shutdown
 pub mod Showing
 pub mod Reads

@@ -27,6 +27,7 @@ mod receiving;
 mod sending;
 mod showing;
 mod shutdown;
+mod unblocked;
 
 /// An endpoint, and what the last pull answered. A contract sees both as they are.
 #[derive(Drop)]

@@ -15,4 +15,5 @@ mod receiving;
 mod sending;
 mod showing;
 mod shutdown;
+mod unblocked;
 mod version;

@@ -15,3 +15,4 @@ pub mod Bits
 pub mod WaitingWords
 pub mod LeastBit
 pub mod ReadingBodies
+pub mod Unblocked

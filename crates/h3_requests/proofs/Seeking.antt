@@ -1,7 +1,7 @@
 -- The greatest number that passes a test, found in parts.
 use Rattle.std.proofs.Common.{◌≡◌, ◌<◌, ◌≤◌, ℕ, zero, suc, ◌+◌, ◌-◌, ◌/◌, ◌%◌, ◌^◌, Bool, true, false, ◌||◌, ◌&&◌, List, [], ◌∷◌, length, refl, sym, ◌∙◌, ap, subst, inl, inr, arith, if◌then◌else◌, slice_get}
-use Rattle.std.specs.Prelude.{◌==◌, ◌≢◌, ◌⊎◌, not, Option, Some, None, IfSome, IsSome, is_some, nat_lt}
-use Rattle.std.specs.List.{list_any, range_with_len}
+use Rattle.std.specs.Prelude.{◌==◌, ◌⊎◌, not, Option, Some, None, IfSome, IsSome, is_some, nat_lt}
+use Rattle.std.specs.List.{range_with_len}
 use Rattle.std.specs.Ordering.{eq_by_cmp, nat_cmp}
 use Rattle.std.specs.Set.{is_member}
 use Rattle.std.proofs.lemmas.Bool.{cases_eq}
@@ -9,7 +9,7 @@ use Rattle.std.proofs.lemmas.Grind.{common_steps}
 use Rattle.h3_connection.specs.State.{RequestState, kept_at}
 use Rattle.h3_connection.specs.StreamSets.{Streams, stream_at}
 use Rattle.h3_blocked.specs.SumLaws.{kept_is_at}
-use Rattle.h3_requests.specs.Done.{is_done, is_sought}
+use Rattle.h3_requests.specs.Done.{is_sought}
 use Rattle.h3_requests.specs.Greatest.{IsGreatest, IsOneOf, greater_of}
 use Rattle.h3_requests.specs.Listed.{either, listed_at, put_first, streams_of}
 use Rattle.h3_requests.specs.Over.{AreMarked, IsOver, over_in, way_at}
@@ -155,10 +155,10 @@ greatest_listed test f model (Some id) view none few h = (
   λ q above. kept_there (λ o. test o ≡ false) f model q view none (h.1 q above),
 )
 
--- What stands in one of two places where both have none is sought there, or in the other.
-pub sought_beside : (undone : Bool) (a b : Option RequestState) → (IsSome a → b ≡ None) → is_sought undone (either a b) ≡ (is_sought undone a || is_sought undone b)
-sought_beside undone None b apart = refl
-sought_beside undone (Some x) b apart = sym (ap (λ o. is_sought undone (Some x) || is_sought undone o) (apart refl) ∙ or_false _)
+-- What stands in one of two places where both have none passes a test there, or in the other.
+pub passes_beside : (test : Option RequestState → Bool) (a b : Option RequestState) → test None ≡ false → (IsSome a → b ≡ None) → test (either a b) ≡ (test a || test b)
+passes_beside test None b none apart = sym (ap (λ t. t || test b) none)
+passes_beside test (Some x) b none apart = sym (ap (λ o. test (Some x) || test o) (apart refl) ∙ ap (λ t. test (Some x) || t) none ∙ or_false _)
 
 -- it is there in either
 pub there_beside : (a b : Option RequestState) → is_some (either a b) ≡ (is_sought false a || is_some b)
@@ -178,7 +178,7 @@ undone_beside None b h = done_over b h
 undone_beside (Some x) b h = refl
 
 -- a number that is sought is there
-some_sought : (undone : Bool) (o : Option RequestState) → is_sought undone o ≡ true → IsSome o
+pub some_sought : (undone : Bool) (o : Option RequestState) → is_sought undone o ≡ true → IsSome o
 some_sought undone None h = absurd (cc)
 some_sought undone (Some r) h = refl
 
@@ -189,11 +189,10 @@ named p q some = by_test (p.id == q) refl some
     by_test true e some = grind (arith, common_steps, e)
     by_test false e some = absurd (cc)
 
--- One that is sought in a row, whose place is the next one, has that one's id,
-pub next_in_row : (undone : Bool) (places : List Place) (index : ℕ) (p : Place) (q : ℕ) → slice_get places index ≡ Some p → q / 4 % 128 < index + 1 → is_sought undone (held_in places q) ≡ true
-    → (q ≡ p.id) ⊎ (q / 4 % 128 < index)
-next_in_row undone places index p q at less is = elim (cases_eq (q / 4 % 128) index) [
-  | inl same ↦ inl (sym (named p q (subst (λ o. IsSome o) (ap (λ i. held_by (slice_get places i) q) same ∙ ap (λ o. held_by o q) at) (some_sought undone (held_in places q) is))))
+-- One that stands in a row, whose place is the next one, has that one's id,
+pub next_in_row : (places : List Place) (index : ℕ) (p : Place) (q : ℕ) → slice_get places index ≡ Some p → q / 4 % 128 < index + 1 → IsSome (held_in places q) → (q ≡ p.id) ⊎ (q / 4 % 128 < index)
+next_in_row places index p q at less is = elim (cases_eq (q / 4 % 128) index) [
+  | inl same ↦ inl (sym (named p q (subst (λ o. IsSome o) (ap (λ i. held_by (slice_get places i) q) same ∙ ap (λ o. held_by o q) at) is)))
   | inr differs ↦ inr (omega (arith, less, differs))
 ]
 
@@ -207,8 +206,8 @@ some_by None q some = absurd (cc)
 some_by (Some p) q some = refl
 
 -- and its place is there
-pub in_the_row : (undone : Bool) (places : List Place) (q : ℕ) → is_sought undone (held_in places q) ≡ true → q / 4 % 128 < length places
-in_the_row undone places q is = within places (q / 4 % 128) (some_by (slice_get places (q / 4 % 128)) q (some_sought undone (held_in places q) is))
+pub in_the_row : (places : List Place) (q : ℕ) → IsSome (held_in places q) → q / 4 % 128 < length places
+in_the_row places q is = within places (q / 4 % 128) (some_by (slice_get places (q / 4 % 128)) q is)
 
 -- One that is sought in a map has its key among all of them,
 pub key_there : (undone : Bool) (streams : Streams RequestState) (keys : List ℕ) (q : ℕ) → is_some (kept_at streams q) ≡ is_member (eq_by_cmp nat_cmp) keys q → is_member (eq_by_cmp nat_cmp) keys q ≡ false

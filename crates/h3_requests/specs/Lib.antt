@@ -4,6 +4,8 @@ pub mod Counted
 pub mod Waiting
 pub mod HasBytes
 pub mod Lending
+pub mod Lesser
+pub mod LesserLaws
 pub mod Limited
 pub mod Coming
 pub mod Done
@@ -20,5 +22,6 @@ pub mod Row
 pub mod RowLending
 pub mod Seen
 pub mod Stored
+pub mod Unblocked
 pub mod UnderWayLending
 pub mod Words

@@ -4,6 +4,7 @@
 
 mod boxed;
 mod greatest;
+mod lesser;
 mod map;
 mod over;
 mod ready;

@@ -5,6 +5,7 @@ ghost use Rattle.std.specs.Prelude.{◌≡◌, [], true, false, None, is_some, I
 ghost use Rattle.h3_blocked.specs.Counting.{waits_at};
 ghost use Rattle.h3_blocked.specs.Sums.{TakesOut};
 ghost use Rattle.h3_connection.specs.Calls.{fresh_request, Sets};
+ghost use Rattle.h3_connection.specs.NextWaiting.{IsLeast};
 ghost use Rattle.h3_connection.specs.State.{kept_at};
 ghost use Rattle.h3_connection.specs.StreamSets.{HaveDistinctIds};
 ghost use Rattle.h3_requests.specs.Done.{is_sought};
@@ -15,6 +16,7 @@ ghost use Rattle.h3_requests.specs.Over.{with_end_taken, AreAlike, IsOver};
 ghost use Rattle.h3_requests.specs.Refused.{refused_over};
 ghost use Rattle.h3_requests.specs.Stored.{over_at, streams_in, under_way_at};
 ghost use Rattle.h3_requests.specs.Listed.{either};
+ghost use Rattle.h3_requests.specs.Unblocked.{is_unblocked};
 
 use crate::boxed::BoxedStream;
 use crate::greatest::greater;
@@ -102,6 +104,15 @@ impl StreamMap {
         // (for the proof: the others are over)
         self.over.are_over();
         self.under_way.greatest(true)
+    }
+
+    // The least id from `from` on of a stream that so many insertions unblock. It looks at those under way alone: no other waits.
+    pub(crate) fn next_unblocked(&self, inserted: usize, from: u64) -> Option<u64>
+        ensures { IsLeast (λ id. is_unblocked inserted (kept_at (streams_in self.now) id)) from result }
+    {
+        // (for the proof: the others are over)
+        self.over.are_over();
+        self.under_way.next_unblocked(inserted, from)
     }
 
     // Why a call is refused on a stream that is not under way: for this on one that is over, and else since none is there.

@@ -5,6 +5,7 @@ ghost use Rattle.h3_connection.specs.Calls.{fresh_request};
 ghost use Rattle.h3_connection.specs.Delivering.{kept};
 ghost use Rattle.h3_connection.specs.declared.event.StreamFault.TheVariants.{Reset};
 ghost use Rattle.h3_requests.specs.Done.{is_done, is_sought};
+ghost use Rattle.h3_requests.specs.Unblocked.{is_unblocked};
 ghost use Rattle.h3_requests.specs.Over.{reset_with, with_end_taken, IsOver, ReceivesAlike, SendsAlike};
 
 use bytes::Bytes;
@@ -102,6 +103,14 @@ impl RequestStream {
         ensures { result ≡ is_done self.now }
     {
         self.is_settled() && self.outgoing.is_sent_off()
+    }
+
+    // Whether so many insertions unblock it: a pull answered that it waits, and for no more than these.
+    pub(crate) fn is_unblocked(&self, inserted: usize) -> bool
+        ensures { result ≡ is_unblocked inserted (Some self.now) }
+    {
+        let required = self.incoming.waits_for();
+        required > 0 && required <= inserted
     }
 
     // Whether it counts: all streams do, or, if `undone`, those alone that are not done.

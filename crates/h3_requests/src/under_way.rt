@@ -4,13 +4,16 @@ ghost use Rattle.std.specs.Option.{option_copied_mut};
 ghost use Rattle.std.specs.Prelude.{◌≡◌, ◌<◌, ◌^◌, [], None, Some, is_some, option_copied, IfSome, OnErr, OnOk};
 ghost use Rattle.h3_blocked.specs.Sums.{TakesOut};
 ghost use Rattle.h3_connection.specs.Calls.{fresh_request, Sets};
+ghost use Rattle.h3_connection.specs.NextWaiting.{IsLeast};
 ghost use Rattle.h3_connection.specs.State.{kept_at};
 ghost use Rattle.h3_requests.specs.Done.{is_sought};
 ghost use Rattle.h3_requests.specs.Greatest.{IsGreatest};
+ghost use Rattle.h3_requests.specs.Unblocked.{is_unblocked};
 ghost use Rattle.h3_requests.specs.UnderWayLending.{LendsUnderWay};
 
 use crate::boxed::BoxedStream;
 use crate::greatest::greater;
+use crate::lesser::lesser;
 use crate::spare::Spare;
 use crate::stream::RequestStream;
 use std::alloc::{AllocError, Global};
@@ -90,6 +93,17 @@ impl StreamsUnderWay {
         ensures fits { IfSome result (λ id. id < 2 ^ 64) }
     {
         greater(self.row.greatest(undone), self.others.greatest(undone))
+    }
+
+    /// The least id from `from` on of a stream that so many insertions unblock. It looks at each stream that is under way.
+    pub(crate) fn next_unblocked(&self, inserted: usize, from: u64) -> Option<u64>
+        ensures value { IsLeast (λ id. is_unblocked inserted (kept_at self.now id)) from result }
+        ensures fits { IfSome result (λ id. id < 2 ^ 64) }
+    {
+        lesser(
+            self.row.next_unblocked(inserted, from),
+            self.others.next_unblocked(inserted, from),
+        )
     }
 
     /// The stream of this id, to be changed.

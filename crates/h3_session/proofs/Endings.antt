@@ -12,10 +12,10 @@ use Rattle.h3_connection.specs.State.{EndpointState, IsOfOutgoing, RequestState,
 use Rattle.h3_connection.specs.StreamSets.{Streams, stream_at}
 use Rattle.h3_outgoing.specs.HistoryLaws.{end_gone, end_next, end_waiting}
 use Rattle.h3_requests.specs.HasBytes as stored
+use Rattle.h3_requests.specs.Lesser.{lesser_of}
+use Rattle.h3_requests.specs.LesserLaws.{least_either}
 use Rattle.h3_requests.specs.Over.{with_end_taken}
-use Rattle.h3_session.specs.Next.{earlier_of}
 use Rattle.h3_session.proofs.Opened.{stands_same}
-use Rattle.h3_session.proofs.Next.{least_either}
 use Rattle.h3_session.proofs.Taking.{found, not_found}
 
 -- whether an end waits is known by what is stored
@@ -26,7 +26,7 @@ ends_by s e id (Some r) h was =
     ap (λ o. unwrap_or (option_map end_waits o) false) f.there ∙ sym (end_waiting f.o r.outgoing f.is)
 
 -- the first on which either waits
-pub next_of_ends : (s : EndpointState) (from : ℕ) (bytes end : Option ℕ) → ShowsNextWaiting s from bytes → IsLeast (λ id. stored.has_end (kept_at s.requests id)) from end → ShowsNextToSend s from (earlier_of bytes end)
+pub next_of_ends : (s : EndpointState) (from : ℕ) (bytes end : Option ℕ) → ShowsNextWaiting s from bytes → IsLeast (λ id. stored.has_end (kept_at s.requests id)) from end → ShowsNextToSend s from (lesser_of bytes end)
 next_of_ends s from bytes end h k e stands =
     least_either (has_waiting e) (has_end e) from bytes end (h e stands)
     (least_same (λ id. stored.has_end (kept_at s.requests id)) (has_end e) from end (λ id. ends_by s e id (kept_at s.requests id) stands refl) k)

@@ -60,3 +60,4 @@ pub mod Datagrams
 pub mod Closing
 pub mod OpeningAt
 pub mod PeerKinds
+pub mod Unblocked

@@ -1,7 +1,7 @@
 -- The next stream on which bytes wait is the first of the request streams or of the own ones.
-use Rattle.std.proofs.Common.{arith, ◌≡◌, ◌∙◌, ◌≤◌, ◌<◌, ◌+◌, ◌==◌, ℕ, Bool, true, false, if◌then◌else◌, length, sym, refl, ap, subst, inl, inr}
+use Rattle.std.proofs.Common.{arith, ◌≡◌, ◌∙◌, ◌≤◌, ◌<◌, ◌+◌, ◌==◌, ℕ, Bool, true, false, length, sym, refl, ap, subst, inl, inr}
 use Rattle.std.specs.Prelude.{◌≢◌, ◌||◌, ◌&&◌, not, nat_lt, Option, Some, None, is_some, option_map}
-use Rattle.std.proofs.lemmas.Bool.{cases_eq, cases_lt, lt-ltb, le-ltb}
+use Rattle.std.proofs.lemmas.Bool.{cases_eq}
 use Rattle.std.proofs.lemmas.Grind.{common_steps}
 use Rattle.h3_connection.specs.Endpoint.{EndpointHistory}
 use Rattle.h3_connection.specs.NextWaiting.{IsLeast, has_waiting, ShowsNextWaiting}
@@ -11,47 +11,12 @@ use Rattle.h3_connection.specs.State.{EndpointState, RequestState, StandsFor, ke
 use Rattle.h3_proto.specs.declared.stream.Side.{Side}
 use Rattle.h3_proto.specs.declared.stream.Side.TheVariants.{Client, Server}
 use Rattle.h3_requests.specs.HasBytes.{has_bytes}
+use Rattle.h3_requests.specs.Lesser.{lesser_of}
+use Rattle.h3_requests.specs.LesserLaws.{least_either}
 use Rattle.h3_unidirectional.specs.Owned.{own_stream_of, waiting_of, waiting_on}
-use Rattle.h3_session.specs.Next.{earlier_of, has_own_bytes}
+use Rattle.h3_session.specs.Next.{has_own_bytes}
 use Rattle.h3_session.specs.Refused.{sender_in}
 use Rattle.h3_session.proofs.Taking.{own_waits, request_waits}
-
-neither : (a b : Bool) → a ≡ false → b ≡ false → (a || b) ≡ false
-neither true b is other = absurd (cc)
-neither false b is other = other
-
-either_one : (a b : Bool) → a ≡ true → (a || b) ≡ true
-either_one true b is = refl
-either_one false b is = absurd (cc)
-
-either_other : (a b : Bool) → b ≡ true → (a || b) ≡ true
-either_other true b is = refl
-either_other false b is = is
-
--- one of two tests: none passes either,
-pub least_neither : (f g : ℕ → Bool) (from : ℕ) → IsLeast f from None → IsLeast g from None → IsLeast (λ q. f q || g q) from None
-least_neither f g from h k = λ q there. neither (f q) (g q) (h q there) (k q there)
-
--- the first that passes the one is before all that pass the other,
-pub least_one : (f g : ℕ → Bool) (from id : ℕ) (other : Option ℕ) → IsLeast f from (Some id) → IsLeast g from other → ((q : ℕ) → from ≤ q → q < id → g q ≡ false) → IsLeast (λ q. f q || g q) from (Some id)
-least_one f g from id other h k later = (h.0, either_one (f id) (g id) h.1, λ q there less. neither (f q) (g q) (h.2 q there less) (later q there less))
-
-pub least_other : (f g : ℕ → Bool) (from id : ℕ) (one : Option ℕ) → IsLeast f from one → IsLeast g from (Some id) → ((q : ℕ) → from ≤ q → q < id → f q ≡ false) → IsLeast (λ q. f q || g q) from (Some id)
-least_other f g from id one h k later = (k.0, either_other (f id) (g id) k.1, λ q there less. neither (f q) (g q) (later q there less) (k.2 q there less))
-
--- what passes either is the earlier of both
-pub least_either : (f g : ℕ → Bool) (from : ℕ) (one other : Option ℕ) → IsLeast f from one → IsLeast g from other → IsLeast (λ q. f q || g q) from (earlier_of one other)
-least_either f g from None None h k = least_neither f g from h k
-least_either f g from None (Some second) h k = least_other f g from second None h k (λ q there less. h q there)
-least_either f g from (Some first) None h k = least_one f g from first None h k (λ q there less. k q there)
-least_either f g from (Some first) (Some second) h k = elim (cases_lt second first) [
-  | inl less ↦
-      subst (IsLeast (λ q. f q || g q) from) (sym (ap (λ b. if b then Some second else Some first) (lt-ltb second first less)))
-      (least_other f g from second (Some first) h k (λ q there before. h.2 q there (omega (arith, before, less))))
-  | inr past ↦
-      subst (IsLeast (λ q. f q || g q) from) (sym (ap (λ b. if b then Some second else Some first) (le-ltb second first past)))
-      (least_one f g from first (Some second) h k (λ q there before. k.2 q there (omega (arith, before, past))))
-]
 
 none_equal : (number q : ℕ) (t : Bool) → q ≢ number → (q == number && t) ≡ false
 none_equal number q t differs = grind (arith, common_steps, differs)
@@ -86,10 +51,10 @@ joined t a b c q others = elim (cases_eq q a) [
 ]
 
 pub least_of_three : (t : ℕ → Bool) (a b c from : ℕ) (first second third : Option ℕ) → ((q : ℕ) → q ≢ a → q ≢ b → q ≢ c → t q ≡ false) → IsLeast (λ q. q == a && t q) from first → IsLeast (λ q. q == b && t q) from second
-    → IsLeast (λ q. q == c && t q) from third → IsLeast t from (earlier_of (earlier_of first second) third)
+    → IsLeast (λ q. q == c && t q) from third → IsLeast t from (lesser_of (lesser_of first second) third)
 least_of_three t a b c from first second third others one two three =
-    least_same (λ q. (one_alone t a q || one_alone t b q) || one_alone t c q) t from (earlier_of (earlier_of first second) third) (λ q. joined t a b c q others)
-    (least_either (λ q. one_alone t a q || one_alone t b q) (one_alone t c) from (earlier_of first second) third (least_either (one_alone t a) (one_alone t b) from first second one two) three)
+    least_same (λ q. (one_alone t a q || one_alone t b q) || one_alone t c q) t from (lesser_of (lesser_of first second) third) (λ q. joined t a b c q others)
+    (least_either (λ q. one_alone t a q || one_alone t b q) (one_alone t c) from (lesser_of first second) third (least_either (one_alone t a) (one_alone t b) from first second one two) three)
 
 -- own streams are three
 none_of : (side : Side) (id : ℕ) → id ≢ control_id side → id ≢ control_id side + 4 → id ≢ control_id side + 8 → own_stream_of side id ≡ None
@@ -106,12 +71,12 @@ quiet s id control encoder decoder =
 
 -- the first of the own streams
 pub least_own : (s : EndpointState) (from control : ℕ) (first second third both found : Option ℕ) → control ≡ control_id s.side → IsLeast (λ id. id == control && has_own_bytes s id) from first
-    → IsLeast (λ id. id == control + 4 && has_own_bytes s id) from second → IsLeast (λ id. id == control + 8 && has_own_bytes s id) from third → both ≡ earlier_of first second
-    → found ≡ earlier_of both third → IsLeast (has_own_bytes s) from found
+    → IsLeast (λ id. id == control + 4 && has_own_bytes s id) from second → IsLeast (λ id. id == control + 8 && has_own_bytes s id) from third → both ≡ lesser_of first second
+    → found ≡ lesser_of both third → IsLeast (has_own_bytes s) from found
 least_own s from control first second third both found is one two three joined result =
     let others : (id : ℕ) → id ≢ control → id ≢ control + 4 → id ≢ control + 8 → has_own_bytes s id ≡ false
     = subst (λ n. (id : ℕ) → id ≢ n → id ≢ n + 4 → id ≢ n + 8 → has_own_bytes s id ≡ false) (sym is) (quiet s) in
-    subst (IsLeast (has_own_bytes s) from) (sym (result ∙ ap (λ o. earlier_of o third) joined))
+    subst (IsLeast (has_own_bytes s) from) (sym (result ∙ ap (λ o. lesser_of o third) joined))
     (least_of_three (has_own_bytes s) control (control + 4) (control + 8) from first second third others one two three)
 
 or_false : (b : Bool) → (b || false) ≡ b
@@ -125,7 +90,7 @@ waits_by s e id None h was = sym (ap (λ bytes. nat_lt 0 (length bytes)) (own_wa
 waits_by s e id (Some r) h was = sym (or_false (has_bytes (Some r)) ∙ ap (λ bytes. nat_lt 0 (length bytes)) (request_waits s e id r.outgoing h (ap (option_map (λ r. r.outgoing)) was)))
 
 pub next_of_both : (s : EndpointState) (from : ℕ) (request own : Option ℕ) → IsLeast (λ id. has_bytes (kept_at s.requests id)) from request → IsLeast (has_own_bytes s) from own
-    → ShowsNextWaiting s from (earlier_of request own)
+    → ShowsNextWaiting s from (lesser_of request own)
 next_of_both s from request own h k e stands =
-    least_same (λ id. has_bytes (kept_at s.requests id) || has_own_bytes s id) (has_waiting e) from (earlier_of request own) (λ id. waits_by s e id (kept_at s.requests id) stands refl)
+    least_same (λ id. has_bytes (kept_at s.requests id) || has_own_bytes s id) (has_waiting e) from (lesser_of request own) (λ id. waits_by s e id (kept_at s.requests id) stands refl)
     (least_either (λ id. has_bytes (kept_at s.requests id)) (has_own_bytes s) from request own h k)

@@ -7,6 +7,7 @@ pub mod Reading
 pub mod Canceling
 pub mod Closing
 pub mod PeerKinds
+pub mod Unblocked
 pub mod Arriving
 pub mod SendingFields
 pub mod Pulling

@@ -1,14 +1,8 @@
 -- The first stream on which bytes wait, among the request streams and the own ones.
-use Rattle.std.specs.Prelude.{ℕ, Bool, not, ◌&&◌, if◌then◌else◌, length, nat_lt, Option, Some, None, is_some}
+use Rattle.std.specs.Prelude.{ℕ, Bool, not, ◌&&◌, length, nat_lt, is_some}
 use Rattle.h3_connection.specs.State.{EndpointState}
 use Rattle.h3_session.specs.Refused.{sender_in}
 use Rattle.h3_unidirectional.specs.Owned.{waiting_on}
-
--- the lesser of two ids, where either may be missing
-abbrev pub earlier_of : Option ℕ → Option ℕ → Option ℕ
-earlier_of None other = other
-earlier_of (Some first) None = Some first
-earlier_of (Some first) (Some second) = if nat_lt second first then Some second else Some first
 
 -- whether bytes wait on an own stream, and the id is that of no request stream
 abbrev pub has_own_bytes : EndpointState → ℕ → Bool

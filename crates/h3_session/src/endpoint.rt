@@ -36,6 +36,7 @@ mod sending;
 mod showing;
 mod shutdown;
 mod strict;
+mod unblocked;
 mod unread;
 
 pub use closing::ClosedStream;

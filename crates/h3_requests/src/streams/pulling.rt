@@ -6,6 +6,7 @@ ghost use Rattle.h3_qpack.specs.DecoderState.{DecoderState};
 ghost use Rattle.h3_blocked.specs.Counting.{above, HasCount, IsSound, Replaces};
 ghost use Rattle.h3_connection.specs.Incoming.{Incoming};
 ghost use Rattle.h3_connection.specs.Keeping.{is_settled_request};
+ghost use Rattle.h3_connection.specs.NextWaiting.{IsLeast};
 ghost use Rattle.h3_connection.specs.Pulling.{is_memory, just, pull_stream};
 ghost use Rattle.h3_connection.specs.Sending.{if_too_many};
 ghost use Rattle.h3_connection.specs.State.{kept_at};
@@ -15,6 +16,7 @@ ghost use Rattle.h3_requests.specs.Coming.{fields_at};
 ghost use Rattle.h3_requests.specs.Limited.{AnswersOver, AreReceivers, PullsWithin, ResumesThere, unopened_answer};
 ghost use Rattle.h3_requests.specs.Over.{IsOver};
 ghost use Rattle.h3_requests.specs.Stored.{over_at};
+ghost use Rattle.h3_requests.specs.Unblocked.{is_unblocked};
 
 use super::RequestStreams;
 use crate::map::StreamMap;
@@ -35,6 +37,18 @@ impl RequestStreams {
         ensures { (receivers : Streams Incoming) → AreReceivers receivers self.now → result ≡ count_by (λ s. nat_lt inserted s.1.waits_for) receivers }
     {
         self.blocked.above(inserted)
+    }
+
+    /// The least id from this one on of a stream that so many insertions unblock: a pull of it answered that it waits, and for no more than
+    /// these (RFC 9204, section 2.1.2). It looks at those under way, and at none if all that wait do so for more.
+    #[tactic(auto, using(crate::proofs::Unblocked::none_unblocked))]
+    pub fn next_unblocked(&self, inserted: usize, from: u64) -> Option<u64>
+        ensures { IsLeast (λ id. is_unblocked inserted (kept_at self.now id)) from result }
+    {
+        if self.blocked.above(inserted) == self.blocked.above(0) {
+            return None;
+        }
+        self.streams.next_unblocked(inserted, from)
     }
 
     /// The next item of a stream's message, or why there is none now. More streams than were announced that would wait are a fault of the

@@ -3,14 +3,17 @@
 ghost use Rattle.std.specs.Borrow.{sem};
 ghost use Rattle.std.specs.Option.{option_copied_mut};
 ghost use Rattle.std.specs.Prelude.{◌≡◌, ◌<◌, ◌^◌, [], None, Some, is_some, option_copied, IfSome, OnErr, OnOk};
+ghost use Rattle.h3_connection.specs.NextWaiting.{IsLeast};
 ghost use Rattle.h3_connection.specs.State.{kept_at};
 ghost use Rattle.h3_requests.specs.Done.{is_sought};
 ghost use Rattle.h3_requests.specs.Greatest.{IsGreatest};
 ghost use Rattle.h3_requests.specs.OthersLending.{LendsOther};
 ghost use Rattle.h3_requests.specs.Row.{KeepsOthers};
+ghost use Rattle.h3_requests.specs.Unblocked.{is_next, is_unblocked};
 
 use crate::boxed::BoxedStream;
 use crate::greatest::greater;
+use crate::lesser::lesser;
 use crate::stream::RequestStream;
 use std::alloc::{AllocError, Global};
 use std::collections::BTreeMap;
@@ -71,6 +74,35 @@ impl Others {
         'ids: for id in self.streams.keys() {
             if self.seeks(*id, undone) {
                 found = greater(found, Some(*id));
+            }
+        }
+        found
+    }
+
+    // Whether the stream of this id is there, is not before `from`, and so many insertions unblock it.
+    fn is_next(&self, id: u64, inserted: usize, from: u64) -> bool
+        ensures { result ≡ is_next inserted from id (kept_at self.now.streams.entries id) }
+    {
+        if id < from {
+            return false;
+        }
+        match self.streams.get(&id) {
+            Some(stream) => stream.get().is_unblocked(inserted),
+            None => false,
+        }
+    }
+
+    /// The least id from `from` on of a stream that so many insertions unblock.
+    #[inline(never)]
+    pub(crate) fn next_unblocked(&self, inserted: usize, from: u64) -> Option<u64>
+        ensures value { IsLeast (λ id. is_unblocked inserted (kept_at self.now.streams.entries id)) from result }
+        ensures fits { IfSome result (λ id. id < 2 ^ 64) }
+    {
+        let mut found = None;
+        // (the label names the loop in its proof)
+        'ids: for id in self.streams.keys() {
+            if self.is_next(*id, inserted, from) {
+                found = lesser(found, Some(*id));
             }
         }
         found

@@ -1,13 +1,16 @@
 //! A row of places in which request streams stand by their ids, so that one is found by one comparison.
 ghost use Rattle.std.specs.Borrow.{sem};
 ghost use Rattle.std.specs.Prelude.{◌≡◌, ◌<◌, ◌/◌, ◌%◌, ◌^◌, ℕ, length, true, Some, None, is_some, option_copied, IfSome, IsSome};
+ghost use Rattle.h3_connection.specs.NextWaiting.{IsLeast};
 ghost use Rattle.h3_requests.specs.Done.{is_sought};
 ghost use Rattle.h3_requests.specs.Greatest.{IsGreatest};
 ghost use Rattle.h3_requests.specs.Row.{held_at, in_place, HasFreePlace, IsOneHeld, HoldSame};
+ghost use Rattle.h3_requests.specs.Unblocked.{is_next, is_unblocked};
 ghost use Rattle.h3_requests.specs.RowLending.{LendsHeld, LendsPlaced};
 
 use crate::boxed::BoxedStream;
 use crate::greatest::greater;
+use crate::lesser::lesser;
 use crate::stream::RequestStream;
 use std::alloc::{AllocError, Global};
 use std::mem;
@@ -142,6 +145,34 @@ impl Row {
         'places: for place in &self.places {
             if self.seeks(place.id, undone) {
                 found = greater(found, Some(place.id));
+            }
+        }
+        found
+    }
+
+    // Whether the stream of this id has a place, is not before `from`, and so many insertions unblock it.
+    fn is_next(&self, id: u64, inserted: usize, from: u64) -> bool
+        ensures { result ≡ is_next inserted from id (held_at self.now id) }
+    {
+        if id < from {
+            return false;
+        }
+        match self.get(id) {
+            Some(stream) => stream.is_unblocked(inserted),
+            None => false,
+        }
+    }
+
+    /// The least id from `from` on of a stream that has a place and that so many insertions unblock.
+    pub(crate) fn next_unblocked(&self, inserted: usize, from: u64) -> Option<u64>
+        ensures value { IsLeast (λ id. is_unblocked inserted (held_at self.now id)) from result }
+        ensures fits { IfSome result (λ id. id < 2 ^ 64) }
+    {
+        let mut found = None;
+        // (the label names the loop in its proof)
+        'places: for place in &self.places {
+            if self.is_next(place.id, inserted, from) {
+                found = lesser(found, Some(place.id));
             }
         }
         found

@@ -2,7 +2,8 @@
 ghost use Rattle.std.specs.Prelude.{◌≡◌, ◌<◌, ◌^◌, ◌==◌, ◌&&◌};
 ghost use Rattle.h3_connection.specs.NextWaiting.{IsLeast, ShowsNextWaiting};
 ghost use Rattle.h3_connection.specs.OwnIds.{control_id};
-ghost use Rattle.h3_session.specs.Next.{earlier_of, has_own_bytes};
+ghost use Rattle.h3_requests.specs.Lesser.{lesser_of};
+ghost use Rattle.h3_session.specs.Next.{has_own_bytes};
 
 use super::Endpoint;
 use h3_proto::stream::{Side, StreamId};
@@ -61,7 +62,7 @@ impl Endpoint {
 
 /// The lesser of two ids.
 pub(super) fn earlier(one: Option<StreamId>, other: Option<StreamId>) -> Option<StreamId>
-    ensures { result ≡ earlier_of one other }
+    ensures { result ≡ lesser_of one other }
 {
     match (one, other) {
         (Some(first), Some(second)) => {

@@ -4,7 +4,7 @@ use Rattle.h3_connection.specs.State.{kept_at}
 use Rattle.h3_requests.specs.Done.{is_sought}
 use Rattle.h3_requests.specs.Greatest.{IsGreatest, greater_of}
 use Rattle.h3_requests.specs.Row.{found_at, held_at}
-use Rattle.h3_requests.proofs.Seeking.{fits_both, greatest_listed, greatest_of_both, sought_beside}
+use Rattle.h3_requests.proofs.Seeking.{fits_both, greatest_listed, greatest_of_both, passes_beside}
 use Rattle.h3_requests.proofs.under_way.StreamsUnderWay.greatest.Goals as goal
 
 pub returns-clause-value : goal.returns-clause-value
@@ -14,4 +14,4 @@ returns-clause-value c =
     (fits_both c.greatest.result c.greatest-2.result c.greatest.ensures.fits c.greatest-2.ensures.fits)
     (greatest_of_both (λ q. is_sought c.args.undone (held_at c.self.inside.row q)) (λ q. is_sought c.args.undone (kept_at c.self.inside.others.streams.entries q))
     (λ q. is_sought c.args.undone (found_at c.self.inside.row c.self.inside.others.streams.entries q)) c.greatest.result c.greatest-2.result
-    (λ q. sought_beside c.args.undone (held_at c.self.inside.row q) (kept_at c.self.inside.others.streams.entries q) (c.self.invariant q)) c.greatest.ensures.value c.greatest-2.ensures.value))
+    (λ q. passes_beside (is_sought c.args.undone) (held_at c.self.inside.row q) (kept_at c.self.inside.others.streams.entries q) refl (c.self.invariant q)) c.greatest.ensures.value c.greatest-2.ensures.value))
