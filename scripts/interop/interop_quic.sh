@@ -50,7 +50,7 @@ ln -s ../secret.txt "$folder/link.txt"
 
 # ---- servers ----
 
-mapfile -t ports < <(python3 scripts/interop/ports.py 19)
+mapfile -t ports < <(python3 scripts/interop/ports.py 21)
 
 # ---- our server ----
 
@@ -84,6 +84,16 @@ session() { # PORT of a server that has the page, PORT of one of sessions
   hash=$(openssl x509 -in "$cert" -outform der | openssl dgst -sha256 -binary | base64 | sed 's/+/%2B/g; s,/,%2F,g; s/=/%3D/g')
   chromium_sees "$1" "/session.html?port=$2&hash=$hash" && grep -q '"seen">ready$' "$work/seen" && grep -q "^both ways true$" "$work/seen" &&
     grep -q "^one way true$" "$work/seen" && grep -q "^closed$" "$work/seen"
+}
+websocket_seen() { # PORT of a server that has the page, PORT of one of WebSockets
+  local line
+  chromium_sees "$1" "/websocket.html?port=$2" "$2" && grep -q '"seen">open$' "$work/seen" || return 1
+  for line in "text "{5,0,9,100000}" true" "bytes "{0,125,126,65535,65536,1000000}" true" "closed 3001 true"; do
+    grep -qx "$line" "$work/seen" || return 1
+  done
+}
+own_websocket() { # PORT: messages of 0, 6 and 10,000,000 bytes
+  gives "$work/messages" "$work/checked/websocket_client" "$cert" 127.0.0.1 "$1" localhost / "$work/empty" "$folder/hello.txt" "$big"
 }
 # The server is told to end while a client has read a part of a body: the rest comes, and no further request is taken.
 going_away() { # PORT, PROCESS of the server
@@ -243,6 +253,19 @@ check "webtransport, Chromium: a session, a stream both ways and one each way" s
 check "webtransport, Chromium, packets lost: a session, a stream both ways and one each way" session "${ports[0]}" "${ports[18]}"
 check "webtransport: it ends" stop "$sessions"
 check "webtransport: no leak and no error of memory" is_silent webtransport.log
+start "${ports[19]}" websocket.log "$work/checked/websocket" 127.0.0.1 "${ports[19]}" "$cert" "$key"
+websockets=$last
+relay "${ports[20]}" "${ports[19]}"
+: > "$work/empty"
+cat "$folder/hello.txt" "$big" > "$work/messages"
+check "websocket, Chromium: text and bytes come back, and the close" websocket_seen "${ports[0]}" "${ports[19]}"
+check "websocket, Chromium, packets lost: text and bytes come back, and the close" websocket_seen "${ports[0]}" "${ports[20]}"
+check "websocket, websocket_client: messages of 0, 6 and 10,000,000 bytes" own_websocket "${ports[19]}"
+check "websocket, websocket_client, packets lost: messages of 0, 6 and 10,000,000 bytes" own_websocket "${ports[20]}"
+check "websocket_client, serve: no extended CONNECT" refuses "takes no extended CONNECT" "$work/checked/websocket_client" "$cert" 127.0.0.1 \
+  "${ports[0]}" localhost / "$folder/hello.txt"
+check "websocket: it ends" stop "$websockets"
+check "websocket: no leak and no error of memory" is_silent websocket.log
 check "serve: GOAWAY at its end" going_away "${ports[0]}" "$c_server"
 check "serve: no leak and no error of memory" is_silent serve.log
 start "${ports[0]}" serve2.log "$serve" --requests 150 127.0.0.1 "${ports[0]}" "$cert" "$key" "$folder"
