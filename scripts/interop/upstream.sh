@@ -11,8 +11,8 @@ set -euo pipefail
 cd "$(dirname "$0")/../.."
 root=build/trixie
 
-packages=(cargo rustc librust-h3-dev librust-h3-quinn-dev librust-rustls-pemfile-dev curl python3-aioquic python3-wsproto nginx haproxy ngtcp2-client ngtcp2-server
-  libnghttp3-dev)
+packages=(cargo rustc librust-h3-dev librust-h3-quinn-dev librust-rustls-pemfile-dev curl python3-aioquic python3-wsproto nginx haproxy
+  ngtcp2-client ngtcp2-server libnghttp3-dev)
 
 has() { # FILE..: of the root
   local file
