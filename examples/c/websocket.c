@@ -1,5 +1,5 @@
-/* websocket ADDRESS PORT CERTIFICATE KEY: a server of WebSockets over HTTP/3 (RFC 9220), on any path. Messages go back to their sender, piece by
- * piece as they come: of none more is kept than QUIC has room for. If the client does not read, it gets no more credit.
+/* websocket ADDRESS PORT CERTIFICATE KEY: a server of WebSockets over HTTP/3 (RFC 9220), on any path. Messages go back to their sender,
+ * piece by piece as they come: no message is kept. If the client does not read, it gets no more credit.
  *
  * SIGTERM and SIGINT: GOAWAY on each connection, and a close with 1001 on each WebSocket. The second signal ends all at once. */
 #include "ending.h"

@@ -1,6 +1,6 @@
-/* websocket_client TRUSTED ADDRESS PORT HOST PATH FILE..: a WebSocket over HTTP/3 (RFC 9220), opened at wss://HOST:PORT/PATH. Each file goes out as a
- * binary message when the one before has come back. The messages that come go to standard output; after the last one the WebSocket is closed.
- * Frames are by wslay. TRUSTED is whom to trust (PEM).
+/* websocket_client TRUSTED ADDRESS PORT HOST PATH FILE..: a WebSocket over HTTP/3 (RFC 9220), of wss://HOST:PORT and the path. Each file
+ * goes out as a binary message when the one before has come back. The messages that come go to standard output; after the last one the
+ * WebSocket is closed. Frames are by wslay. TRUSTED is whom to trust (PEM).
  *
  * It ends with 0 if all messages came back and the server closed with 1000. */
 #include "http3.h"
@@ -59,8 +59,8 @@ static int new_mask(wslay_event_context_ptr events, uint8_t *bytes, size_t count
 }
 
 /* The next piece of the file. */
-static ssize_t read_file(wslay_event_context_ptr events, uint8_t *bytes, size_t count, const union wslay_event_msg_source *source, int *eof,
-                         void *user) {
+static ssize_t read_file(wslay_event_context_ptr events, uint8_t *bytes, size_t count, const union wslay_event_msg_source *source,
+                         int *eof, void *user) {
   (void)source, (void)user;
   size_t read = fread(bytes, 1, count, client.file);
   if (ferror(client.file)) {
@@ -99,9 +99,9 @@ static void on_message(wslay_event_context_ptr events, const struct wslay_event_
 }
 
 static bool begin_frames(void) {
-  static const struct wslay_event_callbacks callbacks = {.recv_callback = take, .send_callback = put, .genmask_callback = new_mask,
-                                                         .on_frame_recv_start_callback = on_frame, .on_frame_recv_chunk_callback = on_piece,
-                                                         .on_msg_recv_callback = on_message};
+  static const struct wslay_event_callbacks callbacks = {
+      .recv_callback = take, .send_callback = put, .genmask_callback = new_mask, .on_frame_recv_start_callback = on_frame,
+      .on_frame_recv_chunk_callback = on_piece, .on_msg_recv_callback = on_message};
   if (wslay_event_context_client_init(&client.events, &callbacks, NULL) != 0) return false;
   wslay_event_config_set_no_buffering(client.events, 1);
   wslay_event_config_set_max_recv_msg_length(client.events, UINT64_MAX);

@@ -102,8 +102,9 @@ static void on_message(wslay_event_context_ptr events, const struct wslay_event_
 /* ---- a WebSocket ---- */
 
 websocket_frames *websocket_new(websocket_writer *write, void *owner) {
-  static const struct wslay_event_callbacks events = {.recv_callback = take, .send_callback = put_event, .on_frame_recv_start_callback = on_start,
-                                                      .on_frame_recv_chunk_callback = on_piece, .on_msg_recv_callback = on_message};
+  static const struct wslay_event_callbacks events = {
+      .recv_callback = take, .send_callback = put_event, .on_frame_recv_start_callback = on_start, .on_frame_recv_chunk_callback = on_piece,
+      .on_msg_recv_callback = on_message};
   static const struct wslay_frame_callbacks frames = {.send_callback = put};
   websocket_frames *f = calloc(1, sizeof *f);
   if (!f) return NULL;

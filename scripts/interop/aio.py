@@ -657,7 +657,8 @@ def main():
     if words[0] == "serve":
         asyncio.run(serve_folder(*words[1:]))
     else:
-        cases = {"client": CASES, "lost": LOST, "limited": LIMITED, "sessions": SESSIONS, "websockets": WEBSOCKETS, "leaving": LEAVING}[words[0]]
+        cases = {"client": CASES, "lost": LOST, "limited": LIMITED, "sessions": SESSIONS, "websockets": WEBSOCKETS,
+                 "leaving": LEAVING}[words[0]]
         Client.has_sessions = words[0] == "sessions"
         sys.exit(0 if asyncio.run(try_all(cases, words[1], words[2], {"big": words[3], "posted": words[4]})) else 1)
 

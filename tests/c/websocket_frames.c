@@ -1,5 +1,5 @@
-/* The frames that examples/c/websocket_frames.c echoes: those of RFC 6455, section 5.7, lengths in 7, 16 and 64 bits, and frames that break a rule of
- * section 5. Each is given whole, and in small pieces. */
+/* The frames of examples/c/websocket_frames.c, which go back to their sender: those of RFC 6455, section 5.7, lengths in 7, 16 and 64
+ * bits, and frames that break a rule of section 5. Each is given whole, and in small pieces. */
 #include "websocket_frames.h"
 #include <stdlib.h>
 #include <string.h>
@@ -32,13 +32,16 @@ static bool put(void *owner, const uint8_t *given, size_t count) {
   return true;
 }
 
-static bool is(const room *room, bytes wanted) { return room->count == wanted.count && memcmp(room->bytes, wanted.bytes, wanted.count) == 0; }
+static bool is(const room *room, bytes wanted) {
+  return room->count == wanted.count && memcmp(room->bytes, wanted.bytes, wanted.count) == 0;
+}
 
 /* Gives bytes in pieces, and says whether the WebSocket is over then. What goes out stands in `sent`. */
 static bool given(bytes of, size_t piece) {
   sent.count = 0;
   websocket_frames *frames = websocket_new(put, &sent);
-  for (size_t at = 0; at < of.count; at += piece) HOLDS(websocket_read(frames, of.bytes + at, at + piece < of.count ? piece : of.count - at));
+  for (size_t at = 0; at < of.count; at += piece)
+    HOLDS(websocket_read(frames, of.bytes + at, of.count - at < piece ? of.count - at : piece));
   bool is_over = websocket_is_over(frames);
   websocket_free(frames);
   return is_over;
@@ -53,7 +56,8 @@ static size_t payload_at(const uint8_t *frame, size_t *count) {
   return 2 + bytes;
 }
 
-/* The message that the frames in `sent` are, without control frames: its opcode and its payload are in `messages`. FIN is on the last one alone. */
+/* The message that the frames in `sent` are, without control frames: its opcode and its payload are in `messages`. FIN is on the last one
+ * alone. */
 static void join(void) {
   bool is_whole = false;
   messages.count = 0;
@@ -107,6 +111,13 @@ static void of_ping_between(void) {
   }
 }
 
+/* Of a message nothing is left for the next. */
+static void of_two_messages(void) {
+  static const bytes of = BYTES("\x81\x85" MASK MASKED_HELLO "\x82\x80" MASK);
+  HOLDS(!given(of, of.count));
+  HOLDS(is(&sent, (bytes)BYTES("\x81\x05Hello\x82\x00")));
+}
+
 /* ---- lengths ---- */
 
 /* A client's binary message in one frame, in `asked`; `wanted`: its opcode and its payload. */
@@ -137,6 +148,13 @@ static void of_lengths(void) {
     }
     if (of[i] == 256) HOLDS(memcmp(sent.bytes, "\x82\x7e\x01\x00", 4) == 0 && sent.count == 4 + 256); /* section 5.7 */
   }
+}
+
+/* The longest frame that there is, 2^63 - 1 bytes: no memory is taken for what comes later, and what is there goes back. */
+static void of_longest(void) {
+  static const bytes of = BYTES("\x82\xff\x7f\xff\xff\xff\xff\xff\xff\xff" MASK MASKED_HELLO);
+  HOLDS(!given(of, of.count));
+  HOLDS(is(&sent, (bytes)BYTES("\x02\x05Hello")));
 }
 
 /* ---- closes, and frames that break a rule ---- */
@@ -198,7 +216,9 @@ static void of_full_writer(void) {
 int main(void) {
   of_rows();
   of_ping_between();
+  of_two_messages();
   of_lengths();
+  of_longest();
   of_closes();
   of_local_close();
   of_full_writer();
