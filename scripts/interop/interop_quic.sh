@@ -50,7 +50,7 @@ ln -s ../secret.txt "$folder/link.txt"
 
 # ---- servers ----
 
-mapfile -t ports < <(python3 scripts/interop/ports.py 21)
+mapfile -t ports < <(python3 scripts/interop/ports.py 22)
 
 # ---- our server ----
 
@@ -364,6 +364,11 @@ check "valgrind, fetch and serve: 50 requests" gives "$work/fifty" "${under_valg
 check "valgrind, fetch and serve: a request that is reset" works "${under_valgrind[@]}" "$work/plain/fetch" \
   --address 127.0.0.1 --trust "$cert" --count 1 --cancel 100000 --post "$folder/half.bin" "$(url "${ports[5]}" /answer)"
 check "valgrind, serve: no leak and no error of memory" stop "$last"
+start "${ports[21]}" valgrind_websocket.log "${under_valgrind[@]}" "$work/plain/websocket" 127.0.0.1 "${ports[21]}" "$cert" "$key"
+own_half() { gives "$folder/half.bin" "$@" "$work/plain/websocket_client" "$cert" 127.0.0.1 "${ports[21]}" localhost / "$folder/half.bin"; }
+for _ in 1 2 3; do if own_half; then break; fi; done
+check "valgrind, websocket and websocket_client: 500 kB" own_half "${under_valgrind[@]}"
+check "valgrind, websocket: no leak and no error of memory" stop "$last"
 # ---- each allocation of the C programs refused in turn: they end with 0 or 1, no error of memory, and no leak ----
 
 refused_client() {
@@ -378,20 +383,21 @@ refused_client() {
   done
   [ "$status" -eq 0 ] && [ "$count" -gt 20 ]
 }
-refused_server() {
-  local count=0 status
+refused_server() { # PORT, COMMAND of a client; the server and its words after the key stand in `refusing`
+  local port=$1 count=0 status
+  shift
   while [ "$count" -lt 300 ]; do
-    REFUSE_AT=$count limited "$work/refusing/serve" 127.0.0.1 "$1" "$cert" "$key" "$folder" > "$work/refused.log" 2>&1 &
+    REFUSE_AT=$count limited "$work/refusing/${refusing[0]}" 127.0.0.1 "$port" "$cert" "$key" "${refusing[@]:1}" > "$work/refused.log" 2>&1 &
     local server=$!
     pids+=("$server")
     for _ in $(seq 100); do
-      if listens "$1" || ! kill -0 "$server" 2>/dev/null; then break; fi
+      if listens "$port" || ! kill -0 "$server" 2>/dev/null; then break; fi
       sleep 0.05
     done
-    if listens "$1"; then
-      within 20 "${ours[@]}" --seconds 3 --count 2 --parallel 2 "$(url "$1" /hello.txt)" > "$work/got"
+    if listens "$port"; then
+      within 3 "$@" > "$work/got"
       # the server goes on: where this allocation was refused before, all is as ever
-      if grep -q "allocation is refused" "$work/refused.log" && ! works "${ours[@]}" "$(url "$1" /hello.txt)"; then return 1; fi
+      if grep -q "allocation is refused" "$work/refused.log" && ! works "$@"; then return 1; fi
       kill -TERM "$server"
     fi
     wait "$server"
@@ -404,7 +410,11 @@ refused_server() {
   [ "$status" -eq 0 ] && [ "$count" -gt 20 ]
 }
 check "fetch: each allocation refused in turn" refused_client "${ports[3]}"
-check "serve: each allocation refused in turn" refused_server "${ports[12]}"
+refusing=(serve "$folder")
+check "serve: each allocation refused in turn" refused_server "${ports[12]}" "${ours[@]}" --count 2 --parallel 2 "$(url "${ports[12]}" /hello.txt)"
+refusing=(websocket)
+check "websocket: each allocation refused in turn" refused_server "${ports[19]}" "$work/checked/websocket_client" "$cert" 127.0.0.1 "${ports[19]}" \
+  localhost / "$folder/hello.txt"
 
 # Each third allocation of the Rust program refused in turn: Rust ends it where its own is; where one of the library is, bytes are never delivered twice.
 refused_endpoints() {
