@@ -50,8 +50,9 @@ static void send_frame(websocket_frames *f, uint8_t opcode, bool is_last, const 
   if (wslay_frame_send(f->frames, &frame) != (ssize_t)count) f->failed = true;
 }
 
-/* Sends a piece of a message as a frame of its own: the first has the message's opcode. */
+/* Sends a piece of a message as a frame of its own: the first has the message's opcode. After a close nothing goes back (section 5.5.1). */
 static void echo(websocket_frames *f, const uint8_t *bytes, size_t count, bool is_last) {
+  if (wslay_event_get_close_sent(f->events)) return;
   send_frame(f, f->opcode, is_last, bytes, count);
   f->opcode = WSLAY_CONTINUATION_FRAME;
 }

@@ -16,7 +16,8 @@ websocket_frames *websocket_new(websocket_writer *, void *owner);
 /* Reads bytes that came. Messages go back, pings are answered by pongs and a close by a close. If the client breaks a rule, a close goes
  * out that says so, as 1002. false: out of memory, or the writer failed. */
 bool websocket_read(websocket_frames *, const uint8_t *bytes, size_t count);
-/* Sends a close with a code of RFC 6455, section 7.4.1: after it only the client's close is expected. false: as before. */
+/* Sends a close with a code of RFC 6455, section 7.4.1. After it nothing goes back, and only the client's close is
+ * expected. false: as before. */
 bool websocket_close(websocket_frames *, uint16_t code);
 /* A close went out, and the client's came or is not waited for: nothing more is read or sent. */
 bool websocket_is_over(const websocket_frames *);

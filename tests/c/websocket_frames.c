@@ -200,6 +200,7 @@ static void of_local_close(void) {
   websocket_frames *frames = websocket_new(put, &sent);
   HOLDS(websocket_close(frames, 1001) && websocket_close(frames, 1001));
   HOLDS(is(&sent, (bytes)BYTES("\x88\x02\x03\xe9")) && !websocket_is_over(frames));
+  HOLDS(websocket_read(frames, hello.bytes, hello.count) && sent.count == 4 && !websocket_is_over(frames)); /* section 5.5.1 */
   HOLDS(websocket_read(frames, close.bytes, close.count) && websocket_is_over(frames));
   HOLDS(websocket_read(frames, hello.bytes, hello.count) && sent.count == 4);
   websocket_free(frames);
