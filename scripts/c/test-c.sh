@@ -2,7 +2,7 @@
 # C programs over build/c (scripts/c/lib.sh), by the machine's C compiler alone: the calls of crates/h3_cases and hostile lists of calls
 # through the header, each allocation refused in turn, large input with none refused, two endpoints under random schedules, what is held of
 # a stream and of small pieces, unknown frames, long instructions, wrong arguments, buffers that no call uses later, bytes that are read where they lie, bodies that the caller holds, pulled
-# lists, datagrams and capsules, and the program of docs/GUIDE.md. Once as they are, and once with the sanitizers of addresses, leaks and undefined behaviour where the compiler has them
+# lists, datagrams and capsules, the frames of WebSockets, and the program of docs/GUIDE.md. Once as they are, and once with the sanitizers of addresses, leaks and undefined behaviour where the compiler has them
 # (large input, memory: once). Then h3.hpp, by C++17 and C++20; the binary interface (scripts/c/abi.py); how programs find the library
 # (scripts/c/test-install.sh); the packages for Go, Rust and Python (scripts/c/test-bindings.sh), and what `make dist` packs
 # (scripts/dist/test-packed.sh). One line 'ok NAME' or 'failed NAME'
@@ -49,6 +49,25 @@ programs() {
     echo "failed programs: it was not compiled"
     bad=1
   fi
+}
+
+# the frames of the WebSockets of examples/c, where the library wslay is there, once as they are and once with the sanitizers
+websocket_frames() {
+  if [ ! -e /usr/include/wslay/wslay.h ]; then
+    echo "left out: the frames of WebSockets, which want wslay (Debian: apt-get install libwslay-dev)" >&2
+    return
+  fi
+  local flags
+  for flags in -O1 "-O1 -fsanitize=address,undefined -fno-sanitize-recover=all"; do
+    # shellcheck disable=SC2086
+    if "$cc" -std=c11 $flags -g -Wall -Wextra -Werror -Iexamples/c -o "$out/websocket_frames" tests/c/websocket_frames.c \
+      examples/c/websocket_frames.c -lwslay; then
+      run "websocket_frames" "$out/websocket_frames"
+    else
+      echo "failed websocket_frames: it was not compiled"
+      bad=1
+    fi
+  done
 }
 
 # h3.hpp by one version of C++, where the compiler has it
@@ -146,6 +165,7 @@ checks() {
     run streams "$out/streams"
     run drained "$out/drained" 0 10000
     run datagrams "$out/datagrams"
+    websocket_frames
     programs
     run lists "$out/lists"
     printed "$out/in_memory" tests/c/in_memory.stdout "in_memory: the lines of docs/GUIDE.md"

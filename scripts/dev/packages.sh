@@ -61,6 +61,7 @@ for set in ${sets// examples / examples-c examples-go examples-rust }; do
       need ngtcp2-client gtlsclient
       need caddy caddy
       need chromium chromium
+      need libwslay-dev /usr/include/wslay/wslay.h
       ;;
     firefox)
       need firefox-esr firefox-esr

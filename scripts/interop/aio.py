@@ -6,6 +6,8 @@
     aio.py lost ..                             some of these cases, where packets are lost
     aio.py limited ..                          a case for a server that takes 150 requests on a connection
     aio.py sessions ..                         cases for a server of WebTransport sessions: each stream is answered as a POST is
+    aio.py websockets ..                       cases for a server of WebSockets that sends messages back (frames by Debian's python3-wsproto)
+    aio.py leaving ..                          a WebSocket, and a line 'open': the server ends then
 
 aioquic 1.2.0 sends what it is told to, tables included, and checks what it gets. It tells of no GOAWAY, holds the length of an answer to HEAD against
 its (empty) body, takes an interim head of its own for a message's last one, and what comes on a session's stream that it opened for frames: the subclass gets
@@ -24,6 +26,8 @@ from aioquic.h3.connection import FrameType, H3Connection, HeadersState, encode_
 from aioquic.h3.events import DataReceived, HeadersReceived, WebTransportStreamDataReceived
 from aioquic.quic.configuration import QuicConfiguration
 from aioquic.quic.events import ConnectionTerminated, ProtocolNegotiated, StopSendingReceived, StreamReset
+from wsproto.connection import Connection as Frames, ConnectionType
+from wsproto.events import BytesMessage, CloseConnection, Message, Ping, Pong, TextMessage
 
 CANCELLED = 0x10C
 MOST_SECONDS = 60
@@ -399,6 +403,192 @@ async def case_no_session(client, words):
     await client.whole(client.ask("GET", "/hello.txt"), 404)
 
 
+# ---- WebSockets ----
+
+
+async def answer_to_connect(client, protocol, *fields):
+    stream_id = client._quic.get_next_available_stream_id()
+    head = [(b":method", b"CONNECT"), (b":protocol", protocol), (b":scheme", b"https"), (b":authority", client.authority), (b":path", b"/echo")]
+    client.http.send_headers(stream_id, head + list(fields))
+    client.transmit()
+    stream = await client.until(stream_id, lambda it: it["heads"] or it["ended"] or it["reset"] is not None)
+    want(stream["heads"], f"no answer: {stream}")
+    return stream_id, stream["heads"][0][b":status"]
+
+
+class WebSocket:
+    """a WebSocket of a client, whose frames wsproto writes and reads"""
+
+    def __init__(self, client, stream_id):
+        self.client, self.stream_id, self.count, self.events = client, stream_id, 0, []
+        self.frames = Frames(ConnectionType.CLIENT)
+
+    def send(self, *events):
+        for event in events:
+            self.client.send(self.stream_id, self.frames.send(event), False)
+
+    async def event(self):
+        while not self.events:
+            stream = await self.client.until(self.stream_id, lambda it: len(it["body"]) > self.count or it["ended"] or it["reset"] is not None)
+            want(len(stream["body"]) > self.count, f"the stream is over: reset {stream['reset']}")
+            data, self.count = bytes(stream["body"][self.count:]), len(stream["body"])
+            self.frames.receive_data(data)
+            self.events += self.frames.events()
+        return self.events.pop(0)
+
+    async def message(self):
+        parts = []
+        while True:
+            event = await self.event()
+            want(isinstance(event, Message), f"no message: {event}")
+            parts.append(event.data)
+            if event.message_finished:
+                return "".join(parts) if isinstance(event, TextMessage) else b"".join(parts)
+
+    async def closes(self, code):
+        event = await self.event()
+        want(isinstance(event, CloseConnection) and event.code == code, f"no close with {code}: {event}")
+
+    async def ends(self):
+        stream = await self.client.until(self.stream_id, lambda it: it["ended"] or it["reset"] is not None)
+        want(stream["reset"] is None, f"reset with {stream['reset']}")
+
+
+async def open_websocket(client):
+    stream_id, status = await answer_to_connect(client, b"websocket", (b"sec-websocket-version", b"13"))
+    want(status == b"200", f"status {status}")
+    return WebSocket(client, stream_id)
+
+
+async def close(it):
+    it.send(CloseConnection(code=1000, reason="bye"))
+    await it.closes(1000)
+    await it.ends()
+
+
+async def case_messages(client, words):
+    it = await open_websocket(client)
+    for text in ("Hello", "", "Gr\u00fc\u00dfe, \u4e16\u754c", "a" * 100_000):
+        it.send(TextMessage(data=text))
+        want(await it.message() == text, "another text")
+    for count in (0, 125, 126, 65535, 65536, 100_000, 3_000_000):
+        data = os.urandom(count)
+        it.send(BytesMessage(data=data))
+        want(await it.message() == data, f"other bytes, {count}")
+    await close(it)
+
+
+async def case_fragments(client, words):
+    it = await open_websocket(client)
+    it.send(TextMessage(data="Hel", message_finished=False), Ping(payload=b"between"), TextMessage(data="lo"))
+    events = [await it.event(), await it.event(), await it.event()]
+    want([event.payload for event in events if isinstance(event, Pong)] == [b"between"], "no pong")
+    want("".join(event.data for event in events if isinstance(event, TextMessage)) == "Hello", "another text")
+    await close(it)
+
+
+async def case_pings(client, words):
+    it = await open_websocket(client)
+    for payload in (b"", b"Hello", os.urandom(125)):
+        it.send(Ping(payload=payload))
+        event = await it.event()
+        want(isinstance(event, Pong) and event.payload == payload, f"no pong: {event}")
+    it.send(Pong(payload=b"nobody asked"), TextMessage(data="x"))
+    want(await it.message() == "x", "another text")
+    await close(it)
+
+
+async def case_many_websockets(client, words):
+    all_of_them = [await open_websocket(client) for _ in range(50)]
+    for i, it in enumerate(all_of_them):
+        it.send(TextMessage(data=f"message {i}"))
+    for i, it in enumerate(all_of_them):
+        want(await it.message() == f"message {i}", "another text")
+    for it in all_of_them:
+        await close(it)
+
+
+async def case_closes(client, words):
+    for code in (1000, 1001, 3000, 4999):
+        it = await open_websocket(client)
+        it.send(CloseConnection(code=code))
+        await it.closes(code)
+        await it.ends()
+    it = await open_websocket(client)
+    client.send(it.stream_id, b"", True)  # no close: RFC 9220, section 3
+    await it.ends()
+
+
+async def case_given_up(client, words):
+    for _ in range(20):
+        it = await open_websocket(client)
+        it.send(BytesMessage(data=bytes(100_000)))
+        client._quic.reset_stream(it.stream_id, CANCELLED)
+        client.transmit()
+        await client.until(it.stream_id, lambda it: it["reset"] is not None)
+    await case_pings(client, words)
+
+
+# RFC 6455, section 5.2: FIN, reserved bits and the opcode; the mask bit and the length; the mask, here 0.
+BROKEN = {
+    "not masked": (b"\x81\x05Hello", 1002),
+    "a reserved bit": (b"\xc1\x80" + bytes(4), 1002),
+    "a reserved opcode": (b"\x83\x80" + bytes(4), 1002),
+    "a continuation of nothing": (b"\x80\x80" + bytes(4), 1002),
+    "a message within another": (b"\x01\x81" + bytes(4) + b"x" + b"\x81\x80" + bytes(4), 1002),
+    "a ping of 126 bytes": (b"\x89\xfe\x00\x7e" + bytes(4 + 126), 1002),
+    "a ping in fragments": (b"\x09\x80" + bytes(4), 1002),
+    "a length in more bytes than it needs": (b"\x82\xfe\x00\x05" + bytes(4 + 5), 1002),
+    "a length of 2^63": (b"\x82\xff\x80" + bytes(7 + 4), 1002),
+    "text that is not UTF-8": (b"\x81\x82" + bytes(4) + b"\xc3\x28", 1007),
+}
+
+
+async def case_broken(client, words):
+    for name, (data, code) in BROKEN.items():
+        it = await open_websocket(client)
+        client.send(it.stream_id, data, False)
+        while isinstance(event := await it.event(), Message):
+            want(not event.message_finished, f"{name}: {event}")
+        want(isinstance(event, CloseConnection) and event.code == code, f"{name}: {event}")
+        await it.ends()
+    await case_pings(client, words)
+
+
+async def case_refused(client, words):
+    for protocol in (b"chat", b"connect-udp", b"webtransport"):
+        _, status = await answer_to_connect(client, protocol)
+        want(status == b"501", f"{protocol}: status {status}")
+    _, status = await answer_to_connect(client, b"websocket", (b"sec-websocket-version", b"8"))
+    want(status == b"400", f"another version: status {status}")
+    await client.whole(client.ask("GET", "/echo"), 404)
+    await case_pings(client, words)
+
+
+async def case_no_reader(client, words):
+    """the client grants 1 MiB of credit, and no more: the server takes that, and its window of 256 KiB, and some 64 KiB between"""
+    it = await open_websocket(client)
+    grant, client._quic._write_stream_limits = client._quic._write_stream_limits, lambda **words: None
+    data = os.urandom(3_000_000)
+    it.send(BytesMessage(data=data))
+    await client.until(it.stream_id, lambda it: len(it["body"]) > 1_000_000)
+    await asyncio.sleep(2)
+    granted = client._quic._streams[it.stream_id].max_stream_data_remote
+    want(1 << 20 < granted < 3 << 19, f"the server takes {granted} bytes")
+    client._quic._write_stream_limits = grant
+    client.send(it.stream_id, b"", False)
+    want(await it.message() == data, "other bytes")
+    await close(it)
+
+
+async def case_leaving(client, words):
+    it = await open_websocket(client)
+    print("open", flush=True)
+    await it.closes(1001)
+    it.send(CloseConnection(code=1001))
+    await it.ends()
+
+
 CASES = {
     "a small file": case_get,
     "10 MB": case_big,
@@ -424,6 +614,20 @@ SESSIONS = {
     "a session that ends": case_session_ends,
     "a stream of no session": case_no_session,
 }
+
+
+WEBSOCKETS = {
+    "a WebSocket: text and bytes, of 0 to 3,000,000": case_messages,
+    "a WebSocket: fragments, and a ping between them": case_fragments,
+    "a WebSocket: pings": case_pings,
+    "50 WebSockets at once": case_many_websockets,
+    "a WebSocket: how it is closed": case_closes,
+    "20 WebSockets that are reset": case_given_up,
+    "a WebSocket: frames that break rules": case_broken,
+    "a WebSocket: a client that does not read": case_no_reader,
+    "other protocols, and another version, open no WebSocket": case_refused,
+}
+LEAVING = {"a WebSocket at the server's end": case_leaving}
 
 
 async def try_case(case, port, trusted, words):
@@ -453,7 +657,8 @@ def main():
     if words[0] == "serve":
         asyncio.run(serve_folder(*words[1:]))
     else:
-        cases = {"client": CASES, "lost": LOST, "limited": LIMITED, "sessions": SESSIONS}[words[0]]
+        cases = {"client": CASES, "lost": LOST, "limited": LIMITED, "sessions": SESSIONS, "websockets": WEBSOCKETS,
+                 "leaving": LEAVING}[words[0]]
         Client.has_sessions = words[0] == "sessions"
         sys.exit(0 if asyncio.run(try_all(cases, words[1], words[2], {"big": words[3], "posted": words[4]})) else 1)
 

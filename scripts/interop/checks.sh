@@ -99,10 +99,11 @@ stop() {
 # relay PORT TO: a way to a server on which packets are lost, and come in another order
 relay() { start "$1" "relay$1.log" python3 scripts/interop/relay.py "$1" "$2"; }
 url() { echo "https://localhost:$1$2"; }
-chromium_sees() { # PORT, PATH of a page: what it says in the end stands in $work/seen
+chromium_sees() { # PORT, PATH of a page, and perhaps a PORT of WebSockets: what it says in the end stands in $work/seen
   local spki
   spki=$(openssl x509 -in "$cert" -pubkey -noout | openssl pkey -pubin -outform der | openssl dgst -sha256 -binary | base64)
-  within 60 env HOME="$work" chromium --headless=new --no-sandbox --user-data-dir="$work/profile$1" --origin-to-force-quic-on="localhost:$1" \
+  within 60 env HOME="$work" chromium --headless=new --no-sandbox --user-data-dir="$work/profile$1" \
+    --origin-to-force-quic-on="localhost:$1${3:+,localhost:$3}" --enable-features=EnableWebsocketsOverHttp3 \
     --ignore-certificate-errors-spki-list="$spki" --host-resolver-rules="MAP * 127.0.0.1" --disable-background-networking \
     --disable-gpu --virtual-time-budget=20000 --dump-dom "$(url "$1" "$2")" > "$work/page" || return 1
   sed -n '/id="seen"/,/<\/pre>/p' "$work/page" > "$work/seen"

@@ -19,8 +19,8 @@ def png(width, height):
 def main():
     folder = pathlib.Path(sys.argv[1])
     (folder / "small").mkdir(parents=True)
-    for name, kept in (("page.html", "index.html"), ("session.html", "session.html"), ("sections.html", "sections.html")):
-        shutil.copy(pathlib.Path(__file__).parent / name, folder / kept)
+    for name in ("page.html", "session.html", "sections.html", "websocket.html"):
+        shutil.copy(pathlib.Path(__file__).parent / name, folder / {"page.html": "index.html"}.get(name, name))
     (folder / "image.png").write_bytes(png(64, 48))
     (folder / "hello.txt").write_text("hello\n")
     (folder / "letters.txt").write_text(1_000_000 * "a")

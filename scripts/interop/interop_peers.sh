@@ -20,7 +20,7 @@ fi
 make_served
 ours=("$work/checked/fetch" --address 127.0.0.1 --trust "$cert")
 go_ours=("$work/h3go" fetch)
-mapfile -t ports < <(python3 scripts/interop/ports.py 23)
+mapfile -t ports < <(python3 scripts/interop/ports.py 26)
 start "${ports[0]}" serve.log "$work/checked/serve" 127.0.0.1 "${ports[0]}" "$cert" "$key" "$folder"
 start "${ports[1]}" serve150.log "$work/checked/serve" --requests 150 127.0.0.1 "${ports[1]}" "$cert" "$key" "$folder"
 start "${ports[2]}" h3go.log "$work/h3go" serve "127.0.0.1:${ports[2]}" "$cert" "$key" "$folder"
@@ -226,6 +226,26 @@ HAPROXY
   relay "${ports[12]}" "${ports[11]}"
 }
 
+closes_at_end() { # PORT, PROCESS: a WebSocket is closed with 1001 at the server's end
+  timeout -k 5 60 chroot "$root" python3 $there/aio.py leaving "$1" $there/cert.pem $there/folder/big.bin $there/posted > "$work/left" 2>> "$work/log" &
+  local client=$! tries
+  for ((tries = 0; tries < 300; tries++)); do
+    if grep -q "^open$" "$work/left"; then break; fi
+    sleep 0.1
+  done
+  kill -TERM "$2"
+  wait "$client" && grep -q "^ok" "$work/left" && wait "$2"
+}
+websockets13() {
+  start "${ports[23]}" websocket.log "$work/checked/websocket" 127.0.0.1 "${ports[23]}" "$cert" "$key"
+  relay "${ports[24]}" "${ports[23]}"
+  aioquic_cases websocket "" websockets "${ports[23]}"
+  aioquic_cases websocket ", packets lost" websockets "${ports[24]}"
+  start "${ports[25]}" websocket_end.log "$work/checked/websocket" 127.0.0.1 "${ports[25]}" "$cert" "$key"
+  check "websocket, aioquic: a close with 1001 at its end" closes_at_end "${ports[25]}" "$last"
+  logs+=(websocket.log websocket_end.log)
+}
+
 debian13() {
   mkdir -p "$root$there"
   cp -r "$folder" "$cert" "$key" "$work/posted" scripts/interop/aio.py "$root$there"
@@ -244,6 +264,7 @@ debian13() {
   aioquic_cases webtransport "" sessions "${ports[21]}"
   aioquic_cases webtransport ", packets lost" sessions "${ports[22]}"
   logs+=(webtransport.log)
+  if [ -x "$work/checked/websocket" ]; then websockets13; else echo "skipped aioquic's WebSockets: there is no libwslay-dev"; fi
 
   start13 "${ports[6]}" aioquic.log python3 $there/aio.py serve "${ports[6]}" $there/cert.pem $there/key.pem $there/folder
   relay "${ports[7]}" "${ports[6]}"

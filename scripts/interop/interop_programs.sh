@@ -9,12 +9,12 @@ lib=${LIB:-$PWD/build/c}
 
 make_programs proxy
 make_checked
-for name in settings_first parts leave urgent; do make_client "$name"; done
+for name in settings_first parts leave urgent tunnel; do make_client "$name"; done
 head -c 50000 "$big" > "$folder/part.bin"
 head -c 200000 "$big" > "$folder/many.bin"
 serve=$work/checked/serve
 hostile=("$work/hostile" "$cert")
-mapfile -t ports < <(python3 scripts/interop/ports.py 19)
+mapfile -t ports < <(python3 scripts/interop/ports.py 20)
 
 used() { echo $(($(cut -d' ' -f14,15 "/proc/$1/stat" | tr ' ' '+'))); }
 
@@ -283,6 +283,24 @@ start "${ports[16]}" gtls.log gtlsserver -q -d "$folder" 127.0.0.1 "${ports[16]}
 start "${ports[17]}" slow_ours.log python3 scripts/interop/narrow.py "${ports[17]}" "${ports[4]}" 500000
 start "${ports[18]}" slow_gtls.log python3 scripts/interop/narrow.py "${ports[18]}" "${ports[16]}" 500000
 check "serve: an urgent response beside 20 downloads over 500 KB a second, as soon as by gtlsserver" urgent_as_soon "${ports[17]}" "${ports[18]}"
+
+# ---- WebSockets ----
+
+websockets() { # PORT: RFC 9220, section 3
+  running "$1" websocket.log "$work/checked/websocket" 127.0.0.1 "$1" "$cert" "$key"
+  local websocket=$last protocol
+  for protocol in chat connect-udp webtransport; do
+    check "websocket: :protocol $protocol gives 501" says "501 0 ended" "$work/tunnel" "$cert" "$1" "$protocol"
+  done
+  check "websocket: another version of WebSockets, or none, gives 400" says "400 0 ended" "$work/tunnel" "$cert" "$1" websocket
+  check "websocket: GET gives 404" refuses "status 404" "${ours[@]}" "$(url "$1" /)"
+  check "websocket: a message of 50,000 bytes" gives "$folder/part.bin" "$work/checked/websocket_client" "$cert" 127.0.0.1 "$1" localhost / \
+    "$folder/part.bin"
+  kill -TERM "$websocket"
+  check "websocket: it ends" ended "$websocket" 40
+  check "websocket: no leak and no error of memory" is_silent websocket.log
+}
+if [ -x "$work/checked/websocket" ]; then websockets "${ports[19]}"; else echo "skipped websocket: there is no libwslay-dev"; fi
 
 # ---- the end ----
 

@@ -79,7 +79,7 @@ proxy "${ports[14]}" proxy_tunnels.log "${ports[6]}" --tunnels
 fourth=$last
 check "proxy --tunnels: CONNECT-UDP, 100 capsules there and back" says "200 100 ended" "$work/tunnel" "$cert" "${ports[14]}" connect-udp
 check "proxy --tunnels: a session of WebTransport is not taken" says "501 0 ended" "$work/tunnel" "$cert" "${ports[14]}" webtransport
-check "proxy --tunnels: the core takes no WebSockets" says "refused here" "$work/tunnel" "$cert" "${ports[14]}" websocket
+check "proxy --tunnels: a WebSocket is not taken" says "501 0 ended" "$work/tunnel" "$cert" "${ports[14]}" websocket
 proxy "${ports[8]}" proxy_none.log "${ports[9]}"
 third=$last
 check "proxy: no server gives 503" refuses "status 503" "${ours[@]}" "$(url "${ports[8]}" /)"

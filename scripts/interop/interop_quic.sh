@@ -50,7 +50,7 @@ ln -s ../secret.txt "$folder/link.txt"
 
 # ---- servers ----
 
-mapfile -t ports < <(python3 scripts/interop/ports.py 19)
+mapfile -t ports < <(python3 scripts/interop/ports.py 22)
 
 # ---- our server ----
 
@@ -84,6 +84,16 @@ session() { # PORT of a server that has the page, PORT of one of sessions
   hash=$(openssl x509 -in "$cert" -outform der | openssl dgst -sha256 -binary | base64 | sed 's/+/%2B/g; s,/,%2F,g; s/=/%3D/g')
   chromium_sees "$1" "/session.html?port=$2&hash=$hash" && grep -q '"seen">ready$' "$work/seen" && grep -q "^both ways true$" "$work/seen" &&
     grep -q "^one way true$" "$work/seen" && grep -q "^closed$" "$work/seen"
+}
+websocket_seen() { # PORT of a server that has the page, PORT of one of WebSockets
+  local line
+  chromium_sees "$1" "/websocket.html?port=$2" "$2" && grep -q '"seen">open$' "$work/seen" || return 1
+  for line in "text "{5,0,9,100000}" true" "bytes "{0,125,126,65535,65536,1000000}" true" "closed 3001 true"; do
+    grep -qx "$line" "$work/seen" || return 1
+  done
+}
+own_websocket() { # PORT: messages of 0, 6 and 10,000,000 bytes
+  gives "$work/messages" "$work/checked/websocket_client" "$cert" 127.0.0.1 "$1" localhost / "$work/empty" "$folder/hello.txt" "$big"
 }
 # The server is told to end while a client has read a part of a body: the rest comes, and no further request is taken.
 going_away() { # PORT, PROCESS of the server
@@ -243,6 +253,19 @@ check "webtransport, Chromium: a session, a stream both ways and one each way" s
 check "webtransport, Chromium, packets lost: a session, a stream both ways and one each way" session "${ports[0]}" "${ports[18]}"
 check "webtransport: it ends" stop "$sessions"
 check "webtransport: no leak and no error of memory" is_silent webtransport.log
+start "${ports[19]}" websocket.log "$work/checked/websocket" 127.0.0.1 "${ports[19]}" "$cert" "$key"
+websockets=$last
+relay "${ports[20]}" "${ports[19]}"
+: > "$work/empty"
+cat "$folder/hello.txt" "$big" > "$work/messages"
+check "websocket, Chromium: text and bytes come back, and the close" websocket_seen "${ports[0]}" "${ports[19]}"
+check "websocket, Chromium, packets lost: text and bytes come back, and the close" websocket_seen "${ports[0]}" "${ports[20]}"
+check "websocket, websocket_client: messages of 0, 6 and 10,000,000 bytes" own_websocket "${ports[19]}"
+check "websocket, websocket_client, packets lost: messages of 0, 6 and 10,000,000 bytes" own_websocket "${ports[20]}"
+check "websocket_client, serve: no extended CONNECT" refuses "takes no extended CONNECT" "$work/checked/websocket_client" "$cert" 127.0.0.1 \
+  "${ports[0]}" localhost / "$folder/hello.txt"
+check "websocket: it ends" stop "$websockets"
+check "websocket: no leak and no error of memory" is_silent websocket.log
 check "serve: GOAWAY at its end" going_away "${ports[0]}" "$c_server"
 check "serve: no leak and no error of memory" is_silent serve.log
 start "${ports[0]}" serve2.log "$serve" --requests 150 127.0.0.1 "${ports[0]}" "$cert" "$key" "$folder"
@@ -341,6 +364,11 @@ check "valgrind, fetch and serve: 50 requests" gives "$work/fifty" "${under_valg
 check "valgrind, fetch and serve: a request that is reset" works "${under_valgrind[@]}" "$work/plain/fetch" \
   --address 127.0.0.1 --trust "$cert" --count 1 --cancel 100000 --post "$folder/half.bin" "$(url "${ports[5]}" /answer)"
 check "valgrind, serve: no leak and no error of memory" stop "$last"
+start "${ports[21]}" valgrind_websocket.log "${under_valgrind[@]}" "$work/plain/websocket" 127.0.0.1 "${ports[21]}" "$cert" "$key"
+own_half() { gives "$folder/half.bin" "$@" "$work/plain/websocket_client" "$cert" 127.0.0.1 "${ports[21]}" localhost / "$folder/half.bin"; }
+for _ in 1 2 3; do if own_half; then break; fi; done
+check "valgrind, websocket and websocket_client: 500 kB" own_half "${under_valgrind[@]}"
+check "valgrind, websocket: no leak and no error of memory" stop "$last"
 # ---- each allocation of the C programs refused in turn: they end with 0 or 1, no error of memory, and no leak ----
 
 refused_client() {
@@ -355,20 +383,21 @@ refused_client() {
   done
   [ "$status" -eq 0 ] && [ "$count" -gt 20 ]
 }
-refused_server() {
-  local count=0 status
+refused_server() { # PORT, COMMAND of a client; the server and its words after the key stand in `refusing`
+  local port=$1 count=0 status
+  shift
   while [ "$count" -lt 300 ]; do
-    REFUSE_AT=$count limited "$work/refusing/serve" 127.0.0.1 "$1" "$cert" "$key" "$folder" > "$work/refused.log" 2>&1 &
+    REFUSE_AT=$count limited "$work/refusing/${refusing[0]}" 127.0.0.1 "$port" "$cert" "$key" "${refusing[@]:1}" > "$work/refused.log" 2>&1 &
     local server=$!
     pids+=("$server")
     for _ in $(seq 100); do
-      if listens "$1" || ! kill -0 "$server" 2>/dev/null; then break; fi
+      if listens "$port" || ! kill -0 "$server" 2>/dev/null; then break; fi
       sleep 0.05
     done
-    if listens "$1"; then
-      within 20 "${ours[@]}" --seconds 3 --count 2 --parallel 2 "$(url "$1" /hello.txt)" > "$work/got"
+    if listens "$port"; then
+      within 3 "$@" > "$work/got"
       # the server goes on: where this allocation was refused before, all is as ever
-      if grep -q "allocation is refused" "$work/refused.log" && ! works "${ours[@]}" "$(url "$1" /hello.txt)"; then return 1; fi
+      if grep -q "allocation is refused" "$work/refused.log" && ! works "$@"; then return 1; fi
       kill -TERM "$server"
     fi
     wait "$server"
@@ -381,7 +410,11 @@ refused_server() {
   [ "$status" -eq 0 ] && [ "$count" -gt 20 ]
 }
 check "fetch: each allocation refused in turn" refused_client "${ports[3]}"
-check "serve: each allocation refused in turn" refused_server "${ports[12]}"
+refusing=(serve "$folder")
+check "serve: each allocation refused in turn" refused_server "${ports[12]}" "${ours[@]}" --count 2 --parallel 2 "$(url "${ports[12]}" /hello.txt)"
+refusing=(websocket)
+check "websocket: each allocation refused in turn" refused_server "${ports[19]}" "$work/checked/websocket_client" "$cert" 127.0.0.1 "${ports[19]}" \
+  localhost / "$folder/hello.txt"
 
 # Each third allocation of the Rust program refused in turn: Rust ends it where its own is; where one of the library is, bytes are never delivered twice.
 refused_endpoints() {

@@ -1,4 +1,4 @@
-/* tunnel TRUSTED PORT PROTOCOL: extended CONNECT (RFC 9220) of a protocol, through a proxy, to a server that sends back what comes. Capsules with datagrams
+/* tunnel TRUSTED PORT PROTOCOL: extended CONNECT (RFC 9220) of a protocol, as through a proxy, to a server that sends back what comes. Capsules with datagrams
  * (RFC 9297, section 3.5) go out one behind another, each when the one before has come back; then the end. It prints the status, how many came back,
  * and 'ended' if the end came back, too, or why there is no answer. */
 #include "http3.h"

@@ -11,8 +11,8 @@ set -euo pipefail
 cd "$(dirname "$0")/../.."
 root=build/trixie
 
-packages=(cargo rustc librust-h3-dev librust-h3-quinn-dev librust-rustls-pemfile-dev curl python3-aioquic nginx haproxy ngtcp2-client ngtcp2-server
-  libnghttp3-dev)
+packages=(cargo rustc librust-h3-dev librust-h3-quinn-dev librust-rustls-pemfile-dev curl python3-aioquic python3-wsproto nginx haproxy
+  ngtcp2-client ngtcp2-server libnghttp3-dev)
 
 has() { # FILE..: of the root
   local file
@@ -21,7 +21,10 @@ has() { # FILE..: of the root
 has_crate() { has usr/bin/cargo usr/share/cargo/registry; }
 has_quinn() { has usr/share/cargo/registry/h3-quinn-0.0.7 usr/share/cargo/registry/rustls-pemfile-2.2.0; }
 has_curl() { has usr/bin/curl usr/bin/gtlsclient usr/sbin/gtlsserver usr/sbin/nginx usr/include/nghttp3/nghttp3.h; }
-has_peers() { has_quinn && has usr/bin/curl usr/lib/python3/dist-packages/aioquic usr/sbin/nginx usr/sbin/haproxy usr/bin/gtlsclient usr/sbin/gtlsserver; }
+has_peers() {
+  has_quinn && has usr/bin/curl usr/lib/python3/dist-packages/aioquic usr/lib/python3/dist-packages/wsproto usr/sbin/nginx usr/sbin/haproxy \
+    usr/bin/gtlsclient usr/sbin/gtlsserver
+}
 
 make_root() {
   if has_crate && has_peers && has_curl; then return; fi
