@@ -25,7 +25,7 @@ by_test true own other = own refl
 by_test false own other = other refl
 
 -- A delivery is on a stream of the writer's own, or on a request stream.
-pub every_event : (laws : Laws) (setup : Setup) → IsMadeSetup setup → JudgesPlainly setup → (w : World) (ends : Ends) (e : Event) → IsSendable e → Stands setup w ends → StandsOn setup w ends e
+pub every_event : (laws : Laws) (setup : Setup) → IsMadeSetup setup → JudgesPlainly setup → (w : World) (ends : Ends) (e : Event) → IsSendable setup e → Stands setup w ends → StandsOn setup w ends e
 every_event laws setup made plain w ends (event.OpenRequest side) sendable h = opened_on laws setup w ends side sendable h
 every_event laws setup made plain w ends (event.Head side id head) sendable h = head_on laws setup w ends side id head (plain side) sendable h
 every_event laws setup made plain w ends (event.Body side id bytes) sendable h = body_on laws setup w ends side id bytes sendable h
@@ -44,6 +44,6 @@ every_event laws setup made plain w ends (event.Pull side id) sendable h = pull_
 every_event laws setup made plain w ends (event.Show side) sendable h = show_on laws setup w ends side made sendable h
 
 -- **Two new endpoints that judge plainly run in a world over every schedule.**
-pub two_ends_run : (laws : Laws) (setup : Setup) (events : List Event) → IsMadeSetup setup → JudgesPlainly setup → AllByRecursion IsSendable events → RunsOn setup (empty_world setup) (new_ends setup) events
+pub two_ends_run : (laws : Laws) (setup : Setup) (events : List Event) → IsMadeSetup setup → JudgesPlainly setup → AllByRecursion (IsSendable setup) events → RunsOn setup (empty_world setup) (new_ends setup) events
 two_ends_run laws setup events made plain sendable =
     runs_on setup (λ w ends e. every_event laws setup made plain w ends e) (empty_world setup) (new_ends setup) events sendable (begins setup plain (laws.worlds.begins setup))

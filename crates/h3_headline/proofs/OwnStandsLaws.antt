@@ -24,9 +24,9 @@ own_deliver_on laws setup w ends writer id count made h own =
 pub own_end_on : (laws : Laws) (setup : Setup) (w : World) (ends : Ends) (writer : Side) (id : ℕ) → Stands setup w ends → is_own writer id ≡ true → StandsOn setup w ends (event.DeliverEnd writer id)
 own_end_on laws setup w ends writer id h own =
     alike_stands laws.worlds setup w ends (event.DeliverEnd writer id) tt h (own_end_is_early setup w ends writer id h own)
-    (subst (λ x. KeepsWriting x.1) (sym (own_end_served setup w writer id own)) (still_writing setup w ends h))
+    (subst (λ x. KeepsWriting setup x.1) (sym (own_end_served setup w writer id own)) (still_writing setup w ends h))
 
 pub own_reset_on : (laws : Laws) (setup : Setup) (w : World) (ends : Ends) (writer : Side) (id : ℕ) → Stands setup w ends → is_own writer id ≡ true → StandsOn setup w ends (event.DeliverReset writer id)
 own_reset_on laws setup w ends writer id h own =
     alike_stands laws.worlds setup w ends (event.DeliverReset writer id) tt h (own_reset_is_early setup w ends writer id h own)
-    (subst (λ x. KeepsWriting x.1) (sym (own_reset_served setup w writer id own)) (still_writing setup w ends h))
+    (subst (λ x. KeepsWriting setup x.1) (sym (own_reset_served setup w writer id own)) (still_writing setup w ends h))

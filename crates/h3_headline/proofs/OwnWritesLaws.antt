@@ -22,18 +22,18 @@ use Rattle.h3_headline.specs.OwnWorldLaws.{streams_after}
 use Rattle.h3_headline.specs.OwnWritesLaws.{readable_same, reader_writable, writer_writable}
 use Rattle.h3_headline.specs.Standing.{Stands}
 
-pub still_writing : (setup : Setup) (w : World) (ends : Ends) → Stands setup w ends → KeepsWriting w
+pub still_writing : (setup : Setup) (w : World) (ends : Ends) → Stands setup w ends → KeepsWriting setup w
 still_writing setup w ends h = record { client_writes = h.client_writes; server_writes = h.server_writes; requests = h.requests; responses = h.responses }
 
-writing_after : (laws : StreamLaws) (setup : Setup) (w : World) (ends : Ends) (writer : Side) (id count : ℕ) → IsMadeSetup setup → Stands setup w ends → KeepsWriting (delivered_own setup w writer id count)
+writing_after : (laws : StreamLaws) (setup : Setup) (w : World) (ends : Ends) (writer : Side) (id count : ℕ) → IsMadeSetup setup → Stands setup w ends → KeepsWriting setup (delivered_own setup w writer id count)
 writing_after laws setup w ends Client id count made h =
     let v = delivered_own setup w Client id count in
     let same = streams_after setup w Client id count in
     record {
       client_writes = writer_writable setup w Server id count h.client_writes;
       server_writes = reader_writable laws setup w Server id count made h.sound h.server_writes;
-      requests = readable_same w v Client same h.requests;
-      responses = readable_same w v Server same h.responses;
+      requests = readable_same setup w v Client same h.requests;
+      responses = readable_same setup w v Server same h.responses;
     }
 writing_after laws setup w ends Server id count made h =
     let v = delivered_own setup w Server id count in
@@ -41,18 +41,18 @@ writing_after laws setup w ends Server id count made h =
     record {
       client_writes = reader_writable laws setup w Client id count made h.sound h.client_writes;
       server_writes = writer_writable setup w Client id count h.server_writes;
-      requests = readable_same w v Client same h.requests;
-      responses = readable_same w v Server same h.responses;
+      requests = readable_same setup w v Client same h.requests;
+      responses = readable_same setup w v Server same h.responses;
     }
 
 -- **A delivery on an own stream.**
 pub own_keeps : (laws : StreamLaws) (setup : Setup) (w : World) (ends : Ends) (writer : Side) (id count : ℕ) → IsMadeSetup setup → Stands setup w ends → is_own writer id ≡ true
-    → KeepsWriting (served setup w (event.Deliver writer id count)).1
+    → KeepsWriting setup (served setup w (event.Deliver writer id count)).1
 own_keeps laws setup w ends writer id count made h own = by_short (nat_lt (waiting setup w writer id) count) refl
   where
-    by_short : (short : Bool) → nat_lt (waiting setup w writer id) count ≡ short → KeepsWriting (served setup w (event.Deliver writer id count)).1
-    by_short true t = subst (λ x. KeepsWriting x.1) (sym (served_own setup w writer id count own true t)) (still_writing setup w ends h)
-    by_short false t = subst (λ x. KeepsWriting x.1) (sym (served_own setup w writer id count own false t)) (writing_after laws setup w ends writer id count made h)
+    by_short : (short : Bool) → nat_lt (waiting setup w writer id) count ≡ short → KeepsWriting setup (served setup w (event.Deliver writer id count)).1
+    by_short true t = subst (λ x. KeepsWriting setup x.1) (sym (served_own setup w writer id count own true t)) (still_writing setup w ends h)
+    by_short false t = subst (λ x. KeepsWriting setup x.1) (sym (served_own setup w writer id count own false t)) (writing_after laws setup w ends writer id count made h)
 
 -- **An end and a reset of one change nothing.**
 pub own_end_served : (setup : Setup) (w : World) (writer : Side) (id : ℕ) → is_own writer id ≡ true → served setup w (event.DeliverEnd writer id) ≡ served_as answer.Early w

@@ -35,7 +35,7 @@ pub record Ran (setup : Setup) (w new : World) (events : List Event) (answers : 
 nothing : (most : ℕ) (f : Flow) → Moves most f f [] false [] false
 nothing most f = stays most f f false (record { sent = refl; parts_out = refl; body_out = refl }) (λ e. absurd (differ e))
 
-pub run_moves : (laws : WorldLaws) (setup : Setup) (w new : World) (events : List Event) (answers : List Answer) (writer : Side) (id : ℕ) → AllByRecursion IsSendable events → IsSoundWorld setup w
+pub run_moves : (laws : WorldLaws) (setup : Setup) (w new : World) (events : List Event) (answers : List Answer) (writer : Side) (id : ℕ) → AllByRecursion (IsSendable setup) events → IsSoundWorld setup w
     → Run (Happens setup) w events answers new → Ran setup w new events answers writer id
 run_moves laws setup w new [] [] writer id sendable h run =
     subst (λ v. Ran setup w v [] [] writer id) (sym run) (record { moves = nothing (limit_of_reader setup writer) (flow w writer id); sound = h })
@@ -63,7 +63,7 @@ carries most f g sending finishing handing ending none m =
     let n = subst (λ x. Moves most x g sending finishing handing ending) none m in
     record { sent_is = n.sent_is; end_is = n.end_is; handed_is = n.handed_is; over_is = n.over_is }
 
-pub run_carries : (laws : WorldLaws) (setup : Setup) (w : World) (events : List Event) (answers : List Answer) (writer : Side) (id : ℕ) → AllByRecursion IsSendable events
+pub run_carries : (laws : WorldLaws) (setup : Setup) (w : World) (events : List Event) (answers : List Answer) (writer : Side) (id : ℕ) → AllByRecursion (IsSendable setup) events
     → Run (Happens setup) (empty_world setup) events answers w → Carried setup w events answers writer id
 run_carries laws setup w events answers writer id sendable run =
     let r = run_moves laws setup (empty_world setup) w events answers writer id sendable (laws.begins setup) run in
@@ -73,11 +73,11 @@ run_carries laws setup w events answers writer id sendable run =
       sound = r.sound;
     }
 
-pub run_sound : (laws : WorldLaws) (setup : Setup) (w : World) (events : List Event) (answers : List Answer) → AllByRecursion IsSendable events → Run (Happens setup) (empty_world setup) events answers w → IsSoundWorld setup w
+pub run_sound : (laws : WorldLaws) (setup : Setup) (w : World) (events : List Event) (answers : List Answer) → AllByRecursion (IsSendable setup) events → Run (Happens setup) (empty_world setup) events answers w → IsSoundWorld setup w
 run_sound laws setup w events answers sendable run = (run_carries laws setup w events answers Client 0 sendable run).sound
 
 -- The same for a reader.
-pub front_at : (laws : WorldLaws) (setup : Setup) (events : List Event) (answers : List Answer) (w : World) (side : Side) (id : ℕ) → AllByRecursion IsSendable events → Run (Happens setup) (empty_world setup) events answers w
+pub front_at : (laws : WorldLaws) (setup : Setup) (events : List Event) (answers : List Answer) (w : World) (side : Side) (id : ℕ) → AllByRecursion (IsSendable setup) events → Run (Happens setup) (empty_world setup) events answers w
     → IsFrontOf (pulled side id events answers) (map (at_reader (section_of (announced_at setup side))) (sent (other side) id events answers))
 front_at laws setup events answers w side id sendable run =
     let c = run_carries laws setup w events answers (other side) id sendable run in
@@ -85,7 +85,7 @@ front_at laws setup events answers w side id sendable run =
     (is_front (limit_of_reader setup (other side)) (flow w (other side) id) (sent (other side) id events answers) (has_finished (other side) id events answers)
     (pulled (other (other side)) id events answers) (has_pulled_end (other (other side)) id events answers) c.carried)
 
-pub all_at : (laws : WorldLaws) (setup : Setup) (events : List Event) (answers : List Answer) (w : World) (side : Side) (id : ℕ) → AllByRecursion IsSendable events → Run (Happens setup) (empty_world setup) events answers w
+pub all_at : (laws : WorldLaws) (setup : Setup) (events : List Event) (answers : List Answer) (w : World) (side : Side) (id : ℕ) → AllByRecursion (IsSendable setup) events → Run (Happens setup) (empty_world setup) events answers w
     → has_pulled_end side id events answers ≡ true
     → IsAll (section_of (announced_at setup side)) (sent (other side) id events answers) (has_finished (other side) id events answers) (pulled side id events answers)
 all_at laws setup events answers w side id sendable run ended =
@@ -94,7 +94,7 @@ all_at laws setup events answers w side id sendable run ended =
     (is_complete setup w events answers (other side) id c) ended
 
 -- and where no part is left
-pub left_none_at : (laws : WorldLaws) (setup : Setup) (events : List Event) (answers : List Answer) (w : World) (side : Side) (id : ℕ) → AllByRecursion IsSendable events → Run (Happens setup) (empty_world setup) events answers w
+pub left_none_at : (laws : WorldLaws) (setup : Setup) (events : List Event) (answers : List Answer) (w : World) (side : Side) (id : ℕ) → AllByRecursion (IsSendable setup) events → Run (Happens setup) (empty_world setup) events answers w
     → next_part (flow w (other side) id) ≡ None → pulled side id events answers ≡ map (at_reader (section_of (announced_at setup side))) (sent (other side) id events answers)
 left_none_at laws setup events answers w side id sendable run none =
     let c = run_carries laws setup w events answers (other side) id sendable run in
@@ -107,7 +107,7 @@ taken_whole : (most : ℕ) (sending : List MessageContent) → AllByRecursion (I
 taken_whole most [] h = refl
 taken_whole most (c ∷ cs) h = ap (λ x. x ∷ map (at_reader most) cs) h.0 ∙ ap (λ l. c ∷ l) (taken_whole most cs h.1)
 
-pub whole_at : (laws : WorldLaws) (setup : Setup) (events : List Event) (answers : List Answer) (w : World) (side : Side) (id : ℕ) → AllByRecursion IsSendable events → Run (Happens setup) (empty_world setup) events answers w
+pub whole_at : (laws : WorldLaws) (setup : Setup) (events : List Event) (answers : List Answer) (w : World) (side : Side) (id : ℕ) → AllByRecursion (IsSendable setup) events → Run (Happens setup) (empty_world setup) events answers w
     → has_pulled_end side id events answers ≡ true → AllByRecursion (IsTakenWhole (section_of (announced_at setup side))) (sent (other side) id events answers)
     → pulled side id events answers ≡ sent (other side) id events answers
 whole_at laws setup events answers w side id sendable run ended whole =

@@ -17,8 +17,8 @@ pub record RunsOn (setup : Setup) (w : World) (ends : Ends) (events : List Event
   pub run : Run (Happens setup) w events (answers_of_ends ends events) new
   pub stands : Stands setup new (ends_after ends events)
 
-pub runs_on : (setup : Setup) → ((w : World) (ends : Ends) (e : Event) → IsSendable e → Stands setup w ends → StandsOn setup w ends e)
-    → (w : World) (ends : Ends) (events : List Event) → AllByRecursion IsSendable events → Stands setup w ends → RunsOn setup w ends events
+pub runs_on : (setup : Setup) → ((w : World) (ends : Ends) (e : Event) → IsSendable setup e → Stands setup w ends → StandsOn setup w ends e)
+    → (w : World) (ends : Ends) (events : List Event) → AllByRecursion (IsSendable setup) events → Stands setup w ends → RunsOn setup w ends events
 runs_on setup event w ends [] sendable h = record { new = w; run = refl; stands = h }
 runs_on setup event w ends (e ∷ events) sendable h =
     let first = event w ends e sendable.0 h in

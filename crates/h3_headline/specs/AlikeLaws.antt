@@ -13,8 +13,8 @@ use Rattle.h3_headline.specs.OwnStreams.{AnswersAlike, KeepsWriting}
 use Rattle.h3_headline.specs.Standing.{Stands}
 use Rattle.h3_headline.specs.Steps.{StandsOn}
 
-pub alike_stands : (laws : WorldLaws) (setup : Setup) (w : World) (ends : Ends) (e : Event) → IsSendable e → Stands setup w ends
-    → AnswersAlike setup (answered ends e) (served setup w e) → KeepsWriting (served setup w e).1 → StandsOn setup w ends e
+pub alike_stands : (laws : WorldLaws) (setup : Setup) (w : World) (ends : Ends) (e : Event) → IsSendable setup e → Stands setup w ends
+    → AnswersAlike setup (answered ends e) (served setup w e) → KeepsWriting setup (served setup w e).1 → StandsOn setup w ends e
 alike_stands laws setup w ends e sendable h alike written =
     let new = (served setup w e).1 in
     let step = laws.machine setup w e h.sound in

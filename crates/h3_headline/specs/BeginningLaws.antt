@@ -94,15 +94,15 @@ begins_at setup Server any =
     }
 
 -- nothing was sent on any stream
-nothing_sent : (setup : Setup) (side : Side) (id : ℕ) → AllByRecursion (IsReadable (other side)) (flow (empty_world setup) side id).sent
+nothing_sent : (setup : Setup) (side : Side) (id : ℕ) → AllByRecursion (IsReadable setup (other side)) (flow (empty_world setup) side id).sent
 nothing_sent setup Client id = by (is_request_stream id)
   where
-    by : (request : Bool) → AllByRecursion (IsReadable Server) (if request then no_exchange else no_exchange).request.sent
+    by : (request : Bool) → AllByRecursion (IsReadable setup Server) (if request then no_exchange else no_exchange).request.sent
     by true = tt
     by false = tt
 nothing_sent setup Server id = by (is_request_stream id)
   where
-    by : (request : Bool) → AllByRecursion (IsReadable Client) (if request then no_exchange else no_exchange).response.sent
+    by : (request : Bool) → AllByRecursion (IsReadable setup Client) (if request then no_exchange else no_exchange).response.sent
     by true = tt
     by false = tt
 

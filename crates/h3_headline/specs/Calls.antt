@@ -5,6 +5,7 @@ use Rattle.h3_proto.specs.declared.stream.Side.{Side}
 use Rattle.h3_connection.specs.Endpoint.{EndpointHistory, kind_of, is_critical_of, Own}
 use Rattle.h3_connection.specs.OwnIds.{other}
 use Rattle.h3_world.specs.declared.setup.Setup.{Setup}
+use Rattle.h3_world.specs.Setup.{announced_at, takes_any}
 use Rattle.h3_world.specs.Streams.{flow}
 use Rattle.h3_world.specs.World.{World, party, Party}
 use Rattle.h3_proto.specs.declared.stream.Side.TheVariants.{Client}
@@ -18,7 +19,7 @@ use Rattle.h3_connection.specs.StreamSets.{set_stream}
 use Rattle.h3_header.specs.Head.{Head as Fields, head_fields}
 use Rattle.h3_header.specs.HeadTests.{takes_protocol}
 use Rattle.h3_header.specs.Reads.{head_of_fields}
-use Rattle.h3_header.specs.ReadsBack.{as_read}
+use Rattle.h3_header.specs.ReadsBack.{ReadsBackBy, as_read}
 use Rattle.h3_qpack.specs.Encodings.{IsWrittenInstruction}
 use Rattle.h3_qpack.specs.SectionEncoding as section
 use Rattle.h3_connection.specs.Sections.{own_instructions, written_section}
@@ -35,8 +36,8 @@ pub record Both (setup : Setup) (w : World) (side : Side) (e f : EndpointHistory
   pub there : StandsAt setup w (other side) f
   pub writes_here : IsWritable side (party w side).own
   pub writes_there : IsWritable (other side) (party w (other side)).own
-  pub sends_here : AreReadable w side
-  pub sends_there : (id : ℕ) → AllByRecursion (IsReadable side) (flow w (other side) id).sent
+  pub sends_here : AreReadable setup w side
+  pub sends_there : (id : ℕ) → AllByRecursion (IsReadable setup side) (flow w (other side) id).sent
 
 -- The ends answer as the machine does, and stand in the world after it.
 pub record Serves (setup : Setup) (given : Answer × Ends) (to : Answer × World) : Type 0 where
@@ -51,10 +52,10 @@ pub record Does (setup : Setup) (v : World) (ends : Ends) (side : Side) (given s
   pub next_id : (with_end ends side new).client.next_id ≡ 4 * length v.exchanges
 
 -- A flow that got further at its sender alone: its receiver keeps what it kept.
-pub record Extends (side : Side) (f g : Flow) : Type 0 where
+pub record Extends (setup : Setup) (side : Side) (f g : Flow) : Type 0 where
   pub seen : g.seen ≡ f.seen
   pub kept : (i : Incoming) → ReceivesFlow f i → ReceivesFlow g i
-  pub readable : AllByRecursion (IsReadable (other side)) f.sent → AllByRecursion (IsReadable (other side)) g.sent
+  pub readable : AllByRecursion (IsReadable setup (other side)) f.sent → AllByRecursion (IsReadable setup (other side)) g.sent
 
 abbrev pub sending : EndpointHistory → ℕ → ℕ → Outgoing → EndpointHistory
 sending e id n o = record e { outgoing = set_stream e.outgoing id o; sent = n }
@@ -63,10 +64,11 @@ sending e id n o = record e { outgoing = set_stream e.outgoing id o; sent = n }
 abbrev pub seen_by : EndpointHistory → Side → ℕ → Bool
 seen_by e s n = is_critical_of (record e { side = s }) n (kind_of s n)
 
--- A section that may be sent: its protocol is one of the two names, its fields are read as its head, and the instructions for it can be
--- written.
-pub record IsWritableHead (w : World) (side : Side) (id : ℕ) (head : Fields) : Type 0 where
-  pub named : takes_protocol false head.protocol ≡ true
+-- A section that may be sent: its side takes its protocol, the other side reads it back as its fields, these are read as its head, and the
+-- instructions for it can be written.
+pub record IsWritableHead (setup : Setup) (w : World) (side : Side) (id : ℕ) (head : Fields) : Type 0 where
+  pub taken : takes_protocol (takes_any (announced_at setup side)) head.protocol ≡ true
+  pub reads_back : ReadsBackBy (takes_any (announced_at setup (other side))) (head_fields head)
   pub read_as : head_of_fields (head_fields head) ≡ as_read head
   pub instructions : AllByRecursion IsWrittenInstruction (own_instructions (party w side).encoder id (head_fields head))
 

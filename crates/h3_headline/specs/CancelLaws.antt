@@ -127,10 +127,10 @@ cancel_served setup w ends side id h =
       there = sender_stands setup w v side id more g f f f.outgoing b.there r refl heard (sends_same setup w (other side) id g f b.there refl);
       writes_here = subst (λ (q : Party). IsWritable side q.own) (sym r.here) writes;
       writes_there = subst (λ (q : Party). IsWritable (other side) q.own) (sym r.there) b.writes_there;
-      sends_here = λ n. subst (λ (q : Flow). AllByRecursion (IsReadable (other side)) q.sent) (sym (r.from_it n)) (b.sends_here n);
-      sends_there = λ n. subst (λ (q : Flow). AllByRecursion (IsReadable side) q.sent) (sym (r.to_it n)) (by_id n (id == n) refl);
+      sends_here = λ n. subst (λ (q : Flow). AllByRecursion (IsReadable setup (other side)) q.sent) (sym (r.from_it n)) (b.sends_here n);
+      sends_there = λ n. subst (λ (q : Flow). AllByRecursion (IsReadable setup side) q.sent) (sym (r.to_it n)) (by_id n (id == n) refl);
     }))
   where
-    by_id : (n : ℕ) (t : Bool) → (id == n) ≡ t → AllByRecursion (IsReadable side) (if t then record (flow w (other side) id) { fault = Some Canceled; waits_for = 0 } else flow w (other side) n).sent
+    by_id : (n : ℕ) (t : Bool) → (id == n) ≡ t → AllByRecursion (IsReadable setup side) (if t then record (flow w (other side) id) { fault = Some Canceled; waits_for = 0 } else flow w (other side) n).sent
     by_id n true same = (both_of setup w side ends h).sends_there id
     by_id n false same = (both_of setup w side ends h).sends_there n

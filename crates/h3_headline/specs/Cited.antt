@@ -35,7 +35,7 @@ use Rattle.h3_connection.specs.Sections.{own_instructions}
 pub record WorldLaws : Type 0 where
   pub begins : (setup : Setup) → IsSoundWorld setup (empty_world setup)
   pub machine : (setup : Setup) (w : World) (e : Event) → IsSoundWorld setup w → Step setup w e (served setup w e).0 (served setup w e).1 × IsExact w e (served setup w e).0
-  pub both : (setup : Setup) (w new : World) (e : Event) (a : Answer) → IsSendable e → Step setup w e a new → IsExact w e a → IsSoundWorld setup w → Happens setup w e a new × IsSoundWorld setup new
+  pub both : (setup : Setup) (w new : World) (e : Event) (a : Answer) → IsSendable setup e → Step setup w e a new → IsExact w e a → IsSoundWorld setup w → Happens setup w e a new × IsSoundWorld setup new
 
 -- a decoder that announced this capacity reads as many of the encoder's instructions
 pub record IsRead (capacity : ℕ) (instructions : List EncoderInstruction) : Type 0 where
@@ -55,9 +55,9 @@ pub record StreamLaws : Type 0 where
   pub values : (counts : Bool) (most announced limit other : ℕ) (events : List SessionEvent) (s : Session) (b : UndecodedSection) (r : DecoderState) → SessionRun (beginning counts most announced limit) events s → IsDecoderAt other s r →
       oldest b.stream s.sections ≡ Some b → is_canceled s b.stream ≡ false → IsWritten s b → decode_section r (encoded_section b.encoder b.fields) ≡ tried s b
 
--- the law of h3_header that a list that is read as a head is read as that head, also where any protocol is taken
+-- the law of h3_header that a list that is read as a head is read as that head, whichever protocols are taken
 abbrev pub ListsAreTheirValue : Type 0
-ListsAreTheirValue = (any : Bool) (fields : List Field) (h : header.Head) → IsHeadOf false fields h → head_by any fields ≡ IsHead h
+ListsAreTheirValue = (any : Bool) (fields : List Field) (h : header.Head) → IsHeadOf any fields h → head_by any fields ≡ IsHead h
 
 pub record Laws : Type 0 where
   pub worlds : WorldLaws

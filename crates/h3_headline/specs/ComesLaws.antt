@@ -51,12 +51,12 @@ received_both setup w v side id more g e f x y h r sent replies here there =
       there = there;
       writes_here = subst (λ (p : Party). IsWritable side p.own) (sym r.here) (saying_writable side (party w side).own more h.writes_here replies);
       writes_there = subst (λ (p : Party). IsWritable (other side) p.own) (sym r.there) h.writes_there;
-      sends_here = λ i. subst (λ (o : Flow). AllByRecursion (IsReadable (other side)) o.sent) (sym (r.from_it i)) (h.sends_here i);
-      sends_there = λ i. subst (λ (o : Flow). AllByRecursion (IsReadable side) o.sent) (sym (r.to_it i)) (by_id i (id == i) refl);
+      sends_here = λ i. subst (λ (o : Flow). AllByRecursion (IsReadable setup (other side)) o.sent) (sym (r.from_it i)) (h.sends_here i);
+      sends_there = λ i. subst (λ (o : Flow). AllByRecursion (IsReadable setup side) o.sent) (sym (r.to_it i)) (by_id i (id == i) refl);
     }
   where
-    by_id : (i : ℕ) (t : Bool) → (id == i) ≡ t → AllByRecursion (IsReadable side) (if t then g else flow w (other side) i).sent
-    by_id i true same = subst (AllByRecursion (IsReadable side)) (sym sent) (h.sends_there id)
+    by_id : (i : ℕ) (t : Bool) → (id == i) ≡ t → AllByRecursion (IsReadable setup side) (if t then g else flow w (other side) i).sent
+    by_id i true same = subst (AllByRecursion (IsReadable setup side)) (sym sent) (h.sends_there id)
     by_id i false same = h.sends_there i
 
 -- The end comes.

@@ -15,6 +15,7 @@ use Rattle.h3_world.specs.Streams.{flow}
 use Rattle.h3_connection.specs.declared.setup.Announced.{Announced}
 use Rattle.h3_world.specs.Flow.Part.{Interim, Head, Body, Trailer, End}
 use Rattle.h3_world.specs.Order.{next_part}
+use Rattle.h3_world.specs.Setup.{takes_any}
 use Rattle.h3_world.specs.Sound.{IsSoundFlow}
 use Rattle.std.specs.List.{AllByRecursion}
 use Rattle.h3_headline.specs.Cited.{ListsAreTheirValue}
@@ -22,7 +23,7 @@ use Rattle.h3_headline.specs.Decoding.{IsOldest, SectionsHaveValues}
 use Rattle.h3_headline.specs.FlowLaws.{same_number}
 use Rattle.h3_headline.specs.PartLaws.{part_at, part_is}
 use Rattle.h3_headline.specs.Pulling.{DecodesNext, IsReadableNext, tried_as}
-use Rattle.h3_headline.specs.Standing.{IsReadable}
+use Rattle.h3_headline.specs.Standing.{IsReadableBy}
 
 first_of : (x y : EncodedSection) (xs ys : List EncodedSection) → ◌≡◌ {A = List EncodedSection} (x ∷ xs) (y ∷ ys) → x ≡ y
 first_of x y xs ys e = cc
@@ -76,10 +77,10 @@ next_decodes lists values setup w writer reader announces id announced r p h sou
     by_part (Some End) next = tt
 
 -- **The next part is read as what it was sent as.**
-pub next_readable : (lists : ListsAreTheirValue) (reader : Side) (announces : Announced) (id came : ℕ) (r : DecoderState) (f : Flow) → AllByRecursion (IsReadable reader) f.sent
+pub next_readable : (lists : ListsAreTheirValue) (reader : Side) (announces : Announced) (id came : ℕ) (r : DecoderState) (f : Flow) → AllByRecursion (IsReadableBy (takes_any announces) reader) f.sent
     → IsReadableNext lists reader announces id r came (next_part f)
 next_readable lists reader announces id came r f h = by_part (next_part f) refl
   where
     by_part : (part : Option Part) → next_part f ≡ part → IsReadableNext lists reader announces id r came part
     by_part None next = tt
-    by_part (Some part) next = part_is (IsReadable reader) f.sent f.parts_out part h next
+    by_part (Some part) next = part_is (IsReadableBy (takes_any announces) reader) f.sent f.parts_out part h next

@@ -9,8 +9,8 @@ use Rattle.h3_connection.specs.Outgoing.{OwnPart, takes_head, is_unsent, takes_b
 use Rattle.h3_connection.specs.OwnIds.{other, encoder_id}
 use Rattle.h3_connection.specs.Sections.{written_section, own_instructions}
 use Rattle.h3_connection.specs.Refusals.{is_too_large, first_of}
-use Rattle.h3_connection.specs.Sending.{appended as part_appended, counted, encoded, fields_cost, asked, awaiting_at, head_part, does, outgoing_at, content_of_own, known_of, saying_at}
-use Rattle.h3_connection.specs.StreamSets.{stream_at, set_stream}
+use Rattle.h3_connection.specs.Sending.{appended as part_appended, counted, encoded, fields_cost, asked, awaiting_at, head_part, does, content_of_own, known_of, saying_at}
+use Rattle.h3_connection.specs.StreamSets.{stream_at}
 use Rattle.h3_world.specs.declared.setup.Setup.{Setup}
 use Rattle.h3_world.specs.declared.event.Answer.TheVariants as answer
 use Rattle.h3_world.specs.Ends.{Ends, end_at, answered}
@@ -20,18 +20,19 @@ use Rattle.h3_world.specs.Sending.{appended, having_encoded, section_sent, with_
 use Rattle.h3_world.specs.Streams.{flow, is_open}
 use Rattle.h3_world.specs.World.{World, party, with_party}
 use Rattle.h3_world.specs.Came.{settings_known}
-use Rattle.h3_world.specs.Setup.{announced_at, IsPlain}
+use Rattle.h3_world.specs.Setup.{announced_at, IsPlain, takes_any}
 use Rattle.std.specs.Prelude.{option_map, not, ◌&&◌, is_some, ◌||◌}
 use Rattle.h3_connection.specs.StrictMessages.{malformation_by}
-use Rattle.h3_connection.specs.StrictSendingLaws.{no_broken_protocol}
 use Rattle.h3_connection.specs.StrictSending.{broken_head, broken_protocol, violation_of_own_head, broken_trailer, unless_malformed, early_trailer}
 use Rattle.h3_connection.specs.Sending as sender
 use Rattle.h3_connection.specs.declared.event.Malformation.{Malformation}
+use Rattle.h3_connection.specs.declared.event.Malformation.TheVariants as malformation
 use Rattle.h3_connection.specs.declared.setup.Announced.{Announced}
 use Rattle.h3_messages.specs.OwnMessages.{violation_of_own_trailer}
 use Rattle.h3_header.specs.Head.{Head as Fields, head_fields, has_pseudo}
 use Rattle.h3_proto.specs.declared.stream.Side.TheVariants.{Client, Server}
 use Rattle.h3_connection.specs.Pulling.{is_client, is_for, is_interim}
+use Rattle.h3_header.specs.HeadTests.{takes_protocol}
 use Rattle.h3_header.specs.ReadsBack.{as_read}
 use Rattle.h3_messages.specs.Content.{awaited_by}
 use Rattle.h3_header.specs.Reads.{head_of_fields}
@@ -61,7 +62,7 @@ all_joined P (x ∷ xs) ys h k = (h.0, all_joined P xs ys h.1 k)
 
 -- **A section goes out.**
 section_does : (setup : Setup) (w : World) (ends : Ends) (side : Side) (id : ℕ) (fields : List Field) (kind : Section → Part) (own : List ℕ → OwnPart) → Stands setup w ends → IsOfSection kind own
-    → is_open w side id ≡ true → (outgoing_of (flow w side id)).is_finished ≡ false → IsReadable (other side) (kind (section_sent (party w side) id fields (flow w side id)))
+    → is_open w side id ≡ true → (outgoing_of (flow w side id)).is_finished ≡ false → IsReadable setup (other side) (kind (section_sent (party w side) id fields (flow w side id)))
     → AllByRecursion IsWrittenInstruction (own_instructions (party w side).encoder id fields)
     → Does setup (with_section kind w side id fields) ends side answer.Done answer.Done
     (counted (part_appended (encoded (end_at ends side) id fields) id (own (written_section (end_at ends side).encoder id fields))) (fields_cost fields))
@@ -93,8 +94,8 @@ section_does setup w ends side id fields kind own h of_section opened unfinished
       replies = b.writes_here.replies;
     } in
     let midway : Both setup u side mid f = party_writes setup w side p e f b heard writes in
-    let extends : Extends side (flow u side id) g =
-    subst (λ (o : Flow). Extends side o g) (sym (flow-with_party w side side p id)) (part_extends old side to part (sound_flow setup w side id h.sound (open_there w side id opened)) readable) in
+    let extends : Extends setup side (flow u side id) g =
+    subst (λ (o : Flow). Extends setup side o g) (sym (flow-with_party w side side p id)) (part_extends setup old side to part (sound_flow setup w side id h.sound (open_there w side id opened)) readable) in
     let stream = (sends_at setup w side id e b.here opened).stream in
     let is : new ≡ writing_to e id p new.sent (outgoing_of g) =
     ap (λ (o : Own). written e own id fields new.sent o e.encoder (stream_at e.outgoing id)) b.here.own
@@ -121,6 +122,11 @@ no_broken_head setup w side e fields plain h =
 no_broken_trailer : (setup : Setup) (w : World) (side : Side) (e : EndpointHistory) (fields : List Field) → IsPlain (announced_at setup side) → StandsAt setup w side e → broken_trailer e.announced fields ≡ None
 no_broken_trailer setup w side e fields plain h =
     ap (λ b. let rule : Option Malformation = if b then option_map malformation_by (violation_of_own_trailer fields) else None in rule) (ap (λ (a : Announced). a.choices.strict_messages) h.announced ∙ plain.0)
+
+-- a protocol that the side takes is not refused
+protocol_taken : (setup : Setup) (w : World) (side : Side) (e : EndpointHistory) (head : Fields) → takes_protocol (takes_any (announced_at setup side)) head.protocol ≡ true → StandsAt setup w side e → broken_protocol e.announced head ≡ None
+protocol_taken setup w side e head taken h =
+    ap (λ b. let rule : Option Malformation = if b then None else Some malformation.Value in rule) (ap (λ (a : Announced). takes_protocol (takes_any a) head.protocol) h.announced ∙ taken)
 
 -- a head with a status from 100 to 199 is no request
 only_client : (reader : Side) (head : Fields) → is_for reader head ≡ true → is_interim head.status ≡ true → is_client reader ≡ true
@@ -153,7 +159,7 @@ unasked setup w side e f id fields plain h same =
     } in g) is
 
 -- **A head.**
-pub head_served : (setup : Setup) (w : World) (ends : Ends) (side : Side) (id : ℕ) (head : Fields) → IsPlain (announced_at setup side) → Stands setup w ends → IsWritableHead w side id head
+pub head_served : (setup : Setup) (w : World) (ends : Ends) (side : Side) (id : ℕ) (head : Fields) → IsPlain (announced_at setup side) → Stands setup w ends → IsWritableHead setup w side id head
     → Serves setup (answered ends (event.Head side id head)) (served setup w (event.Head side id head))
 head_served setup w ends side id head plain h writable =
     let e = end_at ends side in
@@ -166,7 +172,7 @@ head_served setup w ends side id head plain h writable =
     (call_agrees setup w (sent_head w side id head) ends side answer.Done answer.Done (sender.head_refusal e id head) (head_refusal setup w side id head) new h
     (refusal_agrees setup w side id e (λ o. (not (takes_head o), refusal.OutOfOrder) ∷ unless_malformed (broken_protocol e.announced head) ((not (is_for (other e.side) head), refusal.WrongSide) ∷ unless_malformed (broken_head e.side e.announced e.peer.settings fields) ((is_too_large e.peer.settings fields, size) ∷ []))) b.here
     ∙ ap (λ p. first_of ((not (is_open w side id), refusal.NotOpen) ∷ (not (takes_head to), refusal.OutOfOrder) ∷ unless_malformed p ((not (is_for (other e.side) head), refusal.WrongSide) ∷ unless_malformed (broken_head e.side e.announced e.peer.settings fields) ((is_too_large e.peer.settings fields, size) ∷ []))))
-    (no_broken_protocol e.announced head writable.named)
+    (protocol_taken setup w side e head writable.taken b.here)
     ∙ ap (λ m. first_of ((not (is_open w side id), refusal.NotOpen) ∷ (not (takes_head to), refusal.OutOfOrder) ∷ (not (is_for (other e.side) head), refusal.WrongSide) ∷ unless_malformed m ((is_too_large e.peer.settings fields, size) ∷ [])))
     (no_broken_head setup w side e fields plain b.here)
     ∙ ap (λ s. first_of ((not (is_open w side id), refusal.NotOpen) ∷ (not (takes_head to), refusal.OutOfOrder) ∷ (not (is_for (other s) head), refusal.WrongSide) ∷ (is_too_large e.peer.settings fields, size) ∷ [])) b.here.side_is
@@ -184,10 +190,10 @@ head_served setup w ends side id head plain h writable =
         (if i then OwnInterim (written_section (end_at ends side).encoder id (head_fields head)) else OwnHead (written_section (end_at ends side).encoder id (head_fields head)))) (fields_cost (head_fields head)))
     by_interim true i opened unfinished fits =
         section_does setup w ends side id (head_fields head) Interim OwnInterim h (record { wrote = λ s. refl; more = λ s. refl }) opened unfinished
-        (only_client (other side) head fits i, ap (is_for (other side)) writable.read_as ∙ for_read (other side) head ∙ fits, ap (λ (x : Fields). is_interim x.status) writable.read_as ∙ i) writable.instructions
+        (only_client (other side) head fits i, ap (is_for (other side)) writable.read_as ∙ for_read (other side) head ∙ fits, ap (λ (x : Fields). is_interim x.status) writable.read_as ∙ i, writable.reads_back) writable.instructions
     by_interim false i opened unfinished fits =
         section_does setup w ends side id (head_fields head) Head OwnHead h (record { wrote = λ s. refl; more = λ s. refl }) opened unfinished
-        (ap (is_for (other side)) writable.read_as ∙ for_read (other side) head ∙ fits, never (is_client (other side))) writable.instructions
+        (ap (is_for (other side)) writable.read_as ∙ for_read (other side) head ∙ fits, never (is_client (other side)), writable.reads_back) writable.instructions
       where
         none : is_interim (head_of_fields (head_fields head)).status ≡ false
         none = ap (λ (x : Fields). is_interim x.status) writable.read_as ∙ i
@@ -205,7 +211,7 @@ pseudo_read head = ap (λ b. is_some head.method || is_some head.scheme || is_so
     some_path (Some x) = refl
 
 -- **A trailer.**
-pub trailer_served : (setup : Setup) (w : World) (ends : Ends) (side : Side) (id : ℕ) (head : Fields) → IsPlain (announced_at setup side) → Stands setup w ends → IsWritableHead w side id head
+pub trailer_served : (setup : Setup) (w : World) (ends : Ends) (side : Side) (id : ℕ) (head : Fields) → IsPlain (announced_at setup side) → Stands setup w ends → IsWritableHead setup w side id head
     → Serves setup (answered ends (event.Trailer side id head)) (served setup w (event.Trailer side id head))
 trailer_served setup w ends side id head plain h writable =
     let e = end_at ends side in
@@ -217,7 +223,7 @@ trailer_served setup w ends side id head plain h writable =
     (counted (part_appended (encoded e id fields) id (OwnTrailer (written_section e.encoder id fields))) (fields_cost fields)) h
     (refusal_agrees setup w side id e (λ o. (not (takes_body o), refusal.OutOfOrder) ∷ unless_malformed (broken_protocol e.announced head) ((has_pseudo head, refusal.PseudoInTrailer) ∷ unless_malformed (early_trailer o.content) (unless_malformed (broken_trailer e.announced fields) ((is_too_large e.peer.settings fields, size) ∷ [])))) b.here
     ∙ ap (λ p. first_of ((not (is_open w side id), refusal.NotOpen) ∷ (not (takes_body to), refusal.OutOfOrder) ∷ unless_malformed p ((has_pseudo head, refusal.PseudoInTrailer) ∷ unless_malformed (early_trailer to.content) (unless_malformed (broken_trailer e.announced fields) ((is_too_large e.peer.settings fields, size) ∷ [])))))
-    (no_broken_protocol e.announced head writable.named)
+    (protocol_taken setup w side e head writable.taken b.here)
     ∙ ap (λ m. first_of ((not (is_open w side id), refusal.NotOpen) ∷ (not (takes_body to), refusal.OutOfOrder) ∷ (has_pseudo head, refusal.PseudoInTrailer) ∷ unless_malformed m ((is_too_large e.peer.settings fields, size) ∷ [])))
     (no_broken_trailer setup w side e fields plain b.here)
     ∙ ap (λ t. first_of ((not (is_open w side id), refusal.NotOpen) ∷ (not (takes_body to), refusal.OutOfOrder) ∷ (has_pseudo head, refusal.PseudoInTrailer) ∷ (t, size) ∷ [])) (too_large_agrees setup w side e fields b.here))
@@ -227,4 +233,4 @@ trailer_served setup w ends side id head plain h writable =
     let t = not_refused (not (takes_body to)) refusal.OutOfOrder ((has_pseudo head, refusal.PseudoInTrailer) ∷ last) o.1 in
     let s = not_refused (has_pseudo head) refusal.PseudoInTrailer last t.1 in
     section_does setup w ends side id fields Trailer OwnTrailer h (record { wrote = λ s. refl; more = λ s. refl }) o.0 (with_body to.is_finished to.is_reset (not (is_unsent to.parts)) (not (last_is_trailer to.parts)) t.0).0
-    (ap has_pseudo writable.read_as ∙ pseudo_read head ∙ s.0) writable.instructions)
+    (ap has_pseudo writable.read_as ∙ pseudo_read head ∙ s.0, writable.reads_back) writable.instructions)

@@ -216,8 +216,8 @@ open_served setup w ends Client h =
         there = waiter_stands setup w ends.server h.at_server;
         writes_here = h.client_writes;
         writes_there = h.server_writes;
-        sends_here = λ i. subst (λ (o : Flow). AllByRecursion (IsReadable Server) o.sent) (sym (flow_opened w Client i)) (h.requests i);
-        sends_there = λ i. subst (λ (o : Flow). AllByRecursion (IsReadable Client) o.sent) (sym (flow_opened w Server i)) (h.responses i);
+        sends_here = λ i. subst (λ (o : Flow). AllByRecursion (IsReadable setup Server) o.sent) (sym (flow_opened w Client i)) (h.requests i);
+        sends_there = λ i. subst (λ (o : Flow). AllByRecursion (IsReadable setup Client) o.sent) (sym (flow_opened w Server i)) (h.responses i);
       };
       next_id = ap (λ n. n + 4) h.next_id ∙ sum (length w.exchanges) ∙ sym (ap (λ n. 4 * n) (one_more w));
     })

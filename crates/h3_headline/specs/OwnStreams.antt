@@ -101,11 +101,11 @@ advanced_by own count a b c =
     if c then record own { decoder_taken = own.decoder_taken + count } else own))
 
 -- What `Stands` says of a world besides its two endpoints and its soundness.
-pub record KeepsWriting (w : World) : Type 0 where
+pub record KeepsWriting (setup : Setup) (w : World) : Type 0 where
   pub client_writes : IsWritable Client w.client.own
   pub server_writes : IsWritable Server w.server.own
-  pub requests : AreReadable w Client
-  pub responses : AreReadable w Server
+  pub requests : AreReadable setup w Client
+  pub responses : AreReadable setup w Server
 
 -- An endpoint that takes what comes, however long: it has no fault, and keeps nothing.
 pub record Takes (side : Side) (e : EndpointHistory) : Type 0 where

@@ -124,5 +124,5 @@ writer_writable setup w side id count h =
     subst (λ (p : Party). IsWritable (other side) p.own) (sym (writer_after setup w side id count)) (further_writable (other side) (party w (other side)).own id count h)
 
 -- what was sent on request streams
-pub readable_same : (w v : World) (side : Side) → SameStreams w v → AreReadable w side → AreReadable v side
-readable_same w v side same h id = subst (λ f. AllByRecursion (IsReadable (other side)) f.sent) (sym (same.flows side id)) (h id)
+pub readable_same : (setup : Setup) (w v : World) (side : Side) → SameStreams w v → AreReadable setup w side → AreReadable setup v side
+readable_same setup w v side same h id = subst (λ f. AllByRecursion (IsReadable setup (other side)) f.sent) (sym (same.flows side id)) (h id)

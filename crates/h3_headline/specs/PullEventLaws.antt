@@ -125,12 +125,12 @@ writes_on setup w new side id more g e f after b r replies same here there =
       there = there;
       writes_here = subst (λ (p : Party). IsWritable side p.own) (sym r.here) (saying_writable side (party w side).own more b.writes_here replies);
       writes_there = subst (λ (p : Party). IsWritable (other side) p.own) (sym r.there) b.writes_there;
-      sends_here = λ i. subst (λ (x : Flow). AllByRecursion (IsReadable (other side)) x.sent) (sym (r.from_it i)) (b.sends_here i);
-      sends_there = λ i. subst (λ (x : Flow). AllByRecursion (IsReadable side) x.sent) (sym (r.to_it i)) (by_id i (id == i) refl);
+      sends_here = λ i. subst (λ (x : Flow). AllByRecursion (IsReadable setup (other side)) x.sent) (sym (r.from_it i)) (b.sends_here i);
+      sends_there = λ i. subst (λ (x : Flow). AllByRecursion (IsReadable setup side) x.sent) (sym (r.to_it i)) (by_id i (id == i) refl);
     }
   where
-    by_id : (i : ℕ) (t : Bool) → (id == i) ≡ t → AllByRecursion (IsReadable side) (if t then g else flow w (other side) i).sent
-    by_id i true is = subst (AllByRecursion (IsReadable side)) (sym same) (b.sends_there id)
+    by_id : (i : ℕ) (t : Bool) → (id == i) ≡ t → AllByRecursion (IsReadable setup side) (if t then g else flow w (other side) i).sent
+    by_id i true is = subst (AllByRecursion (IsReadable setup side)) (sym same) (b.sends_there id)
     by_id i false is = b.sends_there i
 
 pulled_both : (setup : Setup) (w new : World) (side : Side) (id : ℕ) (e f after : EndpointHistory) (q : Pull) → Both setup w side e f → is_open w side id ≡ true → id < 2 ^ 62 → StandsAt setup new side after

@@ -235,18 +235,18 @@ module _ (lists : ListsAreTheirValue) (side : Side) (announced : Announced) (pla
       let place = h.place ∙ at.place_is in
       section_comes item.Interim p f (Interim s) s i h at next (interim_part s) refl at.sent.0 at.sent.1
       (λ j unsaid. ap (λ q. at_frame side announced id r side j q (frame.Headers s.encoded)) place ∙ headers_before_head side j s.encoded) decodes
-      (λ x same unsaid. reads_interim lists side announced plain id r s x (acknowledgment id s.count) at.sent.0.reads_back at.sent.0.small readable (same ∙ place) unsaid)
+      (λ x same unsaid. reads_interim lists side announced plain id r s x (acknowledgment id s.count) at.sent.0.small readable (same ∙ place) unsaid)
   before_comes p f (Some (Head s)) i h next decodes readable =
       let at = part_at p f (Head s) h.sound next in
       let place = h.place ∙ at.place_is in
       section_comes item.Head p f (Head s) s i h at next (head_part s) refl at.sent.0 at.sent.1
       (λ j unsaid. ap (λ q. at_frame side announced id r side j q (frame.Headers s.encoded)) place ∙ headers_before_head side j s.encoded) decodes
-      (λ x same unsaid. reads_head lists side announced plain id r s x (acknowledgment id s.count) at.sent.0.reads_back at.sent.0.small readable (same ∙ place) unsaid)
+      (λ x same unsaid. reads_head lists side announced plain id r s x (acknowledgment id s.count) at.sent.0.small readable (same ∙ place) unsaid)
   before_comes p f (Some (Body bytes own)) i h next decodes readable = body_comes p f bytes own i h (part_at p f (Body bytes own) h.sound next) next
   before_comes p f (Some (Trailer s)) i h next decodes readable =
       let at = part_at p f (Trailer s) h.sound next in
       let place = h.place ∙ at.place_is in
       section_comes item.Trailer p f (Trailer s) s i h at next (trailer_part s) refl at.sent.0 at.sent.1
       (λ j unsaid. ap (λ q. at_frame side announced id r side j q (frame.Headers s.encoded)) place ∙ headers_in_body side j s.encoded unsaid) decodes
-      (λ x same unsaid. reads_trailer lists side announced plain id r s x (acknowledgment id s.count) at.sent.0.reads_back at.sent.0.small readable (same ∙ place) unsaid)
+      (λ x same unsaid. reads_trailer lists side announced plain id r s x (acknowledgment id s.count) at.sent.0.small readable (same ∙ place) unsaid)
   before_comes p f (Some End) i h next decodes readable = end_comes p f i h (part_at p f End h.sound next) next

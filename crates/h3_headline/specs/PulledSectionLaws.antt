@@ -20,26 +20,26 @@ use Rattle.h3_field.specs.Instruction.{DecoderInstruction}
 use Rattle.h3_qpack.specs.DecoderState.{DecoderState}
 use Rattle.h3_header.specs.HeadRead.{head_by}
 use Rattle.h3_header.specs.Reads.{head_of_fields}
-use Rattle.h3_header.specs.ReadsBack.{ReadsBack}
+use Rattle.h3_header.specs.ReadsBack.{ReadsBackBy}
 use Rattle.h3_proto.specs.declared.stream.Side.{Side}
 use Rattle.h3_proto.specs.declared.stream.Side.TheVariants.{Client, Server}
 use Rattle.h3_connection.specs.Announcing.{section_of}
 use Rattle.h3_messages.specs.declared.content.Content.TheVariants.{Unsaid}
 use Rattle.h3_connection.specs.StrictMessages.{broken_rule, content_behind, if_whole, malformation_by, violation_at, content_behind_large, response_behind}
-use Rattle.h3_connection.specs.Pulling.{Pulled, is_client, is_interim, next_place, judged, with_content, malformed, head_or_trailer, past_large, just, decoded, at_section, acknowledgment, past_section, tried, connection_fault, read_section}
+use Rattle.h3_connection.specs.Pulling.{Pulled, is_client, is_interim, next_place, judged, with_content, malformed, head_or_trailer, past_large, just, decoded, at_section, acknowledgment, past_section, tried, connection_fault}
 use Rattle.h3_connection.specs.Codes.{decompression_failed}
 use Rattle.h3_connection.specs.declared.event.Malformation.{Malformation}
 use Rattle.h3_connection.specs.declared.event.Malformation.TheVariants as malformation
 use Rattle.h3_connection.specs.declared.place.Place.TheVariants.{BeforeHead, InBody, AfterTrailer}
 use Rattle.h3_connection.specs.declared.setup.Announced.{Announced}
 use Rattle.h3_world.specs.Items.{IsSectionItem}
-use Rattle.h3_world.specs.Setup.{IsPlain}
+use Rattle.h3_world.specs.Setup.{IsPlain, takes_any}
 use Rattle.h3_qpack.specs.DecodedSection.{Fields, Missing, decode_section}
 use Rattle.h3_wire.specs.Encoded.{frame_encoding}
 use Rattle.h3_headline.specs.Cited.{ListsAreTheirValue}
 use Rattle.h3_headline.specs.PulledLaws.{receives_on, stands_at}
 use Rattle.h3_headline.specs.Pulling.{ComesTo, HandsOut, IsAtSection, IsReadAs, IsSectionPart, Pauses, behind_section, placed, tried_as}
-use Rattle.h3_headline.specs.Standing.{IsReadable, ReceivesFlow, WaitsIn, place_after, place_behind, section_frame, section_of_part}
+use Rattle.h3_headline.specs.Standing.{IsReadableBy, ReceivesFlow, WaitsIn, place_after, place_behind, section_frame, section_of_part}
 use Rattle.h3_headline.specs.StatusLaws.{interim_by_last}
 
 pub interim_part : (s : Section) → IsSectionPart item.Interim s (Interim s)
@@ -89,7 +89,7 @@ module _ (lists : ListsAreTheirValue) (side : Side) (announced : Announced) (pla
   none_broken place fields = ap (λ b. let rule : Option Malformation = if b then option_map malformation_by (violation_at side announced place fields) else None in rule) plain.0
 
   -- a list that reads back is judged by its head
-  judged_is : (x : Incoming) (replies : List DecoderInstruction) (fields : List Field) → x.content ≡ Unsaid → ReadsBack fields
+  judged_is : (x : Incoming) (replies : List DecoderInstruction) (fields : List Field) → x.content ≡ Unsaid → ReadsBackBy (takes_any announced) fields
       → judged side id (with_content side announced x fields) replies (if_whole x.content (broken_rule side announced x.place fields)) (head_by announced.choices.extensions.any_protocol fields)
       ≡ head_or_trailer side id x replies None x.place (head_of_fields fields)
   judged_is x replies fields unsaid back =
@@ -104,7 +104,7 @@ module _ (lists : ListsAreTheirValue) (side : Side) (announced : Announced) (pla
   at_most : (a b : ℕ) → nat_lt a b ≡ false → b ≤ a
   at_most a b e = grind (arith, common_steps, e)
 
-  read_by : (kind : header.Head → Item) (part : Part) (s : Section) (x : Incoming) (replies : List DecoderInstruction) → x.content ≡ Unsaid → ReadsBack s.fields → section_size s.fields < 2 ^ 56
+  read_by : (kind : header.Head → Item) (part : Part) (s : Section) (x : Incoming) (replies : List DecoderInstruction) → x.content ≡ Unsaid → ReadsBackBy (takes_any announced) s.fields → section_size s.fields < 2 ^ 56
       → next_place side x.place s.fields ≡ place_behind x.place part
       → head_or_trailer side id x replies None x.place (head_of_fields s.fields) ≡ record { answer = pull.Item (kind (head_of_fields s.fields)); incoming = record x { place = place_behind x.place part }; replies = replies }
       → ((size : ℕ) → size ≡ section_size s.fields → section_of announced < section_size s.fields → IsSectionItem kind (section_of announced) s.fields (item.TooLarge size))
@@ -142,14 +142,15 @@ module _ (lists : ListsAreTheirValue) (side : Side) (announced : Announced) (pla
   client_is b Client e = refl
   client_is b Server e = absurd (cc)
 
-  pub reads_interim : (s : Section) (x : Incoming) (replies : List DecoderInstruction) → ReadsBack s.fields → section_size s.fields < 2 ^ 56 → IsReadable side (Interim s) → x.place ≡ BeforeHead → x.content ≡ Unsaid
+  pub reads_interim : (s : Section) (x : Incoming) (replies : List DecoderInstruction) → section_size s.fields < 2 ^ 56 → IsReadableBy (takes_any announced) side (Interim s) → x.place ≡ BeforeHead → x.content ≡ Unsaid
       → IsReadAs side announced id r item.Interim (Interim s) s x replies
-  reads_interim s x replies back small readable at unsaid =
+  reads_interim s x replies small readable at unsaid =
+      let back = readable.3 in
       let h = head_of_fields s.fields in
       let is : side ≡ Client = client_is true side readable.0 in
       read_by item.Interim (Interim s) s x replies unsaid back small
       (ap (λ p. next_place side p s.fields) at ∙ ap (λ d. next_place d BeforeHead s.fields) is
-      ∙ ap (λ b. if b then BeforeHead else InBody) (interim_by_last s.fields back.0 ∙ readable.2) ∙ sym at)
+      ∙ ap (λ b. if b then BeforeHead else InBody) (interim_by_last (takes_any announced) s.fields back.0 ∙ readable.2) ∙ sym at)
       (ap (λ p. head_or_trailer side id x replies None p h) at
       ∙ ap (λ b. if not b then malformed id malformation.WrongSide x replies else (if is_client side && is_interim h.status then item_at (item.Interim h) x else item_at (item.Head h) (record x { place = InBody }))) readable.1
       ∙ ap (λ b. if b && is_interim h.status then item_at (item.Interim h) x else item_at (item.Head h) (record x { place = InBody })) readable.0
@@ -160,9 +161,10 @@ module _ (lists : ListsAreTheirValue) (side : Side) (announced : Announced) (pla
       item_at : Item → Incoming → Pulled
       item_at i y = record { answer = pull.Item i; incoming = y; replies = replies }
 
-  pub reads_head : (s : Section) (x : Incoming) (replies : List DecoderInstruction) → ReadsBack s.fields → section_size s.fields < 2 ^ 56 → IsReadable side (Head s) → x.place ≡ BeforeHead → x.content ≡ Unsaid
+  pub reads_head : (s : Section) (x : Incoming) (replies : List DecoderInstruction) → section_size s.fields < 2 ^ 56 → IsReadableBy (takes_any announced) side (Head s) → x.place ≡ BeforeHead → x.content ≡ Unsaid
       → IsReadAs side announced id r item.Head (Head s) s x replies
-  reads_head s x replies back small readable at unsaid =
+  reads_head s x replies small readable at unsaid =
+      let back = readable.2 in
       let h = head_of_fields s.fields in
       read_by item.Head (Head s) s x replies unsaid back small
       (ap (λ p. next_place side p s.fields) at ∙ by_side side readable.1)
@@ -176,17 +178,18 @@ module _ (lists : ListsAreTheirValue) (side : Side) (announced : Announced) (pla
       item_at i y = record { answer = pull.Item i; incoming = y; replies = replies }
 
       by_side : (d : Side) → (is_client d && is_interim (head_of_fields s.fields).status) ≡ false → next_place d BeforeHead s.fields ≡ InBody
-      by_side Client e = ap (λ b. if b then BeforeHead else InBody) (interim_by_last s.fields back.0 ∙ e)
+      by_side Client e = ap (λ b. if b then BeforeHead else InBody) (interim_by_last (takes_any announced) s.fields readable.2.0 ∙ e)
       by_side Server e = refl
 
-  pub reads_trailer : (s : Section) (x : Incoming) (replies : List DecoderInstruction) → ReadsBack s.fields → section_size s.fields < 2 ^ 56 → IsReadable side (Trailer s) → x.place ≡ InBody → x.content ≡ Unsaid
+  pub reads_trailer : (s : Section) (x : Incoming) (replies : List DecoderInstruction) → section_size s.fields < 2 ^ 56 → IsReadableBy (takes_any announced) side (Trailer s) → x.place ≡ InBody → x.content ≡ Unsaid
       → IsReadAs side announced id r item.Trailer (Trailer s) s x replies
-  reads_trailer s x replies back small readable at unsaid =
+  reads_trailer s x replies small readable at unsaid =
+      let back = readable.1 in
       let h = head_of_fields s.fields in
       read_by item.Trailer (Trailer s) s x replies unsaid back small
       (ap (λ p. next_place side p s.fields) at ∙ by_side side)
       (ap (λ p. head_or_trailer side id x replies None p h) at
-      ∙ ap (λ b. if b then malformed id malformation.PseudoInTrailer x replies else item_at (item.Trailer h) (record x { place = AfterTrailer })) readable)
+      ∙ ap (λ b. if b then malformed id malformation.PseudoInTrailer x replies else item_at (item.Trailer h) (record x { place = AfterTrailer })) readable.0)
       (λ size e large. (e, large))
       (λ fits. (h, refl, back.1, fits, refl))
     where

@@ -207,15 +207,15 @@ module _ (lists : ListsAreTheirValue) (side : Side) (announced : Announced) (id 
   section_comes plain p f (Some (Interim s)) i bytes sound on same reads next there inserted decodes readable h w =
       let at = part_at p f (Interim s) sound next in
       waited item.Interim p f (Interim s) s i bytes sound on same reads next (interim_part s) refl at.sent.0 (own_came f s h.0 h.1 w) there h (λ n left k. k) inserted decodes
-      (reads_interim lists side announced plain id r s (past_section i) (acknowledgment id s.count) at.sent.0.reads_back at.sent.0.small readable (reads.place ∙ at.place_is) reads.content)
+      (reads_interim lists side announced plain id r s (past_section i) (acknowledgment id s.count) at.sent.0.small readable (reads.place ∙ at.place_is) reads.content)
   section_comes plain p f (Some (Head s)) i bytes sound on same reads next there inserted decodes readable h w =
       let at = part_at p f (Head s) sound next in
       waited item.Head p f (Head s) s i bytes sound on same reads next (head_part s) refl at.sent.0 (own_came f s h.0 h.1 w) there h (λ n left k. k) inserted decodes
-      (reads_head lists side announced plain id r s (past_section i) (acknowledgment id s.count) at.sent.0.reads_back at.sent.0.small readable (reads.place ∙ at.place_is) reads.content)
+      (reads_head lists side announced plain id r s (past_section i) (acknowledgment id s.count) at.sent.0.small readable (reads.place ∙ at.place_is) reads.content)
   section_comes plain p f (Some (Trailer s)) i bytes sound on same reads next there inserted decodes readable h w =
       let at = part_at p f (Trailer s) sound next in
       waited item.Trailer p f (Trailer s) s i bytes sound on same reads next (trailer_part s) refl at.sent.0 (own_came f s h.0 h.1 w) there h (λ n left k. k) inserted decodes
-      (reads_trailer lists side announced plain id r s (past_section i) (acknowledgment id s.count) at.sent.0.reads_back at.sent.0.small readable (reads.place ∙ at.place_is) reads.content)
+      (reads_trailer lists side announced plain id r s (past_section i) (acknowledgment id s.count) at.sent.0.small readable (reads.place ∙ at.place_is) reads.content)
 
   -- **A stream that was not given up and whose end was not handed out.**
   pub stream_comes : IsPlain announced → (p : Party) (f : Flow) (i : Incoming) → IsSoundFlow p f → ReceivesFlow f i → f.fault ≡ None → is_over f ≡ false → r.table.inserted ≡ came

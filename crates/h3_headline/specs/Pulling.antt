@@ -15,9 +15,10 @@ use Rattle.h3_messages.specs.declared.content.Content.TheVariants.{Unsaid}
 use Rattle.h3_world.specs.World.{Party}
 use Rattle.h3_world.specs.Sound.{IsSoundFlow}
 use Rattle.h3_world.specs.Flow.Part.{Body, Head, Interim, Trailer}
+use Rattle.h3_world.specs.Setup.{takes_any}
 use Rattle.h3_header.specs.Head as header
 use Rattle.h3_field.specs.Field.{section_size}
-use Rattle.h3_header.specs.ReadsBack.{ReadsBack}
+use Rattle.h3_header.specs.ReadsBack.{ReadsBackBy}
 use Rattle.h3_wire.specs.Encoded.{frame_encoding}
 use Rattle.h3_connection.specs.declared.place.Place.{Place}
 use Rattle.h3_field.specs.Instruction.{DecoderInstruction}
@@ -29,7 +30,7 @@ use Rattle.std.specs.Prelude.{nat_le}
 use Rattle.h3_qpack.specs.DecodedSection.{DecodedSection, Fields, Missing, decode_section}
 use Rattle.h3_connection.specs.declared.place.Place.TheVariants.{InSession}
 use Rattle.h3_headline.specs.Cited.{ListsAreTheirValue}
-use Rattle.h3_headline.specs.Standing.{HasBytes, IsReadable, ReceivesFlow, place_after, place_behind, section_of_part}
+use Rattle.h3_headline.specs.Standing.{HasBytes, IsReadableBy, ReceivesFlow, place_after, place_behind, section_of_part}
 
 -- The pull pauses exactly where it must, or hands out an item that has come; and its receiver keeps what is kept then.
 pub data ComesTo (most id : ℕ) (f : Flow) (came : ℕ) (part : Option Part) (p : Pulled) : Type 0 where
@@ -120,7 +121,7 @@ pub record IsAtSection (kind : header.Head → Item) (f : Flow) (part : Part) (s
   pub next : next_part f ≡ Some part
   pub is : IsSectionPart kind s part
   pub own : s.own_length ≤ f.delivered
-  pub reads_back : ReadsBack s.fields
+  pub reads_back : ReadsBackBy true s.fields
   pub small : section_size s.fields < 2 ^ 56
   pub body_left : i.body_left ≡ 0
   pub out : f.body_out ≡ 0
@@ -155,7 +156,7 @@ module _ (lists : ListsAreTheirValue) (side : Side) (announced : Announced) (id 
 
   abbrev pub IsReadableNext : Option Part → Type 0
   IsReadableNext None = Unit {0}
-  IsReadableNext (Some part) = IsReadable side part
+  IsReadableNext (Some part) = IsReadableBy (takes_any announced) side part
 
 -- a message is in no session
 abbrev pub IsInMessage : Place → Type 0

@@ -166,7 +166,7 @@ receiver_on setup w side id g e h opened seen keeps =
     by_id i false same = h.incoming i
 
 -- **Both ends, where a flow that is open got further at its sender.**
-pub flow_extended : (setup : Setup) (w : World) (side : Side) (id n : ℕ) (g : Flow) (e f : EndpointHistory) → Both setup w side e f → is_open w side id ≡ true → Extends side (flow w side id) g
+pub flow_extended : (setup : Setup) (w : World) (side : Side) (id n : ℕ) (g : Flow) (e f : EndpointHistory) → Both setup w side e f → is_open w side id ≡ true → Extends setup side (flow w side id) g
     → Both setup (with_flow w side id g) side (record e { outgoing = set_stream e.outgoing id (outgoing_of g); sent = n }) f
 flow_extended setup w side id n g e f h opened x =
     let v = with_flow w side id g in
@@ -178,11 +178,11 @@ flow_extended setup w side id n g e f h opened x =
           (subst (λ s. (i : Incoming) → ReceivesFlow (flow w s id) i → ReceivesFlow g i) (sym (other-other side)) x.kept));
       writes_here = subst (λ (p : Party). IsWritable side p.own) (sym (party-with_flow w side side id g)) h.writes_here;
       writes_there = subst (λ (p : Party). IsWritable (other side) p.own) (sym (party-with_flow w side (other side) id g)) h.writes_there;
-      sends_here = λ i. subst (λ (o : Flow). AllByRecursion (IsReadable (other side)) o.sent) (sym (flow-with_flow w side id i g there)) (by_id i (id == i) refl);
-      sends_there = λ i. subst (λ (o : Flow). AllByRecursion (IsReadable side) o.sent) (sym (flow-with_other w side id i g there)) (h.sends_there i);
+      sends_here = λ i. subst (λ (o : Flow). AllByRecursion (IsReadable setup (other side)) o.sent) (sym (flow-with_flow w side id i g there)) (by_id i (id == i) refl);
+      sends_there = λ i. subst (λ (o : Flow). AllByRecursion (IsReadable setup side) o.sent) (sym (flow-with_other w side id i g there)) (h.sends_there i);
     }
   where
-    by_id : (i : ℕ) (t : Bool) → (id == i) ≡ t → AllByRecursion (IsReadable (other side)) (if t then g else flow w side i).sent
+    by_id : (i : ℕ) (t : Bool) → (id == i) ≡ t → AllByRecursion (IsReadable setup (other side)) (if t then g else flow w side i).sent
     by_id i true same = x.readable (h.sends_here id)
     by_id i false same = h.sends_here i
 

@@ -98,7 +98,7 @@ finish_served setup w ends side id h =
     does_on setup w v ends side answer.Done new h refl (flow_count w side id (appended f End))
     (subst (λ x. Both setup v side x (end_at ends (other side))) (sym is)
     (flow_extended setup w side id e.sent (appended f End) e (end_at ends (other side)) b o.0
-    (part_extends (party w side) side f End (sound_flow setup w side id h.sound (open_there w side id o.0)) tt))))
+    (part_extends setup (party w side) side f End (sound_flow setup w side id h.sound (open_there w side id o.0)) tt))))
 
 -- a piece of the body
 pub body_served : (setup : Setup) (w : World) (ends : Ends) (side : Side) (id : ℕ) (bytes : List ℕ) → Stands setup w ends
@@ -133,7 +133,7 @@ body_served setup w ends side id bytes h =
         does_on setup w v ends side answer.Done new h refl (flow_count w side id (appended f part))
         (subst (λ x. Both setup v side x (end_at ends (other side))) (sym is)
         (flow_extended setup w side id new.sent (appended f part) e (end_at ends (other side)) b o.0
-        (part_extends (party w side) side f part (sound_flow setup w side id h.sound (open_there w side id o.0)) tt)))
+        (part_extends setup (party w side) side f part (sound_flow setup w side id h.sound (open_there w side id o.0)) tt)))
 
 -- The critical streams of an end are the six of both sides.
 read_as_it : (came own id : ℕ) → (id == own) ≡ false → is_read_as (came_on came own) id ≡ false
@@ -230,4 +230,4 @@ reset_served setup w ends side id h =
     ap (λ (x : Option Outgoing). sending e id e.sent (with_reset (unwrap_or x nothing_sent))) stream in
     does_on setup w v ends side answer.Done new h refl (flow_count w side id (cut f))
     (subst (λ x. Both setup v side x (end_at ends (other side))) (sym is)
-    (flow_extended setup w side id e.sent (cut f) e (end_at ends (other side)) b o.0 (cut_extends side f))))
+    (flow_extended setup w side id e.sent (cut f) e (end_at ends (other side)) b o.0 (cut_extends setup side f))))

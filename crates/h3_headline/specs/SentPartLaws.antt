@@ -13,6 +13,7 @@ use Rattle.h3_world.specs.Flow.Part.{Interim, Head, Body, Trailer, End}
 use Rattle.h3_world.specs.Order.{next_part, is_end, last_part, outgoing_of}
 use Rattle.h3_world.specs.Sound.{IsSoundFlow}
 use Rattle.h3_world.specs.World.{Party}
+use Rattle.h3_world.specs.declared.setup.Setup.{Setup}
 use Rattle.h3_headline.specs.Arriving.{cut, made}
 use Rattle.h3_headline.specs.Calls.{Extends}
 use Rattle.h3_headline.specs.Standing.{IsReadable, ReceivesFlow, StandsBefore, WaitsIn, place_after, section_frame, section_of_part}
@@ -108,8 +109,8 @@ all_more P [] part x h = (x, tt)
 all_more P (p ∷ parts) part x h = (h.0, all_more P parts part x h.1)
 
 -- **A part is written at its end.**
-pub part_extends : (p : Party) (side : Side) (f : Flow) (part : Part) → IsSoundFlow p f → IsReadable (other side) part → Extends side f (appended f part)
-part_extends p side f part sound readable = record { seen = refl; kept = λ i h. kept_appended p f part i sound h; readable = λ h. all_more (IsReadable (other side)) f.sent part readable h }
+pub part_extends : (setup : Setup) (p : Party) (side : Side) (f : Flow) (part : Part) → IsSoundFlow p f → IsReadable setup (other side) part → Extends setup side f (appended f part)
+part_extends setup p side f part sound readable = record { seen = refl; kept = λ i h. kept_appended p f part i sound h; readable = λ h. all_more (IsReadable setup (other side)) f.sent part readable h }
 
 kept_cut : (f : Flow) (i : Incoming) → ReceivesFlow f i → ReceivesFlow (cut f) i
 kept_cut f i h =
@@ -143,8 +144,8 @@ kept_cut f i h =
     waits_cut (Some bytes) None h = h
     waits_cut (Some bytes) (Some s) h = h
 
-pub cut_extends : (side : Side) (f : Flow) → Extends side f (cut f)
-cut_extends side f = record { seen = refl; kept = λ i h. kept_cut f i h; readable = λ h. h }
+pub cut_extends : (setup : Setup) (side : Side) (f : Flow) → Extends setup side f (cut f)
+cut_extends setup side f = record { seen = refl; kept = λ i h. kept_cut f i h; readable = λ h. h }
 
 -- What the sender has of it then.
 last_appended : (parts : List Part) (part : Part) → last_part (parts ++ part ∷ []) ≡ Some part

@@ -15,7 +15,7 @@ use Rattle.h3_connection.specs.Unidirectional.{Unidirectional, Role, untold}
 use Rattle.h3_connection.specs.Unidirectional.Role.{Untold, Control, Encoder, Decoder}
 use Rattle.h3_proto.specs.declared.stream.Side.{Side}
 use Rattle.h3_world.specs.declared.setup.Setup.{Setup}
-use Rattle.h3_world.specs.Setup.{TakesAnyLength, announced_at}
+use Rattle.h3_world.specs.Setup.{TakesAnyLength, announced_at, takes_any}
 use Rattle.h3_world.specs.OwnStreams.{settings_bytes}
 use Rattle.h3_qpack.specs.WholeInstructions.{rest_in, whole_in}
 use Rattle.h3_connection.specs.Endpoint.{goaway_encoding, EndpointHistory, Own}
@@ -30,6 +30,7 @@ use Rattle.h3_field.specs.InstructionAnswer.{IsReply}
 use Rattle.h3_qpack.specs.Encodings.{IsWrittenInstruction}
 use Rattle.h3_header.specs.Head.{has_pseudo}
 use Rattle.h3_header.specs.Reads.{head_of_fields}
+use Rattle.h3_header.specs.ReadsBack.{ReadsBackBy}
 use Rattle.h3_connection.specs.Pulling.{is_client, is_for, is_interim}
 use Rattle.h3_proto.specs.declared.stream.Side.TheVariants.{Client, Server}
 use Rattle.h3_world.specs.Ends.{Ends}
@@ -199,20 +200,24 @@ pub record IsWritable (side : Side) (own : Own) : Type 0 where
   pub instructions : AllByRecursion IsWrittenInstruction own.instructions
   pub replies : AllByRecursion IsReply own.replies
 
--- A section is read as the kind of part that it was sent as (RFC 9114, sections 4.1 and 4.3): a head is for that side, and an
--- interim one has such a status, and no other; a trailer has no pseudo-header fields.
-abbrev pub IsReadable : Side → Part → Type 0
-IsReadable reader (Interim s) =
-    (is_client reader ≡ true) × (is_for reader (head_of_fields s.fields) ≡ true) × (is_interim (head_of_fields s.fields).status ≡ true)
-IsReadable reader (Head s) =
-    (is_for reader (head_of_fields s.fields) ≡ true) × ((is_client reader && is_interim (head_of_fields s.fields).status) ≡ false)
-IsReadable reader (Trailer s) = has_pseudo (head_of_fields s.fields) ≡ false
-IsReadable reader (Body bytes own) = Unit {0}
-IsReadable reader End = Unit {0}
+-- A section is read as the kind of part that it was sent as (RFC 9114, sections 4.1 and 4.3), by who takes any protocol or the two names alone: a
+-- head is for that side, and an interim one has such a status, and no other; a trailer has no pseudo-header fields; and each reads back.
+abbrev pub IsReadableBy : Bool → Side → Part → Type 0
+IsReadableBy any reader (Interim s) =
+    (is_client reader ≡ true) × (is_for reader (head_of_fields s.fields) ≡ true) × (is_interim (head_of_fields s.fields).status ≡ true) × ReadsBackBy any s.fields
+IsReadableBy any reader (Head s) =
+    (is_for reader (head_of_fields s.fields) ≡ true) × ((is_client reader && is_interim (head_of_fields s.fields).status) ≡ false) × ReadsBackBy any s.fields
+IsReadableBy any reader (Trailer s) = (has_pseudo (head_of_fields s.fields) ≡ false) × ReadsBackBy any s.fields
+IsReadableBy any reader (Body bytes own) = Unit {0}
+IsReadableBy any reader End = Unit {0}
+
+-- the same by what the side announced
+abbrev pub IsReadable : Setup → Side → Part → Type 0
+IsReadable setup reader = IsReadableBy (takes_any (announced_at setup reader)) reader
 
 -- what the side sends is so to the other side
-abbrev pub AreReadable : World → Side → Type 0
-AreReadable w side = (id : ℕ) → AllByRecursion (IsReadable (other side)) (flow w side id).sent
+abbrev pub AreReadable : Setup → World → Side → Type 0
+AreReadable setup w side = (id : ℕ) → AllByRecursion (IsReadable setup (other side)) (flow w side id).sent
 
 -- Both do, the client's next request is the world's, the ids of request streams are below 2^62 (RFC 9000, section 2.1), and the
 -- world is sound.
@@ -224,5 +229,5 @@ pub record Stands (setup : Setup) (w : World) (ends : Ends) : Type 0 where
   pub sound : IsSoundWorld setup w
   pub client_writes : IsWritable Client w.client.own
   pub server_writes : IsWritable Server w.server.own
-  pub requests : AreReadable w Client
-  pub responses : AreReadable w Server
+  pub requests : AreReadable setup w Client
+  pub responses : AreReadable setup w Server

@@ -31,25 +31,25 @@ status_stays h f other =
     (second (λ k. (with_kind k h f).status ≡ h.status) (bytes_eq f.name (codes ":status")) _ _ other
     (either (λ k. (with_kind k h f).status ≡ h.status) (bytes_eq f.name (codes ":protocol")) _ _ refl refl)))))
 
-with_status : (h : Head) (f : Field) → IsValueAt false (kind_of (codes ":status")) f.value → IsStatusOf (with_kind (kind_of (codes ":status")) h f).status (Some f.value)
+with_status : (any : Bool) (h : Head) (f : Field) → IsValueAt any (kind_of (codes ":status")) f.value → IsStatusOf (with_kind (kind_of (codes ":status")) h f).status (Some f.value)
 unfolding kind_of
-with_status h f valid = (valid, refl)
+with_status any h f valid = (valid, refl)
 
-after_field : (h : Head) (last : Option (List ℕ)) (f : Field) → IsStatusOf h.status last → AcceptsAt false (kind_of f.name) h f
+after_field : (any : Bool) (h : Head) (last : Option (List ℕ)) (f : Field) → IsStatusOf h.status last → AcceptsAt any (kind_of f.name) h f
     → IsStatusOf (with_kind (kind_of f.name) h f).status (value_after (codes ":status") last f)
-after_field h last f at accepts = by_name (bytes_eq f.name (codes ":status")) refl
+after_field any h last f at accepts = by_name (bytes_eq f.name (codes ":status")) refl
   where
     by_name : (b : Bool) → bytes_eq f.name (codes ":status") ≡ b → IsStatusOf (with_kind (kind_of f.name) h f).status (if b then Some f.value else last)
     by_name true e =
         let name : f.name ≡ codes ":status" = (bytes_eq-Decides f.name (codes ":status")).0 e in
-        subst (λ n. IsStatusOf (with_kind (kind_of n) h f).status (Some f.value)) (sym name) (with_status h f (subst (λ n. IsValueAt false (kind_of n) f.value) name accepts.value))
+        subst (λ n. IsStatusOf (with_kind (kind_of n) h f).status (Some f.value)) (sym name) (with_status any h f (subst (λ n. IsValueAt any (kind_of n) f.value) name accepts.value))
     by_name false e = subst (λ s. IsStatusOf s last) (sym (status_stays h f e)) at
 
-status_of : (h : Head) (last : Option (List ℕ)) (fields : List Field) → IsStatusOf h.status last → AcceptsAll false h fields
+status_of : (any : Bool) (h : Head) (last : Option (List ℕ)) (fields : List Field) → IsStatusOf h.status last → AcceptsAll any h fields
     → IsStatusOf (fold with_field h fields).status (fold (value_after (codes ":status")) last fields)
 unfolding AcceptsAll
-status_of h last [] at accepts = at
-status_of h last (f ∷ fields) at accepts = status_of (with_field h f) (value_after (codes ":status") last f) fields (after_field h last f at accepts.0) accepts.1
+status_of any h last [] at accepts = at
+status_of any h last (f ∷ fields) at accepts = status_of any (with_field h f) (value_after (codes ":status") last f) fields (after_field any h last f at accepts.0) accepts.1
 
 digit : (n : ℕ) → n < 10 → is_digit (48 + n) ≡ true
 digit n h = grind (arith, common_steps, h)
@@ -91,5 +91,5 @@ told_as (Some n) (Some text) h =
     ap (λ t. is_interim_text (Some t)) h.0.2 ∙ text_of h.0.0 h.0.1.0 h.0.1.1 ∙ sym (ap (λ m. is_interim (Some m)) (h.1 ∙ ap status_number h.0.2))
 
 -- **The last status tells whether the head is an interim one.**
-pub interim_by_last : (fields : List Field) → AcceptsAll false (trailer_head []) fields → is_interim_text (last_value (codes ":status") fields) ≡ is_interim (head_of_fields fields).status
-interim_by_last fields accepts = told_as _ _ (status_of (trailer_head []) None fields tt accepts)
+pub interim_by_last : (any : Bool) (fields : List Field) → AcceptsAll any (trailer_head []) fields → is_interim_text (last_value (codes ":status") fields) ≡ is_interim (head_of_fields fields).status
+interim_by_last any fields accepts = told_as _ _ (status_of any (trailer_head []) None fields tt accepts)

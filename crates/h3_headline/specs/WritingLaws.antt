@@ -79,8 +79,8 @@ party_writes setup w side p e f h k writes =
           });
       writes_here = subst (λ (q : Party). IsWritable side q.own) (sym here) writes;
       writes_there = subst (λ (q : Party). IsWritable (other side) q.own) (sym there) h.writes_there;
-      sends_here = λ i. subst (λ o. AllByRecursion (IsReadable (other side)) o.sent) (sym (flow-with_party w side side p i)) (h.sends_here i);
-      sends_there = λ i. subst (λ o. AllByRecursion (IsReadable side) o.sent) (sym (flow-with_party w side (other side) p i)) (h.sends_there i);
+      sends_here = λ i. subst (λ o. AllByRecursion (IsReadable setup (other side)) o.sent) (sym (flow-with_party w side side p i)) (h.sends_here i);
+      sends_there = λ i. subst (λ o. AllByRecursion (IsReadable setup side) o.sent) (sym (flow-with_party w side (other side) p i)) (h.sends_there i);
     }
 
 pub party_count : (w : World) (side : Side) (p : Party) → length (with_party w side p).exchanges ≡ length w.exchanges

@@ -52,7 +52,7 @@ pub fn endpoints_decode_what_was_sent()
 /// are those of a run of the world. Of that run all holds that is said of each step, and both stand in the world that it leads to. Neither
 /// end asks for strict messages.
 pub fn two_endpoints_run_in_a_world()
-    ensures { (setup : Setup) (events : List Event) → IsMadeSetup setup → JudgesPlainly setup → AllByRecursion IsSendable events →
+    ensures { (setup : Setup) (events : List Event) → IsMadeSetup setup → JudgesPlainly setup → AllByRecursion (IsSendable setup) events →
         (w : World) × Run (Happens setup) (empty_world setup) events (answers_of_ends (new_ends setup) events) w × Stands setup w (ends_after (new_ends setup) events) }
 {
     what_is_cited_holds();

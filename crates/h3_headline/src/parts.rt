@@ -52,7 +52,7 @@ pub fn ordered_sends_are_accepted()
 pub fn everything_comes_out()
     ensures none_left { (setup : Setup) (before : List Event) (given : List Answer) (w new : World) (side : Side) (id : ℕ) (p : PullAnswer) → Run (Happens setup) (empty_world setup) before given w → Happens setup w (Pull side id) (Pulled p) new →
         IsDelivered setup w (other side) id → settled w side id ≡ None → is_none (pause_of p) ≡ false → next_part (flow w (other side) id) ≡ None }
-    ensures all { (setup : Setup) (before : List Event) (given : List Answer) (w new : World) (side : Side) (id : ℕ) (p : PullAnswer) → AllByRecursion IsSendable before → Run (Happens setup) (empty_world setup) before given w →
+    ensures all { (setup : Setup) (before : List Event) (given : List Answer) (w new : World) (side : Side) (id : ℕ) (p : PullAnswer) → AllByRecursion (IsSendable setup) before → Run (Happens setup) (empty_world setup) before given w →
         Happens setup w (Pull side id) (Pulled p) new → IsDelivered setup w (other side) id → settled w side id ≡ None → is_none (pause_of p) ≡ false →
         pulled side id before given ≡ map (at_reader (section_of (announced_at setup side))) (sent (other side) id before given) }
 {
@@ -63,9 +63,9 @@ pub fn everything_comes_out()
 /// size if that is above the side's limit, and the bytes of the body come in any pieces. Once the end is pulled, that is all, and the other
 /// side has finished.
 pub fn what_is_pulled_is_what_was_sent()
-    ensures front { (setup : Setup) (events : List Event) (answers : List Answer) (w : World) (side : Side) (id : ℕ) → AllByRecursion IsSendable events → Run (Happens setup) (empty_world setup) events answers w →
+    ensures front { (setup : Setup) (events : List Event) (answers : List Answer) (w : World) (side : Side) (id : ℕ) → AllByRecursion (IsSendable setup) events → Run (Happens setup) (empty_world setup) events answers w →
         IsFrontOf (pulled side id events answers) (map (at_reader (section_of (announced_at setup side))) (sent (other side) id events answers)) }
-    ensures end { (setup : Setup) (events : List Event) (answers : List Answer) (w : World) (side : Side) (id : ℕ) → AllByRecursion IsSendable events → Run (Happens setup) (empty_world setup) events answers w →
+    ensures end { (setup : Setup) (events : List Event) (answers : List Answer) (w : World) (side : Side) (id : ℕ) → AllByRecursion (IsSendable setup) events → Run (Happens setup) (empty_world setup) events answers w →
         has_pulled_end side id events answers ≡ true →
         (pulled side id events answers ≡ map (at_reader (section_of (announced_at setup side))) (sent (other side) id events answers)) × (has_finished (other side) id events answers ≡ true) }
 {
@@ -75,10 +75,10 @@ pub fn what_is_pulled_is_what_was_sent()
 /// Two runs in which the same was sent on a stream, and its end was pulled, return the same, if no section is above the reader's limit:
 /// what was sent. They may have other setups, schedules and deliveries too.
 pub fn what_comes_out_rests_on_what_was_sent()
-    ensures all { (setup : Setup) (events : List Event) (answers : List Answer) (w : World) (side : Side) (id : ℕ) → AllByRecursion IsSendable events → Run (Happens setup) (empty_world setup) events answers w →
+    ensures all { (setup : Setup) (events : List Event) (answers : List Answer) (w : World) (side : Side) (id : ℕ) → AllByRecursion (IsSendable setup) events → Run (Happens setup) (empty_world setup) events answers w →
         has_pulled_end side id events answers ≡ true → AllByRecursion (IsTakenWhole (section_of (announced_at setup side))) (sent (other side) id events answers) →
         pulled side id events answers ≡ sent (other side) id events answers }
-    ensures same { (setup others : Setup) (events more : List Event) (answers given : List Answer) (w v : World) (side reader : Side) (id i : ℕ) → AllByRecursion IsSendable events → AllByRecursion IsSendable more →
+    ensures same { (setup others : Setup) (events more : List Event) (answers given : List Answer) (w v : World) (side reader : Side) (id i : ℕ) → AllByRecursion (IsSendable setup) events → AllByRecursion (IsSendable others) more →
         Run (Happens setup) (empty_world setup) events answers w → Run (Happens others) (empty_world others) more given v →
         has_pulled_end side id events answers ≡ true → has_pulled_end reader i more given ≡ true →
         AllByRecursion (IsTakenWhole (section_of (announced_at setup side))) (sent (other side) id events answers) → AllByRecursion (IsTakenWhole (section_of (announced_at others reader))) (sent (other reader) i more given) →
@@ -89,7 +89,7 @@ pub fn what_comes_out_rests_on_what_was_sent()
 
 /// The table that a side's decoder holds is the table of the other side's encoder after as many insertions as came.
 pub fn tables_agree()
-    ensures { (setup : Setup) (events : List Event) (answers : List Answer) (w : World) (side : Side) → IsMadeSetup setup → AllByRecursion IsSendable events → Run (Happens setup) (empty_world setup) events answers w → HasReadTable setup w side }
+    ensures { (setup : Setup) (events : List Event) (answers : List Answer) (w : World) (side : Side) → IsMadeSetup setup → AllByRecursion (IsSendable setup) events → Run (Happens setup) (empty_world setup) events answers w → HasReadTable setup w side }
 {
     what_is_cited_holds();
 }
@@ -97,9 +97,9 @@ pub fn tables_agree()
 /// A side's encoder refuses none of the instructions of the other side's decoder that it has not read, however many of them come. Its
 /// decoder has refused none of those that came of the other side's encoder.
 pub fn no_instruction_is_refused()
-    ensures encoder { (setup : Setup) (events : List Event) (answers : List Answer) (w : World) (side : Side) (n : ℕ) → AllByRecursion IsSendable events → Run (Happens setup) (empty_world setup) events answers w →
+    ensures encoder { (setup : Setup) (events : List Event) (answers : List Answer) (w : World) (side : Side) (n : ℕ) → AllByRecursion (IsSendable setup) events → Run (Happens setup) (empty_world setup) events answers w →
         AreAccepted (party w side).encoder (take n (replies_left setup w side)) }
-    ensures decoder { (setup : Setup) (events : List Event) (answers : List Answer) (w : World) (side : Side) → IsMadeSetup setup → AllByRecursion IsSendable events → Run (Happens setup) (empty_world setup) events answers w →
+    ensures decoder { (setup : Setup) (events : List Event) (answers : List Answer) (w : World) (side : Side) → IsMadeSetup setup → AllByRecursion (IsSendable setup) events → Run (Happens setup) (empty_world setup) events answers w →
         is_some (decoder_at setup w side) ≡ true }
 {
     what_is_cited_holds();
@@ -109,10 +109,10 @@ pub fn no_instruction_is_refused()
 /// answer tells of a connection fault. What a side pulled from a stream is a front of what the other side sent on it, and all of that with
 /// the end. Neither end asks for strict messages.
 pub fn endpoints_hand_out_what_was_sent()
-    ensures fault { (setup : Setup) (events : List Event) → IsMadeSetup setup → JudgesPlainly setup → AllByRecursion IsSendable events → list_any is_connection_fault (answers_of_ends (new_ends setup) events) ≡ false }
-    ensures front { (setup : Setup) (events : List Event) (side : Side) (id : ℕ) → IsMadeSetup setup → JudgesPlainly setup → AllByRecursion IsSendable events →
+    ensures fault { (setup : Setup) (events : List Event) → IsMadeSetup setup → JudgesPlainly setup → AllByRecursion (IsSendable setup) events → list_any is_connection_fault (answers_of_ends (new_ends setup) events) ≡ false }
+    ensures front { (setup : Setup) (events : List Event) (side : Side) (id : ℕ) → IsMadeSetup setup → JudgesPlainly setup → AllByRecursion (IsSendable setup) events →
         IsFrontOf (pulled side id events (answers_of_ends (new_ends setup) events)) (map (at_reader (section_of (announced_at setup side))) (sent (other side) id events (answers_of_ends (new_ends setup) events))) }
-    ensures end { (setup : Setup) (events : List Event) (side : Side) (id : ℕ) → IsMadeSetup setup → JudgesPlainly setup → AllByRecursion IsSendable events →
+    ensures end { (setup : Setup) (events : List Event) (side : Side) (id : ℕ) → IsMadeSetup setup → JudgesPlainly setup → AllByRecursion (IsSendable setup) events →
         has_pulled_end side id events (answers_of_ends (new_ends setup) events) ≡ true →
         (pulled side id events (answers_of_ends (new_ends setup) events) ≡ map (at_reader (section_of (announced_at setup side))) (sent (other side) id events (answers_of_ends (new_ends setup) events)))
         × (has_finished (other side) id events (answers_of_ends (new_ends setup) events) ≡ true) }

@@ -131,6 +131,6 @@ own_reads qpack laws setup w side er ew id count ds made t own may =
       there = writer;
       writes_here = reader_writable laws.streams setup w side id count made t.sound t.both.writes_here;
       writes_there = writer_writable setup w side id count t.both.writes_there;
-      sends_here = readable_same w v side streams t.both.sends_here;
-      sends_there = λ i. subst (λ (f : Flow). AllByRecursion (IsReadable side) f.sent) (sym (streams.flows s i)) (t.both.sends_there i);
+      sends_here = readable_same setup w v side streams t.both.sends_here;
+      sends_there = λ i. subst (λ (f : Flow). AllByRecursion (IsReadable setup side) f.sent) (sym (streams.flows s i)) (t.both.sends_there i);
     }

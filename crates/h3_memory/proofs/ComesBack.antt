@@ -84,7 +84,7 @@ pub nothing_left : (k : KeepingWorld) → kept_at k Client ≡ [] → kept_at k 
 nothing_left k client server = ap (λ l. record k { at_client = l }) client ∙ ap (λ l. record (nothing_kept k.world) { at_server = l }) server
 
 -- **With everything handed over and pulled, everything sent came out.**
-pub everything_out : (q : KeptLaws) (setup : Setup) (before : List Event) (given : List Answer) (k new : KeepingWorld) (side : Side) (id : ℕ) (p : Pull) → AllByRecursion IsSendable before → FromNothing setup before given k
+pub everything_out : (q : KeptLaws) (setup : Setup) (before : List Event) (given : List Answer) (k new : KeepingWorld) (side : Side) (id : ℕ) (p : Pull) → AllByRecursion (IsSendable setup) before → FromNothing setup before given k
     → HappensWithMemory setup k (event.Pull side id) (answer.Pulled p) new → is_memory (answer.Pulled p) ≡ false → IsDelivered setup (caught_up setup k side) (other side) id → settled (caught_up setup k side) side id ≡ None → is_none (pause_of p) ≡ false
     → pulled side id before given ≡ map (at_reader (section_of (announced_at setup side))) (sent (other side) id before given)
 everything_out q setup before given k new side id p sendable run happens goes delivered unsettled pauses =

@@ -55,7 +55,7 @@ caught_on : (laws : KeptLaws) (setup : Setup) (k : KeepingWorld) (side : Side) �
 caught_on laws setup k side h = subst (WritesOn setup k.world (caught_up setup k side)) (other-other side) (catches_up laws setup k side h).there
 
 -- A sender's call.
-pub step_kept : (laws : WorldLaws) (setup : Setup) (k new : KeepingWorld) (e : Event) (a : Answer) → IsSendable e → IsSoundKeeping setup k → Step setup k.world e a new.world → IsExact k.world e a
+pub step_kept : (laws : WorldLaws) (setup : Setup) (k new : KeepingWorld) (e : Event) (a : Answer) → IsSendable setup e → IsSoundKeeping setup k → Step setup k.world e a new.world → IsExact k.world e a
     → LeavesKept setup k.world new.world → new ≡ with_world k new.world → IsSoundKeeping setup new
 step_kept laws setup k new e a sendable h step exact leaves is =
     subst (IsSoundKeeping setup) (sym is) (with_world_sound setup k new.world h (laws.both setup k.world new.world e a sendable step exact h.sound).1 leaves)
@@ -121,7 +121,7 @@ delivered_kept setup k new reader v h sound on (inr e) = subst (IsSoundKeeping s
 behind_on : (q : KeptLaws) (setup : Setup) (k : KeepingWorld) (writer : Side) (v : World) → IsSoundKeeping setup k → WritesOn setup (caught_up setup k (other writer)) v (other writer) → WritesOn setup k.world v (other writer)
 behind_on q setup k writer v h on = on_then setup k.world (caught_up setup k (other writer)) v (other writer) (caught_on q setup k (other writer) h) on
 
-pub bytes_kept : (q : KeptLaws) (laws : WorldLaws) (setup : Setup) (k new : KeepingWorld) (writer : Side) (id count : ℕ) (a : Answer) → IsSendable (event.Deliver writer id count) → IsSoundKeeping setup k
+pub bytes_kept : (q : KeptLaws) (laws : WorldLaws) (setup : Setup) (k new : KeepingWorld) (writer : Side) (id count : ℕ) (a : Answer) → IsSendable setup (event.Deliver writer id count) → IsSoundKeeping setup k
     → (a, new) ≡ read_behind k (other writer) (offered setup k writer (Bytes id count)) → IsSoundKeeping setup new
 bytes_kept q laws setup k new writer id count a sendable h step =
     let u = caught_up setup k (other writer) in
@@ -129,7 +129,7 @@ bytes_kept q laws setup k new writer id count a sendable h step =
     delivered_kept setup k new (other writer) x.1 h (laws.both setup u x.1 (event.Deliver writer id count) x.0 sendable refl tt (catches_up q setup k (other writer) h).sound).1
     (behind_on q setup k writer x.1 h (delivery_on setup u writer id count)) (read_or_not k (other writer) a new x step)
 
-pub ends_kept : (q : KeptLaws) (laws : WorldLaws) (setup : Setup) (k new : KeepingWorld) (writer : Side) (id : ℕ) (a : Answer) → IsSendable (event.DeliverEnd writer id) → IsSoundKeeping setup k
+pub ends_kept : (q : KeptLaws) (laws : WorldLaws) (setup : Setup) (k new : KeepingWorld) (writer : Side) (id : ℕ) (a : Answer) → IsSendable setup (event.DeliverEnd writer id) → IsSoundKeeping setup k
     → (a, new) ≡ read_behind k (other writer) (offered setup k writer (End id)) → IsSoundKeeping setup new
 ends_kept q laws setup k new writer id a sendable h step =
     let u = caught_up setup k (other writer) in
@@ -137,7 +137,7 @@ ends_kept q laws setup k new writer id a sendable h step =
     delivered_kept setup k new (other writer) x.1 h (laws.both setup u x.1 (event.DeliverEnd writer id) x.0 sendable refl tt (catches_up q setup k (other writer) h).sound).1
     (behind_on q setup k writer x.1 h (end_on setup u writer id)) (read_or_not k (other writer) a new x step)
 
-pub resets_kept : (q : KeptLaws) (laws : WorldLaws) (setup : Setup) (k new : KeepingWorld) (writer : Side) (id : ℕ) (a : Answer) → IsSendable (event.DeliverReset writer id) → IsSoundKeeping setup k
+pub resets_kept : (q : KeptLaws) (laws : WorldLaws) (setup : Setup) (k new : KeepingWorld) (writer : Side) (id : ℕ) (a : Answer) → IsSendable setup (event.DeliverReset writer id) → IsSoundKeeping setup k
     → (a, new) ≡ read_behind k (other writer) (offered setup k writer (Reset id)) → IsSoundKeeping setup new
 resets_kept q laws setup k new writer id a sendable h step =
     let u = caught_up setup k (other writer) in
@@ -146,7 +146,7 @@ resets_kept q laws setup k new writer id a sendable h step =
     (behind_on q setup k writer x.1 h (reset_on setup u writer id)) (read_or_not k (other writer) a new x step)
 
 -- A pull.
-pub pull_kept : (q : KeptLaws) (laws : WorldLaws) (setup : Setup) (k new : KeepingWorld) (side : Side) (id : ℕ) (a : Answer) (settled : Bool) → IsSendable (event.Pull side id) → IsSoundKeeping setup k
+pub pull_kept : (q : KeptLaws) (laws : WorldLaws) (setup : Setup) (k new : KeepingWorld) (side : Side) (id : ℕ) (a : Answer) (settled : Bool) → IsSendable setup (event.Pull side id) → IsSoundKeeping setup k
     → Pulls setup k side id settled a new → IsExact (caught_up setup k side) (event.Pull side id) a → IsSoundKeeping setup new
 pull_kept q laws setup k new side id a true sendable h step exact = subst (IsSoundKeeping setup) (sym step.1) h
 pull_kept q laws setup k new side id a false sendable h step exact =

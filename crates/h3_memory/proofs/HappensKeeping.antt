@@ -47,7 +47,7 @@ record TellsWell (setup : Setup) (k : KeepingWorld) (e : Event) (a : Answer) : T
   comes_out : ComesOut setup (reader_world setup k e) e a
   no_fault : is_connection_fault a ≡ false
 
-happens_at : (laws : WorldLaws) (setup : Setup) (w v : World) (e : Event) (a : Answer) → IsSendable e → IsSoundWorld setup w → Step setup w e a v → IsExact w e a → Happens setup w e a v
+happens_at : (laws : WorldLaws) (setup : Setup) (w v : World) (e : Event) (a : Answer) → IsSendable setup e → IsSoundWorld setup w → Step setup w e a v → IsExact w e a → Happens setup w e a v
 happens_at laws setup w v e a sendable h step exact = (laws.both setup w v e a sendable step exact h).0
 
 -- an answer of a delivery is that where its receiver has caught up
@@ -62,12 +62,12 @@ same_answer k reader given new (answer.Shown limits sizes n, w) e = ap (λ p. p.
 same_answer k reader given new (answer.Refused r, w) e = ap (λ p. p.0) e
 same_answer k reader given new (answer.Pulled p, w) e = ap (λ p. p.0) e
 
-delivered_well : (laws : WorldLaws) (setup : Setup) (k new : KeepingWorld) (e : Event) (reader : Side) (u : World) (x : Answer × World) (a : Answer) → IsSendable e → IsSoundWorld setup u → Step setup u e x.0 x.1 → IsExact u e x.0
+delivered_well : (laws : WorldLaws) (setup : Setup) (k new : KeepingWorld) (e : Event) (reader : Side) (u : World) (x : Answer × World) (a : Answer) → IsSendable setup e → IsSoundWorld setup u → Step setup u e x.0 x.1 → IsExact u e x.0
     → (a, new) ≡ read_behind k reader x → is_connection_fault a ≡ false
 delivered_well laws setup k new e reader u x a sendable sound step exact is = ap is_connection_fault (same_answer k reader a new x is) ∙ (happens_at laws setup u x.1 e x.0 sendable sound step exact).no_connection_fault
 
 -- a reset
-reset_well : (laws : WorldLaws) (setup : Setup) (u w v : World) (side : Side) (id : ℕ) (a : Answer) (o : Option Refusal) → IsSendable (event.Reset side id) → IsSoundWorld setup u → reset_refusal u side id ≡ o → Does o w answer.Done (cut_off w side id) a v
+reset_well : (laws : WorldLaws) (setup : Setup) (u w v : World) (side : Side) (id : ℕ) (a : Answer) (o : Option Refusal) → IsSendable setup (event.Reset side id) → IsSoundWorld setup u → reset_refusal u side id ≡ o → Does o w answer.Done (cut_off w side id) a v
     → is_connection_fault a ≡ false
 reset_well laws setup u w v side id a (Some r) sendable h e d =
     ap is_connection_fault d.0
@@ -102,7 +102,7 @@ comes_out_here setup w side id answer.Early told = tt
 comes_out_here setup w side id (answer.Shown limits sizes n) told = tt
 comes_out_here setup w side id (answer.Refused r) told = tt
 
-pull_well : (q : KeptLaws) (laws : WorldLaws) (setup : Setup) (k new : KeepingWorld) (side : Side) (id : ℕ) (a : Answer) (is_told : Bool) → IsSendable (event.Pull side id) → IsSoundKeeping setup k → is_settled k.world side id ≡ is_told
+pull_well : (q : KeptLaws) (laws : WorldLaws) (setup : Setup) (k new : KeepingWorld) (side : Side) (id : ℕ) (a : Answer) (is_told : Bool) → IsSendable setup (event.Pull side id) → IsSoundKeeping setup k → is_settled k.world side id ≡ is_told
     → Pulls setup k side id is_told a new → IsExact (caught_up setup k side) (event.Pull side id) a → TellsWell setup k (event.Pull side id) a
 pull_well q laws setup k new side id a false sendable h is step exact =
     let happens = happens_at laws setup (caught_up setup k side) new.world (event.Pull side id) a sendable (catches_up q setup k side h).sound step.0 exact in
@@ -114,7 +114,7 @@ pull_well q laws setup k new side id a true sendable h is step exact =
     }
 
 -- of each event
-answers_well : (q : KeptLaws) (laws : WorldLaws) (setup : Setup) (k new : KeepingWorld) (e : Event) (a : Answer) → IsSendable e → IsSoundKeeping setup k → Answers setup k e a new → IsExact (reader_world setup k e) e a → TellsWell setup k e a
+answers_well : (q : KeptLaws) (laws : WorldLaws) (setup : Setup) (k new : KeepingWorld) (e : Event) (a : Answer) → IsSendable setup e → IsSoundKeeping setup k → Answers setup k e a new → IsExact (reader_world setup k e) e a → TellsWell setup k e a
 answers_well q laws setup k new (event.OpenRequest side) a sendable h step exact =
     record { comes_out = tt; no_fault = (happens_at laws setup k.world new.world (event.OpenRequest side) a sendable h.sound step.0 exact).no_connection_fault }
 answers_well q laws setup k new (event.Head side id head) a sendable h step exact =
@@ -165,7 +165,7 @@ pub record HappensSoundly (setup : Setup) (k : KeepingWorld) (e : Event) (a : An
   pub happens : HappensWithMemory setup k e a new
   pub sound : IsSoundKeeping setup new
 
-pub step_happens : (q : KeptLaws) (laws : WorldLaws) (setup : Setup) (k new : KeepingWorld) (e : Event) (a : Answer) → IsSendable e → IsSoundKeeping setup k → StepWithMemory setup k e a new
+pub step_happens : (q : KeptLaws) (laws : WorldLaws) (setup : Setup) (k new : KeepingWorld) (e : Event) (a : Answer) → IsSendable setup e → IsSoundKeeping setup k → StepWithMemory setup k e a new
     → UnlessMemory (is_memory a) (IsExact (reader_world setup k e) e a) → HappensSoundly setup k e a new
 step_happens q laws setup k new e a sendable h step exact = by_memory (is_memory a) refl
   where
@@ -205,5 +205,5 @@ step_happens q laws setup k new e a sendable h step exact = by_memory (is_memory
 pub stands_sound : (setup : Setup) (k : KeepingWorld) (ends : Ends) → StandsKeeping setup k ends → IsSoundKeeping setup k
 stands_sound setup k ends h = record { sound = h.stands.sound; client = h.client.may; server = h.server.may }
 
-pub stands_happen : (q : KeptLaws) (laws : WorldLaws) (setup : Setup) (k : KeepingWorld) (ends after : Ends) (e : Event) (a : Answer) → IsSendable e → StandsKeeping setup k ends → (on : StandsOn setup k e a after) → HappensWithMemory setup k e a on.new
+pub stands_happen : (q : KeptLaws) (laws : WorldLaws) (setup : Setup) (k : KeepingWorld) (ends after : Ends) (e : Event) (a : Answer) → IsSendable setup e → StandsKeeping setup k ends → (on : StandsOn setup k e a after) → HappensWithMemory setup k e a on.new
 stands_happen q laws setup k ends after e a sendable h on = (step_happens q laws setup k on.new e a sendable (stands_sound setup k ends h) on.step on.exact).happens

@@ -147,8 +147,8 @@ module _ (setup : Setup) (w : World) (side : Side) where
           there = writer_back ew t.both.there;
           writes_here = subst (λ (p : Party). IsWritable side p.own) (sym reader_is) t.both.writes_here;
           writes_there = subst (λ (p : Party). IsWritable s p.own) (sym writer_is) (record { goaways = t.both.writes_there.goaways; instructions = t.both.writes_there.instructions; replies = t.both.writes_there.replies });
-          sends_here = λ i. subst (λ (f : Flow). AllByRecursion (IsReadable (other side)) f.sent) (sym (flows_same side i)) (t.both.sends_here i);
-          sends_there = λ i. subst (λ (f : Flow). AllByRecursion (IsReadable side) f.sent) (sym (flows_same s i)) (t.both.sends_there i);
+          sends_here = λ i. subst (λ (f : Flow). AllByRecursion (IsReadable setup (other side)) f.sent) (sym (flows_same side i)) (t.both.sends_here i);
+          sends_there = λ i. subst (λ (f : Flow). AllByRecursion (IsReadable setup side) f.sent) (sym (flows_same s i)) (t.both.sends_there i);
         };
         sound = qpack.held setup w s unknown t.sound;
         few = subst (λ n. 4 * n ≤ 2 ^ 62) (sym count) t.few;

@@ -50,7 +50,7 @@ pub record Ran (setup : Setup) (k new : KeepingWorld) (events : List Event) (ans
   pub moves : RunMoves setup k.world new.world events answers writer id
   pub sound : IsSoundKeeping setup new
 
-pub run_moves : (q : KeptLaws) (laws : WorldLaws) (setup : Setup) (k new : KeepingWorld) (events : List Event) (answers : List Answer) (writer : Side) (id : ℕ) → AllByRecursion IsSendable events → IsSoundKeeping setup k
+pub run_moves : (q : KeptLaws) (laws : WorldLaws) (setup : Setup) (k new : KeepingWorld) (events : List Event) (answers : List Answer) (writer : Side) (id : ℕ) → AllByRecursion (IsSendable setup) events → IsSoundKeeping setup k
     → Run (HappensWithMemory setup) k events answers new → Ran setup k new events answers writer id
 run_moves q laws setup k new [] [] writer id sendable h run =
     subst (λ v. Ran setup k v [] [] writer id) (sym run) (record { moves = nothing (limit_of_reader setup writer) (flow k.world writer id); sound = h })
@@ -74,7 +74,7 @@ begins_sound laws setup = record { sound = laws.begins setup; client = tt; serve
 abbrev pub FromNothing : Setup → List Event → List Answer → KeepingWorld → Type 0
 FromNothing setup events answers k = Run (HappensWithMemory setup) (nothing_kept (empty_world setup)) events answers k
 
-pub run_carries : (q : KeptLaws) (laws : WorldLaws) (setup : Setup) (events : List Event) (answers : List Answer) (k : KeepingWorld) (writer : Side) (id : ℕ) → AllByRecursion IsSendable events → FromNothing setup events answers k
+pub run_carries : (q : KeptLaws) (laws : WorldLaws) (setup : Setup) (events : List Event) (answers : List Answer) (k : KeepingWorld) (writer : Side) (id : ℕ) → AllByRecursion (IsSendable setup) events → FromNothing setup events answers k
     → Carried setup k.world events answers writer id
 run_carries q laws setup events answers k writer id sendable run =
     let r = run_moves q laws setup (nothing_kept (empty_world setup)) k events answers writer id sendable (begins_sound laws setup) run in
@@ -85,7 +85,7 @@ run_carries q laws setup events answers k writer id sendable run =
     }
 
 -- **A front of what was sent; with the end all of it; and where no part is left.**
-pub front_at : (q : KeptLaws) (laws : WorldLaws) (setup : Setup) (events : List Event) (answers : List Answer) (k : KeepingWorld) (side : Side) (id : ℕ) → AllByRecursion IsSendable events → FromNothing setup events answers k
+pub front_at : (q : KeptLaws) (laws : WorldLaws) (setup : Setup) (events : List Event) (answers : List Answer) (k : KeepingWorld) (side : Side) (id : ℕ) → AllByRecursion (IsSendable setup) events → FromNothing setup events answers k
     → IsFrontOf (pulled side id events answers) (map (at_reader (section_of (announced_at setup side))) (sent (other side) id events answers))
 front_at q laws setup events answers k side id sendable run =
     let c = run_carries q laws setup events answers k (other side) id sendable run in
@@ -93,7 +93,7 @@ front_at q laws setup events answers k side id sendable run =
     (is_front (limit_of_reader setup (other side)) (flow k.world (other side) id) (sent (other side) id events answers) (has_finished (other side) id events answers)
     (pulled (other (other side)) id events answers) (has_pulled_end (other (other side)) id events answers) c.carried)
 
-pub all_at : (q : KeptLaws) (laws : WorldLaws) (setup : Setup) (events : List Event) (answers : List Answer) (k : KeepingWorld) (side : Side) (id : ℕ) → AllByRecursion IsSendable events → FromNothing setup events answers k
+pub all_at : (q : KeptLaws) (laws : WorldLaws) (setup : Setup) (events : List Event) (answers : List Answer) (k : KeepingWorld) (side : Side) (id : ℕ) → AllByRecursion (IsSendable setup) events → FromNothing setup events answers k
     → has_pulled_end side id events answers ≡ true
     → IsAll (section_of (announced_at setup side)) (sent (other side) id events answers) (has_finished (other side) id events answers) (pulled side id events answers)
 all_at q laws setup events answers k side id sendable run ended =
@@ -101,7 +101,7 @@ all_at q laws setup events answers k side id sendable run ended =
     subst (λ s. has_pulled_end s id events answers ≡ true → IsAll (section_of (announced_at setup s)) (sent (other side) id events answers) (has_finished (other side) id events answers) (pulled s id events answers)) (other-other side)
     (is_complete setup k.world events answers (other side) id c) ended
 
-pub left_none_at : (q : KeptLaws) (laws : WorldLaws) (setup : Setup) (events : List Event) (answers : List Answer) (k : KeepingWorld) (side : Side) (id : ℕ) → AllByRecursion IsSendable events → FromNothing setup events answers k
+pub left_none_at : (q : KeptLaws) (laws : WorldLaws) (setup : Setup) (events : List Event) (answers : List Answer) (k : KeepingWorld) (side : Side) (id : ℕ) → AllByRecursion (IsSendable setup) events → FromNothing setup events answers k
     → next_part (flow k.world (other side) id) ≡ None → pulled side id events answers ≡ map (at_reader (section_of (announced_at setup side))) (sent (other side) id events answers)
 left_none_at q laws setup events answers k side id sendable run none =
     let c = run_carries q laws setup events answers k (other side) id sendable run in

@@ -137,7 +137,7 @@ resets_at q setup k side id h e =
     resets setup k.world u side id ds h.sound (subst (λ s. CanBeRead setup k.world s ds) (other-other side) (kept_readable setup k (other side) h))
     (subst (λ s. ReadsAll setup k.world u s ds) (other-other side) (catches_up q setup k (other side) h)) (may_reset u side id e)
 
-pub reset_kept : (q : KeptLaws) (laws : WorldLaws) (setup : Setup) (k new : KeepingWorld) (side : Side) (id : ℕ) (a : Answer) → IsSendable (event.Reset side id) → IsSoundKeeping setup k
+pub reset_kept : (q : KeptLaws) (laws : WorldLaws) (setup : Setup) (k new : KeepingWorld) (side : Side) (id : ℕ) (a : Answer) → IsSendable setup (event.Reset side id) → IsSoundKeeping setup k
     → Does (reset_refusal (caught_up setup k (other side)) side id) k.world answer.Done (cut_off k.world side id) a new.world → new ≡ with_world k new.world → IsSoundKeeping setup new
 reset_kept q laws setup k new side id a sendable h does is = subst (IsSoundKeeping setup) (sym is) (by_refusal (reset_refusal u side id) refl does)
   where

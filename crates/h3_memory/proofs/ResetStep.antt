@@ -97,7 +97,7 @@ module _ (qpack : KeptLaws) (laws : Laws) (setup : Setup) (k : KeepingWorld) (en
       })
 
   -- **A reset.**
-  pub reset_answered : IsSendable (event.Reset side id) → Answered setup k ends (event.Reset side id)
+  pub reset_answered : IsSendable setup (event.Reset side id) → Answered setup k ends (event.Reset side id)
   reset_answered sendable = by_refusal (reset_refusal (caught_up setup k (other side)) side id) refl
     where
       q : Option Refusal
@@ -127,7 +127,7 @@ module _ (qpack : KeptLaws) (laws : Laws) (setup : Setup) (k : KeepingWorld) (en
 pub reset_step : (qpack : KeptLaws) (laws : Laws) (setup : Setup) (side : Side) (id : ℕ) → StepsOn setup (event.Reset side id)
 reset_step qpack laws setup side id = steps setup (event.Reset side id) (λ b w a. any_exact b) (λ k ends sendable h. reset_answered qpack laws setup k ends h side id sendable) lacks
   where
-    lacks : (k : KeepingWorld) (ends new : Ends) (a : Answer) → IsSendable (event.Reset side id) → StandsKeeping setup k ends → TellsMemory a → is_memory a ≡ true → refused.LacksMemory ends (event.Reset side id) a new
+    lacks : (k : KeepingWorld) (ends new : Ends) (a : Answer) → IsSendable setup (event.Reset side id) → StandsKeeping setup k ends → TellsMemory a → is_memory a ≡ true → refused.LacksMemory ends (event.Reset side id) a new
         → StandsOn setup k (event.Reset side id) a new
     lacks k ends new a sendable h Lacks m l = absurd l
     lacks k ends new a sendable h IsKept m l = absurd l

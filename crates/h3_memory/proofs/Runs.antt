@@ -22,7 +22,7 @@ use Rattle.h3_memory.specs.Theorem.{RunsWithMemory, StandsOn, StepsOn}
 -- What is said of a step holds of one whose ends stood in a world before it and do after it.
 abbrev pub EachHappens : Setup → Type 0
 EachHappens setup =
-    (k : KeepingWorld) (ends after : Ends) (e : Event) (a : Answer) → IsSendable e → StandsKeeping setup k ends → (on : StandsOn setup k e a after) → HappensWithMemory setup k e a on.new
+    (k : KeepingWorld) (ends after : Ends) (e : Event) (a : Answer) → IsSendable setup e → StandsKeeping setup k ends → (on : StandsOn setup k e a after) → HappensWithMemory setup k e a on.new
 
 -- A whole schedule.
 pub record RunsOn (setup : Setup) (k : KeepingWorld) (events : List Event) (answers : List Answer) (ends : Ends) : Type 0 where
@@ -30,7 +30,7 @@ pub record RunsOn (setup : Setup) (k : KeepingWorld) (events : List Event) (answ
   pub run : Run (HappensWithMemory setup) k events answers new
   pub stands : StandsKeeping setup new ends
 
-pub runs_on : (setup : Setup) → ((e : Event) → StepsOn setup e) → EachHappens setup → (k : KeepingWorld) (ends after : Ends) (events : List Event) (answers : List Answer) → AllByRecursion IsSendable events
+pub runs_on : (setup : Setup) → ((e : Event) → StepsOn setup e) → EachHappens setup → (k : KeepingWorld) (ends after : Ends) (events : List Event) (answers : List Answer) → AllByRecursion (IsSendable setup) events
     → StandsKeeping setup k ends → EndsRun ends events answers after → RunsOn setup k events answers after
 runs_on setup steps happens k ends after [] [] sendable h run = record { new = k; run = refl; stands = subst (StandsKeeping setup k) (sym run) h }
 runs_on setup steps happens k ends after (e ∷ events) (a ∷ answers) sendable h run =
@@ -62,7 +62,7 @@ begins_keeping setup h =
 
 -- **Two new endpoints run in a world over every schedule, also where memory is refused**, where each event steps on.
 pub two_ends_run_with_memory : (setup : Setup) → ((e : Event) → StepsOn setup e) → EachHappens setup → Stands setup (empty_world setup) (new_ends setup) → (events : List Event) (answers : List Answer) (ends : Ends)
-    → AllByRecursion IsSendable events → EndsRun (new_ends setup) events answers ends → RunsWithMemory setup events answers ends
+    → AllByRecursion (IsSendable setup) events → EndsRun (new_ends setup) events answers ends → RunsWithMemory setup events answers ends
 two_ends_run_with_memory setup steps happens begins events answers ends sendable run =
     let on = runs_on setup steps happens (nothing_kept (empty_world setup)) (new_ends setup) ends events answers sendable (begins_keeping setup begins) run in
     record { world = on.new; run = on.run; stands = on.stands }

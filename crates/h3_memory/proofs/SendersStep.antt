@@ -81,8 +81,8 @@ refuses_alike setup k ends h side act q after v success given c none none_given 
 
 -- What comes of an event where memory is refused, and where it is not.
 pub steps : (setup : Setup) (e : Event) → ((b : Bool) → (w : World) (a : Answer) → UnlessMemory b (IsExact w e a))
-    → ((k : KeepingWorld) (ends : Ends) → IsSendable e → StandsKeeping setup k ends → Answered setup k ends e)
-    → ((k : KeepingWorld) (ends new : Ends) (a : Answer) → IsSendable e → StandsKeeping setup k ends → TellsMemory a → is_memory a ≡ true → refused.LacksMemory ends e a new → StandsOn setup k e a new)
+    → ((k : KeepingWorld) (ends : Ends) → IsSendable setup e → StandsKeeping setup k ends → Answered setup k ends e)
+    → ((k : KeepingWorld) (ends new : Ends) (a : Answer) → IsSendable setup e → StandsKeeping setup k ends → TellsMemory a → is_memory a ≡ true → refused.LacksMemory ends e a new → StandsOn setup k e a new)
     → StepsOn setup e
 steps setup e exact goes lacks k ends new a sendable h s = by_test (is_memory a) refl s
   where
@@ -111,7 +111,7 @@ module _ (qpack : KeptLaws) (laws : Laws) (setup : Setup) where
   pub opened_step : (side : Side) → StepsOn setup (event.OpenRequest side)
   opened_step side = steps setup (event.OpenRequest side) (λ b w a. any_exact b) (λ k ends sendable h. open_answered laws setup k ends h side sendable) lacks
     where
-      lacks : (k : KeepingWorld) (ends new : Ends) (a : Answer) → IsSendable (event.OpenRequest side) → StandsKeeping setup k ends → TellsMemory a → is_memory a ≡ true → refused.LacksMemory ends (event.OpenRequest side) a new
+      lacks : (k : KeepingWorld) (ends new : Ends) (a : Answer) → IsSendable setup (event.OpenRequest side) → StandsKeeping setup k ends → TellsMemory a → is_memory a ≡ true → refused.LacksMemory ends (event.OpenRequest side) a new
           → StandsOn setup k (event.OpenRequest side) a new
       lacks k ends new a sendable h Lacks m l =
           let on = opened_on laws setup k.world h.behind side sendable h.stands in
@@ -123,7 +123,7 @@ module _ (qpack : KeptLaws) (laws : Laws) (setup : Setup) where
   pub body_step : (side : Side) (id : ℕ) (bytes : List ℕ) → StepsOn setup (event.Body side id bytes)
   body_step side id bytes = steps setup (event.Body side id bytes) (λ b w a. any_exact b) (λ k ends sendable h. body_answered laws setup k ends h side id bytes sendable) lacks
     where
-      lacks : (k : KeepingWorld) (ends new : Ends) (a : Answer) → IsSendable (event.Body side id bytes) → StandsKeeping setup k ends → TellsMemory a → is_memory a ≡ true → refused.LacksMemory ends (event.Body side id bytes) a new
+      lacks : (k : KeepingWorld) (ends new : Ends) (a : Answer) → IsSendable setup (event.Body side id bytes) → StandsKeeping setup k ends → TellsMemory a → is_memory a ≡ true → refused.LacksMemory ends (event.Body side id bytes) a new
           → StandsOn setup k (event.Body side id bytes) a new
       lacks k ends new a sendable h Lacks m l = unchanged setup k ends new (event.Body side id bytes) a any_exact m refl l h
       lacks k ends new a sendable h IsKept m l = absurd l
@@ -132,7 +132,7 @@ module _ (qpack : KeptLaws) (laws : Laws) (setup : Setup) where
   pub cancel_step : (side : Side) (id : ℕ) → StepsOn setup (event.Cancel side id)
   cancel_step side id = steps setup (event.Cancel side id) (λ b w a. any_exact b) (λ k ends sendable h. cancel_answered laws setup k ends h side id sendable) lacks
     where
-      lacks : (k : KeepingWorld) (ends new : Ends) (a : Answer) → IsSendable (event.Cancel side id) → StandsKeeping setup k ends → TellsMemory a → is_memory a ≡ true → refused.LacksMemory ends (event.Cancel side id) a new
+      lacks : (k : KeepingWorld) (ends new : Ends) (a : Answer) → IsSendable setup (event.Cancel side id) → StandsKeeping setup k ends → TellsMemory a → is_memory a ≡ true → refused.LacksMemory ends (event.Cancel side id) a new
           → StandsOn setup k (event.Cancel side id) a new
       lacks k ends new a sendable h Lacks m l =
           let on = cancel_on laws setup k.world h.behind side id sendable h.stands in
@@ -144,7 +144,7 @@ module _ (qpack : KeptLaws) (laws : Laws) (setup : Setup) where
   pub goaway_step : (side : Side) (id : ℕ) → StepsOn setup (event.Goaway side id)
   goaway_step side id = steps setup (event.Goaway side id) (λ b w a. any_exact b) (λ k ends sendable h. goaway_answered laws setup k ends h side id sendable) lacks
     where
-      lacks : (k : KeepingWorld) (ends new : Ends) (a : Answer) → IsSendable (event.Goaway side id) → StandsKeeping setup k ends → TellsMemory a → is_memory a ≡ true → refused.LacksMemory ends (event.Goaway side id) a new
+      lacks : (k : KeepingWorld) (ends new : Ends) (a : Answer) → IsSendable setup (event.Goaway side id) → StandsKeeping setup k ends → TellsMemory a → is_memory a ≡ true → refused.LacksMemory ends (event.Goaway side id) a new
           → StandsOn setup k (event.Goaway side id) a new
       lacks k ends new a sendable h Lacks m l =
           let on = goaway_on laws setup k.world h.behind side id sendable h.stands in
@@ -156,7 +156,7 @@ module _ (qpack : KeptLaws) (laws : Laws) (setup : Setup) where
   pub head_step : JudgesPlainly setup → (side : Side) (id : ℕ) (head : Fields) → StepsOn setup (event.Head side id head)
   head_step plain side id head = steps setup (event.Head side id head) (λ b w a. any_exact b) (λ k ends sendable h. head_answered laws setup k ends h side (plain side) id head sendable) lacks
     where
-      lacks : (k : KeepingWorld) (ends new : Ends) (a : Answer) → IsSendable (event.Head side id head) → StandsKeeping setup k ends → TellsMemory a → is_memory a ≡ true → refused.LacksMemory ends (event.Head side id head) a new
+      lacks : (k : KeepingWorld) (ends new : Ends) (a : Answer) → IsSendable setup (event.Head side id head) → StandsKeeping setup k ends → TellsMemory a → is_memory a ≡ true → refused.LacksMemory ends (event.Head side id head) a new
           → StandsOn setup k (event.Head side id head) a new
       lacks k ends new a sendable h Lacks m l =
           let on = head_on laws setup k.world h.behind side id head (plain side) sendable h.stands in
@@ -171,7 +171,7 @@ module _ (qpack : KeptLaws) (laws : Laws) (setup : Setup) where
   pub trailer_step : JudgesPlainly setup → (side : Side) (id : ℕ) (trailer : Fields) → StepsOn setup (event.Trailer side id trailer)
   trailer_step plain side id trailer = steps setup (event.Trailer side id trailer) (λ b w a. any_exact b) (λ k ends sendable h. trailer_answered laws setup k ends h side (plain side) id trailer sendable) lacks
     where
-      lacks : (k : KeepingWorld) (ends new : Ends) (a : Answer) → IsSendable (event.Trailer side id trailer) → StandsKeeping setup k ends → TellsMemory a → is_memory a ≡ true → refused.LacksMemory ends (event.Trailer side id trailer) a new
+      lacks : (k : KeepingWorld) (ends new : Ends) (a : Answer) → IsSendable setup (event.Trailer side id trailer) → StandsKeeping setup k ends → TellsMemory a → is_memory a ≡ true → refused.LacksMemory ends (event.Trailer side id trailer) a new
           → StandsOn setup k (event.Trailer side id trailer) a new
       lacks k ends new a sendable h Lacks m l =
           let on = trailer_on laws setup k.world h.behind side id trailer (plain side) sendable h.stands in
@@ -187,7 +187,7 @@ module _ (qpack : KeptLaws) (laws : Laws) (setup : Setup) where
   pub finish_step : (side : Side) (id : ℕ) → StepsOn setup (event.Finish side id)
   finish_step side id = steps setup (event.Finish side id) (λ b w a. any_exact b) (λ k ends sendable h. finish_answered laws setup k ends h side id sendable) lacks
     where
-      lacks : (k : KeepingWorld) (ends new : Ends) (a : Answer) → IsSendable (event.Finish side id) → StandsKeeping setup k ends → TellsMemory a → is_memory a ≡ true → refused.LacksMemory ends (event.Finish side id) a new
+      lacks : (k : KeepingWorld) (ends new : Ends) (a : Answer) → IsSendable setup (event.Finish side id) → StandsKeeping setup k ends → TellsMemory a → is_memory a ≡ true → refused.LacksMemory ends (event.Finish side id) a new
           → StandsOn setup k (event.Finish side id) a new
       lacks k ends new a sendable h Lacks m l = absurd l
       lacks k ends new a sendable h IsKept m l = absurd l
@@ -196,7 +196,7 @@ module _ (qpack : KeptLaws) (laws : Laws) (setup : Setup) where
   pub show_step : (side : Side) → IsMadeSetup setup → StepsOn setup (event.Show side)
   show_step side made = steps setup (event.Show side) (λ b w a. any_exact b) (λ k ends sendable h. show_answered laws setup k ends h side made sendable) lacks
     where
-      lacks : (k : KeepingWorld) (ends new : Ends) (a : Answer) → IsSendable (event.Show side) → StandsKeeping setup k ends → TellsMemory a → is_memory a ≡ true → refused.LacksMemory ends (event.Show side) a new
+      lacks : (k : KeepingWorld) (ends new : Ends) (a : Answer) → IsSendable setup (event.Show side) → StandsKeeping setup k ends → TellsMemory a → is_memory a ≡ true → refused.LacksMemory ends (event.Show side) a new
           → StandsOn setup k (event.Show side) a new
       lacks k ends new a sendable h Lacks m l = absurd l
       lacks k ends new a sendable h IsKept m l = absurd l

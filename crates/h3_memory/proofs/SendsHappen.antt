@@ -117,7 +117,7 @@ module _ (laws : Laws) (setup : Setup) (k : KeepingWorld) (ends : Ends) (h : Sta
       let c = keeps_at setup k ends side h in
       calls setup k ends h side (λ e. sender.send_head e id head) (head_alike (kept_at k (other side)) c.held c.arrivals side (end_at h.behind side) c.incoming c.resumes (announces_plainly side plain) id head)
 
-  pub head_answered : (side : Side) → IsPlain (announced_at setup side) → (id : ℕ) (head : Fields) → IsSendable (event.Head side id head) → Answered setup k ends (event.Head side id head)
+  pub head_answered : (side : Side) → IsPlain (announced_at setup side) → (id : ℕ) (head : Fields) → IsSendable setup (event.Head side id head) → Answered setup k ends (event.Head side id head)
   head_answered side plain id head sendable =
       let on = head_on laws setup k.world h.behind side id head plain sendable h.stands in
       let both = happens side answer.Done (λ e. sender.send_head e id head) (λ v a. Step setup k.world (event.Head side id head) a v) on.new (head_calls side plain id head) on.happens.step on.stands
@@ -130,7 +130,7 @@ module _ (laws : Laws) (setup : Setup) (k : KeepingWorld) (ends : Ends) (h : Sta
       let c = keeps_at setup k ends side h in
       calls setup k ends h side (λ e. sender.send_body e id bytes) (body_alike (kept_at k (other side)) c.held c.arrivals side (end_at h.behind side) c.incoming c.resumes id bytes)
 
-  pub body_answered : (side : Side) (id : ℕ) (bytes : List ℕ) → IsSendable (event.Body side id bytes) → Answered setup k ends (event.Body side id bytes)
+  pub body_answered : (side : Side) (id : ℕ) (bytes : List ℕ) → IsSendable setup (event.Body side id bytes) → Answered setup k ends (event.Body side id bytes)
   body_answered side id bytes sendable =
       let on = body_on laws setup k.world h.behind side id bytes sendable h.stands in
       let both = happens side answer.Done (λ e. sender.send_body e id bytes) (λ v a. Step setup k.world (event.Body side id bytes) a v) on.new (body_calls side id bytes) on.happens.step on.stands
@@ -143,7 +143,7 @@ module _ (laws : Laws) (setup : Setup) (k : KeepingWorld) (ends : Ends) (h : Sta
       let c = keeps_at setup k ends side h in
       calls setup k ends h side (λ e. sender.send_trailer e id trailer) (trailer_alike (kept_at k (other side)) c.held c.arrivals side (end_at h.behind side) c.incoming c.resumes id trailer)
 
-  pub trailer_answered : (side : Side) → IsPlain (announced_at setup side) → (id : ℕ) (trailer : Fields) → IsSendable (event.Trailer side id trailer) → Answered setup k ends (event.Trailer side id trailer)
+  pub trailer_answered : (side : Side) → IsPlain (announced_at setup side) → (id : ℕ) (trailer : Fields) → IsSendable setup (event.Trailer side id trailer) → Answered setup k ends (event.Trailer side id trailer)
   trailer_answered side plain id trailer sendable =
       let on = trailer_on laws setup k.world h.behind side id trailer plain sendable h.stands in
       let both = happens side answer.Done (λ e. sender.send_trailer e id trailer) (λ v a. Step setup k.world (event.Trailer side id trailer) a v) on.new (trailer_calls side id trailer) on.happens.step on.stands
@@ -156,7 +156,7 @@ module _ (laws : Laws) (setup : Setup) (k : KeepingWorld) (ends : Ends) (h : Sta
       let c = keeps_at setup k ends side h in
       calls setup k ends h side (λ e. sender.finish e id) (finish_alike (kept_at k (other side)) c.held c.arrivals side (end_at h.behind side) c.incoming c.resumes id)
 
-  pub finish_answered : (side : Side) (id : ℕ) → IsSendable (event.Finish side id) → Answered setup k ends (event.Finish side id)
+  pub finish_answered : (side : Side) (id : ℕ) → IsSendable setup (event.Finish side id) → Answered setup k ends (event.Finish side id)
   finish_answered side id sendable =
       let on = finish_on laws setup k.world h.behind side id sendable h.stands in
       let both = happens side answer.Done (λ e. sender.finish e id) (λ v a. Step setup k.world (event.Finish side id) a v) on.new (finish_calls side id) on.happens.step on.stands
@@ -169,7 +169,7 @@ module _ (laws : Laws) (setup : Setup) (k : KeepingWorld) (ends : Ends) (h : Sta
       let c = keeps_at setup k ends side h in
       calls setup k ends h side (λ e. sender.cancel e id) (cancel_alike (kept_at k (other side)) c.held c.arrivals side (end_at h.behind side) c.incoming c.resumes id)
 
-  pub cancel_answered : (side : Side) (id : ℕ) → IsSendable (event.Cancel side id) → Answered setup k ends (event.Cancel side id)
+  pub cancel_answered : (side : Side) (id : ℕ) → IsSendable setup (event.Cancel side id) → Answered setup k ends (event.Cancel side id)
   cancel_answered side id sendable =
       let on = cancel_on laws setup k.world h.behind side id sendable h.stands in
       let both = happens side answer.Done (λ e. sender.cancel e id) (λ v a. Step setup k.world (event.Cancel side id) a v) on.new (cancel_calls side id) on.happens.step on.stands
@@ -182,7 +182,7 @@ module _ (laws : Laws) (setup : Setup) (k : KeepingWorld) (ends : Ends) (h : Sta
       let c = keeps_at setup k ends side h in
       calls setup k ends h side (λ e. sender.goaway e id) (goaway_alike (kept_at k (other side)) c.held c.arrivals side (end_at h.behind side) c.incoming c.resumes id)
 
-  pub goaway_answered : (side : Side) (id : ℕ) → IsSendable (event.Goaway side id) → Answered setup k ends (event.Goaway side id)
+  pub goaway_answered : (side : Side) (id : ℕ) → IsSendable setup (event.Goaway side id) → Answered setup k ends (event.Goaway side id)
   goaway_answered side id sendable =
       let on = goaway_on laws setup k.world h.behind side id sendable h.stands in
       let both = happens side answer.Done (λ e. sender.goaway e id) (λ v a. Step setup k.world (event.Goaway side id) a v) on.new (goaway_calls side id) on.happens.step on.stands
@@ -206,7 +206,7 @@ module _ (laws : Laws) (setup : Setup) (k : KeepingWorld) (ends : Ends) (h : Sta
       let c = keeps_at setup k ends side h in
       calls setup k ends h side sender.open_request (open_alike (kept_at k (other side)) c.held c.arrivals side (end_at h.behind side) c.incoming c.resumes (none_there side))
 
-  pub open_answered : (side : Side) → IsSendable (event.OpenRequest side) → Answered setup k ends (event.OpenRequest side)
+  pub open_answered : (side : Side) → IsSendable setup (event.OpenRequest side) → Answered setup k ends (event.OpenRequest side)
   open_answered side sendable =
       let on = opened_on laws setup k.world h.behind side sendable h.stands in
       let given = answer.Opened (end_at h.behind side).next_id in
@@ -221,7 +221,7 @@ module _ (laws : Laws) (setup : Setup) (k : KeepingWorld) (ends : Ends) (h : Sta
       }
 
   -- **What an end shows.** The world says what of the peer's streams was read.
-  pub show_answered : (side : Side) → IsMadeSetup setup → IsSendable (event.Show side) → Answered setup k ends (event.Show side)
+  pub show_answered : (side : Side) → IsMadeSetup setup → IsSendable setup (event.Show side) → Answered setup k ends (event.Show side)
   show_answered side made sendable =
       let on = show_on laws setup k.world h.behind side made sendable h.stands in
       let c = keeps_at setup k ends side h in

@@ -27,7 +27,7 @@ use Rattle.h3_memory.proofs.ResetEvent.{reset_kept}
 use Rattle.h3_memory.proofs.SendsLeave.{open_leaves, head_leaves, body_leaves, trailer_leaves, finish_leaves, cancel_leaves, goaway_leaves}
 use Rattle.h3_memory.proofs.Written.{unchanged}
 
-answers_kept : (q : KeptLaws) (laws : WorldLaws) (setup : Setup) (k new : KeepingWorld) (e : Event) (a : Answer) → IsSendable e → IsSoundKeeping setup k → Answers setup k e a new → IsExact (reader_world setup k e) e a → IsSoundKeeping setup new
+answers_kept : (q : KeptLaws) (laws : WorldLaws) (setup : Setup) (k new : KeepingWorld) (e : Event) (a : Answer) → IsSendable setup e → IsSoundKeeping setup k → Answers setup k e a new → IsExact (reader_world setup k e) e a → IsSoundKeeping setup new
 answers_kept q laws setup k new (event.OpenRequest side) a sendable h step exact =
     step_kept laws setup k new (event.OpenRequest side) a sendable h step.0 exact (open_leaves setup k.world new.world side a step.0) step.1
 answers_kept q laws setup k new (event.Head side id head) a sendable h step exact =
@@ -99,7 +99,7 @@ nothing_out q setup k new (event.DeliverEnd writer id) h step = absurd step
 nothing_out q setup k new (event.DeliverReset writer id) h step = absurd step
 nothing_out q setup k new (event.Show side) h step = absurd step
 
-pub step_keeps : (q : KeptLaws) (laws : WorldLaws) (setup : Setup) (k new : KeepingWorld) (e : Event) (a : Answer) → IsSendable e → IsSoundKeeping setup k → StepWithMemory setup k e a new
+pub step_keeps : (q : KeptLaws) (laws : WorldLaws) (setup : Setup) (k new : KeepingWorld) (e : Event) (a : Answer) → IsSendable setup e → IsSoundKeeping setup k → StepWithMemory setup k e a new
     → UnlessMemory (is_memory a) (IsExact (reader_world setup k e) e a) → IsSoundKeeping setup new
 step_keeps q laws setup k new e a sendable h step exact = by_memory (is_memory a) refl step exact
   where

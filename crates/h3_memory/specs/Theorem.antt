@@ -24,7 +24,7 @@ pub record StandsOn (setup : Setup) (k : KeepingWorld) (e : Event) (a : Answer) 
 
 -- So it is whatever is kept, and however the endpoints answer that memory may be refused.
 abbrev pub StepsOn : Setup → Event → Type 0
-StepsOn setup e = (k : KeepingWorld) (ends new : Ends) (a : Answer) → IsSendable e → StandsKeeping setup k ends → EndsStep ends e a new → StandsOn setup k e a new
+StepsOn setup e = (k : KeepingWorld) (ends new : Ends) (a : Answer) → IsSendable setup e → StandsKeeping setup k ends → EndsStep ends e a new → StandsOn setup k e a new
 
 -- The answers are those of a run from the empty world with nothing kept, each step of which happens; and these endpoints stand in the world that
 -- it leads to, with what they keep.

@@ -33,7 +33,7 @@ ghost use Rattle.h3_memory.specs.Theorem.{RunsWithMemory, StepsOn};
 /// sent, however both answer by the contracts of their calls, the answers are those of a run. Of that run all holds that is said of each
 /// step, and both stand in the world that it leads to, with what they keep. Neither end asks for strict messages.
 pub fn two_endpoints_run_with_memory()
-    ensures { (setup : Setup) (events : List Event) (answers : List Answer) (ends : Ends) → IsMadeSetup setup → JudgesPlainly setup → AllByRecursion IsSendable events →
+    ensures { (setup : Setup) (events : List Event) (answers : List Answer) (ends : Ends) → IsMadeSetup setup → JudgesPlainly setup → AllByRecursion (IsSendable setup) events →
         EndsRun (new_ends setup) events answers ends → RunsWithMemory setup events answers ends }
 {
     h3_world::laws::what_refused_memory_leaves_is_sound();
@@ -53,8 +53,8 @@ pub fn every_event_steps_on()
 /// Each step that is allowed, of an event that may be sent and with an exact pause, leaves a world sound, and what is kept there readable.
 /// All that is said of a step holds of it.
 pub fn each_step_keeps_worlds_sound()
-    ensures happens { (setup : Setup) (k new : KeepingWorld) (e : Event) (a : Answer) → IsSendable e → IsSoundKeeping setup k → StepWithMemory setup k e a new → UnlessMemory (is_memory a) (IsExact (reader_world setup k e) e a) → HappensWithMemory setup k e a new }
-    ensures sound { (setup : Setup) (k new : KeepingWorld) (e : Event) (a : Answer) → IsSendable e → IsSoundKeeping setup k → StepWithMemory setup k e a new → UnlessMemory (is_memory a) (IsExact (reader_world setup k e) e a) → IsSoundKeeping setup new }
+    ensures happens { (setup : Setup) (k new : KeepingWorld) (e : Event) (a : Answer) → IsSendable setup e → IsSoundKeeping setup k → StepWithMemory setup k e a new → UnlessMemory (is_memory a) (IsExact (reader_world setup k e) e a) → HappensWithMemory setup k e a new }
+    ensures sound { (setup : Setup) (k new : KeepingWorld) (e : Event) (a : Answer) → IsSendable setup e → IsSoundKeeping setup k → StepWithMemory setup k e a new → UnlessMemory (is_memory a) (IsExact (reader_world setup k e) e a) → IsSoundKeeping setup new }
 {
     h3_world::laws::what_refused_memory_leaves_is_sound();
     h3_headline::laws::what_is_cited_holds();
@@ -73,9 +73,9 @@ pub fn without_memory_answers_a_run_is_one_of_the_world()
 pub fn what_is_pulled_with_memory_refused_is_what_was_sent()
     ensures as_many { (setup : Setup) (events : List Event) (answers : List Answer) (k : KeepingWorld) → Run (HappensWithMemory setup) (nothing_kept (empty_world setup)) events answers k → length answers ≡ length events }
     ensures fault { (setup : Setup) (events : List Event) (answers : List Answer) (k : KeepingWorld) → Run (HappensWithMemory setup) (nothing_kept (empty_world setup)) events answers k → list_any is_connection_fault answers ≡ false }
-    ensures front { (setup : Setup) (events : List Event) (answers : List Answer) (k : KeepingWorld) (side : Side) (id : ℕ) → AllByRecursion IsSendable events → Run (HappensWithMemory setup) (nothing_kept (empty_world setup)) events answers k →
+    ensures front { (setup : Setup) (events : List Event) (answers : List Answer) (k : KeepingWorld) (side : Side) (id : ℕ) → AllByRecursion (IsSendable setup) events → Run (HappensWithMemory setup) (nothing_kept (empty_world setup)) events answers k →
         IsFrontOf (pulled side id events answers) (map (at_reader (section_of (announced_at setup side))) (sent (other side) id events answers)) }
-    ensures end { (setup : Setup) (events : List Event) (answers : List Answer) (k : KeepingWorld) (side : Side) (id : ℕ) → AllByRecursion IsSendable events → Run (HappensWithMemory setup) (nothing_kept (empty_world setup)) events answers k →
+    ensures end { (setup : Setup) (events : List Event) (answers : List Answer) (k : KeepingWorld) (side : Side) (id : ℕ) → AllByRecursion (IsSendable setup) events → Run (HappensWithMemory setup) (nothing_kept (empty_world setup)) events answers k →
         has_pulled_end side id events answers ≡ true →
         (pulled side id events answers ≡ map (at_reader (section_of (announced_at setup side))) (sent (other side) id events answers)) × (has_finished (other side) id events answers ≡ true) }
 {
@@ -97,7 +97,7 @@ pub fn once_memory_is_back_nothing_is_lost()
         head_refusal setup new.world side id head ≡ head_refusal setup k.world side id head }
     ensures trailer { (setup : Setup) (k new : KeepingWorld) (side : Side) (id : ℕ) (trailer : Fields) → StepWithMemory setup k (does.Trailer side id trailer) (gives.Refused refusal.OutOfMemory) new →
         trailer_refusal setup new.world side id trailer ≡ trailer_refusal setup k.world side id trailer }
-    ensures all { (setup : Setup) (before : List Event) (given : List Answer) (k new : KeepingWorld) (side : Side) (id : ℕ) (p : Pull) → AllByRecursion IsSendable before →
+    ensures all { (setup : Setup) (before : List Event) (given : List Answer) (k new : KeepingWorld) (side : Side) (id : ℕ) (p : Pull) → AllByRecursion (IsSendable setup) before →
         Run (HappensWithMemory setup) (nothing_kept (empty_world setup)) before given k → HappensWithMemory setup k (does.Pull side id) (gives.Pulled p) new → is_memory (gives.Pulled p) ≡ false →
         IsDelivered setup (caught_up setup k side) (other side) id → settled (caught_up setup k side) side id ≡ None → is_none (pause_of p) ≡ false →
         pulled side id before given ≡ map (at_reader (section_of (announced_at setup side))) (sent (other side) id before given) }

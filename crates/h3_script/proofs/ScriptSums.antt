@@ -16,7 +16,7 @@ use Rattle.h3_proto.specs.declared.stream.Side.TheVariants.{Client, Server}
 use Rattle.h3_header.specs.Head.{Head, head_fields, to_field, regular_fields, pseudo_fields, response_head, trailer_head}
 use Rattle.std.specs.List.{AllByRecursion}
 use Rattle.std.specs.Prelude.{IfSome}
-use Rattle.h3_header.specs.ProtocolText.{IsProtocolText}
+use Rattle.h3_header.specs.ProtocolText.{IsProtocolBy}
 use Rattle.h3_header.specs.RequestPath.{behind, rooted, takes_slash}
 use Rattle.h3_header.specs.Request.{request_head}
 use Rattle.h3_script.specs.Pieces.{cut}
@@ -26,7 +26,8 @@ use Rattle.h3_script.specs.Few.{AreFew}
 use Rattle.h3_script.specs.Words.{words_of}
 use Rattle.h3_connection.specs.Sending.{fields_cost}
 use Rattle.h3_script.specs.Script.{lines_of, said, SayEvents, SaysSoFar, lines_length, IsScript}
-use Rattle.h3_world.specs.Sendable.{NamesProtocol, if_by, sent_by}
+use Rattle.h3_world.specs.Sendable.{NamesTaken, if_by, sent_by}
+use Rattle.h3_world.specs.Setup.{both_take_any}
 use Rattle.h3_world.specs.declared.setup.Setup.{Setup}
 use Rattle.h3_world.specs.declared.event.Event.{Event}
 use Rattle.h3_world.specs.declared.event.Event.TheVariants as does
@@ -257,56 +258,56 @@ event_few line side (does.Pull acting stream) h = omega arith
 event_few line side (does.Show acting) h = omega arith
 
 -- No header of a script has a protocol.
-named_by : (head other : Head) → head ≡ other → other.protocol ≡ None → IfSome head.protocol IsProtocolText
-named_by head other is none = subst (λ (h : Head). IfSome h.protocol IsProtocolText) (sym is) (subst (λ o. IfSome o IsProtocolText) (sym none) tt)
+none_by : (head other : Head) → head ≡ other → other.protocol ≡ None → head.protocol ≡ None
+none_by head other is none = ap (λ (h : Head). h.protocol) is ∙ none
 
 either_none : (b : Bool) → (let protocol : Option (List ℕ) = if b then None else None in protocol) ≡ None
 either_none true = refl
 either_none false = refl
 
-head_named_by : (b : Bool) (what : List ℕ) (words : List (List ℕ)) (head : Head) → HeadBy b what words head → IfSome head.protocol IsProtocolText
-head_named_by true what words head h = named_by head (response_head h.code h.fields) h.head_is refl
-head_named_by false what [] head h = absurd h
-head_named_by false what (uri ∷ words) head h = named_by head (request_head what h.target h.fields None) h.head_is (either_none (bytes_eq what (codes "CONNECT")))
+head_none_by : (b : Bool) (what : List ℕ) (words : List (List ℕ)) (head : Head) → HeadBy b what words head → head.protocol ≡ None
+head_none_by true what words head h = none_by head (response_head h.code h.fields) h.head_is refl
+head_none_by false what [] head h = absurd h
+head_none_by false what (uri ∷ words) head h = none_by head (request_head what h.target h.fields None) h.head_is (either_none (bytes_eq what (codes "CONNECT")))
 
-head_named : (words : List (List ℕ)) (head : Head) → IsHeadText words head → IfSome head.protocol IsProtocolText
-head_named [] head h = absurd h
-head_named (what ∷ words) head h = head_named_by (is_status what) what words head h
+head_none : (words : List (List ℕ)) (head : Head) → IsHeadText words head → head.protocol ≡ None
+head_none [] head h = absurd h
+head_none (what ∷ words) head h = head_none_by (is_status what) what words head h
 
-trailer_named : (words : List (List ℕ)) (trailer : Head) → IsTrailerText words trailer → IfSome trailer.protocol IsProtocolText
-trailer_named words trailer h = named_by trailer (trailer_head h.fields) h.trailer_is refl
+trailer_none : (words : List (List ℕ)) (trailer : Head) → IsTrailerText words trailer → trailer.protocol ≡ None
+trailer_none words trailer h = none_by trailer (trailer_head h.fields) h.trailer_is refl
 
-section_named : (name : List ℕ) (Says : List (List ℕ) → Head → Type 0) → ((words : List (List ℕ)) (x : Head) → Says words x → IfSome x.protocol IsProtocolText)
-    → (words : List (List ℕ)) (acting : Side) (stream : ℕ) (x : Head) → SaysSection name Says words acting stream x → IfSome x.protocol IsProtocolText
-section_named name Says named [] acting stream x h = absurd h
-section_named name Says named (a ∷ []) acting stream x h = absurd h
-section_named name Says named (a ∷ b ∷ []) acting stream x h = absurd h
-section_named name Says named (a ∷ b ∷ c ∷ words) acting stream x h = named words x h.section_is
+section_taken : (any : Bool) (name : List ℕ) (Says : List (List ℕ) → Head → Type 0) → ((words : List (List ℕ)) (x : Head) → Says words x → x.protocol ≡ None)
+    → (words : List (List ℕ)) (acting : Side) (stream : ℕ) (x : Head) → SaysSection name Says words acting stream x → IfSome x.protocol (IsProtocolBy any)
+section_taken any name Says none [] acting stream x h = absurd h
+section_taken any name Says none (a ∷ []) acting stream x h = absurd h
+section_taken any name Says none (a ∷ b ∷ []) acting stream x h = absurd h
+section_taken any name Says none (a ∷ b ∷ c ∷ words) acting stream x h = subst (λ o. IfSome o (IsProtocolBy any)) (sym (none words x h.section_is)) tt
 
-event_named : (line : List ℕ) (event : Event) → SaysEvent line event → NamesProtocol event
-event_named line (does.OpenRequest acting) h = tt
-event_named line (does.Head acting stream head) h = section_named (codes "head") IsHeadText head_named (words_of line) acting stream head h
-event_named line (does.Body acting stream bytes) h = tt
-event_named line (does.Trailer acting stream trailer) h = section_named (codes "trailer") IsTrailerText trailer_named (words_of line) acting stream trailer h
-event_named line (does.Finish acting stream) h = tt
-event_named line (does.Reset acting stream) h = tt
-event_named line (does.Cancel acting stream) h = tt
-event_named line (does.Goaway acting number) h = tt
-event_named line (does.Deliver acting stream count) h = tt
-event_named line (does.DeliverEnd acting stream) h = tt
-event_named line (does.DeliverReset acting stream) h = tt
-event_named line (does.Pull acting stream) h = tt
-event_named line (does.Show acting) h = tt
+event_taken : (any : Bool) (line : List ℕ) (event : Event) → SaysEvent line event → NamesTaken any event
+event_taken any line (does.OpenRequest acting) h = tt
+event_taken any line (does.Head acting stream head) h = section_taken any (codes "head") IsHeadText head_none (words_of line) acting stream head h
+event_taken any line (does.Body acting stream bytes) h = tt
+event_taken any line (does.Trailer acting stream trailer) h = section_taken any (codes "trailer") IsTrailerText trailer_none (words_of line) acting stream trailer h
+event_taken any line (does.Finish acting stream) h = tt
+event_taken any line (does.Reset acting stream) h = tt
+event_taken any line (does.Cancel acting stream) h = tt
+event_taken any line (does.Goaway acting number) h = tt
+event_taken any line (does.Deliver acting stream count) h = tt
+event_taken any line (does.DeliverEnd acting stream) h = tt
+event_taken any line (does.DeliverReset acting stream) h = tt
+event_taken any line (does.Pull acting stream) h = tt
+event_taken any line (does.Show acting) h = tt
 
-events_named : (lines : List (List ℕ)) (events : List Event) → SayEvents lines events → AllByRecursion NamesProtocol events
-events_named [] [] h = tt
-events_named [] (e ∷ events) h = absurd h
-events_named (l ∷ lines) [] h = absurd h
-events_named (l ∷ lines) (e ∷ events) h = (event_named l e h.0, events_named lines events h.1)
+events_taken : (any : Bool) (lines : List (List ℕ)) (events : List Event) → SayEvents lines events → AllByRecursion (NamesTaken any) events
+events_taken any [] [] h = tt
+events_taken any [] (e ∷ events) h = absurd h
+events_taken any (l ∷ lines) [] h = absurd h
+events_taken any (l ∷ lines) (e ∷ events) h = (event_taken any l e h.0, events_taken any lines events h.1)
 
-so_far_named : (lines : List (List ℕ)) (setup : Setup) (events : List Event) → SaysSoFar lines (Some setup) events → AllByRecursion NamesProtocol events
-so_far_named [] setup events h = absurd h
-so_far_named (first ∷ rest) setup events h = events_named rest events h.1
+so_far_taken : (lines : List (List ℕ)) (setup : Setup) (events : List Event) → SaysSoFar lines (Some setup) events → AllByRecursion (NamesTaken (both_take_any setup)) events
+so_far_taken [] setup events h = absurd h
+so_far_taken (first ∷ rest) setup events h = events_taken (both_take_any setup) rest events h.1
 
 record EventsFew (lines : List (List ℕ)) (side : Side) (events : List Event) : Type 0 where
   pub sums : sum_by (sent_by side) events ≤ 128 * lines_length lines
@@ -356,7 +357,7 @@ so_far_few (first ∷ rest) side setup events h le =
     let len = sum_by-cons (λ (l : List ℕ). length l + 1) first rest in
     record { sums = omega (arith, more.sums, len, le); count = omega (arith, more.count, first_some, len, le) }
 
-pub script_few : (text : List ℕ) (setup : Setup) (events : List Event) → IsScript (2 ^ 48) text setup events → AreFew events
+pub script_few : (text : List ℕ) (setup : Setup) (events : List Event) → IsScript (2 ^ 48) text setup events → AreFew setup events
 script_few text setup events h =
     let few = λ (side : Side). so_far_few (said (lines_of text)) side setup events h.says (omega (arith, said_few (lines_of text), pieces_length 10 text, h.within)) in
-    record { count = (few Client).count; client_sends = (few Client).sums; server_sends = (few Server).sums; names = so_far_named (said (lines_of text)) setup events h.says }
+    record { count = (few Client).count; client_sends = (few Client).sums; server_sends = (few Server).sums; taken = so_far_taken (said (lines_of text)) setup events h.says }

@@ -25,7 +25,7 @@ pub fn a_script_is_read_in_one_way()
 
 /// A script of at most 2^48 bytes has fewer than 2^48 events, and passes each side less than 2^56 bytes to send.
 pub fn a_script_has_few_events()
-    ensures { (text : List ℕ) (setup : Made) (events : List Does) → IsScript (2 ^ 48) text setup events → AreFew events }
+    ensures { (text : List ℕ) (setup : Made) (events : List Does) → IsScript (2 ^ 48) text setup events → AreFew setup events }
 {}
 
 /// The setup of a script is one that `Setup::new` makes.

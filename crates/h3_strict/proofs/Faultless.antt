@@ -175,19 +175,19 @@ ends_more : (ends : Ends) (before : List Event) (e : Event) → ends_after ends 
 ends_more ends [] e = refl
 ends_more ends (first ∷ before) e = ends_more (answered ends first).1 before e
 
-all_more : (before : List Event) (e : Event) → AllByRecursion IsSendable before → IsSendable e → AllByRecursion IsSendable (before ++ e ∷ [])
-all_more [] e h last = (last, tt)
-all_more (first ∷ before) e h last = (h.0, all_more before e h.1 last)
+all_more : (setup : Setup) (before : List Event) (e : Event) → AllByRecursion (IsSendable setup) before → IsSendable setup e → AllByRecursion (IsSendable setup) (before ++ e ∷ [])
+all_more setup [] e h last = (last, tt)
+all_more setup (first ∷ before) e h last = (h.0, all_more setup before e h.1 last)
 
 module _ (setup : Setup) (made : IsMadeSetup setup) (headline : RunInWorlds) where
   abbrev at : List Event → Ends
   at before = ends_after (new_ends setup) before
 
-  kept_at : (before : List Event) → AllByRecursion IsSendable before → NoneJudges (new_ends setup) before → (side : Side) → (end_at (at before) side).kept ≡ []
+  kept_at : (before : List Event) → AllByRecursion (IsSendable setup) before → NoneJudges (new_ends setup) before → (side : Side) → (end_at (at before) side).kept ≡ []
   kept_at before sendable none Client = (runs_in_a_world setup before made sendable (runs_plainly (new_ends setup) before none) headline).2.at_client.nothing_kept
   kept_at before sendable none Server = (runs_in_a_world setup before made sendable (runs_plainly (new_ends setup) before none) headline).2.at_server.nothing_kept
 
-  finds_from : (before events : List Event) → AllByRecursion IsSendable before → AllByRecursion IsSendable events → NoneJudges (new_ends setup) before → NoneJudges (at before) events
+  finds_from : (before events : List Event) → AllByRecursion (IsSendable setup) before → AllByRecursion (IsSendable setup) events → NoneJudges (new_ends setup) before → NoneJudges (at before) events
       → list_any is_connection_fault (answers_of_ends (at before) events) ≡ false → list_any finds_fault (answers_of_ends (at before) events) ≡ false
   finds_from before [] sent sends none nones whole = refl
   finds_from before (e ∷ events) sent sends none nones whole =
@@ -196,10 +196,10 @@ module _ (setup : Setup) (made : IsMadeSetup setup) (headline : RunInWorlds) whe
       let parts = neither (is_connection_fault a) (list_any is_connection_fault (answers_of_ends after events)) whole in
       let here = step_finds (at before) (kept_at before sent none) e nones.0 parts.0 in
       let leads : at (before ++ e ∷ []) ≡ after = ends_more (new_ends setup) before e in
-      let rest = finds_from (before ++ e ∷ []) events (all_more before e sent sends.0) sends.1 (none_more (new_ends setup) before e none nones.0) (subst (λ x. NoneJudges x events) (sym leads) nones.1)
+      let rest = finds_from (before ++ e ∷ []) events (all_more setup before e sent sends.0) sends.1 (none_more (new_ends setup) before e none nones.0) (subst (λ x. NoneJudges x events) (sym leads) nones.1)
       (subst (λ x. list_any is_connection_fault (answers_of_ends x events) ≡ false) (sym leads) parts.1) in
       ap (λ b. b || list_any finds_fault (answers_of_ends after events)) here ∙ subst (λ x. list_any finds_fault (answers_of_ends x events) ≡ false) leads rest
 
-  pub finds_none : (events : List Event) → AllByRecursion IsSendable events → NoneJudges (new_ends setup) events → list_any is_connection_fault (answers_of_ends (new_ends setup) events) ≡ false
+  pub finds_none : (events : List Event) → AllByRecursion (IsSendable setup) events → NoneJudges (new_ends setup) events → list_any is_connection_fault (answers_of_ends (new_ends setup) events) ≡ false
       → list_any finds_fault (answers_of_ends (new_ends setup) events) ≡ false
   finds_none events sendable none whole = finds_from [] events tt sendable tt none whole

@@ -131,14 +131,14 @@ strict_knows : (setup : Setup) (w : World) (ends : Ends) → Stands (plain_setup
 strict_knows setup w ends h Client = (are_settings_there (plain_setup (unlimited_setup setup)) Server (party w Server).own.control_taken, h.at_client.control.settings)
 strict_knows setup w ends h Server = (are_settings_there (plain_setup (unlimited_setup setup)) Client (party w Client).own.control_taken, h.at_server.control.settings)
 
-module _ (short : SectionsAreShort) (streams : StreamLaws) (setup : Setup) (events : List Event) (made : IsMadeSetup setup) (sendable : AllByRecursion IsSendable events) (early : EarlyAreTaken setup (new_ends setup) events) where
+module _ (short : SectionsAreShort) (streams : StreamLaws) (setup : Setup) (events : List Event) (made : IsMadeSetup setup) (sendable : AllByRecursion (IsSendable setup) events) (early : EarlyAreTaken setup (new_ends setup) events) where
   -- **Neither asks for strict messages.**
   pub loose_taken : RunInWorlds → AsksForNone setup → AreTaken setup events (answers_of_ends (new_ends setup) events)
   loose_taken headline none = taken_from setup made events [] events known refl tt early
     where
       known : (past rest : List Event) → events ≡ past ++ rest → AreTaken setup past (answers_of_ends (new_ends setup) past) → Sends setup (ends_after (new_ends setup) past)
       known past rest is taken =
-          let sent = sendable_front past rest (subst (AllByRecursion IsSendable) is sendable) in
+          let sent = sendable_front setup past rest (subst (AllByRecursion (IsSendable setup)) is sendable) in
           let ran = loose_world setup past made none sent (loose_unlimited short setup past made sent taken headline none) headline in
           record {
             knows = loose_knows setup ran.0 (ends_after (new_ends setup) past) ran.2;
@@ -151,7 +151,7 @@ module _ (short : SectionsAreShort) (streams : StreamLaws) (setup : Setup) (even
     where
       known : (past rest : List Event) → events ≡ past ++ rest → AreTaken setup past (answers_of_ends (new_ends setup) past) → Sends setup (ends_after (new_ends setup) past)
       known past rest is taken =
-          let sent = sendable_front past rest (subst (AllByRecursion IsSendable) is sendable) in
+          let sent = sendable_front setup past rest (subst (AllByRecursion (IsSendable setup)) is sendable) in
           let asked : ServerKnows past (answers_of_ends (new_ends setup) past) = knows_front (λ id. false) (new_ends setup) past rest (subst (λ l. ServerKnows l (answers_of_ends (new_ends setup) l)) is knows) in
           let runs = strict_unlimited short setup past made sent taken headline strict asked in
           let ran = headline (unlimited_setup setup) past (setup_unlimited setup made) (unlimited_strictly setup strict) sent (subst (ServerKnows past) runs.answers asked) in

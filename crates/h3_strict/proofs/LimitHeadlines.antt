@@ -33,15 +33,15 @@ HandsAll most side id events answers =
 
 -- h3_headline's laws
 abbrev pub NoFaults : Type 0
-NoFaults = (setup : Setup) (events : List Event) → IsMadeSetup setup → JudgesPlainly setup → AllByRecursion IsSendable events → list_any is_connection_fault (answers_of_ends (new_ends setup) events) ≡ false
+NoFaults = (setup : Setup) (events : List Event) → IsMadeSetup setup → JudgesPlainly setup → AllByRecursion (IsSendable setup) events → list_any is_connection_fault (answers_of_ends (new_ends setup) events) ≡ false
 
 abbrev pub HandFronts : Type 0
-HandFronts = (setup : Setup) (events : List Event) (side : Side) (id : ℕ) → IsMadeSetup setup → JudgesPlainly setup → AllByRecursion IsSendable events → HandsFront (section_of (announced_at setup side)) side id events (answers_of_ends (new_ends setup) events)
+HandFronts = (setup : Setup) (events : List Event) (side : Side) (id : ℕ) → IsMadeSetup setup → JudgesPlainly setup → AllByRecursion (IsSendable setup) events → HandsFront (section_of (announced_at setup side)) side id events (answers_of_ends (new_ends setup) events)
 
 abbrev pub HandAll : Type 0
-HandAll = (setup : Setup) (events : List Event) (side : Side) (id : ℕ) → IsMadeSetup setup → JudgesPlainly setup → AllByRecursion IsSendable events → HandsAll (section_of (announced_at setup side)) side id events (answers_of_ends (new_ends setup) events)
+HandAll = (setup : Setup) (events : List Event) (side : Side) (id : ℕ) → IsMadeSetup setup → JudgesPlainly setup → AllByRecursion (IsSendable setup) events → HandsAll (section_of (announced_at setup side)) side id events (answers_of_ends (new_ends setup) events)
 
-module _ (setup : Setup) (events : List Event) (made : IsMadeSetup setup) (none : AsksForNone setup) (sendable : AllByRecursion IsSendable events) (runs : RunsUnlimited (new_ends setup) events) where
+module _ (setup : Setup) (events : List Event) (made : IsMadeSetup setup) (none : AsksForNone setup) (sendable : AllByRecursion (IsSendable setup) events) (runs : RunsUnlimited (new_ends setup) events) where
   pub loose_world : RunInWorlds
       → (w : World) × Run (Happens (unlimited_setup setup)) (empty_world (unlimited_setup setup)) events (answers_of_ends (new_ends setup) events) w × Stands (unlimited_setup setup) w (unlimited_ends (ends_after (new_ends setup) events))
   loose_world headline =
@@ -63,9 +63,9 @@ module _ (setup : Setup) (events : List Event) (made : IsMadeSetup setup) (none 
 
 -- Two strict ends take what they send.
 abbrev pub NoneJudgeStrictly : Type 0
-NoneJudgeStrictly = (setup : Setup) (events : List Event) → IsMadeSetup setup → JudgesStrictly setup → AllByRecursion IsSendable events → ServerKnows events (answers_of_ends (new_ends setup) events) → NoneJudges (new_ends setup) events
+NoneJudgeStrictly = (setup : Setup) (events : List Event) → IsMadeSetup setup → JudgesStrictly setup → AllByRecursion (IsSendable setup) events → ServerKnows events (answers_of_ends (new_ends setup) events) → NoneJudges (new_ends setup) events
 
-pub strict_none : (setup : Setup) (events : List Event) → IsMadeSetup setup → AsksForStrict setup → AllByRecursion IsSendable events → ServerKnows events (answers_of_ends (new_ends setup) events) → RunsUnlimited (new_ends setup) events
+pub strict_none : (setup : Setup) (events : List Event) → IsMadeSetup setup → AsksForStrict setup → AllByRecursion (IsSendable setup) events → ServerKnows events (answers_of_ends (new_ends setup) events) → RunsUnlimited (new_ends setup) events
     → NoneJudgeStrictly → NoneJudges (new_ends setup) events
 strict_none setup events made strict sendable knows runs none =
     runs.judges (none (unlimited_setup setup) events (setup_unlimited setup made) (unlimited_strictly setup strict) sendable (subst (ServerKnows events) runs.answers knows))

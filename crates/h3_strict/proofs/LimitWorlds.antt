@@ -35,9 +35,9 @@ pub knows_front : (known : ℕ → Bool) (ends : Ends) (past rest : List Event) 
 knows_front known ends [] rest h = tt
 knows_front known ends (e ∷ past) rest h = (h.0, knows_front (λ id. knows_behind id (known id) e (answered ends e).0) (answered ends e).1 past rest h.1)
 
-pub sendable_front : (past rest : List Event) → AllByRecursion IsSendable (past ++ rest) → AllByRecursion IsSendable past
-sendable_front [] rest h = tt
-sendable_front (e ∷ past) rest h = (h.0, sendable_front past rest h.1)
+pub sendable_front : (setup : Setup) (past rest : List Event) → AllByRecursion (IsSendable setup) (past ++ rest) → AllByRecursion (IsSendable setup) past
+sendable_front setup [] rest h = tt
+sendable_front setup (e ∷ past) rest h = (h.0, sendable_front setup past rest h.1)
 
 -- and without the sends that were refused as malformed
 taken_left : (setup : Setup) (events : List Event) (answers : List Answer) → AreTaken setup events answers → AreTaken setup (without_malformed events answers) (answers_without_malformed answers)
@@ -66,18 +66,18 @@ loose_within setup w ends Server h taken = record { nothing_kept = h.at_server.n
 
 -- The law on two strict ends.
 abbrev pub RunStrictly : Type 0
-RunStrictly = (setup : Setup) (events : List Event) → IsMadeSetup setup → JudgesStrictly setup → AllByRecursion IsSendable events → ServerKnows events (answers_of_ends (new_ends setup) events)
+RunStrictly = (setup : Setup) (events : List Event) → IsMadeSetup setup → JudgesStrictly setup → AllByRecursion (IsSendable setup) events → ServerKnows events (answers_of_ends (new_ends setup) events)
     → (w : World) × Run (Happens (plain_setup setup)) (empty_world (plain_setup setup)) (without_malformed events (answers_of_ends (new_ends setup) events)) (answers_without_malformed (answers_of_ends (new_ends setup) events)) w
     × Stands (plain_setup setup) w (plain_ends (ends_after (new_ends setup) events))
 
-module _ (short : SectionsAreShort) (setup : Setup) (events : List Event) (made : IsMadeSetup setup) (sendable : AllByRecursion IsSendable events) (taken : AreTaken setup events (answers_of_ends (new_ends setup) events)) where
+module _ (short : SectionsAreShort) (setup : Setup) (events : List Event) (made : IsMadeSetup setup) (sendable : AllByRecursion (IsSendable setup) events) (taken : AreTaken setup events (answers_of_ends (new_ends setup) events)) where
   taken_at : (past rest : List Event) → events ≡ past ++ rest → answers_of_ends (new_ends setup) past ≡ answers_of_ends (unlimited_ends (new_ends setup)) past → AreTaken setup past (answers_of_ends (unlimited_ends (new_ends setup)) past)
   taken_at past rest is same = subst (AreTaken setup past) same (taken_front setup (new_ends setup) past rest (subst (λ l. AreTaken setup l (answers_of_ends (new_ends setup) l)) is taken))
 
   -- neither asks for strict messages
   loose_find_none : RunInWorlds → AsksForNone setup → FindNone setup events
   loose_find_none headline none past rest is same side =
-      let ran = headline (unlimited_setup setup) past (setup_unlimited setup made) (unlimited_plainly setup none) (sendable_front past rest (subst (AllByRecursion IsSendable) is sendable)) in
+      let ran = headline (unlimited_setup setup) past (setup_unlimited setup made) (unlimited_plainly setup none) (sendable_front setup past rest (subst (AllByRecursion (IsSendable setup)) is sendable)) in
       loose_within setup ran.0 (ends_after (unlimited_ends (new_ends setup)) past) side ran.2
       (run_from_nothing setup short (unlimited_setup setup) ran.0 past (answers_of_ends (unlimited_ends (new_ends setup)) past) ran.1 (taken_at past rest is same))
 
@@ -92,7 +92,7 @@ module _ (short : SectionsAreShort) (setup : Setup) (events : List Event) (made 
   strict_find_none headline strict knows past rest is same side =
       let answers = answers_of_ends (unlimited_ends (new_ends setup)) past in
       let known = subst (ServerKnows past) same (knows_front (λ id. false) (new_ends setup) past rest (subst (λ l. ServerKnows l (answers_of_ends (new_ends setup) l)) is knows)) in
-      let ran = headline (unlimited_setup setup) past (setup_unlimited setup made) (unlimited_strictly setup strict) (sendable_front past rest (subst (AllByRecursion IsSendable) is sendable)) known in
+      let ran = headline (unlimited_setup setup) past (setup_unlimited setup made) (unlimited_strictly setup strict) (sendable_front setup past rest (subst (AllByRecursion (IsSendable setup)) is sendable)) known in
       plain_within setup ran.0 (ends_after (unlimited_ends (new_ends setup)) past) side ran.2
       (run_from_nothing setup short (plain_setup (unlimited_setup setup)) ran.0 (without_malformed past answers) (answers_without_malformed answers) ran.1 (taken_left setup past answers (taken_at past rest is same)))
 

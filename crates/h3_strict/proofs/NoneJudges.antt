@@ -49,7 +49,7 @@ use Rattle.h3_strict.specs.Tallies.{Tallies, TalliesFlow, JudgesStrictly, awaite
 -- The law that two ends without strict messages run in a world, over every schedule.
 abbrev pub RunsInWorlds : Setup → Type 0
 RunsInWorlds setup =
-    (events : List Event) → AllByRecursion IsSendable events → (w : World) × Run (Happens setup) (empty_world setup) events (answers_of_ends (new_ends setup) events) w × Stands setup w (ends_after (new_ends setup) events)
+    (events : List Event) → AllByRecursion (IsSendable setup) events → (w : World) × Run (Happens setup) (empty_world setup) events (answers_of_ends (new_ends setup) events) w × Stands setup w (ends_after (new_ends setup) events)
 
 -- less is known
 known_less : (setup : Setup) (w : World) (ends : Ends) (known later : ℕ → Bool) → ((id : ℕ) → later id ≡ true → known id ≡ true) → Tallies setup w ends known → Tallies setup w ends later
@@ -129,19 +129,19 @@ module _ (laws : Laws) (setup : Setup) (made : IsMadeSetup (plain_setup setup)) 
 
   -- Behind some events, of which those that were not refused as malformed lead to this world.
   record Reached (past : List Event) (ends : Ends) (known : ℕ → Bool) : Type 0 where
-    sendable : AllByRecursion IsSendable past
+    sendable : AllByRecursion (IsSendable setup) past
     leads : ends_after (new_ends (plain_setup setup)) past ≡ plain_ends ends
     world : World
     run : Run (Happens (plain_setup setup)) (empty_world (plain_setup setup)) past (answers_of_ends (new_ends (plain_setup setup)) past) world
     stands : Stands (plain_setup setup) world (plain_ends ends)
     tallies : Tallies setup world ends known
 
-  all_more : (past : List Event) (e : Event) → AllByRecursion IsSendable past → IsSendable e → AllByRecursion IsSendable (past ++ e ∷ [])
+  all_more : (past : List Event) (e : Event) → AllByRecursion (IsSendable setup) past → IsSendable setup e → AllByRecursion (IsSendable setup) (past ++ e ∷ [])
   all_more [] e h k = (k, tt)
   all_more (d ∷ past) e h k = (h.0, all_more past e h.1 k)
 
   module _ (runs : RunsInWorlds (plain_setup setup)) where
-    goes_on : (past : List Event) (ends : Ends) (known : ℕ → Bool) (e : Event) → IsSendable e → AnswersKnowing known e (answered ends e).0 → answered (plain_ends ends) e ≡ ((answered ends e).0, plain_ends (answered ends e).1)
+    goes_on : (past : List Event) (ends : Ends) (known : ℕ → Bool) (e : Event) → IsSendable setup e → AnswersKnowing known e (answered ends e).0 → answered (plain_ends ends) e ≡ ((answered ends e).0, plain_ends (answered ends e).1)
         → Reached past ends known → Reached (past ++ e ∷ []) (answered ends e).1 (λ id. knows_behind id (known id) e (answered ends e).0)
     goes_on past ends known e sendable knows same r =
         let plain = plain_setup setup in
@@ -164,7 +164,7 @@ module _ (laws : Laws) (setup : Setup) (made : IsMadeSetup (plain_setup setup)) 
           tallies = event_tally e r.world next.0 ends known r.stands stands happens knows r.tallies;
         }
 
-    next_from : (events past : List Event) (ends : Ends) (known : ℕ → Bool) (e : Event) → StepsPlainly ends e → IsSendable e → AnswersKnowing known e (answered ends e).0
+    next_from : (events past : List Event) (ends : Ends) (known : ℕ → Bool) (e : Event) → StepsPlainly ends e → IsSendable setup e → AnswersKnowing known e (answered ends e).0
         → ServerKnowsFrom (λ id. knows_behind id (known id) e (answered ends e).0) events (answers_of_ends (answered ends e).1 events) → Reached past ends known
         → ((p : List Event) (n : Ends) (k : ℕ → Bool) → ServerKnowsFrom k events (answers_of_ends n events) → Reached p n k → NoneJudges n events) → NoneJudges (answered ends e).1 events
     next_from events past ends known e (RefusesMalformed told same) sendable knows later r rest =
@@ -175,7 +175,7 @@ module _ (laws : Laws) (setup : Setup) (made : IsMadeSetup (plain_setup setup)) 
     next_from events past ends known e (Alike told same) sendable knows later r rest =
         rest (past ++ e ∷ []) (answered ends e).1 (λ id. knows_behind id (known id) e (answered ends e).0) later (goes_on past ends known e sendable knows same r)
 
-    none_from : (events past : List Event) (ends : Ends) (known : ℕ → Bool) → AllByRecursion IsSendable events → ServerKnowsFrom known events (answers_of_ends ends events) → Reached past ends known → NoneJudges ends events
+    none_from : (events past : List Event) (ends : Ends) (known : ℕ → Bool) → AllByRecursion (IsSendable setup) events → ServerKnowsFrom known events (answers_of_ends ends events) → Reached past ends known → NoneJudges ends events
     none_from [] past ends known sendable knows r = tt
     none_from (e ∷ events) past ends known sendable knows r =
         (none_here e r.world ends known r.stands r.tallies, next_from events past ends known e (every_step ends e) sendable.0 knows.0 knows.1 r (λ p n k later q. none_from events p n k sendable.1 later q))
@@ -221,7 +221,7 @@ begins_tally setup = record {
     flows Server id = at Server id
 
 -- **Between two strict ends no pull finds a message malformed.**
-pub none_judges : (laws : Laws) (setup : Setup) (events : List Event) → IsMadeSetup (plain_setup setup) → RunsInWorlds (plain_setup setup) → JudgesStrictly setup → AllByRecursion IsSendable events
+pub none_judges : (laws : Laws) (setup : Setup) (events : List Event) → IsMadeSetup (plain_setup setup) → RunsInWorlds (plain_setup setup) → JudgesStrictly setup → AllByRecursion (IsSendable setup) events
     → ServerKnows events (answers_of_ends (new_ends setup) events) → NoneJudges (new_ends setup) events
 none_judges laws setup events made runs strict sendable knows =
     let begun = runs [] tt in

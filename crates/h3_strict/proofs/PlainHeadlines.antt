@@ -28,18 +28,18 @@ same_section setup Server = refl
 
 -- h3_headline's laws of endpoints that ask for no strict messages
 abbrev pub RunInWorlds : Type 0
-RunInWorlds = (setup : Setup) (events : List Event) → IsMadeSetup setup → JudgesPlainly setup → AllByRecursion IsSendable events
+RunInWorlds = (setup : Setup) (events : List Event) → IsMadeSetup setup → JudgesPlainly setup → AllByRecursion (IsSendable setup) events
     → (w : World) × Run (Happens setup) (empty_world setup) events (answers_of_ends (new_ends setup) events) w × Stands setup w (ends_after (new_ends setup) events)
 
-module _ (setup : Setup) (events : List Event) (made : IsMadeSetup setup) (sendable : AllByRecursion IsSendable events) (runs : RunsPlainly (new_ends setup) events) where
+module _ (setup : Setup) (events : List Event) (made : IsMadeSetup setup) (sendable : AllByRecursion (IsSendable setup) events) (runs : RunsPlainly (new_ends setup) events) where
   abbrev pub left : List Event
   left = without_malformed events (answers_of_ends (new_ends setup) events)
 
   abbrev left_answers : List Answer
   left_answers = answers_without_malformed (answers_of_ends (new_ends setup) events)
 
-  pub may_be_sent : AllByRecursion IsSendable left
-  may_be_sent = sendable_left events (answers_of_ends (new_ends setup) events) sendable
+  pub may_be_sent : AllByRecursion (IsSendable setup) left
+  may_be_sent = sendable_left setup events (answers_of_ends (new_ends setup) events) sendable
 
   abbrev plain_answers : List Answer
   plain_answers = answers_of_ends (new_ends (plain_setup setup)) left

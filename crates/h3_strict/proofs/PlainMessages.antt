@@ -13,6 +13,7 @@ use Rattle.h3_world.specs.declared.event.Answer.{Answer}
 use Rattle.h3_world.specs.declared.event.Answer.TheVariants as answer
 use Rattle.h3_world.specs.declared.event.Event.{Event}
 use Rattle.h3_world.specs.declared.event.Event.TheVariants as event
+use Rattle.h3_world.specs.declared.setup.Setup.{Setup}
 use Rattle.h3_strict.specs.PlainEnds.{answers_without_malformed, is_malformed_refusal, without_malformed}
 use Rattle.h3_strict.specs.Plainly.{is_malformed}
 
@@ -109,12 +110,12 @@ same_faults [] = refl
 same_faults (a ∷ answers) = faults_if a answers (is_malformed_refusal a) (λ is. ap is_connection_fault (refused_is a is).1) (same_faults answers)
 
 -- what is left may be sent
-sendable_if : (e : Event) (events : List Event) (b : Bool) → IsSendable e → AllByRecursion IsSendable events → AllByRecursion IsSendable (if b then events else e ∷ events)
-sendable_if e events true first h = h
-sendable_if e events false first h = (first, h)
+sendable_if : (setup : Setup) (e : Event) (events : List Event) (b : Bool) → IsSendable setup e → AllByRecursion (IsSendable setup) events → AllByRecursion (IsSendable setup) (if b then events else e ∷ events)
+sendable_if setup e events true first h = h
+sendable_if setup e events false first h = (first, h)
 
-pub sendable_left : (events : List Event) (answers : List Answer) → AllByRecursion IsSendable events → AllByRecursion IsSendable (without_malformed events answers)
-sendable_left [] [] h = tt
-sendable_left [] (a ∷ answers) h = tt
-sendable_left (e ∷ events) [] h = tt
-sendable_left (e ∷ events) (a ∷ answers) h = sendable_if e (without_malformed events answers) (is_malformed_refusal a) h.0 (sendable_left events answers h.1)
+pub sendable_left : (setup : Setup) (events : List Event) (answers : List Answer) → AllByRecursion (IsSendable setup) events → AllByRecursion (IsSendable setup) (without_malformed events answers)
+sendable_left setup [] [] h = tt
+sendable_left setup [] (a ∷ answers) h = tt
+sendable_left setup (e ∷ events) [] h = tt
+sendable_left setup (e ∷ events) (a ∷ answers) h = sendable_if setup e (without_malformed events answers) (is_malformed_refusal a) h.0 (sendable_left setup events answers h.1)

@@ -9,7 +9,7 @@ use Rattle.h3_connection.specs.AnnouncingLaws.{announced_as, announces}
 use Rattle.h3_connection.specs.Endpoint.{new_endpoint}
 use Rattle.h3_connection.specs.declared.setup.Announced.{Announced}
 use Rattle.h3_world.specs.Ends.{new_ends}
-use Rattle.h3_world.specs.Setup.{IsMade, IsMadeSetup, JudgesPlainly}
+use Rattle.h3_world.specs.Setup.{IsMade, IsMadeSetup, JudgesPlainly, announced_at, takes_any}
 use Rattle.h3_world.specs.declared.setup.Setup.{Setup}
 use Rattle.h3_strict.specs.PlainEnds.{plain_ends, plain_setup}
 use Rattle.h3_strict.specs.Plainly.{plain, plainly}
@@ -36,6 +36,11 @@ made_plainly a h =
 
 pub setup_plainly : (setup : Setup) → IsMadeSetup setup → IsMadeSetup (plain_setup setup)
 setup_plainly setup h = record { client = made_plainly setup.client h.client; server = made_plainly setup.server h.server }
+
+-- the same protocols are taken
+pub same_protocols : (setup : Setup) (side : Side) → takes_any (announced_at (plain_setup setup) side) ≡ takes_any (announced_at setup side)
+same_protocols setup Client = refl
+same_protocols setup Server = refl
 
 pub judges_plainly : (setup : Setup) → JudgesPlainly (plain_setup setup)
 judges_plainly setup Client = (refl, refl)

@@ -1,5 +1,6 @@
 -- A pull at a strict end finds no message malformed, and leaves that both ends count alike.
 use Rattle.std.proofs.Common.{◌≡◌, ℕ, Bool, true, false, refl, sym, ap, ◌∙◌, subst, Option, Some, None, if◌then◌else◌}
+use Rattle.std.specs.List.{AllByRecursion}
 use Rattle.std.specs.Prelude.{◌||◌, unwrap_or, option_map}
 use Rattle.h3_proto.specs.declared.stream.Side.{Side}
 use Rattle.h3_proto.specs.declared.stream.Side.TheVariants.{Client}
@@ -32,8 +33,9 @@ use Rattle.h3_headline.specs.DecodesLaws.{next_readable}
 use Rattle.h3_headline.specs.FlowLaws.{open_there, other-other}
 use Rattle.h3_headline.specs.SendingLaws.{both_of}
 use Rattle.h3_headline.specs.SessionDecoderLaws.{endpoint_decodes}
-use Rattle.h3_headline.specs.Standing.{ReceivesFlow, Stands, StandsAt}
+use Rattle.h3_headline.specs.Standing.{IsReadableBy, ReceivesFlow, Stands, StandsAt}
 use Rattle.h3_strict.proofs.KeepsCounts.{KeepsBut, SameCounts, no_stream, same_streams, streams_keep}
+use Rattle.h3_strict.proofs.PlainSetups.{same_protocols}
 use Rattle.h3_strict.proofs.PlainStreams.{at_each}
 use Rattle.h3_strict.proofs.SentTallies.{side_of, stands_at}
 use Rattle.h3_strict.proofs.StrictStreams.{pull_counts}
@@ -108,7 +110,7 @@ module _ (laws : Laws) (setup : Setup) (made : IsMadeSetup (plain_setup setup)) 
       (subst (λ (a : Announced). PullsOn side awaited i.response f (pull_stream side a id puller.decoding.decoder i)) (sym (t.announced side))
       (pull_counts laws.lists side own id puller.decoding.decoder (strict side).0 (strict side).1 awaited i.response came (party w (other side)) f i (sound_flow (plain_setup setup) w (other side) id h.sound there) r.same alive more
       (endpoint_decodes laws.streams laws.lists (plain_setup setup) w side id (plainly puller) made puller_stands h.sound r.opened alive)
-      (next_readable laws.lists side own id came puller.decoding.decoder f (b.sends_there id))
+      (next_readable laws.lists side own id came puller.decoding.decoder f (subst (λ any. AllByRecursion (IsReadableBy any side) f.sent) (same_protocols setup side) (b.sends_there id)))
       tallied.unbroken (record { counts = counts; response = refl })))
 
   -- **No pull finds a message malformed.**

@@ -6,7 +6,7 @@ use Rattle.h3_field.specs.Instruction.{DecoderInstruction}
 use Rattle.h3_header.specs.Head as header
 use Rattle.h3_header.specs.HeadRead.{head_by}
 use Rattle.h3_header.specs.Reads.{head_of_fields}
-use Rattle.h3_header.specs.ReadsBack.{ReadsBack}
+use Rattle.h3_header.specs.ReadsBack.{ReadsBackBy}
 use Rattle.h3_messages.specs.Content.{asked_for, content_behind_status, content_expected, content_of_status, is_interim_status, is_without_content, may_end, said}
 use Rattle.h3_messages.specs.Messages.{value_of, violation_of_response}
 use Rattle.h3_messages.specs.declared.content.Asked.{Asked}
@@ -33,10 +33,11 @@ use Rattle.h3_world.specs.Flow.{Flow, Part, Section}
 use Rattle.h3_world.specs.Flow.Part.{Head, Interim, Trailer}
 use Rattle.h3_world.specs.Items.{after_item}
 use Rattle.h3_world.specs.Order.{next_part}
+use Rattle.h3_world.specs.Setup.{takes_any}
 use Rattle.h3_headline.specs.Cited.{ListsAreTheirValue}
 use Rattle.h3_headline.specs.PulledSectionLaws.{head_part, interim_part, trailer_part}
 use Rattle.h3_headline.specs.Pulling.{IsSectionPart, behind_section}
-use Rattle.h3_headline.specs.Standing.{IsReadable, place_after}
+use Rattle.h3_headline.specs.Standing.{IsReadableBy, place_after}
 use Rattle.h3_headline.specs.StatusLaws.{interim_by_last}
 use Rattle.h3_strict.proofs.OneStatus.{one_status}
 use Rattle.h3_strict.proofs.UnbrokenLaws.{along_next, ends_too, next_within}
@@ -119,7 +120,7 @@ module _ (lists : ListsAreTheirValue) (side : Side) (own : Announced) (id : ℕ)
     known_is : x.response ≡ known
     out : (y : Incoming) → y.body_left ≡ 0 → CountsAlong side awaited f.sent (f.parts_out + 1) 0 y.content → y.response ≡ response_behind side x.place x.response s.fields → PullsOn side awaited known f (head_or_trailer side id y replies None x.place (head_of_fields s.fields))
 
-  pub read_good : (f : Flow) (kind : header.Head → Item) (s : Section) (part : Part) (x : Incoming) (replies : List DecoderInstruction) → IsSectionPart kind s part → next_part f ≡ Some part → ReadsBack s.fields → x.body_left ≡ 0
+  pub read_good : (f : Flow) (kind : header.Head → Item) (s : Section) (part : Part) (x : Incoming) (replies : List DecoderInstruction) → IsSectionPart kind s part → next_part f ≡ Some part → ReadsBackBy (takes_any own) s.fields → x.body_left ≡ 0
       → Reads f s x replies → PullsOn side awaited known f (read_section side own id r x replies s.fields)
   read_good f kind s part x replies is next back none h =
       let status = last_value (codes ":status") s.fields in
@@ -137,9 +138,9 @@ module _ (lists : ListsAreTheirValue) (side : Side) (own : Announced) (id : ℕ)
 
   -- A final head.
   pub head_reads : (f : Flow) (s : Section) (x : Incoming) (replies : List DecoderInstruction) → next_part f ≡ Some (Head s) → place_after (take f.parts_out f.sent) ≡ BeforeHead → place_after (take (f.parts_out + 1) f.sent) ≡ InBody
-      → ReadsBack s.fields → IsReadable side (Head s) → IsUnbroken side own (content_along side awaited (take f.parts_out f.sent)) (Head s) → x.place ≡ BeforeHead → x.body_left ≡ 0
+      → IsReadableBy (takes_any own) side (Head s) → IsUnbroken side own (content_along side awaited (take f.parts_out f.sent)) (Head s) → x.place ≡ BeforeHead → x.body_left ≡ 0
       → Counting side awaited known f x → Reads f s x replies
-  head_reads f s x replies next place behind back readable unbroken at none counts =
+  head_reads f s x replies next place behind readable unbroken at none counts =
       let said = content_along side awaited (take f.parts_out f.sent) in
       let same : x.content ≡ said = counts.counts.before place in
       let more : content_along side awaited (take (f.parts_out + 1) f.sent) ≡ content_of_head side said s.fields = along_next side awaited f.sent f.parts_out (Head s) next in
@@ -182,16 +183,16 @@ module _ (lists : ListsAreTheirValue) (side : Side) (own : Announced) (id : ℕ)
 
   -- An interim head.
   pub interim_reads : (f : Flow) (s : Section) (x : Incoming) (replies : List DecoderInstruction) → next_part f ≡ Some (Interim s) → place_after (take f.parts_out f.sent) ≡ BeforeHead
-      → ReadsBack s.fields → IsReadable side (Interim s) → IsUnbroken side own (content_along side awaited (take f.parts_out f.sent)) (Interim s) → x.place ≡ BeforeHead → x.body_left ≡ 0
+      → IsReadableBy (takes_any own) side (Interim s) → IsUnbroken side own (content_along side awaited (take f.parts_out f.sent)) (Interim s) → x.place ≡ BeforeHead → x.body_left ≡ 0
       → Counting side awaited known f x → Reads f s x replies
-  interim_reads f s x replies next place back readable unbroken at none counts =
+  interim_reads f s x replies next place readable unbroken at none counts =
       let said = content_along side awaited (take f.parts_out f.sent) in
       let same : x.content ≡ said = counts.counts.before place in
       let more : content_along side awaited (take (f.parts_out + 1) f.sent) ≡ said = along_next side awaited f.sent f.parts_out (Interim s) next in
       let stays = same ∙ sym more in
       let is : side ≡ Client = client_is side readable.0 in
       let last = one_status s.fields (response_rules own s.fields strict (subst (λ d. broken_rule d own BeforeHead s.fields ≡ None) is unbroken.0)) in
-      let text : is_interim_text (last_value (codes ":status") s.fields) ≡ true = interim_by_last s.fields back.0 ∙ readable.2 in
+      let text : is_interim_text (last_value (codes ":status") s.fields) ≡ true = interim_by_last (takes_any own) s.fields readable.3.0 ∙ readable.2 in
       let status : is_interim_status (value_of (codes ":status") s.fields) ≡ true = sym (ap is_interim_text last) ∙ text in
       let whole_is : content_behind side x.place x.content s.fields ≡ x.content =
       ap (λ p. content_behind side p x.content s.fields) at ∙ ap (λ d. content_of_head d x.content s.fields) is ∙ interim_stays x.content (value_of (codes ":status") s.fields) (value_of (codes "content-length") s.fields) status in
@@ -217,9 +218,9 @@ module _ (lists : ListsAreTheirValue) (side : Side) (own : Announced) (id : ℕ)
 
   -- A trailer.
   pub trailer_reads : (f : Flow) (s : Section) (x : Incoming) (replies : List DecoderInstruction) → next_part f ≡ Some (Trailer s) → place_after (take (f.parts_out + 1) f.sent) ≡ AfterTrailer
-      → ReadsBack s.fields → IsReadable side (Trailer s) → IsUnbroken side own (content_along side awaited (take f.parts_out f.sent)) (Trailer s) → x.place ≡ InBody → x.body_left ≡ 0
+      → IsReadableBy (takes_any own) side (Trailer s) → IsUnbroken side own (content_along side awaited (take f.parts_out f.sent)) (Trailer s) → x.place ≡ InBody → x.body_left ≡ 0
       → Counting side awaited known f x → Reads f s x replies
-  trailer_reads f s x replies next after back readable unbroken at none counts =
+  trailer_reads f s x replies next after readable unbroken at none counts =
       let said = content_along side awaited (take f.parts_out f.sent) in
       let says : SaysNoMore x.content said = subst (λ n. SaysNoMore x.content (content_along side awaited (take (begun f.parts_out n) f.sent))) none counts.counts.counts in
       let more : content_along side awaited (take (f.parts_out + 1) f.sent) ≡ said = along_next side awaited f.sent f.parts_out (Trailer s) next in
@@ -234,7 +235,7 @@ module _ (lists : ListsAreTheirValue) (side : Side) (own : Announced) (id : ℕ)
         known_is = counts.response;
         out = λ y zero good responds. subst (λ p. PullsOn side awaited known f (head_or_trailer side id y replies None p (head_of_fields s.fields))) (sym at)
             (subst (PullsOn side awaited known f)
-            (sym (ap (λ b. if b then malformed id malformation.PseudoInTrailer y replies else item_at (item.Trailer (head_of_fields s.fields)) (record y { place = AfterTrailer })) readable))
+            (sym (ap (λ b. if b then malformed id malformation.PseudoInTrailer y replies else item_at (item.Trailer (head_of_fields s.fields)) (record y { place = AfterTrailer })) readable.0))
             (item_good f item.Trailer s (Trailer s) (trailer_part s) next (item.Trailer (head_of_fields s.fields)) (record y { place = AfterTrailer }) replies zero good
             (responds ∙ ap (λ p. response_behind side p x.response s.fields) at ∙ counts.response)));
       }

@@ -122,18 +122,18 @@ module _ (lists : ListsAreTheirValue) (side : Side) (own : Announced) (id : ℕ)
       → PullsOn side awaited known f (read_section side own id r x (acknowledgment id s.count) s.fields)
   next_reads p f (Interim t) s x sound next is unbroken readable place none counts =
       let at = part_at p f (Interim t) sound next in
-      let good = read_good lists side own id r strict awaited known f item.Interim t (Interim t) x (acknowledgment id t.count) (interim_part t) next at.sent.0.reads_back none
-      (interim_reads lists side own id r strict awaited known f t x (acknowledgment id t.count) next at.place_is at.sent.0.reads_back readable (unbroken_next side own awaited f.sent f.parts_out (Interim t) unbroken next) (place ∙ at.place_is) none counts) in
+      let good = read_good lists side own id r strict awaited known f item.Interim t (Interim t) x (acknowledgment id t.count) (interim_part t) next readable.3 none
+      (interim_reads lists side own id r strict awaited known f t x (acknowledgment id t.count) next at.place_is readable (unbroken_next side own awaited f.sent f.parts_out (Interim t) unbroken next) (place ∙ at.place_is) none counts) in
       subst (λ u. PullsOn side awaited known f (read_section side own id r x (acknowledgment id u.count) u.fields)) (same_section t s is) good
   next_reads p f (Head t) s x sound next is unbroken readable place none counts =
       let at = part_at p f (Head t) sound next in
-      let good = read_good lists side own id r strict awaited known f item.Head t (Head t) x (acknowledgment id t.count) (head_part t) next at.sent.0.reads_back none
-      (head_reads lists side own id r strict awaited known f t x (acknowledgment id t.count) next at.place_is at.place_next at.sent.0.reads_back readable (unbroken_next side own awaited f.sent f.parts_out (Head t) unbroken next) (place ∙ at.place_is) none counts) in
+      let good = read_good lists side own id r strict awaited known f item.Head t (Head t) x (acknowledgment id t.count) (head_part t) next readable.2 none
+      (head_reads lists side own id r strict awaited known f t x (acknowledgment id t.count) next at.place_is at.place_next readable (unbroken_next side own awaited f.sent f.parts_out (Head t) unbroken next) (place ∙ at.place_is) none counts) in
       subst (λ u. PullsOn side awaited known f (read_section side own id r x (acknowledgment id u.count) u.fields)) (same_section t s is) good
   next_reads p f (Trailer t) s x sound next is unbroken readable place none counts =
       let at = part_at p f (Trailer t) sound next in
-      let good = read_good lists side own id r strict awaited known f item.Trailer t (Trailer t) x (acknowledgment id t.count) (trailer_part t) next at.sent.0.reads_back none
-      (trailer_reads lists side own id r strict awaited known f t x (acknowledgment id t.count) next at.place_next at.sent.0.reads_back readable (unbroken_next side own awaited f.sent f.parts_out (Trailer t) unbroken next) (place ∙ at.place_is) none counts) in
+      let good = read_good lists side own id r strict awaited known f item.Trailer t (Trailer t) x (acknowledgment id t.count) (trailer_part t) next readable.1 none
+      (trailer_reads lists side own id r strict awaited known f t x (acknowledgment id t.count) next at.place_next readable (unbroken_next side own awaited f.sent f.parts_out (Trailer t) unbroken next) (place ∙ at.place_is) none counts) in
       subst (λ u. PullsOn side awaited known f (read_section side own id r x (acknowledgment id u.count) u.fields)) (same_section t s is) good
   next_reads p f (Body bytes own_length) s x sound next is unbroken readable place none counts = cc
   next_reads p f End s x sound next is unbroken readable place none counts = cc

@@ -64,7 +64,7 @@ ghost use Rattle.h3_strict.specs.PlainEnds.{answers_without_malformed, without_m
 /// answers without the sends that were refused as malformed are those of a run of the world of the setup that asks for no strict messages.
 /// All that is said of each step holds there, and both ends without strict messages stand in the world that it leads to.
 pub fn strict_endpoints_run_in_a_world()
-    ensures { (setup : Setup) (events : List Event) → IsMadeSetup setup → AllByRecursion IsSendable events → RunsPlainly (new_ends setup) events →
+    ensures { (setup : Setup) (events : List Event) → IsMadeSetup setup → AllByRecursion (IsSendable setup) events → RunsPlainly (new_ends setup) events →
         (w : World) × Run (Happens (plain_setup setup)) (empty_world (plain_setup setup)) (without_malformed events (answers_of_ends (new_ends setup) events)) (answers_without_malformed (answers_of_ends (new_ends setup) events)) w
         × Stands (plain_setup setup) w (plain_ends (ends_after (new_ends setup) events)) }
 {
@@ -81,10 +81,10 @@ ghost use Rattle.h3_headline.specs.Messages.{IsFrontOf, at_reader, has_finished,
 /// By their own answers, with no world in view: in such a schedule no answer tells of a connection fault. What a side pulled from a stream
 /// is a front of what the other side sent on it, and all of that with the end.
 pub fn strict_endpoints_hand_out_what_was_sent()
-    ensures fault { (setup : Setup) (events : List Event) → IsMadeSetup setup → AllByRecursion IsSendable events → RunsPlainly (new_ends setup) events → list_any is_connection_fault (answers_of_ends (new_ends setup) events) ≡ false }
-    ensures front { (setup : Setup) (events : List Event) (side : Side) (id : ℕ) → IsMadeSetup setup → AllByRecursion IsSendable events → RunsPlainly (new_ends setup) events →
+    ensures fault { (setup : Setup) (events : List Event) → IsMadeSetup setup → AllByRecursion (IsSendable setup) events → RunsPlainly (new_ends setup) events → list_any is_connection_fault (answers_of_ends (new_ends setup) events) ≡ false }
+    ensures front { (setup : Setup) (events : List Event) (side : Side) (id : ℕ) → IsMadeSetup setup → AllByRecursion (IsSendable setup) events → RunsPlainly (new_ends setup) events →
         IsFrontOf (pulled side id events (answers_of_ends (new_ends setup) events)) (map (at_reader (section_of (announced_at setup side))) (sent (other side) id events (answers_of_ends (new_ends setup) events))) }
-    ensures end { (setup : Setup) (events : List Event) (side : Side) (id : ℕ) → IsMadeSetup setup → AllByRecursion IsSendable events → RunsPlainly (new_ends setup) events →
+    ensures end { (setup : Setup) (events : List Event) (side : Side) (id : ℕ) → IsMadeSetup setup → AllByRecursion (IsSendable setup) events → RunsPlainly (new_ends setup) events →
         has_pulled_end side id events (answers_of_ends (new_ends setup) events) ≡ true →
         (pulled side id events (answers_of_ends (new_ends setup) events) ≡ map (at_reader (section_of (announced_at setup side))) (sent (other side) id events (answers_of_ends (new_ends setup) events)))
         × (has_finished (other side) id events (answers_of_ends (new_ends setup) events) ≡ true) }
@@ -95,7 +95,7 @@ pub fn strict_endpoints_hand_out_what_was_sent()
 /// If no event judges in such a schedule of new ends, no answer finds a message malformed, a frame at the wrong place or one too long. So
 /// the answers alone tell what is judged.
 pub fn schedules_that_judge_nothing_find_no_fault()
-    ensures { (setup : Setup) (events : List Event) → IsMadeSetup setup → AllByRecursion IsSendable events → NoneJudges (new_ends setup) events → list_any finds_fault (answers_of_ends (new_ends setup) events) ≡ false }
+    ensures { (setup : Setup) (events : List Event) → IsMadeSetup setup → AllByRecursion (IsSendable setup) events → NoneJudges (new_ends setup) events → list_any finds_fault (answers_of_ends (new_ends setup) events) ≡ false }
 {
     h3_headline::laws::two_endpoints_run_in_a_world();
     strict_endpoints_hand_out_what_was_sent();

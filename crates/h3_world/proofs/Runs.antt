@@ -17,13 +17,13 @@ use Rattle.h3_world.proofs.StepsSound.{step_sound}
 use Rattle.h3_world.proofs.Happening.{step_happens}
 
 -- an exact step happens, and leaves a sound world
-pub exact_happens : QpackLaws → (setup : Setup) (w new : World) (e : Event) (a : Answer) → IsSendable e → Step setup w e a new → IsExact w e a → IsSoundWorld setup w → Happens setup w e a new × IsSoundWorld setup new
+pub exact_happens : QpackLaws → (setup : Setup) (w new : World) (e : Event) (a : Answer) → IsSendable setup e → Step setup w e a new → IsExact w e a → IsSoundWorld setup w → Happens setup w e a new × IsSoundWorld setup new
 exact_happens laws setup w new e a send step exact h =
     let after = step_sound laws setup w new e a send step exact h in
     (step_happens laws setup w new e a step exact h after, after)
 
 -- the machine's run, from any sound world
-pub machine_runs : QpackLaws → (setup : Setup) (w : World) (events : List Event) → AllByRecursion IsSendable events → IsSoundWorld setup w
+pub machine_runs : QpackLaws → (setup : Setup) (w : World) (events : List Event) → AllByRecursion (IsSendable setup) events → IsSoundWorld setup w
     → Run (Happens setup) w events (answers_from setup w events) (world_after setup w events) × IsSoundWorld setup (world_after setup w events)
 machine_runs laws setup w [] send h = (refl, h)
 machine_runs laws setup w (e ∷ es) send h =
@@ -37,7 +37,7 @@ machine_runs laws setup w (e ∷ es) send h =
 abbrev pub StepsExactly : Setup → World → Event → Answer → World → Type 0
 StepsExactly setup w e a new = Step setup w e a new × IsExact w e a
 
-pub run_happens : QpackLaws → (setup : Setup) (w new : World) (events : List Event) (answers : List Answer) → AllByRecursion IsSendable events → IsSoundWorld setup w → Run (StepsExactly setup) w events answers new
+pub run_happens : QpackLaws → (setup : Setup) (w new : World) (events : List Event) (answers : List Answer) → AllByRecursion (IsSendable setup) events → IsSoundWorld setup w → Run (StepsExactly setup) w events answers new
     → Run (Happens setup) w events answers new × IsSoundWorld setup new
 run_happens laws setup w new [] [] send h run = (run, subst (IsSoundWorld setup) (sym run) h)
 run_happens laws setup w new (e ∷ es) (a ∷ as_given) send h run =

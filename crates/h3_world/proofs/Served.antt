@@ -5,7 +5,7 @@ use Rattle.std.proofs.lemmas.Grind.{common_steps}
 use Rattle.h3_field.specs.Field.{Field, section_size}
 use Rattle.h3_header.specs.Head.{Head as Fields}
 use Rattle.h3_header.specs.Reads.{head_of_fields}
-use Rattle.h3_header.specs.ReadsBack.{ReadsBack}
+use Rattle.h3_header.specs.ReadsBack.{ReadsBackBy}
 use Rattle.h3_proto.specs.declared.stream.Side.{Side}
 use Rattle.h3_connection.specs.Announcing.{section_of}
 use Rattle.h3_connection.specs.OwnIds.{other}
@@ -52,7 +52,7 @@ own_came f came s e = by_test (nat_lt f.delivered s.own_length) refl e
     by_test false t h = at_most f.delivered s.own_length t
 
 -- what is handed out of a section is its item
-section_is : (kind : Fields → Item) (most : ℕ) (fields : List Field) → ReadsBack fields
+section_is : (kind : Fields → Item) (most : ℕ) (fields : List Field) → ReadsBackBy true fields
     → ((section_size fields ≤ most) → IsSectionItem kind most fields (kind (head_of_fields fields))) → IsSectionItem kind most fields (section_item kind most fields)
 section_is kind most fields back made = by_test (nat_lt most (section_size fields)) refl
   where

@@ -323,7 +323,7 @@ pull_sound setup w side id p new h pulls exact = by_settled (settled w side id) 
     by_settled (Some q) e n x = subst (IsSoundWorld setup) (sym n.1) h
 
 -- Every step that is exact, of an event that may be sent, keeps the world sound.
-pub step_sound : QpackLaws → (setup : Setup) (w new : World) (e : Event) (a : Answer) → IsSendable e → Step setup w e a new → IsExact w e a → IsSoundWorld setup w → IsSoundWorld setup new
+pub step_sound : QpackLaws → (setup : Setup) (w new : World) (e : Event) (a : Answer) → IsSendable setup e → Step setup w e a new → IsExact w e a → IsSoundWorld setup w → IsSoundWorld setup new
 step_sound laws setup w new (event.OpenRequest side) a send step exact h = does_sound setup _ w _ _ a new step h (λ e. opened_sound setup w h)
 step_sound laws setup w new (event.Head side id head) a send step exact h = does_sound setup _ w _ _ a new step h (head_sound laws setup w side id head h send.section)
 step_sound laws setup w new (event.Body side id bytes) a send step exact h = does_sound setup _ w _ _ a new step h (body_is_sound setup w side id bytes h send)

@@ -1,5 +1,5 @@
 -- What a client and a server announce (RFC 9114, section 7.2.4, and RFC 9204, section 5).
-use Rattle.std.specs.Prelude.{◌≡◌, ℕ, ◌<◌, Bool, false, Result, Ok, Err}
+use Rattle.std.specs.Prelude.{◌≡◌, ℕ, ◌<◌, Bool, false, ◌&&◌, Result, Ok, Err}
 use Rattle.h3_proto.specs.declared.config.Config.{Config}
 use Rattle.h3_proto.specs.Config.{announced, is_limit}
 use Rattle.h3_proto.specs.declared.stream.Side.{Side}
@@ -20,6 +20,14 @@ both (Ok client) (Err e) = Err e
 abbrev pub announced_at : Setup → Side → Announced
 announced_at setup Client = setup.client
 announced_at setup Server = setup.server
+
+-- it takes any short token as a protocol, or the two names alone (RFC 8441, section 4)
+abbrev pub takes_any : Announced → Bool
+takes_any a = a.choices.extensions.any_protocol
+
+-- a message from either side to the other may have any
+abbrev pub both_take_any : Setup → Bool
+both_take_any setup = takes_any setup.client && takes_any setup.server
 
 -- it has no limit on what is unfinished
 abbrev pub TakesAnyLength : Announced → Type 0

@@ -39,8 +39,8 @@ ghost use Rattle.h3_world.specs.declared.event.Answer.{Answer};
 /// wait than were announced.
 pub fn every_exact_step_happens()
     ensures begins { (setup : Setup) → IsSoundWorld setup (empty_world setup) }
-    ensures kept { (setup : Setup) (w new : World) (e : Event) (a : Answer) → IsSendable e → Step setup w e a new → IsExact w e a → IsSoundWorld setup w → IsSoundWorld setup new }
-    ensures both { (setup : Setup) (w new : World) (e : Event) (a : Answer) → IsSendable e → Step setup w e a new → IsExact w e a → IsSoundWorld setup w → Happens setup w e a new × IsSoundWorld setup new }
+    ensures kept { (setup : Setup) (w new : World) (e : Event) (a : Answer) → IsSendable setup e → Step setup w e a new → IsExact w e a → IsSoundWorld setup w → IsSoundWorld setup new }
+    ensures both { (setup : Setup) (w new : World) (e : Event) (a : Answer) → IsSendable setup e → Step setup w e a new → IsExact w e a → IsSoundWorld setup w → Happens setup w e a new × IsSoundWorld setup new }
     ensures happens { (setup : Setup) (w new : World) (e : Event) (a : Answer) → Step setup w e a new → IsExact w e a → IsSoundWorld setup w → IsSoundWorld setup new → Happens setup w e a new }
 {
     h3_qpack::laws::every_session_is_sound();
@@ -55,9 +55,9 @@ ghost use Rattle.h3_world.specs.Machine.{answers_from, world_after};
 /// Over every schedule of events that may be sent there is a run of which all that is said holds: the machine's. And it holds of every
 /// run of exact steps.
 pub fn every_schedule_runs()
-    ensures machine { (setup : Setup) (events : List Event) → AllByRecursion IsSendable events →
+    ensures machine { (setup : Setup) (events : List Event) → AllByRecursion (IsSendable setup) events →
         Run (Happens setup) (empty_world setup) events (answers_from setup (empty_world setup) events) (world_after setup (empty_world setup) events) }
-    ensures exact { (setup : Setup) (events : List Event) (answers : List Answer) (new : World) → AllByRecursion IsSendable events →
+    ensures exact { (setup : Setup) (events : List Event) (answers : List Answer) (new : World) → AllByRecursion (IsSendable setup) events →
         Run (λ w e a v. Step setup w e a v × IsExact w e a) (empty_world setup) events answers new → Run (Happens setup) (empty_world setup) events answers new × IsSoundWorld setup new }
 {
     h3_qpack::laws::every_session_is_sound();

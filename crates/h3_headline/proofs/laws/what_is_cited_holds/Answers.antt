@@ -15,6 +15,6 @@ returns c = record {
     written = c.every_section_is_written.ensures;
     values = c.every_encoding_means_its_fields.ensures.value;
   };
-  lists = c.lists_are_their_value.ensures.named;
+  lists = c.lists_are_their_value.ensures.head;
   written = c.instructions_can_be_written.ensures;
 }
