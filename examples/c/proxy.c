@@ -2,8 +2,9 @@
  * and PORT goes to the server at TO_ADDRESS and TO_PORT, whose certificate has to have the name TO_NAME.
  * --help has the options.
  *
- * Bodies go through as they come: the reader of each sets its pace, and a window on each side is all that is kept. A request that the server did not
- * process (GOAWAY, H3_REQUEST_REJECTED), or whose connection was lost before an answer if it may be repeated, is sent again.
+ * Bodies go through as they come: the reader of each sets its pace, and a window on each side is all that is kept. So do the bytes of tunnels, each
+ * way to an end of its own. A request that the server did not process (GOAWAY, H3_REQUEST_REJECTED), or whose connection was lost before an answer if
+ * it may be repeated, is sent again.
  * SIGTERM and SIGINT: GOAWAY on each connection; what was begun goes on until it is over, or --drain. The second signal ends it.
  * SIGHUP: reads the certificates again, for new connections, and opens the log again. SIGUSR1: counts, to standard error. */
 #include "access.h"
@@ -209,7 +210,7 @@ static const char *read_request(exchange *exchange, const http3_list *list) {
   if (is_connect && !exchange->is_tunnel) return "501";
   if (strcmp(method, "OPTIONS") == 0 && strcmp(hops, "0") == 0) return "204"; /* RFC 9110, section 7.6.2 */
   if (forward_is_loop(list)) return "508";
-  http3_prefer(exchange->front, list);
+  if (!exchange->is_tunnel) http3_prefer(exchange->front, list); /* tunnels take turns with others (RFC 9218, section 11) */
   http3_peer(exchange->front->connection, peer);
   exchange->head = forward_request(list, peer);
   return exchange->head ? NULL : "500";

@@ -103,7 +103,7 @@ check "proxy --tunnels: a reset of the server's, with its code" tunnel "200 1000
 check "proxy --tunnels: a client's reset" tunnel "200 8000" "$through" websocket /echo reset 1000
 check "proxy --tunnels: reaches the server, with its code" soon grep -q "failed: H3_CONNECT_ERROR" "$work/origin.log"
 check "proxy --tunnels: a server that reads nothing more, after its end" tunnel "200 6 ended stopped" "$through" websocket /early open 0
-check "proxy --tunnels: and before its last bytes, which come" tunnel "200 5 ended" "$through" websocket /deaf all 100000
+check "proxy --tunnels: and one that does before its last bytes, which come" tunnel "200 5 ended" "$through" websocket /deaf all 100000
 check "proxy --tunnels: a client that reads nothing more, but sends 120 kB" tunnel "200 sent" "$through" websocket /both deaf 15000
 check "proxy --tunnels: they reach the server" soon grep -q "120000 came after the answer" "$work/origin.log"
 check "proxy --tunnels: which is stopped" soon grep -q "^stopped" "$work/origin.log"
@@ -116,7 +116,7 @@ check "proxy --tunnels: nor if its connection was lost" tunnel "502 0 ended" "$t
 still() {
   within 60 "$work/tunnel" "$cert" "$through" websocket /echo still 500000 | tee "$work/log" > "$work/got"
   read -r status went came end < "$work/got"
-  [ "$status $came $end" = "200 4000000 ended" ] && [ "$went" -ge 500000 ] && [ "$went" -le 1200000 ]
+  [ "$status $came $end" = "200 4000000 ended" ] && [ "$went" -ge 400000 ] && [ "$went" -le 1200000 ]
 }
 check "proxy --tunnels: of 4 MB to a reader that stands still the windows are filled, and the rest comes later" still
 check "proxy --tunnels: a session of WebTransport is not taken" tunnel "501 0 ended" "$through" webtransport /echo none 0

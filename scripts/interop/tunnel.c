@@ -1,18 +1,17 @@
-/* tunnel TRUSTED PORT PROTOCOL PATH HOW COUNT: extended CONNECT (RFC 9220) of a protocol, through a proxy. COUNT capsules of 8 bytes, each a datagram with
- * its number (RFC 9297, section 3.5), go out and then the end; what comes back from /echo has to be the same.
+/* tunnel TRUSTED PORT PROTOCOL PATH HOW COUNT: extended CONNECT (RFC 9220) of a protocol, through a proxy. COUNT capsules of 8 bytes, each a datagram
+ * with its number (RFC 9297, section 3.5), go out and then the end; what comes back from /echo has to be the same.
  *
  *   turns    each goes when the one before has come back
  *   all      as fast as they can
- *   at once  the same, and before an answer came
- *   after    the same, when the server's end has come
- *   still    the same, but nothing is read for a second: the bytes that went until then are printed
- *   deaf     the same, and nothing is read from the first bytes on that come: STOP_SENDING
- *   reset    the same, and when all came back, a reset with H3_CONNECT_ERROR
+ *   at once  as `all`, and before an answer came
+ *   after    as `all`, when the server's end has come
+ *   still    as `all`, but nothing is read until for a second nothing more went: the bytes that did are printed
+ *   deaf     as `all`, and when the first bytes come, STOP_SENDING
+ *   reset    as `all`, and when all came back, a reset with H3_CONNECT_ERROR instead of the end
  *   none     nothing goes, nor an end
- *   open     the same, also after the server's end
+ *   open     as `none`, and it stays after the server's end until STOP_SENDING comes, which is printed
  *
- * It prints the status, how many bytes came, and 'ended' for the server's end, 'stopped' for its STOP_SENDING, 'sent' if the proxy has all, or why there is
- * no more. */
+ * It prints the status, how many bytes came, and 'ended' for the server's end, 'sent' if the proxy has all, or why there is no more. */
 #include "http3.h"
 #include <stdio.h>
 #include <stdlib.h>
@@ -53,6 +52,7 @@ static void send_more(void) {
     for (size_t i = 0; i < count; i++) piece[i] = byte_at(sent + i);
     if (!http3_body(request, piece, count)) abort();
     sent += count;
+    if (still_until > 0) still_until = quic_time() + STILL;
     if (sent == total && !is_how("reset")) http3_finish(request);
   }
 }
@@ -96,9 +96,10 @@ static void on_failed(http3_request *of, const h3_item *item) {
 
 static void on_stopped(http3_request *of) {
   (void)of;
-  printf(" stopped");
   is_open = false;
-  is_over = is_how("open");
+  if (!is_how("open")) return;
+  printf(" stopped");
+  is_over = true;
 }
 
 /* Its stream is closed: QUIC has acknowledged all. */
