@@ -528,6 +528,7 @@ static void fill(void *owner) {
   offer_all(h);
   for (http3_request *request = TAILQ_FIRST(&h->requests), *next; request; request = next) {
     next = TAILQ_NEXT(request, order);
+    if (request->closed && request->sending) was_stopped(h, (int64_t)request->entry.id); /* while nothing was to be sent QUIC does not say so */
     if (request->closed && request->settled) drop(request);
     else stop_in_time(request);
   }
@@ -741,6 +742,7 @@ void http3_ignore(http3_request *request) {
   if (request->settled) return;
   cancel(request);
   request->stop_at = quic_time() + GRACE;
+  quic_wake(request->connection->quic, GRACE);
 }
 
 http3_list *http3_fields(http3 *h, const h3_item *head) { return list_of_item(&h->endpoint, head); }

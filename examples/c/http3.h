@@ -167,8 +167,8 @@ void http3_resume(http3_request *);
 void http3_give_up(http3_request *, uint64_t code);
 /* The same of the local message alone: the peer's goes on. */
 void http3_reset(http3_request *, uint64_t code);
-/* A server that has answered needs nothing more of the request (RFC 9114, section 4.1): the rest of its body does not come. The client learns
- * after a tenth of a second that it may stop, so that it reads the answer first: some clients fail if they are stopped while they send. */
+/* Nothing more of the peer's message is needed, as by a server that has answered (RFC 9114, section 4.1): the rest of its body does not come. The
+ * peer learns after a tenth of a second that it may stop, so that it reads the answer first: some clients fail if they are stopped while they send. */
 void http3_ignore(http3_request *);
 /* Why a message failed, for a log: the name of a malformation or of a code. */
 const char *http3_why(const h3_item *);

@@ -2,8 +2,9 @@
  * and PORT goes to the server at TO_ADDRESS and TO_PORT, whose certificate has to have the name TO_NAME.
  * --help has the options.
  *
- * Bodies go through as they come: the reader of each sets its pace, and a window on each side is all that is kept. A request that the server did not
- * process (GOAWAY, H3_REQUEST_REJECTED), or whose connection was lost before an answer if it may be repeated, is sent again.
+ * Bodies go through as they come: the reader of each sets its pace, and a window on each side is all that is kept. So do the bytes of tunnels, each
+ * way to an end of its own. A request that the server did not process (GOAWAY, H3_REQUEST_REJECTED), or whose connection was lost before an answer if
+ * it may be repeated, is sent again.
  * SIGTERM and SIGINT: GOAWAY on each connection; what was begun goes on until it is over, or --drain. The second signal ends it.
  * SIGHUP: reads the certificates again, for new connections, and opens the log again. SIGUSR1: counts, to standard error. */
 #include "access.h"
@@ -19,7 +20,8 @@
 
 enum {
   REPLAY = 16 * 1024, /* bytes of a request's body that are kept to be sent again */
-  TRIES = 3           /* connections that a request is sent on */
+  TRIES = 3,          /* connections that a request is sent on */
+  PROTOCOL = 32       /* bytes that a `:protocol` needs, and a NUL */
 };
 
 /* A request of a client's, and the one that is made of it. */
@@ -30,8 +32,10 @@ typedef struct exchange {
   http3_list *head, *trailer;    /* of the request, to be sent again: NULL once an answer came */
   uint8_t *body;                 /* of the request, likewise */
   size_t body_count;
-  bool is_waiting, is_tunnel, front_ended, answered, over;
-  bool body_lost; /* more of the body went than is kept */
+  bool is_waiting, answered, over;
+  bool is_tunnel;               /* extended CONNECT, unless the server refused it */
+  bool front_ended, back_ended; /* nothing more goes to the server, and to the client */
+  bool body_lost;               /* more of the body went than is kept */
   unsigned tries;
   uint64_t moved_at; /* when something moved last */
   access_entry entry;
@@ -67,13 +71,18 @@ static void forget_request(exchange *exchange) {
   exchange->body_lost = true;
 }
 
-/* The server's side is over, or no longer of interest. */
-static void leave_back(exchange *exchange) {
+/* The server's side goes on by itself, if at all. */
+static http3_request *let_go(exchange *exchange) {
   http3_request *back = exchange->back;
   exchange->back = NULL;
-  if (!back) return;
-  back->data = NULL;
-  http3_give_up(back, H3_CODE_REQUEST_CANCELLED);
+  if (back) back->data = NULL;
+  return back;
+}
+
+/* The server's side is over, or no longer of interest. */
+static void leave_back(exchange *exchange, uint64_t code) {
+  http3_request *back = let_go(exchange);
+  if (back) http3_give_up(back, code);
 }
 
 /* An answer of the proxy's: nothing of one of the server's went out. */
@@ -82,7 +91,7 @@ static void answer(exchange *exchange, const char *status) {
   http3_field fields[] = {{":status", status}, {"content-length", "0"}, {"date", date}, {"server", "h3-proxy"}};
   date_text(time(NULL), date);
   wait_no_more(exchange);
-  leave_back(exchange);
+  leave_back(exchange, H3_CODE_REQUEST_CANCELLED);
   exchange->answered = exchange->over = true;
   exchange->entry.status = (unsigned)atoi(status);
   if (http3_head_of(exchange->front, fields, 4)) http3_finish(exchange->front);
@@ -98,11 +107,39 @@ static void fail(exchange *exchange, const char *status, uint64_t code) {
   report("%s: stream %llu: %s, %s", peer, (unsigned long long)exchange->front->entry.id, exchange->answered ? "reset" : status, h3_code_text(code));
   if (!exchange->answered) return answer(exchange, status);
   wait_no_more(exchange);
-  leave_back(exchange);
+  leave_back(exchange, H3_CODE_REQUEST_CANCELLED);
   exchange->over = true;
   exchange->entry.failed = h3_code_text(code);
   /* a client may send a rejected request again: not one that has a part of an answer */
   http3_give_up(exchange->front, code == H3_CODE_REQUEST_REJECTED ? H3_CODE_INTERNAL_ERROR : code);
+}
+
+/* ---- tunnels ---- */
+
+/* The server took it: bytes go both ways, and each way ends by itself. */
+static bool is_open(const exchange *exchange) { return exchange->is_tunnel && exchange->answered && !exchange->over; }
+
+/* If both ways ended, what the server has not got yet goes to it within the credit that it granted. */
+static void end_tunnel(exchange *exchange) {
+  if (!is_open(exchange) || !exchange->front_ended || !exchange->back_ended) return;
+  exchange->over = true;
+  let_go(exchange);
+}
+
+/* The server of a tunnel reads nothing more: nor has the client to send more. What the server sends goes on. */
+static void stop_front(exchange *exchange) {
+  if (!is_open(exchange) || exchange->front_ended || exchange->back->sending) return;
+  exchange->front_ended = true;
+  http3_ignore(exchange->front);
+  end_tunnel(exchange);
+}
+
+/* The same of a client that reads nothing more. */
+static void stop_back(exchange *exchange) {
+  exchange->back_ended = true;
+  exchange->entry.failed = "stopped";
+  http3_ignore(exchange->back);
+  end_tunnel(exchange);
 }
 
 /* ---- the request goes to the server ---- */
@@ -134,9 +171,10 @@ static void begin(exchange *exchange) {
   http3_resume(exchange->front);
 }
 
-/* The server did nothing of the request, or may do it twice: it goes out again. false: it cannot. */
+/* The server did nothing of the request, or may do it twice: it goes out again. false: it cannot, as a tunnel of which bytes went out. */
 static bool begin_again(exchange *exchange) {
   if (exchange->answered || exchange->over || exchange->body_lost || exchange->tries >= TRIES) return false;
+  if (exchange->is_tunnel && exchange->body_count > 0) return false;
   wait(exchange); /* the connection may be ending just now: pool_tend knows */
   return true;
 }
@@ -159,19 +197,20 @@ static void front_over(void *user, const quic_ending *ending) { (void)user, (voi
 
 /* A new request: its fields go on, or (a status) an answer says why not. */
 static const char *read_request(exchange *exchange, const http3_list *list) {
-  char method[16] = "-", path[4096] = "-", hops[16] = "", protocol[16] = "", peer[QUIC_PLACE];
+  char method[16] = "-", path[4096] = "-", hops[16] = "", protocol[PROTOCOL] = "", peer[QUIC_PLACE];
   http3_wanted wanted[] = {{.name = ":method", .value = method, .room = sizeof method},
                            {.name = ":path", .value = path, .room = sizeof path, .optional = true},
                            {.name = "max-forwards", .value = hops, .room = sizeof hops, .optional = true},
                            {.name = ":protocol", .value = protocol, .room = sizeof protocol, .optional = true}};
-  bool is_known = http3_find(list, wanted, 4);
+  bool is_known = http3_find(list, wanted, 4), is_connect = strcmp(method, "CONNECT") == 0;
   access_begin(&exchange->entry, method, path);
   if (!is_known || strcmp(method, "TRACE") == 0) return "501";
-  exchange->is_tunnel = takes_tunnels && strcmp(protocol, "connect-udp") == 0;
-  if (strcmp(method, "CONNECT") == 0 && !exchange->is_tunnel) return "501";
+  /* a session of WebTransport has streams beside its request, which do not go through */
+  exchange->is_tunnel = takes_tunnels && is_connect && *protocol && strcmp(protocol, "webtransport") != 0;
+  if (is_connect && !exchange->is_tunnel) return "501";
   if (strcmp(method, "OPTIONS") == 0 && strcmp(hops, "0") == 0) return "204"; /* RFC 9110, section 7.6.2 */
   if (forward_is_loop(list)) return "508";
-  http3_prefer(exchange->front, list);
+  if (!exchange->is_tunnel) http3_prefer(exchange->front, list); /* tunnels take turns with others (RFC 9218, section 11) */
   http3_peer(exchange->front->connection, peer);
   exchange->head = forward_request(list, peer);
   return exchange->head ? NULL : "500";
@@ -215,20 +254,24 @@ static void front_end(http3_request *front) {
   exchange *exchange = front->data;
   exchange->front_ended = true;
   if (exchange->back && !exchange->over) finish_back(exchange);
+  end_tunnel(exchange);
 }
 
 /* The client gave up, or sent what it must not: it has its reset already. */
 static void front_failed(http3_request *front, const h3_item *item) {
   exchange *exchange = front->data;
+  bool is_reset = item && item->kind == H3_FAULT_RESET && item->number != H3_CODE_REQUEST_REJECTED; /* that code is a server's */
   if (!exchange->front) return;
   if (!exchange->over) exchange->entry.failed = item ? http3_why(item) : "stopped";
   wait_no_more(exchange);
-  leave_back(exchange);
+  leave_back(exchange, is_reset ? item->number : H3_CODE_REQUEST_CANCELLED);
   exchange->over = true;
 }
 
 /* It reads nothing more of the answer. */
 static void front_stopped(http3_request *front) {
+  exchange *exchange = front->data;
+  if (is_open(exchange)) return stop_back(exchange);
   front_failed(front, NULL);
   http3_give_up(front, H3_CODE_REQUEST_CANCELLED);
 }
@@ -242,7 +285,7 @@ static void front_freed(http3_request *front) {
   exchange *exchange = front->data;
   if (!exchange->front) return;
   wait_no_more(exchange);
-  leave_back(exchange);
+  leave_back(exchange, H3_CODE_REQUEST_CANCELLED);
   forget_request(exchange);
   if (!front->sent && !exchange->entry.failed) exchange->entry.failed = "cut";
   access_end(&exchange->entry, front->connection);
@@ -273,8 +316,10 @@ static void back_head(http3_request *back, const h3_item *item) {
   if (!sent) return fail(exchange, "502", H3_CODE_INTERNAL_ERROR);
   if (item->kind != H3_HEAD) return;
   exchange->answered = true;
+  exchange->is_tunnel = exchange->is_tunnel && item->status / 100 == 2;
   exchange->entry.status = (unsigned)item->status;
   forget_request(exchange);
+  stop_front(exchange);
 }
 
 static void back_body(http3_request *back, const uint8_t *bytes, size_t count) {
@@ -289,8 +334,10 @@ static void back_body(http3_request *back, const uint8_t *bytes, size_t count) {
 static void back_end(http3_request *back) {
   exchange *exchange = back->data;
   if (!exchange) return;
-  exchange->over = true;
+  exchange->back_ended = true;
   http3_finish(exchange->front);
+  if (is_open(exchange)) return end_tunnel(exchange);
+  exchange->over = true;
   if (exchange->front_ended) return;
   http3_reset(back, H3_CODE_NO_ERROR); /* the server answered before it had all of the request */
   http3_ignore(exchange->front);
@@ -308,8 +355,10 @@ static void back_failed(http3_request *back, const h3_item *item) {
 
 /* The server needs no more of the request: the rest is read and thrown away, until the answer is whole. */
 static void back_stopped(http3_request *back) {
-  const exchange *exchange = back->data;
-  if (exchange) http3_resume(exchange->front);
+  exchange *exchange = back->data;
+  if (!exchange) return;
+  http3_resume(exchange->front);
+  stop_front(exchange);
 }
 
 static void back_room(http3_request *back) {
@@ -317,13 +366,13 @@ static void back_room(http3_request *back) {
   if (exchange) http3_resume(exchange->front);
 }
 
-/* Before its end: the connection was lost. */
+/* Before its end, or while a tunnel goes on the other way: the connection was lost. */
 static void back_freed(http3_request *back) {
   exchange *exchange = back->data;
   pool_freed(back);
   if (!exchange) return;
   exchange->back = NULL;
-  if (back->settled) return;
+  if (exchange->over) return;
   if (exchange->head && forward_is_idempotent(exchange->head) && begin_again(exchange)) return;
   fail(exchange, "502", H3_CODE_INTERNAL_ERROR);
 }
@@ -387,7 +436,7 @@ static const struct argp_option known[] = {
     {"pool", 'p', "N", 0, "at most so many connections to the server (4; at most 16)", 0},
     {"timeout", 's', "SECONDS", 0, "a request on which nothing moves for so long is given up: 504, or a reset (30)", 0},
     {"window", 'w', "KIB", 0, "what the server may send of an answer whose client does not read: so much is kept (128)", 0},
-    {"tunnels", TUNNELS, NULL, 0, "CONNECT-UDP goes through (RFC 9298), by capsules", 0},
+    {"tunnels", TUNNELS, NULL, 0, "extended CONNECT goes through, as of WebSockets (RFC 9220) and CONNECT-UDP (RFC 9298)", 0},
     {0}};
 
 static void read_between(struct argp_state *state, const char *text, unsigned long long *number, unsigned long long least, unsigned long long most) {

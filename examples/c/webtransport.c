@@ -57,11 +57,12 @@ static void refuse(http3_request *request, const char *status) {
 
 static void on_head(http3_request *request, const h3_item *head) {
   http3_field fields[] = {{":status", "200"}, {"sec-webtransport-http3-draft", "draft02"}};
-  char protocol[16];
+  char protocol[32];
   http3_wanted wanted = {.name = ":protocol", .value = protocol, .room = sizeof protocol};
   if (request->data || head->kind == H3_TRAILER) return;
   if (head->kind == H3_TOO_LARGE_HEAD) return refuse(request, "431");
-  if (!http3_values(request->connection, head, &wanted, 1) || strcmp(protocol, "webtransport") != 0) return refuse(request, "404");
+  if (!http3_values(request->connection, head, &wanted, 1)) return refuse(request, "404");
+  if (strcmp(protocol, "webtransport") != 0) return refuse(request, "501"); /* RFC 9220, section 3 */
   if (!add(request, request->entry.id) || !http3_head_of(request, fields, 2)) http3_give_up(request, H3_CODE_INTERNAL_ERROR);
 }
 

@@ -290,9 +290,9 @@ websockets() { # PORT: RFC 9220, section 3
   running "$1" websocket.log "$work/checked/websocket" 127.0.0.1 "$1" "$cert" "$key"
   local websocket=$last protocol
   for protocol in chat connect-udp webtransport; do
-    check "websocket: :protocol $protocol gives 501" says "501 0 ended" "$work/tunnel" "$cert" "$1" "$protocol"
+    check "websocket: :protocol $protocol gives 501" says "501 0 ended" "$work/tunnel" "$cert" "$1" "$protocol" /echo none 0
   done
-  check "websocket: another version of WebSockets, or none, gives 400" says "400 0 ended" "$work/tunnel" "$cert" "$1" websocket
+  check "websocket: another version of WebSockets, or none, gives 400" says "400 0 ended" "$work/tunnel" "$cert" "$1" websocket /echo none 0
   check "websocket: GET gives 404" refuses "status 404" "${ours[@]}" "$(url "$1" /)"
   check "websocket: a message of 50,000 bytes" gives "$folder/part.bin" "$work/checked/websocket_client" "$cert" 127.0.0.1 "$1" localhost / \
     "$folder/part.bin"

@@ -11,7 +11,7 @@ make_programs proxy count
 make_checked
 for name in origin leave tunnel; do make_client "$name"; done
 head -c 50000 "$big" > "$folder/part.bin"
-mapfile -t ports < <(python3 scripts/interop/ports.py 22)
+mapfile -t ports < <(python3 scripts/interop/ports.py 25)
 
 proxy() { # PORT, LOG, PORT of the server, options
   local port=$1 log=$2 to=$3
@@ -74,15 +74,61 @@ check "proxy: a rejected request goes out again" says again "${ours[@]}" "$to/re
 check "proxy: a request whose connection was lost goes out again" says again "${ours[@]}" "$to/lost"
 check "proxy: an early answer" says early "${ours[@]}" --post "$big" "$to/early"
 check "proxy: a silent server gives 504" refuses "status 504" "${ours[@]}" "$to/silent"
-check "proxy: CONNECT-UDP is not taken, since it is not announced" says "refused here" "$work/tunnel" "$cert" "${ports[7]}" connect-udp
-proxy "${ports[14]}" proxy_tunnels.log "${ports[6]}" --tunnels
-fourth=$last
-check "proxy --tunnels: CONNECT-UDP, 100 capsules there and back" says "200 100 ended" "$work/tunnel" "$cert" "${ports[14]}" connect-udp
-check "proxy --tunnels: a session of WebTransport is not taken" says "501 0 ended" "$work/tunnel" "$cert" "${ports[14]}" webtransport
-check "proxy --tunnels: a WebSocket is not taken" says "501 0 ended" "$work/tunnel" "$cert" "${ports[14]}" websocket
 proxy "${ports[8]}" proxy_none.log "${ports[9]}"
 third=$last
 check "proxy: no server gives 503" refuses "status 503" "${ours[@]}" "$(url "${ports[8]}" /)"
+
+# ---- tunnels ----
+
+tunnel() { # TEXT, PORT, and of tunnel.c PROTOCOL, PATH, HOW, COUNT: it prints this text
+  local text=$1 port=$2
+  shift 2
+  says "$text" "$work/tunnel" "$cert" "$port" "$@" && return
+  cat "$work/got" >> "$work/log"
+  return 1
+}
+check "proxy: extended CONNECT is not announced" tunnel "refused here" "${ports[7]}" websocket /echo all 1
+proxy "${ports[14]}" proxy_tunnels.log "${ports[6]}" --tunnels --timeout 5
+fourth=$last
+through=${ports[14]}
+for protocol in connect-udp websocket a-token-of-one-and-thirty-bytes; do
+  check "proxy --tunnels, $protocol: 100 capsules, one after another" tunnel "200 800 ended" "$through" "$protocol" /echo turns 100
+  check "proxy --tunnels, $protocol: 100 kB there and back, each way to its end" tunnel "200 100000 ended" "$through" "$protocol" /echo all 12500
+done
+check "proxy --tunnels: bytes before the answer" tunnel "200 100000 ended" "$through" websocket /echo "at once" 12500
+check "proxy --tunnels: the server's end comes first, and 100 kB go the other way" tunnel "200 6 ended sent" "$through" websocket /first after 12500
+check "proxy --tunnels: and reach the server" soon grep -q "100000 came after the answer" "$work/origin.log"
+check "proxy --tunnels: a refusal, with its body" tunnel "403 3 ended" "$through" websocket /refuse all 12500
+check "proxy --tunnels: a reset of the server's, with its code" tunnel "200 1000 H3_EXCESSIVE_LOAD" "$through" websocket /reset none 0
+check "proxy --tunnels: a client's reset" tunnel "200 8000" "$through" websocket /echo reset 1000
+check "proxy --tunnels: reaches the server, with its code" soon grep -q "failed: H3_CONNECT_ERROR" "$work/origin.log"
+check "proxy --tunnels: a server that reads nothing more, after its end" tunnel "200 6 ended stopped" "$through" websocket /early open 0
+check "proxy --tunnels: and one that does before its last bytes, which come" tunnel "200 5 ended" "$through" websocket /deaf all 100000
+check "proxy --tunnels: a client that reads nothing more, but sends 120 kB" tunnel "200 sent" "$through" websocket /both deaf 15000
+check "proxy --tunnels: they reach the server" soon grep -q "120000 came after the answer" "$work/origin.log"
+check "proxy --tunnels: which is stopped" soon grep -q "^stopped" "$work/origin.log"
+check "proxy --tunnels: nothing moves for --timeout 5" tunnel "200 0 H3_REQUEST_CANCELLED" "$through" websocket /echo none 0
+check "proxy --tunnels: one that was rejected goes out again" tunnel "200 6 ended" "$through" websocket /reject none 0
+check "proxy --tunnels: but not if bytes of it went" tunnel "502 0 ended" "$through" websocket /reject "at once" 1
+check "proxy --tunnels: nor if its connection was lost" tunnel "502 0 ended" "$through" websocket /lost none 0
+# The windows of the client and of the server, 256 KiB each, and of the proxy on both sides, 256 and 128 KiB, are 917,504 bytes. A piece of 16 KiB may
+# go beyond each, and the server and the proxy keep up to 64 KiB beside them.
+still() {
+  within 60 "$work/tunnel" "$cert" "$through" websocket /echo still 500000 | tee "$work/log" > "$work/got"
+  read -r status went came end < "$work/got"
+  [ "$status $came $end" = "200 4000000 ended" ] && [ "$went" -ge 400000 ] && [ "$went" -le 1200000 ]
+}
+check "proxy --tunnels: of 4 MB to a reader that stands still the windows are filled, and the rest comes later" still
+check "proxy --tunnels: a session of WebTransport is not taken" tunnel "501 0 ended" "$through" webtransport /echo none 0
+proxy "${ports[22]}" tunnels_unknown.log "${ports[0]}" --tunnels
+seventh=$last
+check "proxy --tunnels: a server that does not announce extended CONNECT gives 502" tunnel "502 0 ended" "${ports[22]}" websocket /echo none 0
+running "${ports[23]}" webtransport.log "$work/checked/webtransport" 127.0.0.1 "${ports[23]}" "$cert" "$key"
+sessions=$last
+proxy "${ports[24]}" tunnels_sessions.log "${ports[23]}" --tunnels
+eighth=$last
+check "webtransport: a protocol that it does not know gives 501" tunnel "501 0 ended" "${ports[23]}" websocket /echo none 0
+check "proxy --tunnels: which is passed on" tunnel "501 0 ended" "${ports[24]}" websocket /echo none 0
 
 # ---- what an operator asks for ----
 
@@ -193,7 +239,7 @@ proxy "${ports[13]}" proxy_restarts.log "${ports[12]}"
 process=$last
 check "proxy: its server ends under 1,000 requests, and starts again: none is lost" restarts "${ports[13]}" "${ports[12]}" "$server"
 kill -TERM "$process" "$last"
-kill -TERM "$first" "$second" "$third" "$fourth" "$fifth" "$sixth" "$plain" "$short"
-for process in $first $second $third $fourth $fifth $sixth $plain $short; do check "proxy: it ends" ended "$process" 40; done
-for log in operated proxy_waits proxy_pings short proxy proxy_gtls proxy_go proxy_origin proxy_none proxy_tunnels proxy_leaves proxy_restarts origin serve ends restarted; do check "proxy: no leak and no error of memory, $log" is_silent "$log.log"; done
+kill -TERM "$first" "$second" "$third" "$fourth" "$fifth" "$sixth" "$seventh" "$eighth" "$plain" "$short" "$sessions"
+for process in $first $second $third $fourth $fifth $sixth $seventh $eighth $plain $short $sessions; do check "proxy: it ends" ended "$process" 40; done
+for log in operated proxy_waits proxy_pings short proxy proxy_gtls proxy_go proxy_origin proxy_none proxy_tunnels tunnels_unknown tunnels_sessions webtransport proxy_leaves proxy_restarts origin serve ends restarted; do check "proxy: no leak and no error of memory, $log" is_silent "$log.log"; done
 [ "$failed" -eq 0 ]

@@ -1,13 +1,18 @@
 /* origin ADDRESS PORT CERTIFICATE KEY: a server for a proxy's checks, which does on each path one thing that a proxy has to pass on.
  *
  *   /all     an interim response, fields, a body and a trailer section
- *   /udp     of CONNECT-UDP: what comes, capsules and all
  *   /echo    the body that comes, at the reader's pace, and the trailer section that came
  *   /reset   a part of a body, then a reset with H3_EXCESSIVE_LOAD
- *   /reject  the first time H3_REQUEST_REJECTED, then a body
- *   /lost    the first time the connection is closed, then a body
+ *   /reject  H3_REQUEST_REJECTED and a body, in turn
+ *   /lost    the connection is closed, and a body, in turn
  *   /silent  nothing
- *   /early   an answer, before the request's body came */
+ *   /early   an answer, before the request's body came, which is not wanted
+ *   /first   the same, but the body is wanted: standard error has how much came
+ *   /both    the same, and the answer has no end
+ *   /deaf    an answer whose body comes half a second after the request's is no longer wanted
+ *   /refuse  403, and a body
+ *
+ * Extended CONNECT of any protocol is taken as any request. */
 #include "ending.h"
 #include "http3.h"
 #include "report.h"
@@ -16,15 +21,16 @@
 #include <string.h>
 
 typedef struct {
-  bool is_echo, is_reset;
-  uint64_t begun_at; /* of /reset: when its part of a body was given */
+  bool is_echo, is_reset, is_both, is_counted;
+  size_t came;       /* of the body */
+  uint64_t begun_at; /* of /reset: when its part of a body was given; of /deaf: when it began */
   http3_list *trailer;
 } work;
 
-static http3_request *to_reset; /* the one of /reset, until it is */
+static http3_request *later; /* the one of /reset, or of /deaf, until it is reset or has its body */
 
-static void answer(http3_request *request, const char *text) {
-  const http3_field fields[] = {{":status", "200"}, {"x-origin", "yes"}};
+static void answer(http3_request *request, const char *status, const char *text) {
+  const http3_field fields[] = {{":status", status}, {"x-origin", "yes"}};
   if (http3_head_of(request, fields, 2) && http3_body(request, (const uint8_t *)text, strlen(text))) http3_finish(request);
 }
 
@@ -45,12 +51,17 @@ static void begin_body(http3_request *request) {
   if (!http3_head_of(request, &field, 1)) abort();
 }
 
-/* Whether this is the first call for one of two things. */
-static bool is_first(int which) {
-  static bool was[2];
-  bool is_new = !was[which];
-  was[which] = true;
-  return is_new;
+static void begin_deaf(http3_request *request) {
+  begin_body(request);
+  http3_ignore(request);
+  ((work *)request->data)->begun_at = quic_time();
+  later = request;
+}
+
+/* Whether one of two things has its turn: each second call says so. */
+static bool has_turn(int which) {
+  static bool had[2];
+  return had[which] = !had[which];
 }
 
 static void on_head(http3_request *request, const h3_item *item) {
@@ -62,18 +73,23 @@ static void on_head(http3_request *request, const h3_item *item) {
     return;
   }
   if (!http3_values(request->connection, item, &wanted, 1)) abort();
-  work->is_echo = strcmp(path, "/echo") == 0 || strcmp(path, "/udp") == 0;
+  work->is_echo = strcmp(path, "/echo") == 0;
   work->is_reset = strcmp(path, "/reset") == 0;
-  if (work->is_echo || work->is_reset) begin_body(request);
+  work->is_both = strcmp(path, "/both") == 0;
+  work->is_counted = work->is_both || strcmp(path, "/first") == 0;
+  if (work->is_echo || work->is_reset || work->is_both) begin_body(request);
+  else if (strcmp(path, "/deaf") == 0) begin_deaf(request);
   else if (strcmp(path, "/all") == 0) answer_all(request);
-  else if (strcmp(path, "/reject") == 0 && is_first(0)) http3_give_up(request, H3_CODE_REQUEST_REJECTED);
-  else if (strcmp(path, "/lost") == 0 && is_first(1)) http3_close(request->connection, H3_CODE_INTERNAL_ERROR);
-  else if (strcmp(path, "/silent") != 0) answer(request, strcmp(path, "/early") == 0 ? "early\n" : "again\n");
+  else if (strcmp(path, "/reject") == 0 && has_turn(0)) http3_give_up(request, H3_CODE_REQUEST_REJECTED);
+  else if (strcmp(path, "/lost") == 0 && has_turn(1)) http3_close(request->connection, H3_CODE_INTERNAL_ERROR);
+  else if (strcmp(path, "/refuse") == 0) answer(request, "403", "no\n");
+  else if (strcmp(path, "/silent") != 0) answer(request, "200", strcmp(path, "/early") == 0 ? "early\n" : "again\n");
   if (strcmp(path, "/early") == 0) http3_ignore(request);
 }
 
 static void on_body(http3_request *request, const uint8_t *bytes, size_t count) {
-  const work *work = request->data;
+  work *work = request->data;
+  work->came += count;
   if (!work->is_echo) return;
   if (!http3_body(request, bytes, count)) abort();
   if (http3_room(request) == 0) http3_pause(request);
@@ -81,6 +97,7 @@ static void on_body(http3_request *request, const uint8_t *bytes, size_t count) 
 
 static void on_end(http3_request *request) {
   const work *work = request->data;
+  if (work->is_counted) report("%zu came after the answer", work->came);
   if (!work->is_echo) return;
   if (work->trailer && !http3_trailer(request, work->trailer)) abort();
   http3_finish(request);
@@ -100,23 +117,25 @@ static void on_room(http3_request *request) {
   static const uint8_t bytes[1000];
   work *work = request->data;
   http3_resume(request);
-  if (!work->is_reset) return;
-  work->is_reset = false;
+  if (work->is_both) http3_body(request, bytes, sizeof bytes);
+  if (!work->is_reset || work->begun_at > 0) return;
   work->begun_at = quic_time();
   http3_body(request, bytes, sizeof bytes);
-  to_reset = request;
+  later = request;
 }
 
-/* The part of the body is out: the reset comes after it. */
+/* The part of the body is out, and the reset comes after it; or the body comes. */
 static void tick(quic_socket *socket) {
   (void)socket;
-  if (!to_reset || quic_time() - ((work *)to_reset->data)->begun_at < 500) return;
-  http3_reset(to_reset, H3_CODE_EXCESSIVE_LOAD);
-  to_reset = NULL;
+  const work *work = later ? later->data : NULL;
+  if (!work || quic_time() - work->begun_at < 500) return;
+  if (work->is_reset) http3_reset(later, H3_CODE_EXCESSIVE_LOAD);
+  else if (http3_body(later, (const uint8_t *)"last\n", 5)) http3_finish(later);
+  later = NULL;
 }
 
 static void on_freed(http3_request *request) {
-  if (to_reset == request) to_reset = NULL;
+  if (later == request) later = NULL;
   free(((work *)request->data)->trailer);
 }
 static void on_ready(http3 *h, void *user) { (void)h, (void)user; }
