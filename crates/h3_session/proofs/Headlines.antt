@@ -26,10 +26,10 @@ abbrev pub RunOfEnds : Setup → List Event → Type 0
 RunOfEnds setup events =
     (w : World) × Run (Happens setup) (empty_world setup) events (answers_of_ends (new_ends setup) events) w × Stands setup w (ends_after (new_ends setup) events)
 
-pub runs_in_world : (setup : Setup) (events : List Event) (answers : List Answer) (client server : EndpointState) → (AllByRecursion IsSendable events → RunOfEnds setup events)
-    → AllByRecursion IsTyped events → RunsTo (new_ends setup) events answers client server → AreFew events → RunsInWorld setup events answers client server
+pub runs_in_world : (setup : Setup) (events : List Event) (answers : List Answer) (client server : EndpointState) → (AllByRecursion (IsSendable setup) events → RunOfEnds setup events)
+    → AllByRecursion IsTyped events → RunsTo (new_ends setup) events answers client server → AreFew setup events → RunsInWorld setup events answers client server
 runs_in_world setup events answers client server law typed h few =
-    let on = law (few_are_sendable events typed few) in
+    let on = law (few_are_sendable setup events typed few) in
     record {
       world = on.0;
       run = subst (λ given. Run (Happens setup) (empty_world setup) events given on.0) (sym h.answered_so) on.1;
@@ -45,17 +45,17 @@ front_of_all P (suc n) [] h = tt
 front_of_all P (suc n) (x ∷ xs) h = (h.0, front_of_all P n xs h.1)
 
 -- So are those up to the first that tells of refused memory.
-pub runs_until_memory : (setup : Setup) (events : List Event) (answers : List Answer) → ((front : List Event) → AllByRecursion IsSendable front → RunOfEnds setup front)
-    → AllByRecursion IsTyped events → AnswersEach (new_ends setup) events answers → AreFew events → RunsUntilMemory setup events answers
+pub runs_until_memory : (setup : Setup) (events : List Event) (answers : List Answer) → ((front : List Event) → AllByRecursion (IsSendable setup) front → RunOfEnds setup front)
+    → AllByRecursion IsTyped events → AnswersEach (new_ends setup) events answers → AreFew setup events → RunsUntilMemory setup events answers
 runs_until_memory setup events answers law typed h few = λ n not_memory.
     let front = take n events in
-    let on = law front (front_of_all IsSendable n events (few_are_sendable events typed few)) in
+    let on = law front (front_of_all (IsSendable setup) n events (few_are_sendable setup events typed few)) in
     (on.0, subst (λ given. Run (Happens setup) (empty_world setup) front given on.0) (sym (h.until_memory n not_memory)) on.1)
 
 -- So are all, memory refused or not, of a world in which memory may be refused.
 pub runs_in_keeping_world : (setup : Setup) (events : List Event) (answers : List Answer) (client server : EndpointState)
-    → ((ends : Ends) → AllByRecursion IsSendable events → EndsRun (new_ends setup) events answers ends → RunsWithMemory setup events answers ends) → AllByRecursion IsTyped events
-    → RunsByCalls (new_ends setup) events answers client server → AreFew events → RunsInKeepingWorld setup events answers client server
+    → ((ends : Ends) → AllByRecursion (IsSendable setup) events → EndsRun (new_ends setup) events answers ends → RunsWithMemory setup events answers ends) → AllByRecursion IsTyped events
+    → RunsByCalls (new_ends setup) events answers client server → AreFew setup events → RunsInKeepingWorld setup events answers client server
 runs_in_keeping_world setup events answers client server law typed calls few =
     let run = calls_run (new_ends setup) events answers client server calls in
-    record { ends = run.0; runs = law run.0 (few_are_sendable events typed few) run.1; client_stands = run.2; server_stands = run.3 }
+    record { ends = run.0; runs = law run.0 (few_are_sendable setup events typed few) run.1; client_stands = run.2; server_stands = run.3 }

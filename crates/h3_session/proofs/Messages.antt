@@ -30,8 +30,8 @@ RunsFromNothing setup events answers k = Run (HappensWithMemory setup) (nothing_
 
 -- Runs hand out so, by the law of `h3_memory`.
 pub hands_out_always : (setup : Setup) (events : List Event) (answers : List Answer) (k : KeepingWorld)
-    → ((front : List Event) (given : List Answer) (mid : KeepingWorld) → AllByRecursion IsSendable front → RunsFromNothing setup front given mid → HandsOutWhatWasSent setup front given)
-    → AllByRecursion IsTyped events → AreFew events → RunsFromNothing setup events answers k → HandsOutAlways setup events answers
+    → ((front : List Event) (given : List Answer) (mid : KeepingWorld) → AllByRecursion (IsSendable setup) front → RunsFromNothing setup front given mid → HandsOutWhatWasSent setup front given)
+    → AllByRecursion IsTyped events → AreFew setup events → RunsFromNothing setup events answers k → HandsOutAlways setup events answers
 hands_out_always setup events answers k law typed few run = λ n.
     let front = run_front (HappensWithMemory setup) (nothing_kept (empty_world setup)) k events answers n run in
-    law (take n events) (take n answers) front.0 (front_of_all IsSendable n events (few_are_sendable events typed few)) front.1
+    law (take n events) (take n answers) front.0 (front_of_all (IsSendable setup) n events (few_are_sendable setup events typed few)) front.1

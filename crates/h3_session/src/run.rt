@@ -133,18 +133,18 @@ pub fn run(alloc: Global, setup: Setup, events: &[Event]) -> Result<Outcome, All
     requires { IsMadeSetup setup }
     ensures calls { IfOk result (λ out. RunsByCalls (new_ends setup) events.now out.answers.items out.client out.server) }
     ensures each { IfOk result (λ out. AnswersEach (new_ends setup) events.now out.answers.items) }
-    ensures messages { IfOk result (λ out. AreFew events.now → JudgesPlainly setup → HandsOutAlways setup events.now out.answers.items) }
-    ensures front { IfOk result (λ out. AreFew events.now → JudgesPlainly setup → RunsUntilMemory setup events.now out.answers.items) }
-    ensures memory { IfOk result (λ out. AreFew events.now → JudgesPlainly setup → RunsInKeepingWorld setup events.now out.answers.items out.client out.server) }
+    ensures messages { IfOk result (λ out. AreFew setup events.now → JudgesPlainly setup → HandsOutAlways setup events.now out.answers.items) }
+    ensures front { IfOk result (λ out. AreFew setup events.now → JudgesPlainly setup → RunsUntilMemory setup events.now out.answers.items) }
+    ensures memory { IfOk result (λ out. AreFew setup events.now → JudgesPlainly setup → RunsInKeepingWorld setup events.now out.answers.items out.client out.server) }
     ensures runs { IfOk result (λ out. list_any is_memory out.answers.items ≡ false →
         RunsTo (new_ends setup) events.now out.answers.items out.client out.server) }
-    ensures headline { IfOk result (λ out. list_any is_memory out.answers.items ≡ false → AreFew events.now → JudgesPlainly setup →
+    ensures headline { IfOk result (λ out. list_any is_memory out.answers.items ≡ false → AreFew setup events.now → JudgesPlainly setup →
         RunsInWorld setup events.now out.answers.items out.client out.server) }
-    ensures faultless_front { IfOk result (λ out. AreFew events.now → RunsUntilFault setup events.now out.answers.items) }
-    ensures faultless { IfOk result (λ out. list_any is_memory out.answers.items ≡ false → list_any finds_fault out.answers.items ≡ false → AreFew events.now →
+    ensures faultless_front { IfOk result (λ out. AreFew setup events.now → RunsUntilFault setup events.now out.answers.items) }
+    ensures faultless { IfOk result (λ out. list_any is_memory out.answers.items ≡ false → list_any finds_fault out.answers.items ≡ false → AreFew setup events.now →
         RunsFaultless setup events.now out.answers.items out.client out.server) }
-    ensures strict_front { IfOk result (λ out. AreFew events.now → AsksForStrict setup → FindsNoFault setup events.now out.answers.items) }
-    ensures strict { IfOk result (λ out. list_any is_memory out.answers.items ≡ false → AreFew events.now → AsksForStrict setup → ServerKnows events.now out.answers.items →
+    ensures strict_front { IfOk result (λ out. AreFew setup events.now → AsksForStrict setup → FindsNoFault setup events.now out.answers.items) }
+    ensures strict { IfOk result (λ out. list_any is_memory out.answers.items ≡ false → AreFew setup events.now → AsksForStrict setup → ServerKnows events.now out.answers.items →
         EarlyAreTaken setup (new_ends setup) events.now → (list_any finds_fault out.answers.items ≡ false) × RunsFaultless setup events.now out.answers.items out.client out.server) }
 {
     two_endpoints_run_in_a_world();

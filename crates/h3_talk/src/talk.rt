@@ -56,7 +56,7 @@ pub fn exit_code<R: Read, W: Write>(alloc: Global, reader: &mut R, writer: &mut 
 fn answer<W: Write>(alloc: Global, script: Script, writer: &mut W) -> u8
     requires made { IsMadeSetup script.setup }
     requires plain { JudgesPlainly script.setup }
-    requires few { AreFew script.events.items }
+    requires few { AreFew script.setup script.events.items }
     ensures answered { result ≡ 0 → Prints script.setup script.events.items (W.contents writer.old) (W.contents writer.new) }
     ensures statuses { (result ≡ 0) ⊎ (result ≡ 2) }
 {
@@ -75,7 +75,7 @@ fn answer<W: Write>(alloc: Global, script: Script, writer: &mut W) -> u8
 fn answers_to(alloc: Global, setup: Setup, events: &[Event]) -> Result<Vec<Answer>, AllocError>
     requires made { IsMadeSetup setup }
     requires plain { JudgesPlainly setup }
-    requires few { AreFew events.now }
+    requires few { AreFew setup events.now }
     ensures { IfOk result (λ answers. AnswersTo setup events.now answers.items) }
 {
     match run(alloc, setup, events) {
