@@ -95,6 +95,8 @@ for protocol in connect-udp websocket a-token-of-one-and-thirty-bytes; do
   check "proxy --tunnels, $protocol: 100 capsules, one after another" tunnel "200 800 ended" "$through" "$protocol" /echo turns 100
   check "proxy --tunnels, $protocol: 100 kB there and back, each way to its end" tunnel "200 100000 ended" "$through" "$protocol" /echo all 12500
 done
+check "proxy --tunnels, quic-go: 10 MB there and back" gives "$big" "$work/peer" tunnel "$cert" "$big" "$(url "$through" /echo)"
+check "proxy --tunnels, quic-go: a refusal" refuses "status 403" "$work/peer" tunnel "$cert" "$big" "$(url "$through" /refuse)"
 check "proxy --tunnels: bytes before the answer" tunnel "200 100000 ended" "$through" websocket /echo "at once" 12500
 check "proxy --tunnels: the server's end comes first, and 100 kB go the other way" tunnel "200 6 ended sent" "$through" websocket /first after 12500
 check "proxy --tunnels: and reach the server" soon grep -q "100000 came after the answer" "$work/origin.log"

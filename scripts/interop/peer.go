@@ -3,6 +3,7 @@
 //	peer serve ADDRESS CERTIFICATE KEY FOLDER      files below a folder; POST is answered with the count and SHA-256 of its body
 //	peer fetch TRUSTED URL                         the body to standard output
 //	peer post TRUSTED FILE URL                     POSTs a file, the answer's body to standard output
+//	peer tunnel TRUSTED FILE URL                   extended CONNECT for a WebSocket, on which the file goes; what comes back to standard output
 //	peer many TRUSTED COUNT PARALLEL URL           COUNT requests on one connection; "COUNT bodies of N bytes, one SHA-256"
 //	peer cancel TRUSTED URL COUNT                  COUNT times: takes a piece of the body, gives the request up; then one whole
 //	peer slow TRUSTED RATE URL                     the body to standard output, read at so many bytes a second
@@ -99,6 +100,20 @@ func body(answer *http.Response, err error) ([]byte, error) {
 		err = fmt.Errorf("status %d", answer.StatusCode)
 	}
 	return text, err
+}
+
+// extended CONNECT (RFC 9220), with a body from a file
+func tunnel(client *http.Client, name, url string) ([]byte, error) {
+	file, err := os.Open(name)
+	if err != nil {
+		return nil, err
+	}
+	request, err := http.NewRequest(http.MethodConnect, url, file)
+	if err != nil {
+		return nil, err
+	}
+	request.Proto = "websocket"
+	return body(client.Do(request))
 }
 
 func many(client *http.Client, count, parallel int, url string) error {
@@ -356,7 +371,7 @@ func main() {
 		return
 	}
 	if len(words) < 3 {
-		fail(fmt.Errorf("serve, fetch, post, many, cancel, slow, put, head, beside or resets, and their words"))
+		fail(fmt.Errorf("serve, fetch, post, tunnel, many, cancel, slow, put, head, beside or resets, and their words"))
 	}
 	if words[0] == "resets" && len(words) == 4 {
 		connection, err := connect(words[1], words[3])
@@ -379,6 +394,8 @@ func main() {
 		file, err = os.Open(words[2])
 		fail(err)
 		text, err = body(client.Post(words[3], "application/octet-stream", file))
+	case words[0] == "tunnel" && len(words) == 4:
+		text, err = tunnel(client, words[2], words[3])
 	case words[0] == "many" && len(words) == 5:
 		err = many(client, number(words[2]), number(words[3]), words[4])
 	case words[0] == "cancel" && len(words) == 4:
