@@ -23,7 +23,7 @@ pub fn a_script_is_read_in_one_way()
         → (s ≡ t) × (xs ≡ ys) }
 {}
 
-/// A script of at most 2^48 bytes has fewer than 2^48 events, and passes each side less than 2^56 bytes to send.
+/// A script of at most 2^48 bytes has fewer than 2^48 events, passes each side less than 2^56 bytes to send, and names no `:protocol`.
 pub fn a_script_has_few_events()
     ensures { (text : List ℕ) (setup : Made) (events : List Does) → IsScript (2 ^ 48) text setup events → AreFew setup events }
 {}

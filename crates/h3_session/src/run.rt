@@ -105,13 +105,13 @@ fn beside<A: Drop, B: Drop>(first: A, second: Result<B, AllocError>) -> Result<(
 /// If no answer reports out of memory:
 /// - `runs`: the answers are those of two endpoints of the definitions with the bytes carried between them, and the endpoints that are
 ///   returned stand for these.
-/// - `headline`: its bounds are fewer than 2^48 events, with less than 2^56 bytes for each side to send. Neither side may ask for strict
-///   messages or limit what is unfinished. Then the answers are a run of the world of a connection, and the endpoints that are returned
-///   stand in its last world. In each of its steps no connection fault arises, and a send that is in order and within the known limit is
-///   accepted. A pull returns what was sent, or pauses exactly when that isn't there. With everything delivered everything comes out, and
-///   no more header sections wait than were announced.
+/// - `headline`: its bounds are fewer than 2^48 events, with less than 2^56 bytes for each side to send, and no `:protocol` that one of the
+///   two sides does not take. Neither side may ask for strict messages or limit what is unfinished. Then the answers are a run of the world
+///   of a connection, and the endpoints that are returned stand in its last world. In each of its steps no connection fault arises, and a
+///   send that is in order and within the known limit is accepted. A pull returns what was sent, or pauses exactly when that isn't there.
+///   With everything delivered everything comes out, and no more header sections wait than were announced.
 ///
-/// In every setup, with both sides strict, one or none, with limits or without, and the bounds of numbers of `headline`:
+/// In every setup, with both sides strict, one or none, with limits or without, and the bounds of `headline`:
 /// - `faultless_front`: the answers are a run of the world of the setup that asks for no strict messages, and each side pulls what the
 ///   other side sent. The sends that were refused as malformed are left out of that run. It is so up to the first answer that reports out
 ///   of memory, a message that a pull found malformed, a frame at the wrong place or one too long. (`finds_fault`: a malformed message,
