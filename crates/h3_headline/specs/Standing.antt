@@ -200,8 +200,9 @@ pub record IsWritable (side : Side) (own : Own) : Type 0 where
   pub instructions : AllByRecursion IsWrittenInstruction own.instructions
   pub replies : AllByRecursion IsReply own.replies
 
--- A section is read as the kind of part that it was sent as (RFC 9114, sections 4.1 and 4.3), by who takes any protocol or the two names alone: a
--- head is for that side, and an interim one has such a status, and no other; a trailer has no pseudo-header fields; and each reads back.
+-- A section is read as the kind of part that it was sent as (RFC 9114, sections 4.1 and 4.3), by who takes any protocol or the two names
+-- alone: a head is for that side, and an interim one has such a status, and no other; a trailer has no pseudo-header fields; and each reads
+-- back.
 abbrev pub IsReadableBy : Bool → Side → Part → Type 0
 IsReadableBy any reader (Interim s) =
     (is_client reader ≡ true) × (is_for reader (head_of_fields s.fields) ≡ true) × (is_interim (head_of_fields s.fields).status ≡ true) × ReadsBackBy any s.fields

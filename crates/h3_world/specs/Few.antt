@@ -7,8 +7,8 @@ use Rattle.h3_world.specs.Setup.{both_take_any}
 use Rattle.h3_world.specs.declared.event.Event.{Event}
 use Rattle.h3_world.specs.declared.setup.Setup.{Setup}
 
--- Fewer than 2^48 events, of which each side is handed less than 2^56 bytes to send, and whose headers name no `:protocol` that one of the two
--- sides does not take.
+-- Fewer than 2^48 events, of which each side is handed less than 2^56 bytes to send, and whose headers name no `:protocol` that one of the
+-- two sides does not take.
 pub record AreFew (setup : Setup) (events : List Event) : Type 0 where
   pub count : length events < 2 ^ 48
   pub client_sends : sum_by (sent_by Client) events < 2 ^ 56

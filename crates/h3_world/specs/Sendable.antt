@@ -16,15 +16,15 @@ use Rattle.h3_world.specs.declared.event.Event.TheVariants as event
 use Rattle.h3_world.specs.declared.setup.Setup.{Setup}
 use Rattle.h3_world.specs.Setup.{both_take_any}
 
--- a field section that a header makes: its bytes are bytes, it is read back as its fields where any protocol is taken, and it is below the bound
--- of all sums
+-- a field section that a header makes: its bytes are bytes, it is read back as its fields where any protocol is taken, and it is below the
+-- bound of all sums
 pub record IsSendableSection (fields : List Field) : Type 0 where
   pub of_bytes : AllByRecursion IsFieldOfBytes fields
   pub reads_back : ReadsBackBy true fields
   pub small : section_size fields < 2 ^ 56
 
--- Such a section, of a protocol that is taken where any is, or the two names alone. Who takes its protocol reads it back as its fields, and they
--- are read as this head.
+-- Such a section, of a protocol that is taken where any is, or the two names alone. Who takes its protocol reads it back as its fields, and
+-- they are read as this head.
 pub record IsSendableHead (any : Bool) (head : Fields) : Type 0 where
   pub taken : takes_protocol any head.protocol ≡ true
   pub reads_back : (own : Bool) → takes_protocol own head.protocol ≡ true → ReadsBackBy own (head_fields head)
