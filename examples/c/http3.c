@@ -335,11 +335,11 @@ static void look_at_state(http3 *h) {
 
 /* A stream of the peer's was read: those header sections may be there that waited for it. */
 static void pull_others(http3 *h, uint64_t id) {
-  http3_request *request;
   pull_stream(h, id);
   for (other *at = h->others; at < h->others + QUIC_OTHERS; at++) grant_other(h, at);
-  TAILQ_FOREACH(request, &h->requests, order) {
-    if (!request->waiting) continue;
+  for (uint64_t at = 0; h3_next_unblocked(&h->endpoint, at, &at) == H3_OK; at++) {
+    http3_request *request = find(h, at);
+    if (!request) continue;
     request->waiting = false;
     release(request);
   }

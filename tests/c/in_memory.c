@@ -23,7 +23,6 @@ typedef struct {
   size_t to_make;   /* bytes of a body that are to be sent yet */
   const char *body; /* the rest of a body that h3_send_body_of announced */
   uint32_t urgency; /* 0 goes out first, 7 last */
-  int is_waiting;   /* its last item was H3_WAITING */
   int is_paused;    /* the program takes no more now */
 } stream;
 
@@ -203,7 +202,6 @@ static void on_kept_body(side *at, uint64_t id, const h3_item *item) {
 
 /* Does what an item asks for. Returns 0 at a pause, at the end of the message and at a fault. */
 static int on_item(side *at, uint64_t id, const h3_item *item, const uint8_t *given) {
-  at->streams[id].is_waiting = item->kind == H3_WAITING;
   switch (item->kind) {
   case H3_PENDING: case H3_WAITING: case H3_NO_MESSAGES: return 0; /* more has to come first */
   case H3_INTERIM: case H3_HEAD: case H3_TRAILER: on_fields(at, id, item); return 1;
@@ -284,8 +282,7 @@ static void on_data(side *at, uint64_t id, const uint8_t *bytes, size_t len, int
     read_stream(at, id, bytes, len, fin);
   } else { /* the peer's control, encoder or decoder stream: header sections may wait for it */
     deliver(at, id, bytes, len, fin);
-    for (uint64_t request = 0; request < STREAMS; request += 4)
-      if (at->streams[request].is_waiting) read_on(at, request);
+    for (uint64_t request = 0; h3_next_unblocked(&at->h3, request, &request) == H3_OK; request++) read_on(at, request);
   }
   grant(at);
 }
