@@ -5,7 +5,6 @@ use Rattle.std.proofs.lemmas.Bool.Decides.{Decides-and, Decides-by_and, Decides-
 use Rattle.std.proofs.lemmas.List.Sums.{sum_by-cons}
 use Rattle.std.specs.List.{AllByRecursion, list_all}
 use Rattle.std.specs.Prelude.{All, Decides, IfSome, IsTrue}
-use Rattle.http_header.specs.Token.{is_token_byte}
 use Rattle.h3_header.specs.HeadTests.{takes_protocol}
 use Rattle.h3_header.specs.NamedProtocolLaws.{named_taken}
 use Rattle.h3_header.specs.ProtocolText.{IsProtocolBy}
@@ -32,7 +31,7 @@ at_most a b = (leb-true a b, le-leb a b)
 protocol_taken : (any : Bool) (protocol : Option (List ℕ)) → IfSome protocol (IsProtocolBy any) → takes_protocol any protocol ≡ true
 protocol_taken false protocol is = named_taken protocol is
 protocol_taken true None is = refl
-protocol_taken true (Some text) is = (Decides-and _ _ (Decides-and _ _ (Decides-ltb 0 (length text)) (passes is_token_byte text)) (at_most (length text) 31)).1 is
+protocol_taken true (Some text) is = (Decides-and _ _ (Decides-and _ _ (Decides-ltb 0 (length text)) (passes _ text)) (at_most (length text) 31)).1 is
 
 -- by who takes any, too
 any_taken : (any : Bool) (protocol : Option (List ℕ)) → takes_protocol any protocol ≡ true → takes_protocol true protocol ≡ true
