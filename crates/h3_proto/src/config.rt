@@ -107,7 +107,7 @@ pub struct Extensions {
     pub kept_ids: u64,
     /// A request that first comes from the id of its last GOAWAY on is refused (RFC 9114, section 5.2).
     pub requests_rejected: bool,
-    /// `:protocol` may have any token of 1 to 31 bytes (RFC 8441, section 4), and not the two known ones alone. No `Endpoint` reads it yet.
+    /// `:protocol` may have any token of 1 to 31 bytes (RFC 8441, section 4), and not the two known ones alone, both ways.
     pub any_protocol: bool,
 }
 
@@ -295,8 +295,8 @@ impl Config {
     }
 
     /// Whether `:protocol` of an extended CONNECT may have any token of 1 to 31 bytes, as `websocket` (RFC 8441, section 4; RFC 9220,
-    /// section 3). Off by default: then `webtransport` and `connect-udp` alone are valid. No `Endpoint` reads it yet: each takes and sends
-    /// these two alone, whatever is chosen.
+    /// section 3). Off by default: then `webtransport` and `connect-udp` alone are valid. An endpoint sends no value that it would not take
+    /// itself: a header section with another one is refused as malformed.
     pub fn with_any_protocol(mut self, any: bool) -> Self
         ensures { result ≡ record self {
           choices = record self.choices { extensions = record self.choices.extensions { any_protocol = any } };
