@@ -1,5 +1,6 @@
 /* Wrong arguments of every kind: each is answered, and nothing is done. */
 #include "h3.h"
+#include <stddef.h>
 #include <stdio.h>
 #include <stdlib.h>
 #include <string.h>
@@ -483,6 +484,21 @@ static void of_counts(h3_endpoint *e, uint64_t id) {
   HOLDS(n == m - 3 && !memcmp(b, c + 3, n));
 }
 
+/* a configuration of a program whose header knew no any_protocol: any token is taken, as by default (RFC 8441, section 4) */
+static void of_rows_before_protocols(void) {
+  enum { FEW = offsetof(h3_config, any_protocol) / sizeof(uint64_t) };
+  static const char bytes[] = ":methodCONNECT:protocolwebsocket:schemehttps:authoritya:path/";
+  static const h3_field_size fields[] = {{7, 7}, {9, 9}, {7, 5}, {10, 1}, {5, 1}};
+  h3_endpoint e = H3_NONE_YET;
+  uint64_t few[FEW], id, detail;
+  h3_raw_config_default(few, FEW);
+  few[offsetof(h3_config, strict) / sizeof *few] = 0;
+  IS(h3_raw_new(few, FEW, &detail, &e), H3_OK);
+  IS(h3_open_request(&e, &id, NULL), H3_OK);
+  IS(h3_send_head(&e, id, fields, 5, bytes, sizeof bytes - 1, &detail), H3_OK);
+  h3_free(&e);
+}
+
 /* the limits of a default endpoint, and what it announces: a control stream with one SETTINGS frame (RFC 9114, sections 6.2.1 and 7.2.4) */
 static void of_default(void) {
   static const uint8_t announced[] = {0, 4, 24, 6, 0x80, 1, 0, 0, 8, 0, 0xab, 0x60, 0x37, 0x42, 0, 0x33, 0, 0xab, 0x60, 0x37, 0x43, 0, 1, 0x50, 0, 7, 16};
@@ -748,6 +764,7 @@ int main(int argc, char **argv) {
   of_none(&e);
   of_new();
   of_sizes();
+  of_rows_before_protocols();
   of_shorter_tables();
   of_next_ids();
   plain_config(&c);
