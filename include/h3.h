@@ -807,10 +807,11 @@ static inline uint32_t h3_deliver_reset(h3_endpoint *endpoint, uint64_t id, uint
 static inline uint32_t h3_pull(h3_endpoint *endpoint, uint64_t id, h3_item *item);
 
 /* The lowest id, from `from` on, of a stream whose last item was H3_WAITING and whose insertions
- * have come since: pull it. H3_NONE if there is none (*id is not written then). Ask it after data
- * on a unidirectional stream of the peer:
+ * have arrived since: pull it. Returns H3_NONE, and does not write *id, if there is none. Call it
+ * after data on a unidirectional stream of the peer:
  *   for (uint64_t id = 0; h3_next_unblocked(&e, id, &id) == H3_OK; id++) ..
- * It takes no memory. It looks at no stream if there is none, and else at those not over. */
+ * It takes no memory. If no stream is unblocked it returns at once; else it looks at each stream
+ * that is not over. */
 static inline uint32_t h3_next_unblocked(h3_endpoint *endpoint, uint64_t from, uint64_t *id);
 
 /* All fields of the header or trailer section that was pulled last, as they came and in their

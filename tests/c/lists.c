@@ -158,9 +158,52 @@ static void of_malformed(void) {
   }
 }
 
+/* a request for an extended CONNECT of this protocol */
+static list asking(char bytes[ROOM], const char *protocol) {
+  list l = {5, {{7, 7}, {9, (uint64_t)strlen(protocol)}, {7, 5}, {10, 1}, {5, 1}}, bytes};
+  snprintf(bytes, ROOM, ":methodCONNECT:protocol%s:schemehttps:authoritya:path/", protocol);
+  return l;
+}
+
+/* Two default endpoints, of which the server announces extended CONNECT (RFC 8441, section 4; RFC 9220): a token of 1 to 31 bytes arrives
+ * as the protocol, and anything else is neither sent nor delivered. */
+static void of_protocols(void) {
+  static const char *const taken[] = {"a", "websocket", "connect-udp", "webtransport", "abcdefghijklmnopqrstuvwxyz01234"};
+  static const char *const refused[] = {"", "web socket", "abcdefghijklmnopqrstuvwxyz012345"};
+  h3_endpoint client = H3_NONE_YET, server = H3_NONE_YET;
+  h3_config c;
+  uint64_t id = 0, setting = 0;
+  char bytes[ROOM];
+  h3_config_default(&c);
+  IS(h3_new(&client, &c, NULL), H3_OK);
+  c.server = 1, c.extended_connect = 1;
+  IS(h3_new(&server, &c, NULL), H3_OK);
+  carry(&server, &client);
+  IS(h3_peer_setting(&client, 8, &setting), H3_OK);
+  HOLDS(setting == 1);
+  for (size_t i = 0; i < sizeof taken / sizeof *taken; i++) {
+    list l = asking(bytes, taken[i]);
+    IS(h3_open_request(&client, &id, NULL), H3_OK);
+    IS(h3_send_head(&client, id, l.sizes, l.count, l.bytes, length_of(&l), NULL), H3_OK);
+    carry(&client, &server);
+    pulls(&server, id, H3_HEAD, 0, 0, &l);
+  }
+  for (size_t i = 0; i < sizeof refused / sizeof *refused; i++) {
+    list l = asking(bytes, refused[i]);
+    uint8_t frame[ROOM];
+    IS(h3_open_request(&client, &id, NULL), H3_OK);
+    IS(h3_send_head(&client, id, l.sizes, l.count, l.bytes, length_of(&l), NULL), H3_FIELD_VALUE);
+    list alone = {1, {l.sizes[1]}, bytes + sizeof ":methodCONNECT" - 1};
+    IS(h3_deliver(&server, id, frame, literal_frame(frame, &alone), NULL), H3_OK);
+    pulls(&server, id, H3_FAULT_MALFORMED, 0, H3_BAD_VALUE, NULL);
+  }
+  h3_free(&client), h3_free(&server);
+}
+
 int main(void) {
   of_messages();
   of_malformed();
+  of_protocols();
   if (!bad) puts("ok lists");
   return bad;
 }

@@ -52,7 +52,7 @@ class Config:
     reject_requests: bool
     """A server refuses requests from its last GOAWAY id on."""
     any_protocol: bool
-    """`:protocol` may be any token of at most 31 bytes, as `websocket` (RFC 9220), both ways; else `connect-udp` and `webtransport` alone."""
+    """`:protocol` may be any token of at most 31 bytes, such as `websocket` (RFC 9220). If false, only `connect-udp` and `webtransport` are valid."""
 
     @classmethod
     def client(cls) -> Self:
