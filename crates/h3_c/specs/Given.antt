@@ -1,11 +1,11 @@
 -- The list of fields that C gives: sizes, and all bytes in one buffer.
 use Rattle.std.specs.Prelude.{ℕ, ◌+◌, nat_lt, List, [], ◌∷◌, length, take, drop, if◌then◌else◌, Option, Some, None, option_map}
-use Rattle.h3_field.specs.Field.{Field}
+use Rattle.h3_field.specs.Field.{Field, plain_field}
 use Rattle.h3_c.specs.declared.fields.FieldSize.{FieldSize}
 
 -- a name and a value at the front of the bytes
 abbrev pub field_at_front : FieldSize → List ℕ → Field
-field_at_front size bytes = record { name = take size.name bytes; value = take size.value (drop size.name bytes) }
+field_at_front size bytes = plain_field (take size.name bytes) (take size.value (drop size.name bytes))
 
 abbrev pub behind : FieldSize → List ℕ → List ℕ
 behind size bytes = drop (size.name + size.value) bytes

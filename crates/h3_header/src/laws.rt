@@ -1,7 +1,7 @@
 //! Laws on headers and their field lists, each the contract of a function.
 ghost use Rattle.std.specs.Prelude.{◌≡◌, ◌<◌, ◌≤◌, ℕ, Bool, true, false, codes, ◌∷◌, IfOk, IfErr, List, [], All, length, take, get_or, Some, None};
 ghost use Rattle.std.specs.List.{AllByRecursion};
-ghost use Rattle.h3_field.specs.Field.{Field};
+ghost use Rattle.h3_field.specs.Field.{Field, plain_field};
 ghost use Rattle.h3_field.specs.ReadBack.{IsFieldOfBytes};
 ghost use Rattle.h3_header.specs.BadPart.{bad_part, refusal_of, IsHeadUnlessMany};
 ghost use Rattle.h3_header.specs.declared.headers.judge.BadPart.{BadPart};
@@ -90,7 +90,7 @@ pub fn protocols_read_as_worked()
 /// `:path` or `:protocol`, which are wrong there, and both that are needed are there once.
 pub fn a_connect_is_method_and_authority()
     ensures sent { (authority : List ℕ) (m : Entries FieldValue) → head_fields (connect_head authority m)
-        ≡ record { name = codes ":method"; value = codes "CONNECT" } ∷ record { name = codes ":authority"; value = authority } ∷ regular_fields m }
+        ≡ plain_field (codes ":method") (codes "CONNECT") ∷ plain_field (codes ":authority") authority ∷ regular_fields m }
     ensures row { head_fields (connect_head (codes "example.com:443") [])
-        ≡ record { name = codes ":method"; value = codes "CONNECT" } ∷ record { name = codes ":authority"; value = codes "example.com:443" } ∷ [] }
+        ≡ plain_field (codes ":method") (codes "CONNECT") ∷ plain_field (codes ":authority") (codes "example.com:443") ∷ [] }
 {}

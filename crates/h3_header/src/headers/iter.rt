@@ -29,7 +29,7 @@ pub(crate) struct RegularIter {
 
 impl Model for RegularIter {
     ghost use Rattle.std.specs.Prelude.{List};
-    ghost use Rattle.h3_field.specs.Field.{Field};
+    ghost use Rattle.h3_field.specs.Field.{Field, plain_field};
     ghost use Rattle.h3_header.specs.Left.{owned_fields};
 
     ghost Value = { List Field };
@@ -54,7 +54,7 @@ fn make_field(
     name: &Option<HeaderName>,
     value: &HeaderValue,
 ) -> Result<HeaderField, AllocError>
-    ensures { IfOk result (λ f. f ≡ record { name = unwrap_or name.now []; value = value.now.bytes }) }
+    ensures { IfOk result (λ f. f ≡ plain_field (unwrap_or name.now []) value.now.bytes) }
 {
     let name: &[u8] = match name {
         Some(name) => name.as_bytes(),
