@@ -160,7 +160,8 @@ impl StaticTable {
         Ok(name_at(index))
     }
 
-    /// The index of the entry with that name and value.
+    /// The index of the entry with that name and value. None for a field with the flag, which is always a literal (RFC 9204, section
+    /// 4.5.4).
     pub fn find(field: &HeaderField) -> Option<usize>
         ensures entry { result ≡ static_field field.now }
         ensures below { IfSome result (λ index. index < 99) }
@@ -175,6 +176,9 @@ impl StaticTable {
     {
         let name = field.name();
         let value = field.value();
+        if field.is_never_indexed() {
+            return None;
+        }
         if name.is_empty() {
             return None;
         }
