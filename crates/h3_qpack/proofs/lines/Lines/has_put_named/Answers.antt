@@ -7,7 +7,7 @@ pub returns-in-Ok-clause-yes : goal.returns-in-Ok-clause-yes
 returns-in-Ok-clause-yes c = λ yes.
     named_put c.args.self.now.table c.args.self.now.base c.args.buf.now c.decode_index.new.buf c.has_put_value.new.buf c.in-Ok.name.now c.args.block.now c.has_put_value.new.block _
     (line_named _ c.requires.some c.requires.own) c.in-Ok-Static.ensures.answer (c.has_put_value.ensures.yes yes)
-    (λ value. rw c.in-Ok-Static.field-0-is (named_entry _ _ _ c.in-Ok.ensures))
+    (λ value. rw c.in-Ok-Static.field-0-is (named_entry _ _ _ _ c.in-Ok.ensures))
 
 pub returns-in-Ok-relative-clause-yes : goal.returns-in-Ok-relative-clause-yes
 returns-in-Ok-relative-clause-yes c = λ yes.
