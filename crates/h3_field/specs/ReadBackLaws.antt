@@ -1,5 +1,5 @@
 -- What is written is read back, whatever follows.
-use Rattle.std.proofs.Common.{◌≡◌, ℕ, ◌+◌, ◌-◌, ◌*◌, ◌/◌, ◌%◌, ◌^◌, ◌==◌, ◌<◌, ◌≤◌, nat_le, Bool, true, false, List, [], ◌∷◌, ◌++◌, length, refl, sym, ap, ◌∙◌, arith, inl, inr, append_assoc, length-append}
+use Rattle.std.proofs.Common.{◌≡◌, ℕ, ◌+◌, ◌-◌, ◌*◌, ◌/◌, ◌%◌, ◌^◌, ◌==◌, ◌<◌, ◌≤◌, nat_le, Bool, true, false, List, [], ◌∷◌, ◌++◌, length, refl, sym, ◌∙◌, arith, inl, inr, append_assoc, length-append}
 use Rattle.std.proofs.lemmas.Bool.{le-leb, lt-leb, lt-ltb, le-ltb, cases_lt, and_parts, leb-true}
 use Rattle.std.proofs.lemmas.Nat.{pow_pos}
 use Rattle.h3_huffman.specs.Huffman.{huffman}
@@ -73,13 +73,13 @@ relative_flags : (n : Bool) (index : ℕ) (value : Payload) (rest : List ℕ) �
 relative_flags true index value rest = refl
 relative_flags false index value rest = refl
 
-lowest_flag : (n : Bool) → (bit_n n % 2 == 1) ≡ n
-lowest_flag true = refl
-lowest_flag false = refl
+post_base_flags : (n : Bool) (index : ℕ) (value : Payload) (rest : List ℕ) → Whole (PostBaseNamed index value (bit_n n % 2 == 1)) rest ≡ Whole (PostBaseNamed index value n) rest
+post_base_flags true index value rest = refl
+post_base_flags false index value rest = refl
 
-literal_flag : (n : Bool) → ((2 + bit_n n) % 2 == 1) ≡ n
-literal_flag true = refl
-literal_flag false = refl
+literal_flags : (n : Bool) (name value : Payload) (rest : List ℕ) → Whole (LiteralField name value ((2 + bit_n n) % 2 == 1)) rest ≡ Whole (LiteralField name value n) rest
+literal_flags true name value rest = refl
+literal_flags false name value rest = refl
 
 pub line_reads_back : (l : FieldLine) (rest : List ℕ) → IsWritable l → IsLineOfBytes l → length (line_bytes l) < 2 ^ 63 → HasLine (line_bytes l ++ rest) l rest
 line_reads_back (StaticField index) rest w b fits =
@@ -105,13 +105,13 @@ line_reads_back (PostBaseName index value n) rest w b fits =
     let begin = begins_pair 3 (bit_n n) index 0 15 (string_literal 8 0 value) rest (omega arith) (omega (arith, below n)) in
     let len = string_fits 8 0 value (behind (prefixed 3 (bit_n n) index) (string_literal 8 0 value) fits) in
     let whole = line_post_base_named _ begin.1 begin.0 ∙ post_base_named_read (bit_n n) index value rest (omega (arith, w.0)) (in_range 7 _ len) in
-    record { form = PostBaseNamed index _ n; whole = whole ∙ ap (λ m. Whole (PostBaseNamed index _ m) rest) (lowest_flag n); says = (value, coded value b, refl) }
+    record { form = PostBaseNamed index _ n; whole = whole ∙ post_base_flags n index _ rest; says = (value, coded value b, refl) }
 line_reads_back (Literal name value n) rest w b fits =
     let begin = begins_string 4 (2 + bit_n n) 32 63 name (string_literal 8 0 value) rest (omega (arith, below n)) (omega (arith, below n)) in
     let first = string_fits 4 (2 + bit_n n) name (before (string_literal 4 (2 + bit_n n) name) (string_literal 8 0 value) fits) in
     let second = string_fits 8 0 value (behind (string_literal 4 (2 + bit_n n) name) (string_literal 8 0 value) fits) in
     let whole = line_literal _ begin.1 begin.0 ∙ literal_read (2 + bit_n n) name value rest (in_range 3 _ first) (in_range 7 _ second) in
-    record { form = LiteralField _ _ n; whole = whole ∙ ap (λ m. Whole (LiteralField _ _ m) rest) (literal_flag n); says = (name, value, coded name b.0, coded value b.1, refl) }
+    record { form = LiteralField _ _ n; whole = whole ∙ literal_flags n _ _ rest; says = (name, value, coded name b.0, coded value b.1, refl) }
 
 -- which instruction the first byte begins
 pub instruction_named : (bytes : List ℕ) → 0 < length bytes → begins 128 255 bytes ≡ true → instruction bytes ≡ name_reference bytes

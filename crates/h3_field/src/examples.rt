@@ -1,5 +1,5 @@
 //! What the definitions give at values of the standards. These functions do nothing: the check computes their contracts.
-ghost use Rattle.std.specs.Prelude.{◌≡◌, ◌∷◌, [], length, codes, Some, None, true};
+ghost use Rattle.std.specs.Prelude.{◌≡◌, ◌∷◌, [], length, codes, Some, None, true, false};
 ghost use Rattle.h3_huffman.specs.Huffman.{huffman};
 ghost use Rattle.h3_field.specs.Integer.{prefixed};
 ghost use Rattle.h3_field.specs.IntegerReading.{integer};

@@ -41,7 +41,7 @@ impl<'a> FieldRef<'a> {
     /// The same with that flag.
     #[inline(always)]
     pub fn with_never_indexed(mut self, never_indexed: bool) -> FieldRef<'a>
-        ensures { result ≡ record { name = self.name; value = self.value; never_indexed = never_indexed } }
+        ensures { result ≡ record { name = self.entry.name; value = self.entry.value; never_indexed = never_indexed } }
     {
         self.never_indexed = never_indexed;
         self

@@ -1,6 +1,9 @@
 use Rattle.std.proofs.Common.{ap, not}
-use Rattle.h3_field.proofs.StaticEntries.{Sought, field_empty, field_free, field_other_name, field_other_value, field_here}
+use Rattle.h3_field.proofs.StaticEntries.{Sought, field_flagged, field_empty, field_free, field_other_name, field_other_value, field_here}
 use Rattle.h3_field.proofs.static_.StaticTable.find_lent.Goals as goal
+
+pub returns-then-is_never_indexed-clause-entry : goal.returns-then-is_never_indexed-clause-entry
+returns-then-is_never_indexed-clause-entry c = field_flagged c.args.field.now c.if-is_never_indexed.ensures
 
 pub returns-then-is_empty-clause-entry : goal.returns-then-is_empty-clause-entry
 returns-then-is_empty-clause-entry c = field_empty c.args.field.now (rw c.name-name.ensures at c.if-is_empty.ensures)
@@ -23,4 +26,4 @@ returns-then-not-is_same-2-clause-entry c =
 pub returns-clause-entry : goal.returns-clause-entry
 returns-clause-entry c =
     let s : Sought c.args.field.now c.hash_of_field.result c.field_slot_at-slot.result = record { hash_is = rw (c.hash_of_name.ensures.value, c.name-name.ensures, c.value-value.ensures) at c.hash_of_field.ensures.value; slot_is = c.field_slot_at-slot.ensures } in
-    field_here _ _ _ _ _ s c.if-slot-ge-COUNT.false c.name_at.ensures (ap not (rw c.name-name.ensures at c.if-not-is_same.ensures)) c.value_at.ensures (ap not (rw c.value-value.ensures at c.if-not-is_same-2.ensures))
+    field_here _ _ _ _ _ s c.if-slot-ge-COUNT.false c.name_at.ensures (ap not (rw c.name-name.ensures at c.if-not-is_same.ensures)) c.value_at.ensures (ap not (rw c.value-value.ensures at c.if-not-is_same-2.ensures)) c.if-is_never_indexed.ensures
