@@ -60,12 +60,12 @@ literal_asks old own form rest e string memory = from (two_strings 4 old) e
 
 -- a line that names no static entry
 no_named : (old after : List ℕ) (is_static : Bool) (index : ℕ) (p : Payload) (n : Bool) → line old ≡ Whole (Named is_static index p n) after → (is_static ≡ true → 99 ≤ index) → HasNoField old
-no_named old after true index p is le rest l f here names =
+no_named old after true index p n is le rest l f here names =
     let same = whole_same (Named true index p n) here.form after rest (sym is ∙ here.whole) in
     let says : SaysLine (Named true index p n) l = rw (← same.0) at here.says in
     let none : line_field l ≡ None = rw (says.2, static_none index (le refl)) refl in
     absurd (cc)
-no_named old after false index p is le rest l f here names =
+no_named old after false index p n is le rest l f here names =
     let same = whole_same (Named false index p n) here.form after rest (sym is ∙ here.whole) in
     let says : SaysLine (Named false index p n) l = rw (← same.0) at here.says in
     let none : line_field l ≡ None = rw says.2 refl in

@@ -27,7 +27,7 @@ named_from : (r : Reading (ℕ × ℕ)) (old mid new bytes : List ℕ) (before a
     → (value : List ℕ) × AnswersLine (short_named_line value) AtInteger (named_of (then_read r (λ head rest. parts_of head (string 8 rest)))) old new (Ok name) × (after ≡ before ++ (record { name = bytes; value = value; never_indexed = name.1 }) ∷ [])
 named_from (Whole head rest) old mid new bytes before after name is h =
     let same : name ≡ named_head head = cc in
-    rw same (named_there head (string 8 rest) old rest new bytes before after (rw is.1 at h))
+    rw same (named_there head (string 8 rest) old rest new bytes before after (rw (is.1, same) at h))
 named_from Unfinished old mid new bytes before after name is h = absurd (cc)
 named_from Bad old mid new bytes before after name is h = absurd (cc)
 
@@ -46,7 +46,7 @@ post_base_from : (r : Reading (ℕ × ℕ)) (old mid new bytes : List ℕ) (befo
     → (value : List ℕ) × AnswersLine (short_post_base_named_line value) AtInteger (post_base_of (then_read r (λ head rest. parts_of head (string 8 rest)))) old new (Ok index) × (after ≡ before ++ (record { name = bytes; value = value; never_indexed = index.1 }) ∷ [])
 post_base_from (Whole head rest) old mid new bytes before after index is h =
     let same : index ≡ post_base_head head = cc in
-    rw same (post_base_there head (string 8 rest) old rest new bytes before after (rw is.1 at h))
+    rw same (post_base_there head (string 8 rest) old rest new bytes before after (rw (is.1, same) at h))
 post_base_from Unfinished old mid new bytes before after index is h = absurd (cc)
 post_base_from Bad old mid new bytes before after index is h = absurd (cc)
 
