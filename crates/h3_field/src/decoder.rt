@@ -119,11 +119,13 @@ fn take_long_named(alloc: Global, buf: &mut SliceCursor<'_>) -> Result<HeaderFie
     ensures { AnswersField buf.old buf.new result }
 {
     match LiteralWithNameRef::decode(alloc, buf) {
-        Ok(LiteralWithNameRef::Static {
-            index,
-            value,
-            never_indexed,
-        }) => match StaticTable::get_name(index) {
+        Ok(
+            LiteralWithNameRef::Static {
+                index,
+                value,
+                never_indexed,
+            },
+        ) => match StaticTable::get_name(index) {
             Ok(name) => {
                 Ok(HeaderField::with_static_name(name, value).with_never_indexed(never_indexed))
             }
@@ -153,11 +155,13 @@ fn take_long_literal(alloc: Global, buf: &mut SliceCursor<'_>) -> Result<HeaderF
     ensures { AnswersField buf.old buf.new result }
 {
     match Literal::decode(alloc, buf) {
-        Ok(Literal {
-            name,
-            value,
-            never_indexed,
-        }) => {
+        Ok(
+            Literal {
+                name,
+                value,
+                never_indexed,
+            },
+        ) => {
             let field = HeaderField::new(CowSlice::Owned(name), CowSlice::Owned(value));
             Ok(field.with_never_indexed(never_indexed))
         }
