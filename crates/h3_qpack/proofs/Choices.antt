@@ -209,7 +209,13 @@ room_held s d f t table known tracked named small h =
     tracked_free (evictions_by s d f) s.tracked named ∙ ap (is_free_to (evictions_by s d f)) (sym tracked) ∙ ap (λ n. is_free_to n t.tracked) (sym after) ∙ h.free in
     let own : list_all (λ k. nat_lt (evictions_by s d f) k) d.references ≡ true =
     drafted_free (evictions_by s d f) d.references (omega (arith, small, length-append d.inserted (f ∷ []))) ∙ lt_true (evictions_by s d f) (oldest_of d.references) (omega (arith, h.own, after)) in
-    rw (h.plain, few, room, received, list_all-append (evictions_by s d f) (referenced_entries s) d.references, free, own) refl
+    all f.never_indexed _ _ _ _ h.plain few room received (list_all-append (evictions_by s d f) (referenced_entries s) d.references ∙ both _ _ free own)
+  where
+    both : (a b : Bool) → a ≡ true → b ≡ true → (a && b) ≡ true
+    both a b x y = rw (x, y) refl
+
+    all : (n a b c d : Bool) → n ≡ false → a ≡ true → b ≡ true → c ≡ true → d ≡ true → (not n && a && b && c && d) ≡ true
+    all n a b c d v w x y z = rw (v, w, x, y, z) refl
 
 is_plain : (b : Bool) → not b ≡ true → b ≡ false
 is_plain true h = absurd (cc)

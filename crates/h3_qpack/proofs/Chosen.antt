@@ -134,20 +134,23 @@ not_held_kept : (s : EncoderHistory) (d : Draft) (t : EncoderState) (section : S
 not_held_kept s d t section f k names few h =
     rw (h.nowhere.no_static, none_found s d (marks_after s d.lines) t section f k h.nowhere, not_inserted_kept s d t section f k names few h.no_room) refl
 
+plain_written : (s : EncoderHistory) (d : Draft) (f : Field) → f.never_indexed ≡ false → write_field s d f ≡ write_indexed s d f
+plain_written s d f plain = ap (λ b. if b then add_literal s d f else write_indexed s d f) plain
+
 -- So is one that is never indexed.
 literal_kept : (s : EncoderHistory) (d : Draft) (t : EncoderState) (section : Section) (f : Field) → IsDraftState s d (marks_after s d.lines) t section → NameEntries s → length d.inserted < 2 ^ 62
     → IsLiteral t section f → write_field s d f ≡ add_literal s d f
-literal_kept s d t section f k names few (inl never) = rw never refl
-literal_kept s d t section f k names few (inr h) = rw h.0 (not_held_kept s d t section f k names few h.1)
+literal_kept s d t section f k names few (inl never) = ap (λ b. if b then add_literal s d f else write_indexed s d f) never
+literal_kept s d t section f k names few (inr h) = plain_written s d f h.0 ∙ not_held_kept s d t section f k names few h.1
 
 -- The rule says the same.
 pub rule_kept : (s : EncoderHistory) (d : Draft) (t : EncoderState) (section : Section) (f : Field) (c : Choice) → IsDraftState s d (marks_after s d.lines) t section → NameEntries s → length d.inserted < 2 ^ 62
     → IsChosen t section f c → write_field s d f ≡ drafted s d f c
-rule_kept s d t section f (choice.Static index) k names few h = rw (h.0, h.1) refl
+rule_kept s d t section f (choice.Static index) k names few h = plain_written s d f h.0 ∙ rw h.1 refl
 rule_kept s d t section f (choice.Entry number) k names few h =
-    rw (h.0, h.1, entry_found s d (marks_after s d.lines) t section f number k h.2 h.3) refl
+    plain_written s d f h.0 ∙ rw (h.1, entry_found s d (marks_after s d.lines) t section f number k h.2 h.3) refl
 rule_kept s d t section f (choice.Insertion after searched) k names few h =
-    rw (h.0, h.1.no_static, none_found s d (marks_after s d.lines) t section f k h.1, inserted_kept s d t section f k names few h.2) refl
+    plain_written s d f h.0 ∙ rw (h.1.no_static, none_found s d (marks_after s d.lines) t section f k h.1, inserted_kept s d t section f k names few h.2) refl
 rule_kept s d t section f (choice.StaticName index) k names few h = literal_kept s d t section f k names few h.0 ∙ rw h.1 refl
 rule_kept s d t section f (choice.EntryName number) k names few h =
     let entry : found_name s d f ≡ Some number = sym (named_kept s d (marks_after s d.lines) t section f k) ∙ h.2 in

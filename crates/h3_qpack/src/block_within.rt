@@ -9,7 +9,7 @@ ghost use Rattle.h3_qpack.specs.DecodedSection.{fields_in};
 ghost use Rattle.h3_qpack.specs.SectionAnswers.{LinesAskMemory, IsReasonFor, HasPut, PutsLine};
 ghost use Rattle.h3_qpack.specs.Sizes.{IsBlockWithin, PassesLimit, told_size};
 
-use crate::lines::{Lines, post_base, relative};
+use crate::lines::{Lines, lent, post_base, relative};
 use crate::listing::SectionSummary;
 use crate::within::LargeSection;
 use h3_field::block::{
@@ -81,7 +81,7 @@ impl<'t> Lines<'t> {
                 Err(e) => Err(DecoderError::InvalidStaticIndex(e)),
             },
             Ok(Indexed::Dynamic(index)) => match relative(self.entries(), self.base(), index) {
-                Ok(entry) => put(block, &entry.lent()),
+                Ok(entry) => put(block, &lent(&entry)),
                 Err(e) => Err(e),
             },
             Err(e) => Err(DecoderError::from(e)),
@@ -100,7 +100,7 @@ impl<'t> Lines<'t> {
     {
         match IndexedWithPostBase::decode(buf) {
             Ok(IndexedWithPostBase(index)) => match post_base(self.entries(), self.base(), index) {
-                Ok(entry) => put(block, &entry.lent()),
+                Ok(entry) => put(block, &lent(&entry)),
                 Err(e) => Err(e),
             },
             Err(e) => Err(DecoderError::from(e)),

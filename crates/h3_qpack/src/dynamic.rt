@@ -411,6 +411,7 @@ impl DynamicTable {
     }
 
     /// Inserts a field that may be inserted: the oldest entries, up to `after`, are evicted. If an allocation fails nothing changes.
+    #[tactic(auto, using(h3_field::specs::FieldLaws::plain_is))]
     pub(crate) fn insert(&mut self, field: &FieldRef<'_>, after: usize) -> Result<(), AllocError>
         requires after { after ≡ evicted (with_entry self.old.table field.now) }
         requires from { evicted self.old.table ≤ after }

@@ -174,7 +174,7 @@ pub fn never_indexed()
     ensures behind { encoded_section (fresh 4096 100) (x_a ∷ secret_a ∷ []) ≡ 2 ∷ 128 ∷ 16 ∷ 8 ∷ 129 ∷ 15 ∷ [] }
     ensures static_entry { encoded_section (fresh 4096 100) (flagged (plain_field (codes ":path") (codes "/")) true ∷ []) ≡ 0 ∷ 0 ∷ 113 ∷ 129 ∷ 99 ∷ [] }
     ensures ahead { instructions_for (no_waiting 64) (secret_a ∷ []) ≡ [] }
-    ensures marks { (sent_section (no_waiting 64) 0 (secret_a ∷ [])).marks ≡ [] }
+    ensures marks { (sent_section (no_waiting 64) 0 (secret_a ∷ [])).marks ≡ (no_waiting 64).marks }
 {}
 
 /// The mark of a value goes by its length and its last 16 bytes.

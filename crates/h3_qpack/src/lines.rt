@@ -37,6 +37,16 @@ pub(crate) enum Source<'t> {
     Named(Entry<'t>, Vec<u8>, bool),
 }
 
+/// The name and the value of an entry, where they lie.
+#[tactic(auto, using(h3_field::specs::FieldLaws::plain_is))]
+pub(crate) fn lent<'a>(entry: &'a Entry<'_>) -> FieldRef<'a>
+    ensures { result ≡ entry.now }
+{
+    // (for the proof: no entry has the flag)
+    entry.is_plain();
+    FieldRef::new(entry.name(), entry.value())
+}
+
 impl<'t> Model for LineField<'t> {
     ghost use Rattle.h3_field.specs.Field.{Field};
     ghost use Rattle.h3_qpack.specs.LineFields.{field_from};
@@ -97,7 +107,7 @@ impl<'t> LineField<'t> {
     {
         match &self.source {
             Source::Own(field) => FieldRef::of(field),
-            Source::Entry(entry) => entry.lent(),
+            Source::Entry(entry) => lent(entry),
             Source::Named(entry, value, never_indexed) => {
                 FieldRef::new(entry.name(), value.as_slice()).with_never_indexed(*never_indexed)
             }

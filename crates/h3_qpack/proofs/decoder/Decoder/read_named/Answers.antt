@@ -1,4 +1,4 @@
-use Rattle.std.proofs.Common.{◌≡◌, ◌-◌, refl, sym, ◌∙◌, ap, Some, None}
+use Rattle.std.proofs.Common.{◌≡◌, ◌-◌, false, refl, sym, ◌∙◌, ap, Some, None}
 use Rattle.h3_table.specs.TableState.{entry_at}
 use Rattle.h3_field.specs.ShapeAnswer.{behind}
 use Rattle.h3_field.specs.IntegerReading.{integer}

@@ -33,8 +33,3 @@ returns-then-mem_size-capacity c =
 pub returns-in-Err : goal.returns-in-Err
 returns-in-Err c =
     (reason_map _ _ c.in-Err.e (no_insertion_bad c.args.self.now c.args.buf.now) (rw (c.new-ahead.ensures, c.chunk.ensures) at c.in-Err.ensures), refl, refl)
-
-pub insert-requires-clause-plain : goal.insert-requires-clause-plain
-insert-requires-clause-plain c =
-    let begins = rw (c.in-Ok-Some.field-0-is, c.new-ahead.ensures, c.chunk.ensures) at c.in-Ok-Some.ensures in
-    begins.plain
