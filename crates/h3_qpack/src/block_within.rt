@@ -116,17 +116,15 @@ impl<'t> Lines<'t> {
         ensures no { result ≡ false → block.new ≡ block.old }
     {
         match LiteralWithNameRef::decode_index(buf) {
-            Ok((NameRef::Static(index), never_indexed)) => match StaticTable::get_name(index) {
-                Ok(name) => has_put_value(block, name, never_indexed, buf),
-                Err(_) => false,
-            },
-            Ok((NameRef::Dynamic(index), never_indexed)) => match relative(
-                self.entries(),
-                self.base(),
-                index,
-            ) {
-                Ok(entry) => has_put_value(block, entry.name(), never_indexed, buf),
-                Err(_) => false,
+            Ok(head) => match head.0 {
+                NameRef::Static(index) => match StaticTable::get_name(index) {
+                    Ok(name) => has_put_value(block, name, head.1, buf),
+                    Err(_) => false,
+                },
+                NameRef::Dynamic(index) => match relative(self.entries(), self.base(), index) {
+                    Ok(entry) => has_put_value(block, entry.name(), head.1, buf),
+                    Err(_) => false,
+                },
             },
             Err(_) => false,
         }
