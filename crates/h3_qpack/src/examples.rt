@@ -161,8 +161,8 @@ pub fn draining_tables()
     ensures plain { (draft_of (record two_drain { economical = false }) (empty_b ∷ [])).lines ≡ RelativeField 1 ∷ [] }
 {}
 
-/// A never-indexed field is a literal with the bit N, in whatever table, and leaves nothing behind. A second section with it is like the first,
-/// and the same field without the flag is then inserted as if it were new. Its name may be that of an entry.
+/// A never-indexed field is a literal with the bit N, whatever a table has, and leaves no trace. A second section with it is like the
+/// first, and the same field without the flag is then inserted as if it were new. Its name may be that of an entry.
 #[tactic(auto, unfolding(h3_field::specs::StaticTable::static_table, h3_field::specs::StaticTable::static_field, h3_field::specs::StaticTable::static_name, h3_huffman::specs::Huffman::huffman, h3_huffman::specs::Huffman::octets, h3_huffman::specs::Huffman::code_word, h3_huffman::specs::Huffman::bits))]
 pub fn never_indexed()
     ensures first { encoded_section (fresh 4096 100) (secret_a ∷ []) ≡ 0 ∷ 0 ∷ 59 ∷ 242 ∷ 176 ∷ 255 ∷ 129 ∷ 15 ∷ [] }

@@ -385,22 +385,26 @@ impl<'t> Lines<'t> {
     {
         let spare = relative_name_room(self.entries, self.base, 4, self.longest_name, buf);
         match LiteralWithNameRef::decode_with_room(self.alloc, buf, spare) {
-            Ok(LiteralWithNameRef::Static {
-                index,
-                value,
-                never_indexed,
-            }) => match StaticTable::get_name(index) {
+            Ok(
+                LiteralWithNameRef::Static {
+                    index,
+                    value,
+                    never_indexed,
+                },
+            ) => match StaticTable::get_name(index) {
                 Ok(name) => {
                     let field = HeaderField::with_static_name(name, value);
                     Ok(LineField::own(field.with_never_indexed(never_indexed)))
                 }
                 Err(e) => Err(DecoderError::InvalidStaticIndex(e)),
             },
-            Ok(LiteralWithNameRef::Dynamic {
-                index,
-                value,
-                never_indexed,
-            }) => match relative(self.entries, self.base, index) {
+            Ok(
+                LiteralWithNameRef::Dynamic {
+                    index,
+                    value,
+                    never_indexed,
+                },
+            ) => match relative(self.entries, self.base, index) {
                 Ok(entry) => Ok(LineField::named(entry, value, never_indexed)),
                 Err(e) => Err(e),
             },
@@ -455,11 +459,13 @@ impl<'t> Lines<'t> {
     {
         let spare = post_base_name_room(self.entries, self.base, self.longest_name, buf);
         match LiteralWithPostBaseNameRef::decode_with_room(self.alloc, buf, spare) {
-            Ok(LiteralWithPostBaseNameRef {
-                index,
-                value,
-                never_indexed,
-            }) => match post_base(self.entries, self.base, index) {
+            Ok(
+                LiteralWithPostBaseNameRef {
+                    index,
+                    value,
+                    never_indexed,
+                },
+            ) => match post_base(self.entries, self.base, index) {
                 Ok(entry) => Ok(LineField::named(entry, value, never_indexed)),
                 Err(e) => Err(e),
             },
@@ -487,11 +493,13 @@ impl<'t> Lines<'t> {
         ensures { AnswersLineAt self.now.table self.now.base buf.old buf.new result }
     {
         match Literal::decode(self.alloc, buf) {
-            Ok(Literal {
-                name,
-                value,
-                never_indexed,
-            }) => {
+            Ok(
+                Literal {
+                    name,
+                    value,
+                    never_indexed,
+                },
+            ) => {
                 let field = HeaderField::new(CowSlice::Owned(name), CowSlice::Owned(value));
                 Ok(LineField::own(field.with_never_indexed(never_indexed)))
             }
