@@ -32,7 +32,7 @@ static int next(void *data, uint64_t *id, uint8_t *bytes, size_t room, size_t *l
 static void read_fields(side *to, field_list *list, size_t count) {
   static h3_field_size sizes[1 << 10];
   static uint8_t bytes[1 << 17], *at;
-  done("h3_item_fields", h3_item_fields(&to->end, sizes, sizeof sizes / sizeof *sizes, bytes, sizeof bytes));
+  done("h3_item_fields", h3_item_fields(&to->end, sizes, NULL, sizeof sizes / sizeof *sizes, bytes, sizeof bytes));
   at = bytes;
   for (size_t i = 0; i < count; at += sizes[i].name + sizes[i].value, i++)
     keep_field(list, at, sizes[i].name, at + sizes[i].name, sizes[i].value);
@@ -88,9 +88,9 @@ static void send_list(side *from, uint64_t id, const field_list *list, int is_tr
     put_bytes(&bytes, field->value, field->valuelen);
   }
   if (is_trailer)
-    done("h3_send_trailer", h3_send_trailer(&from->end, id, sizes, list->count, bytes.bytes, bytes.len, NULL));
+    done("h3_send_trailer", h3_send_trailer(&from->end, id, sizes, NULL, list->count, bytes.bytes, bytes.len, NULL));
   else
-    done("h3_send_head", h3_send_head(&from->end, id, sizes, list->count, bytes.bytes, bytes.len, NULL));
+    done("h3_send_head", h3_send_head(&from->end, id, sizes, NULL, list->count, bytes.bytes, bytes.len, NULL));
   free(sizes);
   free_pack(&bytes);
 }

@@ -98,7 +98,7 @@ section *section_take(nghttp3_conn *connection, const h3_item *item) {
   h3_field_size *sizes = (h3_field_size *)(all->buffers + 2 * count);
   uint8_t *to = (uint8_t *)(sizes + count), *from = to + 2 * count + STEP;
   all->references = 1;
-  if (h3_item_fields(&connection->endpoint, sizes, count, from, item->len) == H3_OK) {
+  if (h3_item_fields(&connection->endpoint, sizes, NULL, count, from, item->len) == H3_OK) {
     spread(all, count, sizes, to, from);
     return all;
   }

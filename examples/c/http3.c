@@ -617,7 +617,7 @@ bool http3_has_to_wait(const http3_request *request, uint64_t silence) {
 
 bool http3_interim(http3_request *request, const http3_list *list) {
   http3 *h = request->connection;
-  if (h3_send_head(&h->endpoint, request->entry.id, list->sizes, list->count, list_bytes(list), list->len, NULL) != H3_OK) return false;
+  if (h3_send_head(&h->endpoint, request->entry.id, list->sizes, NULL, list->count, list_bytes(list), list->len, NULL) != H3_OK) return false;
   qlog_section(h->log, true, request->entry.id, list);
   quic_wake(h->quic, 0);
   return true;
@@ -627,7 +627,7 @@ bool http3_head(http3_request *request, const http3_list *list) { return request
 
 bool http3_trailer(http3_request *request, const http3_list *list) {
   http3 *h = request->connection;
-  if (h3_send_trailer(&h->endpoint, request->entry.id, list->sizes, list->count, list_bytes(list), list->len, NULL) != H3_OK) return false;
+  if (h3_send_trailer(&h->endpoint, request->entry.id, list->sizes, NULL, list->count, list_bytes(list), list->len, NULL) != H3_OK) return false;
   qlog_section(h->log, true, request->entry.id, list);
   quic_wake(h->quic, 0);
   return true;

@@ -83,7 +83,7 @@ bool http3_priority(const http3_list *list, uint32_t *urgency, uint32_t *increme
 
 /* Reads the section that came last into a list that has room for it. */
 static bool read_item(h3_endpoint *endpoint, http3_list *list) {
-  return h3_item_fields(endpoint, list->sizes, list->count, (char *)list_bytes(list), list->len) == H3_OK;
+  return h3_item_fields(endpoint, list->sizes, NULL, list->count, (char *)list_bytes(list), list->len) == H3_OK;
 }
 
 http3_list *list_of_item(h3_endpoint *endpoint, const h3_item *item) {
