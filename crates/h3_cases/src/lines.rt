@@ -104,11 +104,11 @@ fn put_empty(told: &mut Told, kind: &str, index: usize, out: &mut Vec<u8>)
 {
     let value = Vec::new(told.alloc());
     match kind {
-        "static_named" => told.done(LiteralWithNameRef::Static { index, value }.encode(out)),
-        "post_base_named" => told.done(LiteralWithPostBaseNameRef { index, value }.encode(out)),
+        "static_named" => told.done(LiteralWithNameRef::new_static(index, value).encode(out)),
+        "post_base_named" => told.done(LiteralWithPostBaseNameRef::new(index, value).encode(out)),
         "literal" => {
             let name = Vec::new(told.alloc());
-            told.done(Literal { name, value }.encode(out));
+            told.done(Literal::new(name, value).encode(out));
         }
         _ => told.unreadable(),
     }
