@@ -83,13 +83,13 @@ func body(t *testing.T, endpoint *Endpoint, id uint64) (all []byte, behind Item)
 	}
 }
 
-var get = []Field{{":method", "GET"}, {":scheme", "https"}, {":authority", "localhost"}, {":path", "/"}}
+var get = []Field{{Name: ":method", Value: "GET"}, {Name: ":scheme", Value: "https"}, {Name: ":authority", Value: "localhost"}, {Name: ":path", Value: "/"}}
 
 func TestExchange(t *testing.T) {
 	sent := bytes.Repeat([]byte("0123456789"), 2000)
-	head := append(append([]Field{}, get...), Field{"x-long", strings.Repeat("v", 3000)}, Field{"x-none", ""})
+	head := append(append([]Field{}, get...), Field{Name: "x-long", Value: strings.Repeat("v", 3000)}, Field{Name: "x-none", Value: ""})
 	head[0].Value = "POST"
-	trailer := []Field{{"x-count", "1"}, {"x-count", "2"}}
+	trailer := []Field{{Name: "x-count", Value: "1"}, {Name: "x-count", Value: "2"}}
 	for _, piece := range []int{1, 7, 1000, 100000} {
 		client, server := pair(t)
 		next, err := client.NextRequestID()
@@ -112,20 +112,20 @@ func TestExchange(t *testing.T) {
 		is(t, behind.Fields, trailer)
 		pull(t, server, id, End)
 
-		is(t, server.SendHead(id, []Field{{":status", "103"}}), nil)
-		is(t, server.SendHead(id, []Field{{":status", "200"}, {"x-a", "b"}}), nil)
-		is(t, server.SendTrailer(id, []Field{{"x-a", "b"}}), nil)
+		is(t, server.SendHead(id, []Field{{Name: ":status", Value: "103"}}), nil)
+		is(t, server.SendHead(id, []Field{{Name: ":status", Value: "200"}, {Name: "x-a", Value: "b"}}), nil)
+		is(t, server.SendTrailer(id, []Field{{Name: "x-a", Value: "b"}}), nil)
 		is(t, server.Finish(id), nil)
 		is(t, carry(t, server, client, piece), 1)
 		is(t, pull(t, client, id, Interim).Status, 103)
 		response := pull(t, client, id, Head)
 		is(t, response.Status, 200)
-		is(t, response.Fields, []Field{{":status", "200"}, {"x-a", "b"}})
+		is(t, response.Fields, []Field{{Name: ":status", Value: "200"}, {Name: "x-a", Value: "b"}})
 		value, ok := response.Value("x-a")
 		is(t, value == "b" && ok, true)
 		_, ok = response.Value("x-b")
 		is(t, ok, false)
-		is(t, pull(t, client, id, Trailer).Fields, []Field{{"x-a", "b"}})
+		is(t, pull(t, client, id, Trailer).Fields, []Field{{Name: "x-a", Value: "b"}})
 		pull(t, client, id, End)
 		is(t, client.Stream(id), StreamState{HasOutgoing: true, Finished: true, Tries: 1})
 	}
@@ -207,7 +207,7 @@ func TestFaults(t *testing.T) {
 		fault Fault
 		code  uint64
 	}{
-		{func(id uint64) error { return client.SendHead(id, append(get[:4:4], Field{"connection", "close"})) },
+		{func(id uint64) error { return client.SendHead(id, append(get[:4:4], Field{Name: "connection", Value: "close"})) },
 			Fault{FaultMalformed, uint64(ConnectionField)}, MessageError},
 		{func(id uint64) error { return server.DeliverEnd(id) }, Fault{FaultMalformed, uint64(NoHead)}, RequestIncomplete},
 		{func(id uint64) error { return server.DeliverReset(id, 0x10c) }, Fault{FaultReset, 0x10c}, RequestCancelled},
@@ -243,10 +243,10 @@ func TestRefusals(t *testing.T) {
 	client, server := pair(t)
 	id, _ := client.OpenRequest()
 	is(t, client.SendBody(id, []byte("a")), Error{Answer: OutOfOrder})
-	is(t, client.SendHead(id, []Field{{"Upper", "a"}}), Error{Answer: FieldName})
-	is(t, client.SendHead(id, []Field{{":method", "G T"}}), Error{Answer: FieldValue})
-	is(t, client.SendHead(id, []Field{{":status", "200"}}), Error{Answer: WrongSide})
-	is(t, client.SendHead(id, append(get[:4:4], Field{"connection", "close"})), Error{Malformed, uint64(ConnectionField)})
+	is(t, client.SendHead(id, []Field{{Name: "Upper", Value: "a"}}), Error{Answer: FieldName})
+	is(t, client.SendHead(id, []Field{{Name: ":method", Value: "G T"}}), Error{Answer: FieldValue})
+	is(t, client.SendHead(id, []Field{{Name: ":status", Value: "200"}}), Error{Answer: WrongSide})
+	is(t, client.SendHead(id, append(get[:4:4], Field{Name: "connection", Value: "close"})), Error{Malformed, uint64(ConnectionField)})
 	is(t, client.SendTrailer(id, nil), Error{Answer: OutOfOrder})
 	is(t, client.Reset(2), Error{Answer: Critical})
 	is(t, client.Advance(id, 1), Error{Answer: Argument})
