@@ -85,6 +85,31 @@ func body(t *testing.T, endpoint *Endpoint, id uint64) (all []byte, behind Item)
 
 var get = []Field{{Name: ":method", Value: "GET"}, {Name: ":scheme", Value: "https"}, {Name: ":authority", Value: "localhost"}, {Name: ":path", Value: "/"}}
 
+// A flag goes over and comes, in a header and a trailer section, and on to a next hop.
+func TestNeverIndexed(t *testing.T) {
+	secret := Field{Name: "authorization", Value: "a", NeverIndexed: true}
+	head, trailer := append(get[:4:4], secret), []Field{{Name: "x-a", Value: "1"}, {Name: "x-b", Value: "2", NeverIndexed: true}}
+	for hop := 0; hop < 2; hop++ {
+		client, server := pair(t)
+		id, err := client.OpenRequest()
+		is(t, err, nil)
+		is(t, client.SendHead(id, head), nil)
+		waiting := make([]byte, 64)
+		count, _ := client.Outgoing(id, waiting)
+		// RFC 9204, section 4.5.4: 01, N, T and the index 84; the value
+		is(t, bytes.HasSuffix(waiting[:count], []byte{0x7f, 0x45, 0x81, 0x1f}), true)
+		is(t, client.SendTrailer(id, trailer), nil)
+		is(t, client.Finish(id), nil)
+		carry(t, client, server, 1000)
+		came := pull(t, server, id, Head).Fields
+		is(t, came, head)
+		is(t, came[4].NeverIndexed && !came[0].NeverIndexed, true)
+		head, trailer = came, pull(t, server, id, Trailer).Fields
+		is(t, trailer[1].NeverIndexed && !trailer[0].NeverIndexed, true)
+		pull(t, server, id, End)
+	}
+}
+
 func TestExchange(t *testing.T) {
 	sent := bytes.Repeat([]byte("0123456789"), 2000)
 	head := append(append([]Field{}, get...), Field{Name: "x-long", Value: strings.Repeat("v", 3000)}, Field{Name: "x-none", Value: ""})
@@ -207,7 +232,9 @@ func TestFaults(t *testing.T) {
 		fault Fault
 		code  uint64
 	}{
-		{func(id uint64) error { return client.SendHead(id, append(get[:4:4], Field{Name: "connection", Value: "close"})) },
+		{func(id uint64) error {
+			return client.SendHead(id, append(get[:4:4], Field{Name: "connection", Value: "close"}))
+		},
 			Fault{FaultMalformed, uint64(ConnectionField)}, MessageError},
 		{func(id uint64) error { return server.DeliverEnd(id) }, Fault{FaultMalformed, uint64(NoHead)}, RequestIncomplete},
 		{func(id uint64) error { return server.DeliverReset(id, 0x10c) }, Fault{FaultReset, 0x10c}, RequestCancelled},
