@@ -25,7 +25,7 @@ http3_list *http3_list_of_lines(const http3_line *lines, size_t count) {
 }
 
 http3_line http3_line_of(const http3_field *field) {
-  return (http3_line){field->name, field->value, strlen(field->name), strlen(field->value), field->never_indexed};
+  return (http3_line){field->name, field->value, strlen(field->name), strlen(field->value), false};
 }
 
 http3_list *http3_list_of(const http3_field *fields, size_t count) {
