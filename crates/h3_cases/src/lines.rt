@@ -133,13 +133,7 @@ fn write(told: &mut Told, kind: &str, first: &str, value: &[u8])
     told.digits(&out);
 }
 
-fn write_named(
-    told: &mut Told,
-    form: (&str, bool),
-    index: usize,
-    value: &[u8],
-    out: &mut Vec<u8>,
-)
+fn write_named(told: &mut Told, form: (&str, bool), index: usize, value: &[u8], out: &mut Vec<u8>)
     requires index { index < 65536 }
     requires value { length value.now ≤ 1000 }
 {
