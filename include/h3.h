@@ -21,7 +21,7 @@
  *                                               // with the FIN h3_end_taken(&e, s)
  *   do {                                        // QUIC received len bytes on stream s, and fin
  *     h3_read(&e, s, bytes, len, fin, &used, &item, NULL);   // the next item of the message:
- *     ..                                        // a section: h3_item_fields(&e, sizes, NULL, 64, ..);
+ *     ..                                        // a section: h3_item_fields(&e, sizes, NULL, ..);
  *                                               // H3_BODY_GIVEN: item.len bytes of a body, from
  *     bytes += used, len -= used;               // bytes + item.number on
  *   } while (..);                               // until a pause, H3_END or a fault
@@ -521,12 +521,13 @@ typedef struct {
 
 /* Sends a header section: `count` fields, each of them and in their order. `bytes` has all names
  * and values (name, value, name, value, ..), and `len` is the sum of all sizes. `flags` is NULL, or
- * has a byte for each field: 0 or H3_NEVER_INDEX. Names are in lower case. Put pseudo-header fields in front, each once: a peer may refuse another order (RFC 9114,
- * section 4.3), and a strict endpoint does not send it. A response with a status from 100 to 199 is
- * an interim one: send a further header section after it.
+ * has a byte for each field: 0 or H3_NEVER_INDEX. Names are in lower case. Put pseudo-header fields
+ * in front, each once: a peer may refuse another order (RFC 9114, section 4.3), and a strict
+ * endpoint does not send it. A response with a status from 100 to 199 is an interim one: send a
+ * further header section after it.
  * Refused, in this order: H3_ARGUMENT (id not below 2^62; len is not the sum; another flag),
- * H3_CLOSED, H3_NOT_OPEN, H3_OUT_OF_ORDER, H3_FIELD_NAME, H3_FIELD_VALUE and H3_FIELD_COUNT (the first field
- * that is refused decides), H3_WRONG_SIDE, H3_MALFORMED (for white space around a value
+ * H3_CLOSED, H3_NOT_OPEN, H3_OUT_OF_ORDER, H3_FIELD_NAME, H3_FIELD_VALUE and H3_FIELD_COUNT (the
+ * first field that is refused decides), H3_WRONG_SIDE, H3_MALFORMED (for white space around a value
  * H3_FIELD_VALUE), H3_TOO_LARGE, H3_MEMORY. (If memory is needed to check or to send the list,
  * H3_MEMORY may come before the refusals after H3_OUT_OF_ORDER.) */
 static inline uint32_t h3_send_head(h3_endpoint *endpoint, uint64_t id, const h3_field_size *sizes,

@@ -120,7 +120,6 @@ fn without_room(sizes: &[FieldSize], bytes: &'static [u8]) -> Told
 }
 
 // Whether C knows all flags.
-#[tactic(auto, using(crate::proofs::Cuts::flags_start))]
 fn are_flags(flags: &[u8]) -> bool
     ensures { result ≡ list_all is_flags flags.now }
 {

@@ -95,7 +95,7 @@ fn size_of(field: &FieldRef<'_>) -> FieldSize
 }
 
 // Writes the flags of the fields, as many as have room.
-#[tactic(auto, using(crate::proofs::RowLaws::flags_start, crate::proofs::RowLaws::flags_last))]
+#[tactic(auto, using(crate::proofs::RowLaws::flags_start))]
 fn put_flags(fields: &Fields<'_>, flags: &mut [u8])
     ensures { flags.new ≡ take (length flags.old) (flags_of fields.now) ++ drop (length fields.now) flags.old }
 {
