@@ -239,6 +239,10 @@ field_empty f h = field_not_found f (λ has. let none = eqb-true _ _ (sym h) in 
 pub field_flagged : (f : Field) → true ≡ f.never_indexed → None ≡ static_field f
 field_flagged f h = field_not_found f (λ has. absurd (false≢true (sym has.plain ∙ sym h)))
 
+-- what was found of a name and a value, of the field without the flag that they are of
+pub field_plain : (f : Field) (name value : List ℕ) (found : Option ℕ) → found ≡ static_field (plain_field name value) → name ≡ f.name → value ≡ f.value → false ≡ f.never_indexed → found ≡ static_field f
+field_plain f name value found is n v flag = is ∙ ap (λ (g : Field). static_field g) (λ i. record { name = n i; value = v i; never_indexed = flag i })
+
 pub field_free : (f : Field) (hash slot : ℕ) → Sought f hash slot → 99 ≤ slot → None ≡ static_field f
 field_free f hash slot s le = field_not_found f (λ has. absurd (omega (arith, has.lt, at_slot f hash slot s)))
 
@@ -250,9 +254,9 @@ pub field_other_value : (f : Field) (found : List ℕ) (hash slot : ℕ) → Sou
 field_other_value f found hash slot s at ne =
     field_not_found f (λ has. not_same found f.value ne (at ∙ ap (λ x. value_of x) (at_slot f hash slot s) ∙ has.value))
 
-pub field_here : (f : Field) (name value : List ℕ) (hash slot : ℕ) → Sought f hash slot → slot < 99 → name ≡ name_of slot → false ≡ not (bytes_eq name f.name) → value ≡ value_of slot → false ≡ not (bytes_eq value f.value) → false ≡ f.never_indexed → Some slot ≡ static_field f
+pub field_here : (f : Field) (name value : List ℕ) (hash slot : ℕ) → Sought f hash slot → slot < 99 → name ≡ name_of slot → false ≡ not (bytes_eq name f.name) → value ≡ value_of slot → false ≡ not (bytes_eq value f.value) → f.never_indexed ≡ false → Some slot ≡ static_field f
 field_here f name value hash slot s lt at eq value_at value_eq plain =
-    field_match f slot (at_slot f hash slot s) lt (sym at ∙ are_same name f.name eq) (sym value_at ∙ are_same value f.value value_eq) (sym plain)
+    field_match f slot (at_slot f hash slot s) lt (sym at ∙ are_same name f.name eq) (sym value_at ∙ are_same value f.value value_eq) plain
 
 pub names_entry : (i : ℕ) (name : List ℕ) → i < 99 → name ≡ name_of i → NamesEntry i name
 names_entry i name lt n = record { entry = entry_of i; here = entry_is i (name_of i) (value_of i) lt refl refl; name_is = sym n }

@@ -1,7 +1,7 @@
 -- Bytes and fields that are tested to be equal are equal.
 use Rattle.std.proofs.Common.{◌≡◌, ℕ, Bool, List, true, false, refl, sym}
 use Rattle.std.proofs.lemmas.Bool.{and_parts}
-use Rattle.std.specs.Prelude.{bytes_eq, not}
+use Rattle.std.specs.Prelude.{bytes_eq}
 use Rattle.h3_huffman.specs.PayloadLaws.{bytes_same}
 use Rattle.h3_field.specs.Field.{Field, plain_field, flag_eq, text_eq, field_eq}
 

@@ -175,8 +175,7 @@ impl FieldBlock {
         let mut list = Vec::with_capacity(alloc, fields.len())?;
         for place in 0..fields.len() {
             let field = fields.get(place);
-            let copy = HeaderField::copied(alloc, field.name(), field.value())?;
-            list.push(copy.with_never_indexed(field.is_never_indexed()))?;
+            list.push(field.copied(alloc)?)?;
         }
         Ok(list)
     }

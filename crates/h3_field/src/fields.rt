@@ -1,5 +1,5 @@
 //! Fields that are read by their places, in a list or in a block.
-ghost use Rattle.std.specs.Prelude.{◌≡◌, ◌<◌, ◌^◌, ◌-◌, min, length, slice_get, Some};
+ghost use Rattle.std.specs.Prelude.{◌≡◌, ◌<◌, ◌^◌, ◌-◌, ◌+◌, min, length, slice_get, Some, IfOk, OnErr};
 ghost use Rattle.h3_field.specs.Field.{plain_field, field_size};
 ghost use Rattle.h3_field.specs.ReadBack.{IsFieldOfBytes};
 ghost use Rattle.h3_field.specs.FieldBlock.{fields_at, IsBlock};
@@ -7,6 +7,7 @@ ghost use Rattle.h3_field.specs.FieldBlock.{fields_at, IsBlock};
 use crate::field::{ESTIMATED_OVERHEAD_BYTES, HeaderField};
 use crate::field_block::FieldPlace;
 use crate::octets::are_bytes;
+use std::alloc::{AllocError, Global};
 use std::marker::Model;
 
 /// A name and a value that lie elsewhere, and the flag of the field (`HeaderField::is_never_indexed`). A contract sees the two byte lists
@@ -77,6 +78,15 @@ impl<'a> FieldRef<'a> {
         ensures { result.now ≡ self.now.value }
     {
         self.value
+    }
+
+    /// The field with copies of both, and with the flag, as `HeaderField::copied` makes it.
+    pub fn copied(&self, alloc: Global) -> Result<HeaderField, AllocError>
+        ensures ok { IfOk result (λ f. f ≡ self.now) }
+        ensures err { OnErr result (0 < length self.now.name + length self.now.value) }
+    {
+        let field = HeaderField::copied(alloc, self.name, self.value)?;
+        Ok(field.with_never_indexed(self.never_indexed))
     }
 
     /// Each item of name and value is a byte. It does nothing: a proof that needs the fact calls it.

@@ -1,6 +1,6 @@
 -- A line at the front of some bytes, and the field that it is of.
-use Rattle.std.proofs.Common.{◌≡◌, ℕ, ◌<◌, Bool, List, [], ◌∷◌, ◌++◌, length, Option, Some, None, Result, Ok, Err, inl, inr, sym, ap, ◌∙◌}
-use Rattle.std.specs.Prelude.{IfSome, OnOk, IfErr}
+use Rattle.std.proofs.Common.{◌≡◌, ℕ, ◌<◌, Bool, List, [], ◌∷◌, ◌++◌, length, Some, None, Result, Ok, Err, inl, inr, sym, ◌∙◌}
+use Rattle.std.specs.Prelude.{OnOk, IfErr}
 use Rattle.h3_field.specs.Field.{Field}
 use Rattle.h3_field.specs.Reading.{Reading, Whole, Unfinished, Bad}
 use Rattle.h3_field.specs.Line.{FieldLine}
@@ -77,11 +77,6 @@ refused_line place h base line_of Unfinished old new e is k =
 refused_line place h base line_of Bad old new e is k =
     let same : e ≡ error_at place Overflow = cc in
     rw same (bad_at (BeginsWithString old) (BeginsWithNone h base old) place Overflow (not_read h base old Bad is (λ form rest x. absurd (cc))))
-
--- a field that a name and a value are of, where it is made
-pub made_of : (made named : Option Field) (f : Field) → named ≡ Some f → IfSome made (λ g. g ≡ f) → IfSome made (λ g. named ≡ Some g)
-made_of None named f e is = tt
-made_of (Some g) named f e is = e ∙ ap Some (sym is)
 
 -- a line of a field that was to be put
 pub puts : (h : TableState) (base : ℕ) (old new : List ℕ) (before after : List Field) (f : Field) (result : Result Unit DecoderError) → BeginsWith h base old f new

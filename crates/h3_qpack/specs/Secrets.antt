@@ -1,9 +1,22 @@
--- Fields, lines and drafts without the values of never-indexed fields (RFC 9204, section 7.1.3).
-use Rattle.std.specs.Prelude.{ℕ, Bool, true, false, List, [], map}
+-- Never-indexed fields (RFC 9204, section 7.1.3): the bit N of lines, and fields, lines and drafts without the values of such fields.
+use Rattle.std.specs.Prelude.{◌≡◌, ℕ, Bool, true, false, List, [], map}
 use Rattle.h3_field.specs.Field.{Field}
 use Rattle.h3_field.specs.Line.{FieldLine}
 use Rattle.h3_field.specs.Line.FieldLine.{StaticField, RelativeField, PostBaseField, StaticName, RelativeName, PostBaseName, Literal}
 use Rattle.h3_qpack.specs.SectionEncoding.{Draft}
+
+abbrev pub MayBeIndexed : Field → Type 0
+MayBeIndexed f = f.never_indexed ≡ false
+
+-- the bit N of a line, which a line of an entry has not
+abbrev pub has_bit_n : FieldLine → Bool
+has_bit_n (StaticField index) = false
+has_bit_n (RelativeField index) = false
+has_bit_n (PostBaseField index) = false
+has_bit_n (StaticName index value n) = n
+has_bit_n (RelativeName index value n) = n
+has_bit_n (PostBaseName index value n) = n
+has_bit_n (Literal name value n) = n
 
 abbrev pub shown : Bool → List ℕ → List ℕ
 shown true value = []

@@ -6,7 +6,7 @@ use Rattle.h3_field.specs.Line.{FieldLine}
 use Rattle.h3_field.specs.Line.FieldLine.{StaticField, RelativeField, PostBaseField, StaticName, RelativeName, PostBaseName, Literal}
 use Rattle.h3_qpack.specs.Marks.{with_mark}
 use Rattle.h3_qpack.specs.EncoderHistory.{EncoderHistory, blocks_out, writing_on}
-use Rattle.h3_qpack.specs.SectionEncoding.{Draft, held, found, found_name, any_equal, literal_value, marked, marks_after, is_worth_to, finds_room, is_insertable, is_new, is_insertable_ahead, entry_name_line, add_line, add_literal, add_inserted, add_ahead, write_indexed, write_field, insert_ahead, add_field, draft_of, required_insert_count, instructions_for, having_inserted, sent_section}
+use Rattle.h3_qpack.specs.SectionEncoding.{Draft, held, found, found_name, any_equal, literal_value, marked, marks_after, is_worth_to, finds_room, is_insertable, is_new, is_insertable_ahead, entry_name_line, add_line, add_literal, add_inserted, add_ahead, write_indexed, insert_ahead, add_field, draft_of, required_insert_count, instructions_for, having_inserted, sent_section}
 use Rattle.h3_qpack.specs.Secrets.{shown, without_secret, line_without_secret, draft_without_secrets}
 
 -- A line with the bit N leaves no mark.
@@ -157,13 +157,13 @@ pub lines_alike : (s : EncoderHistory) (fields others : List Field) → map with
 lines_alike s fields others e = ap (λ (d : Draft). d.lines) (drafts_alike s fields others e)
 
 -- what is a function of the draft and of the marks behind its lines
-kept_alike : {X : Type 0} (s : EncoderHistory) (of : Draft → List ℕ → X) (fields others : List Field) → map without_secret fields ≡ map without_secret others → ((d : Draft) (marks : List ℕ) → of (draft_without_secrets d) marks ≡ of d marks)
-    → of (draft_of s fields) (marks_after s (draft_of s fields).lines) ≡ of (draft_of s others) (marks_after s (draft_of s others).lines)
-kept_alike s of fields others e same =
-    sym (seen (draft_of s fields)) ∙ ap (λ (d : Draft). of d (marks_after s d.lines)) (drafts_alike s fields others e) ∙ seen (draft_of s others)
+kept_alike : {X : Type 0} (s : EncoderHistory) (kept : Draft → List ℕ → X) (fields others : List Field) → map without_secret fields ≡ map without_secret others → ((d : Draft) (marks : List ℕ) → kept (draft_without_secrets d) marks ≡ kept d marks)
+    → kept (draft_of s fields) (marks_after s (draft_of s fields).lines) ≡ kept (draft_of s others) (marks_after s (draft_of s others).lines)
+kept_alike s kept fields others e same =
+    sym (seen (draft_of s fields)) ∙ ap (λ (d : Draft). kept d (marks_after s d.lines)) (drafts_alike s fields others e) ∙ seen (draft_of s others)
   where
-    seen : (d : Draft) → of (draft_without_secrets d) (marks_after s (map line_without_secret d.lines)) ≡ of d (marks_after s d.lines)
-    seen d = ap (λ marks. of (draft_without_secrets d) marks) (marks_seen s.economical s.marks d.lines) ∙ same d (marks_after s d.lines)
+    seen : (d : Draft) → kept (draft_without_secrets d) (marks_after s (map line_without_secret d.lines)) ≡ kept d (marks_after s d.lines)
+    seen d = ap (λ marks. kept (draft_without_secrets d) marks) (marks_seen s.economical s.marks d.lines) ∙ same d (marks_after s d.lines)
 
 -- the encoder after the section
 pub sent_alike : (s : EncoderHistory) (stream : ℕ) (fields others : List Field) → map without_secret fields ≡ map without_secret others → sent_section s stream fields ≡ sent_section s stream others

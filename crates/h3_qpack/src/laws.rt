@@ -22,7 +22,7 @@ ghost use Rattle.h3_qpack.specs.DecodedSection.{DecodedSection, decode_section, 
 ghost use Rattle.h3_qpack.specs.Hearing.{Heard, heard, hear, heard_then, IsHeardAs, Listened, listened, listen, listened_then, IsListenedAs};
 ghost use Rattle.h3_qpack.specs.SectionEncoding.{Draft, draft_of, encoded_section, finds_room, found, having_inserted, held, instructions_for, is_insertable, is_insertable_ahead, marks_after, required_insert_count, sent_section};
 ghost use Rattle.h3_field.specs.Line.{FieldLine};
-ghost use Rattle.h3_qpack.specs.Secrets.{without_secret, line_without_secret};
+ghost use Rattle.h3_qpack.specs.Secrets.{MayBeIndexed, has_bit_n, without_secret, line_without_secret};
 ghost use Rattle.h3_qpack.specs.SectionSizes.{most_encoded};
 ghost use Rattle.h3_qpack.specs.InstructionSizes.{most_instruction};
 ghost use Rattle.h3_qpack.specs.Encodings.{decoder_of, HasInsertions, IsDecoderAt, IsWritten, IsWrittenInstruction, tried};
@@ -42,6 +42,13 @@ ghost use Rattle.h3_qpack.specs.declared.session.SessionAnswer.{SessionAnswer};
 /// A table holds entries whose sizes sum to at most its capacity.
 pub fn no_table_passes_its_capacity()
     ensures { (capacity : ℕ) (inserted : List Field) → section_size (table capacity inserted) ≤ capacity }
+{}
+
+/// The bits N of a section's lines are the flags of its fields, one after the other, and a line of an entry has none. So each never-indexed
+/// field is a literal with that bit (RFC 9204, section 4.5.4). None is inserted (section 7.1.3).
+pub fn never_indexed_fields_are_literals()
+    ensures bits { (s : EncoderHistory) (fields : List Field) → map has_bit_n (draft_of s fields).lines ≡ map (λ f. f.never_indexed) fields }
+    ensures inserted { (s : EncoderHistory) (fields : List Field) → AllByRecursion MayBeIndexed s.inserted → AllByRecursion MayBeIndexed (draft_of s fields).inserted }
 {}
 
 /// Nothing that an encoder inserts, names or keeps rests on the value of a never-indexed field. If two lists of fields differ in such
