@@ -3,7 +3,7 @@ use Rattle.std.proofs.Common.{◌≡◌, ◌<◌, ◌≤◌, ℕ, ◌+◌, Bool,
 use Rattle.std.specs.Prelude.{◌≢◌, ◌==◌, is_some, nat_le, nat_lt, slice_index_or, option_map}
 use Rattle.std.specs.List.{list_all}
 use Rattle.std.proofs.lemmas.Bool.{lt-ltb, le-ltb, le-leb, lt-leb}
-use Rattle.std.proofs.lemmas.List.{drop_all, drop_drop, drop_more}
+use Rattle.std.proofs.lemmas.List.{drop_all, drop-drop, drop_more}
 use Rattle.h3_field.specs.Field.{Field}
 use Rattle.h3_c.specs.declared.fields.FieldSize.{FieldSize}
 use Rattle.h3_c.specs.Given.{behind, field_at_front, fields_cut, fields_given, first_flag, is_flags}
@@ -43,7 +43,7 @@ here sizes at inside = drop_more sizes at (record { name = 0; value = 0 }) insid
 
 -- the flags behind the next one
 more_flags : (flags : List ℕ) (at : ℕ) → drop (at + 1) flags ≡ drop 1 (drop at flags)
-more_flags flags at = sym (drop_drop at 1 flags)
+more_flags flags at = sym (drop-drop 1 at flags)
 
 pub next : (sizes : List FieldSize) (flags : List ℕ) (at : ℕ) (never : Bool) (fields new : List Field) (rest left : List ℕ) (all : Option (List Field)) → at < length sizes
     → (size_at sizes at).name + (size_at sizes at).value ≤ length rest → never ≡ first_flag (drop at flags) → new ≡ fields ++ field_at_front (size_at sizes at) never rest ∷ []
