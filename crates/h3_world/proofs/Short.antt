@@ -11,7 +11,7 @@ use Rattle.h3_field.specs.Prefix.{most_entries, prefix_bytes}
 use Rattle.h3_field.specs.StaticTable.{static_field, static_name}
 use Rattle.h3_field.specs.StringLiteral.{string_literal}
 use Rattle.h3_qpack.specs.EncoderHistory.{EncoderHistory, writing_on}
-use Rattle.h3_qpack.specs.SectionEncoding.{Draft, add_field, add_literal, draft_of, entry_name_line, found, found_name, is_insertable, required_insert_count, write_field}
+use Rattle.h3_qpack.specs.SectionEncoding.{Draft, add_field, add_literal, draft_of, entry_name_line, found, found_name, is_insertable, required_insert_count, write_field, write_indexed}
 use Rattle.h3_qpack.specs.ShortLaws.{prefixed_short, string_short}
 use Rattle.h3_connection.specs.Sections.{written_section}
 use Rattle.h3_world.proofs.Inserted.{chosen, either_way, with_field}
@@ -60,7 +60,7 @@ literal_short most s d f h =
 
 line_of_field_short : (most : ℕ) (s : EncoderHistory) (d : Draft) (f : Field) → LinesWithin most d → LinesWithin (most + 30 * field_size f) (write_field s d f)
 line_of_field_short most s d f h =
-    either_way (LinesWithin (most + 30 * field_size f)) f.never_indexed _ _ (literal_short most s d f h) (
+    either_way (LinesWithin (most + 30 * field_size f)) f.never_indexed (add_literal s d f) (write_indexed s d f) (literal_short most s d f h) (
     chosen (LinesWithin (most + 30 * field_size f)) (static_field f) _ _ (λ index e. line_added most (30 * field_size f) d (StaticField index) h (short_index 6 3 index f)) (λ none.
     chosen (LinesWithin (most + 30 * field_size f)) (found s d f) _ _
     (λ number e. line_added most (30 * field_size f) d (RelativeField (length s.inserted - number)) h (short_index 6 2 (length s.inserted - number) f)) (λ none.
