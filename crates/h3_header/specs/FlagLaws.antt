@@ -70,16 +70,16 @@ plain_pairs (p ∷ ps) = ap (λ fields. to_field p ∷ fields) (plain_pairs ps)
 
 plain_pseudo : (method scheme authority path : Option (List ℕ)) (status : Option ℕ) (protocol : Option (List ℕ)) → ArePlain (pseudo_fields method scheme authority path status protocol)
 plain_pseudo method scheme authority path status protocol =
-    let sixth = optional_field (codes ":protocol") protocol in
-    let fifth = optional_field (codes ":status") (option_map code_digits status) in
-    let fourth = optional_field (codes ":path") (option_map or_slash path) in
-    let third = optional_field (codes ":authority") authority in
+    let first = optional_field (codes ":method") method in
     let second = optional_field (codes ":scheme") scheme in
-    plain_joined (optional_field (codes ":method") method) (second ++ third ++ fourth ++ fifth ++ sixth) (plain_optional _ method) (
-    plain_joined second (third ++ fourth ++ fifth ++ sixth) (plain_optional _ scheme) (
-    plain_joined third (fourth ++ fifth ++ sixth) (plain_optional _ authority) (
-    plain_joined fourth (fifth ++ sixth) (plain_optional _ (option_map or_slash path)) (
-    plain_joined fifth sixth (plain_optional _ (option_map code_digits status)) (plain_optional _ protocol)))))
+    let third = optional_field (codes ":authority") authority in
+    let fourth = optional_field (codes ":path") (option_map or_slash path) in
+    let fifth = optional_field (codes ":status") (option_map code_digits status) in
+    let two = plain_joined first second (plain_optional _ method) (plain_optional _ scheme) in
+    let three = plain_joined (first ++ second) third two (plain_optional _ authority) in
+    let four = plain_joined (first ++ second ++ third) fourth three (plain_optional _ (option_map or_slash path)) in
+    let five = plain_joined (first ++ second ++ third ++ fourth) fifth four (plain_optional _ (option_map code_digits status)) in
+    plain_joined (first ++ second ++ third ++ fourth ++ fifth) (optional_field (codes ":protocol") protocol) five (plain_optional _ protocol)
 
 -- what a head is written as has no flag
 pub written_plain : (h : Head) → map unflagged (head_fields h) ≡ head_fields h
