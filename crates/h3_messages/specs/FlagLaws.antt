@@ -1,5 +1,5 @@
 -- The rules of messages judge a list by names and values alone: alike whichever flags its fields have.
-use Rattle.std.proofs.Common.{◌≡◌, ℕ, ◌+◌, Bool, not, ◌&&◌, ◌||◌, List, [], ◌∷◌, map, codes, cond, bytes_eq, slice_index, Option, refl, sym, ap, ap₂, ◌∙◌, nat_lt, ◌==◌, if◌then◌else◌}
+use Rattle.std.proofs.Common.{◌≡◌, ℕ, ◌+◌, Bool, not, ◌&&◌, ◌||◌, List, [], ◌∷◌, map, codes, cond, bytes_eq, slice_index, refl, sym, ap, ap₂, ◌∙◌, nat_lt, ◌==◌, if◌then◌else◌}
 use Rattle.std.specs.List.{list_all, list_any, count_by}
 use Rattle.std.proofs.lemmas.List.Sums.{sum_by-cons}
 use Rattle.h3_field.specs.Field.{Field, flagged}
@@ -9,7 +9,6 @@ use Rattle.h3_messages.specs.Messages.{has_name, holds, repeats, value_of, value
 use Rattle.h3_messages.specs.OwnMessages.{or_broken, says_content, is_trace, violation_of_own_request, is_reset_content, is_own_length_misplaced, violation_of_own_response, is_no_trailer_name, has_no_trailer_field, violation_of_own_trailer, or_nothing, content_of_own_request, content_of_own_status, content_of_own_response}
 use Rattle.h3_messages.specs.declared.content.Content.{Content}
 use Rattle.h3_messages.specs.declared.content.Content.TheVariants.{Tunnel}
-use Rattle.h3_messages.specs.declared.violation.Violation.{Violation}
 use Rattle.h3_messages.specs.declared.violation.Violation.TheVariants.{PseudoOrder, RepeatedPseudo, WrongPseudo, MissingPseudo, ConnectionField, Protocol, Connect, Scheme, Authority, Path, Status, ContentLength, TrailerField, Value}
 
 -- the list with these flags
