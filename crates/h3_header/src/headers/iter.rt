@@ -1,6 +1,7 @@
 //! The fields of a header, one after the other.
 ghost use Rattle.std.specs.Prelude.{◌≡◌, [], unwrap_or, IfOk};
 ghost use Rattle.std.specs.Iterator.{item_count};
+ghost use Rattle.h3_field.specs.Field.{plain_field};
 ghost use Rattle.h3_header.specs.Left.{TakesField};
 ghost use Rattle.h3_header.specs.Parts.{fields_of_pseudo};
 
@@ -29,7 +30,7 @@ pub(crate) struct RegularIter {
 
 impl Model for RegularIter {
     ghost use Rattle.std.specs.Prelude.{List};
-    ghost use Rattle.h3_field.specs.Field.{Field, plain_field};
+    ghost use Rattle.h3_field.specs.Field.{Field};
     ghost use Rattle.h3_header.specs.Left.{owned_fields};
 
     ghost Value = { List Field };
