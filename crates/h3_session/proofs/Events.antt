@@ -42,8 +42,8 @@ behind_goaway settings has_settings told (Some id) is = by_test (is_told told id
 
 twice : (settings has_settings : Bool) (told goaway : Option ℕ)
     → (let seen : EventsSeen = record { settings = settings; goaway = told } in
-       let once : EventsSeen = seen_after seen (untold seen has_settings goaway) in
-       untold (seen_after once (untold once has_settings goaway)) has_settings goaway ≡ None)
+    let once : EventsSeen = seen_after seen (untold seen has_settings goaway) in
+    untold (seen_after once (untold once has_settings goaway)) has_settings goaway ≡ None)
 twice true true told goaway = still_told _ true goaway (behind_goaway true true told goaway refl)
 twice true false told goaway = still_told _ false goaway (behind_goaway true false told goaway refl)
 twice false false told goaway = still_told _ false goaway (behind_goaway false false told goaway refl)
