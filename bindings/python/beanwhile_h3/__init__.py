@@ -61,7 +61,7 @@ from .items import (
     Trailer,
     Waiting,
 )
-from .state import ClosedStream, ConnectionState, PeerLimits, Priority, StreamState, StreamType, Version
+from .state import ClosedStream, ConnectionState, GoawayCame, PeerLimits, Priority, SettingsCame, StreamState, StreamType, Version
 
 __all__ = [
     "Answer",
@@ -87,6 +87,7 @@ __all__ = [
     "Endpoint",
     "Fault",
     "Field",
+    "GoawayCame",
     "Head",
     "Interim",
     "Item",
@@ -102,6 +103,7 @@ __all__ = [
     "Refused",
     "Reset",
     "Session",
+    "SettingsCame",
     "StreamState",
     "StreamType",
     "TooLargeHead",

@@ -127,7 +127,7 @@ abbrev pub made_told : Result EndpointState NewError → Told
 made_told (Ok s) = ok
 made_told (Err e) = new_told e
 
--- the handle owns the endpoint that was made, of which nothing was pulled or told; and what it owned before where none was made
+-- the handle owns the endpoint that was made, of which nothing was pulled or reported; and what it owned before where none was made
 abbrev pub IsMade : Result EndpointState NewError → Option Seen → Option Seen → Type 0
 IsMade (Ok s) before after = after ≡ Some (record { endpoint = s; last = Pending; events = nothing_seen })
 IsMade (Err e) before after = after ≡ before

@@ -1,6 +1,6 @@
--- What the export promises that tells what happened on the connection.
+-- What the export promises that reports what happened on the connection.
 use Rattle.std.specs.Prelude.{◌≡◌, ℕ, Option, Some, None}
-use Rattle.h3_session.specs.Events.{TellsNext}
+use Rattle.h3_session.specs.Events.{ReportsNext}
 use Rattle.h3_session.specs.declared.endpoint.events.ConnectionEvent.{ConnectionEvent}
 use Rattle.h3_session.specs.declared.endpoint.events.ConnectionEvent.TheVariants.{Settings, Goaway}
 use Rattle.h3_c.specs.declared.numbers.Told.{Told}
@@ -17,14 +17,14 @@ abbrev pub event_number : ConnectionEvent → ℕ
 event_number Settings = 0
 event_number (Goaway id) = id
 
--- where nothing is left to be told, nothing is written
+-- where nothing is left to be reported, nothing is written
 abbrev pub GivesEvent : Option ConnectionEvent → Told → (kind_before kind number_before number : ℕ) → Type 0
 GivesEvent None n kind_before kind number_before number = (n ≡ none) × (kind ≡ kind_before) × (number ≡ number_before)
 GivesEvent (Some event) n kind_before kind number_before number = (n ≡ ok) × (kind ≡ event_kind event) × (number ≡ event_number event)
 
--- `h3_next_event`: nothing changes but what was told
-pub record TellsEvent (v w : Seen) (n : Told) (kind_before kind number_before number : ℕ) : Type 0 where
+-- `h3_next_event`: nothing changes but what was reported
+pub record ReportsEvent (v w : Seen) (n : Told) (kind_before kind number_before number : ℕ) : Type 0 where
   pub answer : Option ConnectionEvent
-  pub next : TellsNext v.endpoint v.events w.events answer
+  pub next : ReportsNext v.endpoint v.events w.events answer
   pub given : GivesEvent answer n kind_before kind number_before number
   pub rest : w ≡ record v { events = w.events }

@@ -27,7 +27,7 @@ use Rattle.h3_c.specs.Showing.{bit}
 abbrev pub Steps : Option Seen → Option Seen → (Seen → Seen → Type 0) → Type 0
 Steps before after goes = (v w : Seen) → before ≡ Some v → after ≡ Some w → goes v w
 
--- The call answered a result, which this number tells, and did this with it. The item that was pulled last stays, and what was told.
+-- The call answered a result, which this number tells, and did this with it. The item that was pulled last stays, and what was reported.
 pub record Calls {R : Type 0} (told : R → Told) (n : Told) (v w : Seen) (does : R → Type 0) : Type 0 where
   pub answer : R
   pub is : n ≡ told answer

@@ -32,7 +32,7 @@ mod showing;
 mod shutdown;
 mod unblocked;
 
-/// An endpoint, what the last pull answered, and what was told of the connection. A contract sees each as it is.
+/// An endpoint, what the last pull answered, and what was reported of the connection. A contract sees each as it is.
 #[derive(Drop)]
 pub struct Connection {
     endpoint: Endpoint,
@@ -54,7 +54,7 @@ impl Model for Connection {
 }
 
 impl Connection {
-    /// Nothing was pulled yet, and nothing was told.
+    /// Nothing was pulled yet, and nothing was reported.
     pub(crate) fn of(alloc: Global, endpoint: Endpoint) -> Connection
         ensures { result ≡ record { endpoint = endpoint; last = answer.Pending; events = nothing_seen } }
     {

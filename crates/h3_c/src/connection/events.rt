@@ -1,15 +1,15 @@
-//! What happened on the connection, each told once.
+//! What happened on the connection, each reported once.
 ghost use Rattle.std.specs.Prelude.{◌≡◌};
-ghost use Rattle.h3_c.specs.Events.{event_kind, event_number, TellsEvent};
+ghost use Rattle.h3_c.specs.Events.{event_kind, event_number, ReportsEvent};
 
 use super::Connection;
 use crate::numbers::{NONE, OK, Told};
 use h3_session::ConnectionEvent;
 
 impl Connection {
-    /// What happened on the connection and was not told yet.
+    /// What happened on the connection and was not reported yet.
     pub(crate) fn next_event(&mut self, kind: &mut u32, number: &mut u64) -> Told
-        ensures { TellsEvent self.old self.new result kind.old kind.new number.old number.new }
+        ensures { ReportsEvent self.old self.new result kind.old kind.new number.old number.new }
     {
         let Some(event) = self.endpoint.next_event(&mut self.events) else {
             return NONE;

@@ -1,20 +1,20 @@
-//! What happened on the connection: the peer's settings and its GOAWAY frames, each told once.
+//! What happened on the connection: the peer's settings and its GOAWAY frames, each reported once.
 ghost use Rattle.std.specs.Prelude.{◌≡◌};
-ghost use Rattle.h3_session.specs.Events.{goaway_untold, is_told, nothing_seen, seen_after, untold, TellsNext};
+ghost use Rattle.h3_session.specs.Events.{goaway_unseen, is_reported, nothing_seen, seen_after, unseen, ReportsNext};
 
 use super::Endpoint;
 use h3_coding::varint::VarInt;
 
-/// What `next_event` tells.
+/// What `next_event` reports.
 #[derive(Clone, Copy, Debug, PartialEq, Eq)]
 pub enum ConnectionEvent {
     /// The peer's settings came.
     Settings,
-    /// The id of the peer's last GOAWAY frame is another one than was told.
+    /// The peer's last GOAWAY frame has this id, and another one was reported before, or none.
     Goaway(VarInt),
 }
 
-/// What was told of a connection: a caller keeps it from one `next_event` to the next.
+/// What was reported of a connection: a caller keeps it from one `next_event` to the next.
 #[derive(Clone, Copy, Debug, PartialEq, Eq)]
 pub struct EventsSeen {
     settings: bool,
@@ -22,7 +22,7 @@ pub struct EventsSeen {
 }
 
 impl EventsSeen {
-    /// Nothing was told.
+    /// Nothing was reported.
     pub fn new() -> EventsSeen
         ensures { result ≡ nothing_seen }
     {
@@ -32,7 +32,7 @@ impl EventsSeen {
         }
     }
 
-    // What was told behind an event.
+    // What was reported, this event among it.
     fn after(self, event: Option<ConnectionEvent>) -> EventsSeen
         ensures { result ≡ seen_after self event }
     {
@@ -51,49 +51,49 @@ impl EventsSeen {
 }
 
 impl Endpoint {
-    /// What happened on the connection and was not told yet: first the peer's settings (RFC 9114, section 7.2.4), then the id of its last
-    /// GOAWAY (section 5.2). `None` if all was told. `seen` then says that it was told. Of several GOAWAY frames the last one alone is told,
-    /// and one that names the same id again is not. Ask after each delivery on a unidirectional stream until it answers `None`: at most two
-    /// events come. It takes no memory.
+    /// What happened on the connection and was not reported yet: first the peer's settings (RFC 9114, section 7.2.4), then the id of its last
+    /// GOAWAY (section 5.2). `None` if all was reported. `seen` has what was reported, this event among it. Of several GOAWAY frames the last
+    /// one alone is reported, and not if the same id was before. Ask after each delivery on a unidirectional stream until it answers `None`:
+    /// at most two events come. It takes no memory.
     #[tactic(auto, using(crate::proofs::Events::shows_next))]
     pub fn next_event(&self, seen: &mut EventsSeen) -> Option<ConnectionEvent>
-        ensures { TellsNext self.now seen.old seen.new result }
+        ensures { ReportsNext self.now seen.old seen.new result }
     {
         let has_settings = self.streams.peer.has_settings();
-        let event = untold(*seen, has_settings, self.streams.peer.last_goaway());
+        let event = unseen(*seen, has_settings, self.streams.peer.last_goaway());
         *seen = seen.after(event);
         event
     }
 }
 
 // What comes next, by whether the settings came and by the last GOAWAY.
-fn untold(seen: EventsSeen, has_settings: bool, goaway: Option<VarInt>) -> Option<ConnectionEvent>
-    ensures { result ≡ untold seen has_settings goaway }
+fn unseen(seen: EventsSeen, has_settings: bool, goaway: Option<VarInt>) -> Option<ConnectionEvent>
+    ensures { result ≡ unseen seen has_settings goaway }
 {
     if has_settings && !seen.settings {
         return Some(ConnectionEvent::Settings);
     }
-    goaway_untold(seen.goaway, goaway)
+    goaway_unseen(seen.goaway, goaway)
 }
 
-// The last GOAWAY, if another id was told or none.
-fn goaway_untold(told: Option<VarInt>, goaway: Option<VarInt>) -> Option<ConnectionEvent>
-    ensures { result ≡ goaway_untold told goaway }
+// The last GOAWAY, if another id was reported or none.
+fn goaway_unseen(reported: Option<VarInt>, goaway: Option<VarInt>) -> Option<ConnectionEvent>
+    ensures { result ≡ goaway_unseen reported goaway }
 {
     let Some(id) = goaway else {
         return None;
     };
-    if is_told(told, id) {
+    if is_reported(reported, id) {
         return None;
     }
     Some(ConnectionEvent::Goaway(id))
 }
 
-// Whether this id was told last.
-fn is_told(told: Option<VarInt>, id: VarInt) -> bool
-    ensures { result ≡ is_told told id }
+// Whether this id was reported last.
+fn is_reported(reported: Option<VarInt>, id: VarInt) -> bool
+    ensures { result ≡ is_reported reported id }
 {
-    match told {
+    match reported {
         Some(earlier) => earlier == id,
         None => false,
     }
