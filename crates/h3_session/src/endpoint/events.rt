@@ -1,5 +1,5 @@
 //! What happened on the connection: the peer's settings and its GOAWAY frames, each reported once.
-ghost use Rattle.std.specs.Prelude.{◌≡◌};
+ghost use Rattle.std.specs.Prelude.{◌≡◌, Some};
 ghost use Rattle.h3_session.specs.Events.{goaway_unseen, is_reported, nothing_seen, seen_after, unseen, ReportsNext};
 
 use super::Endpoint;
@@ -18,7 +18,8 @@ pub enum ConnectionEvent {
 #[derive(Clone, Copy, Debug, PartialEq, Eq)]
 pub struct EventsSeen {
     settings: bool,
-    goaway: Option<VarInt>,
+    // the last id
+    goaway: Option<u64>,
 }
 
 impl EventsSeen {
@@ -32,20 +33,13 @@ impl EventsSeen {
         }
     }
 
-    // What was reported, this event among it.
-    fn after(self, event: Option<ConnectionEvent>) -> EventsSeen
-        ensures { result ≡ seen_after self event }
+    // This event is reported too.
+    fn see(&mut self, event: &ConnectionEvent)
+        ensures { self.new ≡ seen_after self.old (Some event.now) }
     {
         match event {
-            Some(ConnectionEvent::Settings) => EventsSeen {
-                settings: true,
-                goaway: self.goaway,
-            },
-            Some(ConnectionEvent::Goaway(id)) => EventsSeen {
-                settings: self.settings,
-                goaway: Some(id),
-            },
-            None => self,
+            ConnectionEvent::Settings => self.settings = true,
+            ConnectionEvent::Goaway(id) => self.goaway = Some(id.into_inner()),
         }
     }
 }
@@ -60,15 +54,15 @@ impl Endpoint {
         ensures { ReportsNext self.now seen.old seen.new result }
     {
         let has_settings = self.streams.peer.has_settings();
-        let event = unseen(*seen, has_settings, self.streams.peer.last_goaway());
-        *seen = seen.after(event);
-        event
+        let event = unseen(seen, has_settings, self.streams.peer.last_goaway())?;
+        seen.see(&event);
+        Some(event)
     }
 }
 
 // What comes next, by whether the settings came and by the last GOAWAY.
-fn unseen(seen: EventsSeen, has_settings: bool, goaway: Option<VarInt>) -> Option<ConnectionEvent>
-    ensures { result ≡ unseen seen has_settings goaway }
+fn unseen(seen: &EventsSeen, has_settings: bool, goaway: Option<VarInt>) -> Option<ConnectionEvent>
+    ensures { result ≡ unseen seen.now has_settings goaway }
 {
     if has_settings && !seen.settings {
         return Some(ConnectionEvent::Settings);
@@ -77,20 +71,20 @@ fn unseen(seen: EventsSeen, has_settings: bool, goaway: Option<VarInt>) -> Optio
 }
 
 // The last GOAWAY, if another id was reported or none.
-fn goaway_unseen(reported: Option<VarInt>, goaway: Option<VarInt>) -> Option<ConnectionEvent>
+fn goaway_unseen(reported: Option<u64>, goaway: Option<VarInt>) -> Option<ConnectionEvent>
     ensures { result ≡ goaway_unseen reported goaway }
 {
     let Some(id) = goaway else {
         return None;
     };
-    if is_reported(reported, id) {
+    if is_reported(reported, id.into_inner()) {
         return None;
     }
     Some(ConnectionEvent::Goaway(id))
 }
 
 // Whether this id was reported last.
-fn is_reported(reported: Option<VarInt>, id: VarInt) -> bool
+fn is_reported(reported: Option<u64>, id: u64) -> bool
     ensures { result ≡ is_reported reported id }
 {
     match reported {
