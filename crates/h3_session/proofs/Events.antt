@@ -7,7 +7,7 @@ use Rattle.h3_connection.specs.KeptGoaways.{keeps_last}
 use Rattle.h3_connection.specs.KeptGoawayLaws.{last_kept}
 use Rattle.h3_connection.specs.Lasts.{last_id}
 use Rattle.h3_connection.specs.ReadingContracts.{Shows}
-use Rattle.h3_connection.specs.State.{EndpointState, StandsFor}
+use Rattle.h3_connection.specs.State.{EndpointState}
 use Rattle.h3_session.specs.Events.{asked_once, goaway_unseen, is_reported, next_event, seen_after, unseen, IsAllReported}
 use Rattle.h3_session.specs.declared.endpoint.events.ConnectionEvent.{ConnectionEvent}
 use Rattle.h3_session.specs.declared.endpoint.events.ConnectionEvent.TheVariants.{Settings, Goaway}
