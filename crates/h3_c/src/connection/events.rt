@@ -14,15 +14,15 @@ impl Connection {
         let Some(event) = self.endpoint.next_event(&mut self.events) else {
             return NONE;
         };
-        *kind = event_kind(event);
-        *number = event_number(event);
+        *kind = event_kind(&event);
+        *number = event_number(&event);
         OK
     }
 }
 
 // Its number in `enum h3_event`.
-fn event_kind(event: ConnectionEvent) -> u32
-    ensures { result ≡ event_kind event }
+fn event_kind(event: &ConnectionEvent) -> u32
+    ensures { result ≡ event_kind event.now }
 {
     match event {
         ConnectionEvent::Settings => 1,
@@ -31,8 +31,8 @@ fn event_kind(event: ConnectionEvent) -> u32
 }
 
 // The number that stands beside it: the id that a GOAWAY names.
-fn event_number(event: ConnectionEvent) -> u64
-    ensures { result ≡ event_number event }
+fn event_number(event: &ConnectionEvent) -> u64
+    ensures { result ≡ event_number event.now }
 {
     match event {
         ConnectionEvent::Settings => 0,
