@@ -81,8 +81,9 @@
  * what was taken, or the next pull of a stream that may still deliver something: not of one whose
  * pull returns H3_END or a fault of the stream again. If there is no such stream, pull
  * h3_control_id, which delivers nothing. h3_finish, h3_reset, h3_advance, h3_end_taken,
- * h3_outgoing, h3_next_to_send, h3_next_request_id, h3_next_unblocked, h3_first_unseen,
- * h3_is_drained, the calls for datagrams and capsules, the states and h3_free take no memory.
+ * h3_outgoing, h3_next_to_send, h3_next_request_id, h3_next_unblocked, h3_next_event,
+ * h3_first_unseen, h3_is_drained, the calls for datagrams and capsules, the states and h3_free take
+ * no memory.
  *
  * WHAT TO CALL FROM QUIC'S CALLBACKS
  *
@@ -97,7 +98,8 @@
  *   the stream's FIN         again with those that are left until a pause (H3_PENDING, H3_WAITING,
  *                            H3_NO_MESSAGES), H3_END or a fault. After data on a unidirectional
  *                            stream of the peer (id % 4 is 2 or 3) also pull (h3_pull) each stream
- *                            that h3_next_unblocked names, until a pause, H3_END or a fault.
+ *                            that h3_next_unblocked names, until a pause, H3_END or a fault, and
+ *                            call h3_next_event until it returns H3_NONE.
  *   RESET_STREAM came        h3_deliver_reset(id, code), then pull; drop later data of that stream
  *   STOP_SENDING came        h3_reset(id), and send RESET_STREAM (RFC 9000, section 3.5)
  *   a DATAGRAM frame came    h3_read_datagram, if HTTP datagrams are announced
@@ -218,9 +220,9 @@
  *   .. go on. A delivery of a later request is H3_REJECTED: deliver no more of that stream, and
  *      send RESET_STREAM and STOP_SENDING with H3_CODE_REQUEST_REJECTED ..
  *   if (!h3_is_drained(&e, &drained) && drained) .. close the connection with H3_CODE_NO_ERROR
- * A client that received a GOAWAY (has_goaway of h3_connection) opens no request any more. Requests
- * from its id on, and those that were reset with H3_CODE_REQUEST_REJECTED, were not processed: send
- * them again on another connection. Of the others send again only idempotent ones (section 4.1.1).
+ * A client that received a GOAWAY (h3_next_event) opens no request any more. Requests from its id
+ * on, and those that were reset with H3_CODE_REQUEST_REJECTED, were not processed: send them again
+ * on another connection. Of the others send again only idempotent ones (section 4.1.1).
  * To leave, it finishes its requests, and closes the connection when h3_is_drained says 1 or, if
  * its server sent no GOAWAY, when its requests have ended.
  *
@@ -960,9 +962,24 @@ typedef struct {
   uint32_t has_settings;
 } h3_state;
 
-/* The state of the connection. There is no event for the peer's settings or its GOAWAY: look at
- * has_settings and has_goaway after data on a unidirectional stream. */
+/* The state of the connection. h3_next_event says when has_settings or the GOAWAY changed. */
 static inline uint32_t h3_connection(h3_endpoint *endpoint, h3_state *state);
+
+/* What happened on the connection. */
+enum h3_event {
+  H3_EVENT_SETTINGS = 1, /* the peer's settings came: h3_connection and h3_peer_setting show them;
+                            `number` is 0 */
+  H3_EVENT_GOAWAY = 2    /* the peer's last GOAWAY has the id `number`: a server processes no
+                            request from there on. A later one may have a lower id (RFC 9114,
+                            section 5.2) */
+};
+
+/* What happened on the connection since the last call: *kind is an h3_event. H3_NONE if nothing did
+ * (neither is written then). Call it after data on a unidirectional stream of the peer:
+ *   while (h3_next_event(&e, &kind, &number) == H3_OK) ..
+ * The settings are returned once, before a GOAWAY. Of several GOAWAY frames only the last one is
+ * returned, and none if its id was returned before. It takes no memory. */
+static inline uint32_t h3_next_event(h3_endpoint *endpoint, uint32_t *kind, uint64_t *number);
 
 /* The value of a setting that the peer announced (RFC 9114, section 7.2.4). H3_NONE before its
  * settings came, or if it is not among them. */
@@ -1041,6 +1058,7 @@ uint32_t h3_raw_read_datagram(h3_endpoint endpoint, const uint8_t *bytes, size_t
 uint32_t h3_raw_stream(h3_endpoint endpoint, uint64_t id, h3_stream_state *state, h3_endpoint *out);
 uint32_t h3_raw_stream_kind(h3_endpoint endpoint, uint64_t id, uint32_t *type, h3_endpoint *out);
 uint32_t h3_raw_connection(h3_endpoint endpoint, h3_state *state, h3_endpoint *out);
+uint32_t h3_raw_next_event(h3_endpoint endpoint, uint32_t *kind, uint64_t *number, h3_endpoint *out);
 uint32_t h3_raw_peer_setting(h3_endpoint endpoint, uint64_t setting, uint64_t *value,
                              h3_endpoint *out);
 
@@ -1304,6 +1322,11 @@ static inline uint32_t h3_connection(h3_endpoint *endpoint, h3_state *state) {
   if (!endpoint || !endpoint->at) return H3_NO_ENDPOINT;
   if (!state) return H3_ARGUMENT;
   return h3_raw_connection(*endpoint, state, endpoint);
+}
+static inline uint32_t h3_next_event(h3_endpoint *endpoint, uint32_t *kind, uint64_t *number) {
+  if (!endpoint || !endpoint->at) return H3_NO_ENDPOINT;
+  if (!kind || !number) return H3_ARGUMENT;
+  return h3_raw_next_event(*endpoint, kind, number, endpoint);
 }
 static inline uint32_t h3_peer_setting(h3_endpoint *endpoint, uint64_t setting, uint64_t *value) {
   if (!endpoint || !endpoint->at) return H3_NO_ENDPOINT;

@@ -409,6 +409,16 @@ class endpoint {
     h3_connection(&raw_, &state);
     return state;
   }
+  /* What happened on the connection since the last call. */
+  struct event {
+    std::uint32_t kind;   /* an h3_event */
+    std::uint64_t number; /* the id of H3_EVENT_GOAWAY */
+  };
+  std::optional<event> next_event() noexcept {
+    event told;
+    if (h3_next_event(&raw_, &told.kind, &told.number) != H3_OK) return std::nullopt;
+    return told;
+  }
   std::optional<std::uint64_t> peer_setting(std::uint64_t setting) noexcept {
     std::uint64_t value;
     if (h3_peer_setting(&raw_, setting, &value) != H3_OK) return std::nullopt;

@@ -78,6 +78,29 @@ func (e *Endpoint) Connection() ConnectionState {
 	return state
 }
 
+// EventKind says what happened on the connection, as h3_event.
+type EventKind int
+
+const (
+	EventSettings EventKind = C.H3_EVENT_SETTINGS // the peer's settings came
+	EventGoaway   EventKind = C.H3_EVENT_GOAWAY   // the peer's last GOAWAY has another id than was returned before
+)
+
+// Event is what happened on the connection.
+type Event struct {
+	Kind EventKind
+	ID   uint64 // of EventGoaway: a server processes no request from this id on (RFC 9114, section 5.2)
+}
+
+// NextEvent is what happened on the connection since the last call; false: nothing. Call it after data on a unidirectional stream of the peer,
+// until it returns false. The settings are returned once, and of several GOAWAY frames the last one.
+func (e *Endpoint) NextEvent() (Event, bool) {
+	var kind C.uint32_t
+	var number C.uint64_t
+	answer := C.h3_next_event(&e.raw, &kind, &number)
+	return Event{EventKind(kind), uint64(number)}, answer == C.H3_OK
+}
+
 // PeerSetting is the value of a setting that the peer announced (RFC 9114, section 7.2.4); false: it is not among them, or they have not come.
 func (e *Endpoint) PeerSetting(setting uint64) (uint64, bool) {
 	var value C.uint64_t

@@ -271,34 +271,36 @@ static int resume_all_waiting(nghttp3_conn *connection) {
   return error;
 }
 
-static int tell_settings(nghttp3_conn *connection, const h3_state *state) {
-  connection->has_settings = true, connection->has_peer_table = state->peer_table > 0;
+static int tell_settings(nghttp3_conn *connection) {
+  h3_state state;
+  if (h3_connection(&connection->endpoint, &state) != H3_OK) return 0;
+  connection->has_peer_table = state.peer_table > 0;
 #ifdef HAS_VERSION_1
   enum { ENABLE_CONNECT_PROTOCOL = 0x08, H3_DATAGRAM = 0x33 }; /* RFC 9220, section 5; RFC 9297, section 5.1 */
   uint64_t connect = 0, datagram = 0;
   h3_peer_setting(&connection->endpoint, ENABLE_CONNECT_PROTOCOL, &connect);
   h3_peer_setting(&connection->endpoint, H3_DATAGRAM, &datagram);
   nghttp3_settings peer = {
-      .max_field_section_size = state->peer_section,
-      .qpack_max_dtable_capacity = (size_t)state->peer_table,
-      .qpack_blocked_streams = (size_t)state->peer_blocked,
+      .max_field_section_size = state.peer_section,
+      .qpack_max_dtable_capacity = (size_t)state.peer_table,
+      .qpack_blocked_streams = (size_t)state.peer_blocked,
       .enable_connect_protocol = connection->is_server && connect == 1, /* as nghttp3 has it */
       .h3_datagram = datagram == 1,
   };
   return CALLBACK(connection, recv_settings, &peer, connection->user_data);
 #else
-  return (void)state, 0;
+  return 0;
 #endif
 }
 
-/* The peer's control stream may have been read. */
+/* The peer's control stream may have been read: its settings come first. */
 static int tell_control(nghttp3_conn *connection) {
-  h3_state state;
-  if (h3_connection(&connection->endpoint, &state) != H3_OK) return 0;
-  int error = state.has_settings && !connection->has_settings ? tell_settings(connection, &state) : 0;
-  if (error || !state.has_goaway || (connection->has_goaway && connection->goaway == state.goaway)) return error;
-  connection->has_goaway = true, connection->goaway = state.goaway;
-  return CALLBACK(connection, shutdown, (int64_t)state.goaway, connection->user_data);
+  uint32_t event;
+  uint64_t id;
+  int error = 0;
+  while (!error && h3_next_event(&connection->endpoint, &event, &id) == H3_OK)
+    error = event == H3_EVENT_SETTINGS ? tell_settings(connection) : CALLBACK(connection, shutdown, (int64_t)id, connection->user_data);
+  return error;
 }
 
 static nghttp3_ssize read_unidirectional(nghttp3_conn *connection, int64_t id, const uint8_t *bytes, size_t length, int fin) {

@@ -42,8 +42,6 @@ struct http3 {
   uint64_t end_id;     /* a server's: where the requests end that the setup lets the connection have */
   bool leaving;        /* GOAWAY was sent, or came: no more are opened */
   bool shut;           /* a server's: from the last GOAWAY on nothing is taken that did not come before */
-  uint64_t goaway;     /* a client's: the id of the last GOAWAY that came */
-  bool is_told;        /* the log has the peer's settings */
   uint64_t leaving_at; /* when http3_leave was called first, by quic_time; 0: never */
 };
 
@@ -319,18 +317,27 @@ static void reject_from(http3 *h, uint64_t id) {
   }
 }
 
-/* The peer's settings, for the log, and at a client the server's GOAWAY. */
-static void look_at_state(http3 *h) {
+static void log_settings(http3 *h) {
   h3_state state;
-  if ((h->setup->server && !h->log) || h3_connection(&h->endpoint, &state) != H3_OK) return;
-  if (state.has_settings && !h->is_told) qlog_settings(h->log, false, state.peer_section, state.peer_table, state.peer_blocked);
-  h->is_told = state.has_settings;
-  if (h->setup->server || !state.has_goaway || (h->leaving && state.goaway == h->goaway)) return;
+  if (h->log && h3_connection(&h->endpoint, &state) == H3_OK)
+    qlog_settings(h->log, false, state.peer_section, state.peer_table, state.peer_blocked);
+}
+
+/* A client's: the server's last GOAWAY has this id. */
+static void goaway_came(http3 *h, uint64_t id) {
   h->leaving = true;
-  h->goaway = state.goaway;
-  qlog_goaway(h->log, false, state.goaway);
+  qlog_goaway(h->log, false, id);
   if (h->setup->events->going_away) h->setup->events->going_away(h, h->setup->user);
-  reject_from(h, state.goaway);
+  reject_from(h, id);
+}
+
+/* What happened on the connection. */
+static void tell_events(http3 *h) {
+  uint32_t kind;
+  uint64_t id;
+  while (h3_next_event(&h->endpoint, &kind, &id) == H3_OK)
+    if (kind == H3_EVENT_SETTINGS) log_settings(h);
+    else if (!h->setup->server) goaway_came(h, id);
 }
 
 /* A stream of the peer's was read: those header sections may be there that waited for it. */
@@ -343,7 +350,7 @@ static void pull_others(http3 *h, uint64_t id) {
     request->waiting = false;
     release(request);
   }
-  look_at_state(h);
+  tell_events(h);
 }
 
 /* GOAWAY was sent: the peer opens no more requests. */

@@ -1,6 +1,6 @@
 #!/usr/bin/env bash
 # Does the model of an endpoint that was written without the definitions and the code have the program write what each NAME.stdout has? (The
-# program is held against these files by check-examples.sh, and against the model by hostile_calls.py.) One line 'ok ..' or 'failed ..'.
+# program is held against these files by stored_scripts.py, and against the model by hostile_calls.py.) One line 'ok ..' or 'failed ..'.
 set -uo pipefail
 cd "$(dirname "$0")/../.."
 

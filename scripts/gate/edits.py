@@ -1,8 +1,8 @@
 """edits.py CRATE: does each edit in the crate's refused/ and must-fail/ apply, so that each of its `old:` texts stands in its file exactly once,
-and does each in refused/ name one function that is there? Where the search cannot tell that one is refused (scripts/gate/refused.py), a line
-`judged: WHY` says in a sentence why no proof of that body can exist, and the next line is `witness: INPUT`, the run that shows it
-(scripts/gate/witnesses.py), or `unseen: WHY`, why none can. Says how many edits are well, and ends with an error, after a line for each that is
-not, where there is one. Without a crate it says how many edits there are, and what refuses them."""
+and does each in refused/ name one function that is there? Where the search cannot tell that one is refused (scripts/gate/refused.py), or a run
+shows it for less, a line `judged: WHY` says in a sentence why no proof of that body can exist, and the next line is `witness: INPUT`, the run that
+shows it (scripts/gate/witnesses.py), or `unseen: WHY`, why none can. Says how many edits are well, and ends with an error, after a line for each
+that is not, where there is one. Without a crate it says how many edits there are, and what refuses them."""
 import functools
 import pathlib
 import re

@@ -321,7 +321,7 @@ def answer(edit, kind, told, how=""):
     if kind == NOT_REFUSED:
         return False, f"{where}: {told.line or 'no check speaks of it'}"
     if kind in (kinds.OPEN, kinds.BODY):
-        return True, where + (" (the line 'judged:' is not needed)" if edit.judged else "")
+        return True, where + (" (the line 'judged:' is not needed)" if edit.unseen else "")
     if edit.judged:
         return True, f"{JUDGED} ({where}): {edit.judged}"
     return False, f"{where}: say in a line 'judged: WHY' why no proof can exist, or strengthen the contract"

@@ -61,6 +61,7 @@ static void of_none(h3_endpoint *e) {
   IS(h3_item_bytes(e, 0, b, 4, &n), H3_NO_ENDPOINT);
   IS(h3_stream(e, 0, &s), H3_NO_ENDPOINT);
   IS(h3_connection(e, &c), H3_NO_ENDPOINT);
+  IS(h3_next_event(e, &fin, &id), H3_NO_ENDPOINT);
   IS(h3_peer_setting(e, 6, &id), H3_NO_ENDPOINT);
   HOLDS(id == 5 && detail == 6 && n == 7);
   h3_free(e);
@@ -114,6 +115,8 @@ static void of_pointers(h3_endpoint *e, uint64_t id) {
   IS(h3_close_stream(e, id, NULL, &fin, NULL), H3_ARGUMENT);
   IS(h3_close_stream(e, id, &fin, NULL, NULL), H3_ARGUMENT);
   IS(h3_connection(e, NULL), H3_ARGUMENT);
+  IS(h3_next_event(e, NULL, &untouched), H3_ARGUMENT);
+  IS(h3_next_event(e, &fin, NULL), H3_ARGUMENT);
   IS(h3_peer_setting(e, 6, NULL), H3_ARGUMENT);
   HOLDS(n == 0);
   HOLDS(!strcmp(h3_answer_text(H3_OK), "H3_OK") && !strcmp(h3_answer_text(H3_NO_ENDPOINT), "H3_NO_ENDPOINT"));

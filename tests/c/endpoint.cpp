@@ -113,6 +113,8 @@ void exchange(std::size_t piece) {
   WANT(response.head.status == 200 && response.body.empty() && response.trailer.empty());
   WANT(client.stream(id).is_finished == 1 && client.connection().has_settings == 1);
   WANT(client.peer_setting(6) == client_config().max_field_section_size && !client.peer_setting(0x21));
+  std::optional<endpoint::event> event = client.next_event();
+  WANT(event && event->kind == H3_EVENT_SETTINGS && event->number == 0 && !client.next_event());
 }
 
 /* Reads a packet of a stream, and answers how many pieces of a body lay in it. */

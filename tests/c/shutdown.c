@@ -1,5 +1,5 @@
 /* A server shuts down in two steps, and loses no request: the bytes of both GOAWAY frames, requests that are rejected, when the connection is
- * drained, and 1,000 requests under way. One line 'ok NAME' or 'failed NAME'. */
+ * drained, 1,000 requests under way, and what h3_next_event tells. One line 'ok NAME' or 'failed NAME'. */
 #include "h3.h"
 #include <string.h>
 #define TEST "shutdown"
@@ -290,6 +290,96 @@ static void of_a_thousand(void) {
   drop();
 }
 
+/* ---- what happened on the connection ---- */
+
+static void tells(int side, uint32_t kind, uint64_t number) {
+  uint32_t told = 99;
+  uint64_t with = 98;
+  IS(h3_next_event(&ends[side], &told, &with), H3_OK);
+  HOLDS(told == kind && with == number);
+}
+
+static void tells_none(int side) {
+  uint32_t told = 99;
+  uint64_t with = 98;
+  for (int again = 0; again < 2; again++) IS(h3_next_event(&ends[side], &told, &with), H3_NONE);
+  HOLDS(told == 99 && with == 98);
+}
+
+/* these bytes come on the peer's control stream */
+#define CONTROLS(side, text) IS(h3_deliver(&ends[side], h3_control_id(!(side)), text, sizeof text - 1, NULL), H3_OK)
+
+/* The settings are told once, and no other call tells them again. */
+static void of_settings(void) {
+  make_end(CLIENT, 1);
+  make_end(SERVER, 1);
+  tells_none(CLIENT);
+  carry_own();
+  for (int side = 0; side < 2; side++) {
+    tells(side, H3_EVENT_SETTINGS, 0);
+    tells_none(side);
+  }
+  ask();
+  carry_own();
+  carry_to_end(CLIENT, 0);
+  pull_whole(SERVER, 0);
+  answer(0);
+  carry_own();
+  carry_to_end(SERVER, 0);
+  pull_whole(CLIENT, 0);
+  tells_none(CLIENT);
+  tells_none(SERVER);
+  IS(h3_shutdown_notice(&ends[SERVER], NULL), H3_OK);
+  carry_own();
+  tells_none(SERVER); /* it is the peer's that are told */
+  tells(CLIENT, H3_EVENT_GOAWAY, (UINT64_C(1) << 62) - 4);
+  tells_none(CLIENT);
+  IS(h3_shutdown(&ends[SERVER], NULL), H3_OK);
+  carry_own();
+  tells(CLIENT, H3_EVENT_GOAWAY, 4);
+  tells_none(CLIENT);
+  IS(h3_shutdown(&ends[CLIENT], NULL), H3_OK);
+  carry_own();
+  tells(SERVER, H3_EVENT_GOAWAY, 0);
+  tells_none(SERVER);
+  drop();
+}
+
+/* GOAWAY frames (RFC 9114, section 7.2.6): the last of several is told, one in pieces once it is whole, and the same id not again. All ids of
+ * them are kept, or with a number in kept_ids the last one. */
+static void of_goaways(uint64_t kept_ids) {
+  uint64_t detail = 0;
+  h3_config config;
+  h3_config_default(&config);
+  config.kept_ids = kept_ids;
+  IS(h3_new(&ends[CLIENT], &config, NULL), H3_OK);
+  CONTROLS(CLIENT, "\x00\x04\x00\x07\x01\x20\x07\x01\x10"); /* the stream's type, SETTINGS, and GOAWAY with 32 and 16 */
+  tells(CLIENT, H3_EVENT_SETTINGS, 0);
+  tells(CLIENT, H3_EVENT_GOAWAY, 16);
+  tells_none(CLIENT);
+  CONTROLS(CLIENT, "\x07\x01\x10"); /* the same */
+  tells_none(CLIENT);
+  CONTROLS(CLIENT, "\x07\x01");
+  tells_none(CLIENT);
+  CONTROLS(CLIENT, "\x0c");
+  tells(CLIENT, H3_EVENT_GOAWAY, 12);
+  tells_none(CLIENT);
+  CONTROLS(CLIENT, "\x07\x01\x0c\x07\x01\x08\x07\x01\x08\x07\x01\x00");
+  tells(CLIENT, H3_EVENT_GOAWAY, 0);
+  tells_none(CLIENT);
+  IS(h3_deliver(&ends[CLIENT], 3, "\x07\x01\x04", 3, &detail), H3_CONNECTION); /* a greater one */
+  HOLDS(detail == H3_CODE_ID_ERROR);
+  tells_none(CLIENT);
+  h3_free(&ends[CLIENT]);
+  /* what came before a fault is told behind it */
+  IS(h3_new(&ends[CLIENT], &config, NULL), H3_OK);
+  IS(h3_deliver(&ends[CLIENT], 3, "\x00\x04\x00\x07\x01\x04\x07\x01\x08", 9, &detail), H3_CONNECTION);
+  tells(CLIENT, H3_EVENT_SETTINGS, 0);
+  tells(CLIENT, H3_EVENT_GOAWAY, 4);
+  tells_none(CLIENT);
+  h3_free(&ends[CLIENT]);
+}
+
 int main(void) {
   add_field(&request, ":method", "GET");
   add_field(&request, ":scheme", "https");
@@ -302,6 +392,9 @@ int main(void) {
   of_a_late_request(4);
   of_choices();
   of_a_thousand();
-  if (!bad) puts("ok shutdown: two GOAWAY frames, requests that are rejected, when an end is drained, and 1,000 requests of which none is lost");
+  of_settings();
+  of_goaways(UINT64_C(1) << 62);
+  of_goaways(8);
+  if (!bad) puts("ok shutdown: two GOAWAY frames, requests that are rejected, when an end is drained, 1,000 requests of which none is lost, and events");
   return bad;
 }

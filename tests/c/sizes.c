@@ -322,6 +322,11 @@ static void deliveries(void) {
   DONE(h3_connection(&ends[0], &state), "h3_connection", 0);
   id = (UINT64_C(1) << 62) - 4 * (uint64_t)GOAWAYS;
   WANT(state.has_goaway && state.goaway == id, "another GOAWAY", 3, state.goaway);
+  DONE(h3_next_event(&ends[0], &type, &value), "h3_next_event", 0);
+  WANT(type == H3_EVENT_SETTINGS, "another event", 0, type);
+  DONE(h3_next_event(&ends[0], &type, &value), "h3_next_event", 1);
+  WANT(type == H3_EVENT_GOAWAY && value == id, "another id is told", 3, value);
+  WANT(h3_next_event(&ends[0], &type, &value) == H3_NONE, "a GOAWAY is told that is not the last", 3, value);
   WANT(h3_open_request(&ends[0], &value, &detail) == H3_GOING_AWAY && detail == id, "a request is opened behind a GOAWAY", 0, detail);
   drop();
   make();

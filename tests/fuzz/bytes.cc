@@ -2,6 +2,7 @@
 // endpoints, to one whole and to the other byte by byte, each pulled after every delivery. At each step:
 //   what h3_stream says is held is at most what came, and on what h3_next_to_send names something waits
 //   after a fault of the connection each pull and each delivery tells its code
+//   h3_next_event reported what h3_connection shows: the settings once, and each GOAWAY with a lower id than the one before
 // and at the end both received the same of each stream, up to a fault of the connection: then the endpoint that got pieces received
 // no less. (With a dynamic table a faulty peer may drop entries that a section waits for, and what comes of it depends on the pieces: then
 // they are not compared. Bytes of the decoder stream that come before the settings wait for them: then a fault of the control stream behind
@@ -95,14 +96,27 @@ class Reader {
     if (answer == H3_OK || answer == H3_CONNECTION) came_[id] += size;
     told(answer, code);
     pull_all();
-    if (id & 2 && !has_settings()) early_.insert(id);
+    read_events();
+    if (id & 2 && !has_settings_) early_.insert(id);
     shows(id);
   }
 
-  bool has_settings() {
+  void read_events() {
+    uint32_t kind;
+    uint64_t number;
+    while (h3_next_event(&end_, &kind, &number) == H3_OK) {
+      bool is_goaway = kind == H3_EVENT_GOAWAY;
+      need(is_goaway || kind == H3_EVENT_SETTINGS, "an event of another kind");
+      need(is_goaway == has_settings_, "the settings come again, or behind a GOAWAY");
+      need(!is_goaway || !has_goaway_ || number < goaway_, "a GOAWAY whose id is no lower than before");
+      has_settings_ = true;
+      has_goaway_ = is_goaway;
+      goaway_ = number;
+    }
     h3_state state;
     need(h3_connection(&end_, &state) == H3_OK, "no state");
-    return state.has_settings;
+    need(state.has_settings == has_settings_ && state.has_goaway == has_goaway_, "an event is missing, or is of what did not come");
+    need(!has_goaway_ || state.goaway == goaway_, "the last GOAWAY was not reported");
   }
 
   void shows(uint64_t id) {
@@ -165,6 +179,8 @@ class Reader {
 
   h3_endpoint end_ = H3_NONE_YET;
   bool in_pieces_, has_fault_ = false;
+  bool has_settings_ = false, has_goaway_ = false; // as events say
+  uint64_t goaway_ = 0;
   std::set<uint64_t> early_; // unidirectional streams of which bytes came before the settings
   uint64_t code_ = 0;
   std::map<uint64_t, uint64_t> came_;

@@ -32,7 +32,7 @@ static void make(void) {
   left = -1;
   h3_config_default(&config);
   config.server = 1;
-  config.kept_ids = UINT64_MAX, config.table = 4096, config.blocked = 16;
+  config.kept_ids = UINT64_MAX, config.table = 4096, config.blocked = 16, config.datagram = 1;
   end = (h3_endpoint)H3_NONE_YET;
   IS(h3_new(&end, &config, NULL), H3_OK);
 }
@@ -76,7 +76,7 @@ static int codes(long after) {
   return was;
 }
 
-/* A reset comes after what is kept, and its stream stays as it is until that is read. */
+/* A reset comes after what is kept, and its stream stays as it is until that is read. Nothing comes after it. */
 static int kept_reset(long after) {
   make();
   IS(h3_deliver(&end, 0, get, sizeof get, NULL), H3_OK);
@@ -86,6 +86,7 @@ static int kept_reset(long after) {
     answer = h3_deliver_reset(&end, 0, 7, NULL);
     HOLDS(answer == H3_KEPT || answer == H3_MEMORY);
     HOLDS(unread(0) == sizeof get);
+    if (answer == H3_KEPT) IS(h3_deliver_end(&end, 0, NULL), H3_AFTER_END);
   }
   int was = was_refused();
   if (answer == H3_KEPT) HOLDS(pulls(0, H3_FAULT_RESET) == 7);
@@ -136,8 +137,63 @@ static int settings(long after) {
   return was;
 }
 
+/* What the decoder stream said before the settings is read after them, also if memory was refused for a GOAWAY between: an increment by 1 where nothing was
+ * inserted (RFC 9204, section 4.4.3). What is kept is tried once more in the same call. */
+static int early(long after) {
+  static const uint8_t control[] = {0, 4, 0, 7, 1, 5, 7, 1, 4, 7, 1, 3, 7, 1, 2, 7, 1, 1, 7, 1, 0};
+  uint32_t answer = H3_MEMORY;
+  uint64_t code = 0;
+  for (long first = 0; answer == H3_MEMORY; first++) {
+    h3_free(&end), make();
+    IS(h3_deliver(&end, 10, "\x03\x01", 2, NULL), H3_OK);
+    refuse(first, 1);
+    answer = h3_deliver(&end, 2, control, sizeof control, NULL);
+  }
+  IS(answer, H3_KEPT);
+  refuse(after, 0);
+  answer = h3_deliver(&end, 2, "", 0, &code);
+  int was = was_refused();
+  if (answer == H3_KEPT || answer == H3_MEMORY) answer = h3_deliver(&end, 2, "", 0, &code);
+  IS(answer, H3_CONNECTION);
+  HOLDS(code == UINT64_C(0x202));
+  h3_free(&end);
+  return was;
+}
+
+/* More content than was said is told as such, and not as out of memory (RFC 9114, section 4.1.2). */
+static int too_much(long after) {
+  static const h3_field_size sizes[] = {{7, 3}, {14, 1}};
+  uint64_t rule = 0;
+  make();
+  IS(h3_deliver(&end, 0, get, sizeof get, NULL), H3_OK);
+  pulls(0, H3_HEAD);
+  IS(h3_send_head(&end, 0, sizes, 2, ":status200content-length0", 25, NULL), H3_OK);
+  refuse(after, 1);
+  uint32_t answer = h3_send_body(&end, 0, "a", 1, &rule);
+  int was = was_refused();
+  IS(answer, H3_MALFORMED);
+  HOLDS(rule == H3_BAD_CONTENT_LENGTH);
+  h3_free(&end);
+  return was;
+}
+
+/* Nothing is held behind a fault, whatever was kept (RFC 9297, section 2.1: a datagram without an id). */
+static int faulty(long after) {
+  uint64_t id, code = 0;
+  size_t from;
+  make();
+  refuse(after, 1);
+  uint32_t answer = h3_deliver(&end, 2, "\x00\x04", 2, NULL);
+  int was = was_refused();
+  if (answer == H3_KEPT) HOLDS(unread(2) > 0);
+  IS(h3_read_datagram(&end, "", 0, &id, &from, &code), H3_CONNECTION);
+  HOLDS(code == UINT64_C(0x33) && unread(2) == 0);
+  h3_free(&end);
+  return was;
+}
+
 int main(void) {
-  static int (*const each[])(long) = {codes, kept_reset, unseen, settings};
+  static int (*const each[])(long) = {codes, kept_reset, unseen, settings, early, too_much, faulty};
   long count = 0;
   for (size_t which = 0; which < sizeof each / sizeof *each; which++)
     for (long after = 0; each[which](after); after++) count++;

@@ -62,7 +62,7 @@ from .items import (
     Trailer,
     Waiting,
 )
-from .state import ClosedStream, ConnectionState, PeerLimits, Priority, StreamState, StreamType, Version
+from .state import ClosedStream, ConnectionState, GoawayCame, PeerLimits, Priority, SettingsCame, StreamState, StreamType, Version
 
 __all__ = [
     "Answer",
@@ -88,6 +88,7 @@ __all__ = [
     "Endpoint",
     "Fault",
     "Field",
+    "GoawayCame",
     "Head",
     "Interim",
     "Item",
@@ -104,6 +105,7 @@ __all__ = [
     "Refused",
     "Reset",
     "Session",
+    "SettingsCame",
     "StreamState",
     "StreamType",
     "TooLargeHead",

@@ -33,7 +33,7 @@ from .items import (
     Trailer,
     Waiting,
 )
-from .state import ClosedStream, ConnectionState, PeerLimits, StreamState, StreamType
+from .state import ClosedStream, ConnectionState, GoawayCame, PeerLimits, SettingsCame, StreamState, StreamType
 
 Bytes = bytes | bytearray | memoryview
 
@@ -452,6 +452,17 @@ class Endpoint:
         goaway = state.goaway if state.has_goaway else None
         peer = PeerLimits(state.peer_table, state.peer_blocked, state.peer_section) if state.has_settings else None
         return ConnectionState(state.sending_table, state.receiving_table, state.waiting_heads, state.sent, goaway, peer)
+
+    def next_event(self) -> SettingsCame | GoawayCame | None:
+        """What happened on the connection since the last call. Call it after data on a unidirectional stream of the peer, until it returns
+        None. The settings are returned once, and of several GOAWAY frames the last one."""
+        kind, number = c_uint32(), c_uint64()
+        answer = self._answer("h3_raw_next_event", byref(kind), byref(number))
+        if answer not in (Answer.OK, Answer.NONE):
+            raise refused(answer)
+        if answer:
+            return None
+        return SettingsCame() if kind.value == raw.EVENT_SETTINGS else GoawayCame(number.value)
 
     def peer_setting(self, setting: int) -> int | None:
         """The value of a setting that the peer announced (RFC 9114, section 7.2.4)."""

@@ -12,6 +12,7 @@ NAME = "libbeanwhile_h3.so.1"
 VARIABLE = "BEANWHILE_H3_LIBRARY"
 VERSION = 0x010000  # the version of h3.h that this package was written for
 UNPROVED = 0x80000000
+EVENT_SETTINGS = 1  # of enum h3_event
 
 
 class Handle(ctypes.Structure):
@@ -165,6 +166,7 @@ DECLARATIONS: dict[str, tuple[Any, list[Any]]] = {
     "h3_raw_stream": (c_uint32, [Handle, c_uint64, POINTER(RawStream), OUT]),
     "h3_raw_stream_kind": (c_uint32, [Handle, c_uint64, U32_OUT, OUT]),
     "h3_raw_connection": (c_uint32, [Handle, POINTER(RawConnection), OUT]),
+    "h3_raw_next_event": (c_uint32, [Handle, U32_OUT, U64_OUT, OUT]),
     "h3_raw_peer_setting": FINDS_NUMBER,
 }
 

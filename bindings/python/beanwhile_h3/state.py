@@ -80,6 +80,19 @@ class ConnectionState:
 
 
 @dataclass(frozen=True, slots=True)
+class SettingsCame:
+    """The peer's settings came: `connection` and `peer_setting` show them."""
+
+
+@dataclass(frozen=True, slots=True)
+class GoawayCame:
+    """The peer's last GOAWAY has another id than was returned before (RFC 9114, section 5.2)."""
+
+    id: int
+    """A server processes no request from this id on."""
+
+
+@dataclass(frozen=True, slots=True)
 class Version:
     """Which version the library is. Within a major version calls, numbers and structs stay."""
 

@@ -16,6 +16,7 @@ from beanwhile_h3 import (
     End,
     Endpoint,
     Field,
+    GoawayCame,
     Head,
     Interim,
     NeverIndexed,
@@ -24,6 +25,7 @@ from beanwhile_h3 import (
     Pending,
     Priority,
     Refused,
+    SettingsCame,
     StreamType,
     Trailer,
     Waiting,
@@ -193,11 +195,13 @@ class Exchange(unittest.TestCase):
         state = pair.client.connection()
         self.assertEqual((state.peer, state.goaway), (PeerLimits(4096, 16, 65536), None))
         self.assertEqual((pair.client.peer_setting(6), pair.client.peer_setting(0x21)), (65536, None))
+        self.assertEqual((pair.client.next_event(), pair.client.next_event()), (SettingsCame(), None))
         pair.server.goaway(8)
         # GOAWAY: type 7, length 1, the id (RFC 9114, section 7.2.6)
         self.assertEqual(pair.server.outgoing(3), (b"\x07\x01\x08", False))
         pair.carry_all()
         self.assertEqual(pair.client.connection().goaway, 8)
+        self.assertEqual((pair.client.next_event(), pair.client.next_event()), (GoawayCame(8), None))
         pair.server.deliver(0, frame(1, bytes.fromhex("0000 d1 d7 50 01 61 c1"))[:5])
         self.assertEqual(pair.server.stream(0).unread, 5)
         self.assertEqual((local_ids(False), local_ids(True)), ((2, 6, 10), (3, 7, 11)))

@@ -4,7 +4,7 @@ use crate::error::{Error, Fault, Malformation};
 use crate::fields::{in_a_row, AsField, Fields};
 use crate::item::{Came, Head, Item, Next, Pause};
 use crate::raw::{self, FieldSize, Handle, RawConnection, RawItem, RawStream};
-use crate::state::{ClosedStream, ConnectionState, PeerLimits, StreamState, StreamType};
+use crate::state::{ClosedStream, ConnectionEvent, ConnectionState, PeerLimits, StreamState, StreamType};
 use std::ptr;
 
 const KEPT: u32 = 5;
@@ -579,6 +579,17 @@ impl Endpoint {
             goaway: (state.has_goaway == 1).then_some(state.goaway),
             peer: (state.has_settings == 1).then_some(peer),
         })
+    }
+
+    /// What happened on the connection since the last call. Call it after data on a unidirectional stream of the peer, until it returns
+    /// `None`. The settings are returned once, and of several GOAWAY frames the last one.
+    pub fn next_event(&mut self) -> Option<ConnectionEvent> {
+        let (mut kind, mut number) = (0, 0);
+        self.call(|handle, _, out| unsafe { raw::h3_raw_next_event(handle, &mut kind, &mut number, out) }).ok()?;
+        match kind {
+            1 => Some(ConnectionEvent::Settings),
+            _ => Some(ConnectionEvent::Goaway(number)),
+        }
     }
 
     /// A setting that the peer announced (RFC 9114, section 7.2.4).

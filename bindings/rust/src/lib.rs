@@ -68,7 +68,7 @@ pub use fields::{AsField, Field, Fields, FieldsIter};
 pub use http_types::Protocol;
 pub use item::{Came, Head, Item, Next, Pause};
 pub use priority::Priority;
-pub use state::{ClosedStream, ConnectionState, PeerLimits, StreamState, StreamType, Version};
+pub use state::{ClosedStream, ConnectionEvent, ConnectionState, PeerLimits, StreamState, StreamType, Version};
 
 /// The ids of the local control, encoder and decoder stream, if they are the first unidirectional streams that this side opens:
 ///

@@ -77,6 +77,17 @@ pub struct ConnectionState {
     pub peer: Option<PeerLimits>,
 }
 
+/// What happened on the connection.
+#[derive(Debug, Clone, Copy, PartialEq, Eq)]
+#[non_exhaustive]
+pub enum ConnectionEvent {
+    /// The peer's settings came.
+    Settings,
+    /// The peer's last GOAWAY has this id, and another one was returned before, or none: a server processes no request from there on (RFC
+    /// 9114, section 5.2).
+    Goaway(u64),
+}
+
 /// Which version of the library this is.
 #[derive(Debug, Clone, Copy, PartialEq, Eq)]
 #[non_exhaustive]

@@ -1,6 +1,6 @@
 //! Two endpoints in one program, with the bytes between them carried by hand: what was sent is what is handed out, once.
 
-use beanwhile_h3::{own_ids, AsField, ClosedStream, Config, Endpoint, Error, Field, Fields, Head, Item, Next, Pause, StreamType, Version};
+use beanwhile_h3::{own_ids, AsField, ClosedStream, Config, ConnectionEvent, Endpoint, Error, Field, Fields, Head, Item, Next, Pause, StreamType, Version};
 
 /// Carries all that waits, in pieces, and each end once. Answers how many ends went over.
 fn carry(from: &mut Endpoint, to: &mut Endpoint, piece: usize) -> usize {
@@ -182,9 +182,12 @@ fn states_and_settings_are_shown() {
     assert_eq!((peer.table, peer.blocked, peer.section), (4096, 16, 65536));
     assert_eq!((state.goaway, client.peer_setting(6), client.peer_setting(0x21)), (None, Some(65536), None));
     assert_eq!(Endpoint::new(&Config::client()).unwrap().connection().unwrap().peer, None);
+    assert_eq!([client.next_event(), client.next_event()], [Some(ConnectionEvent::Settings), None]);
+    server.goaway(8).unwrap();
     server.goaway(4).unwrap();
     carry(&mut server, &mut client, 100);
     assert_eq!(client.connection().unwrap().goaway, Some(4));
+    assert_eq!([client.next_event(), client.next_event()], [Some(ConnectionEvent::Goaway(4)), None]);
     assert_eq!(client.next_request_id(), Err(Error::GoingAway(4)));
     assert_eq!((own_ids(false), own_ids(true)), ([2, 6, 10], [3, 7, 11]));
 }

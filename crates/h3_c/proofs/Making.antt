@@ -7,6 +7,7 @@ use Rattle.h3_incoming.specs.declared.fields.FieldsPull.TheVariants.{Pending}
 use Rattle.h3_connection.specs.declared.setup.Announced.{Announced}
 use Rattle.h3_connection.specs.declared.setup.NewError.{NewError}
 use Rattle.h3_connection.specs.declared.setup.NewError.TheVariants.{OutOfMemory}
+use Rattle.h3_session.specs.Events.{nothing_seen}
 use Rattle.h3_c.specs.declared.config.GivenConfig.{GivenConfig}
 use Rattle.h3_c.specs.declared.numbers.Told.{Told}
 use Rattle.h3_c.specs.Configs.{Makes, MakesGiven, Unmakes, announced_of, side_of}
@@ -24,9 +25,9 @@ lacks_memory given s h = record { answer = OutOfMemory; is = refl; refused = com
 pub refused : (given : GivenConfig) (e : NewError) (n : Told) → n ≡ new_told e → Creates (side_of given) (announced_of given) (Err e) → Unmakes given n
 refused given e n is h = record { answer = e; is = is; refused = h }
 
-pub made : (given : GivenConfig) (v : Seen) (before after : Option Seen) (n : Told) → n ≡ ok → after ≡ Some v → v.last ≡ Pending → Creates (side_of given) (announced_of given) (Ok v.endpoint) → Makes given n before after
-made given v before after n is there last h =
-    record { answer = Ok v.endpoint; is = is; done = h; made = there ∙ ap (λ p. let w : Seen = record { endpoint = v.endpoint; last = p } in Some w) last }
+pub made : (given : GivenConfig) (v : Seen) (before after : Option Seen) (n : Told) → n ≡ ok → after ≡ Some v → v.last ≡ Pending → v.events ≡ nothing_seen → Creates (side_of given) (announced_of given) (Ok v.endpoint) → Makes given n before after
+made given v before after n is there last events h =
+    record { answer = Ok v.endpoint; is = is; done = h; made = there ∙ ap (λ p. let w : Seen = record { endpoint = v.endpoint; last = p; events = v.events } in Some w) last ∙ ap (λ p. let w : Seen = record { endpoint = v.endpoint; last = Pending; events = p } in Some w) events }
 
 pub unmade : (given : GivenConfig) (n : Told) (before after : Option Seen) → Unmakes given n → after ≡ before → Makes given n before after
 unmade given n before after u same = record { answer = Err u.answer; is = u.is; done = u.refused; made = same }

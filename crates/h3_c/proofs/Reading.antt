@@ -10,6 +10,7 @@ use Rattle.h3_incoming.specs.FieldsPulls.{pull_of}
 use Rattle.h3_incoming.specs.declared.fields.FieldsItem.TheVariants as listed
 use Rattle.h3_incoming.specs.declared.fields.FieldsPull.{FieldsPull}
 use Rattle.h3_incoming.specs.declared.fields.FieldsPull.TheVariants as answer
+use Rattle.h3_session.specs.declared.endpoint.events.EventsSeen.{EventsSeen}
 use Rattle.h3_c.specs.declared.items.PulledItem.{PulledItem}
 use Rattle.h3_c.specs.declared.numbers.Told.{Told}
 use Rattle.h3_c.specs.Exported.{OnStream, Pulls, UnlessRejected}
@@ -49,12 +50,12 @@ pub fin_refused : (is_alone : Bool) (bytes : List ℕ) (mid new : EndpointState)
 fin_refused is_alone bytes mid new id n alone h = subst (λ b. RefusesEnd b mid new id n) alone h
 
 -- the pull behind what was taken
-pub pulls_on : (id stream : ℕ) (n : Told) (u w : Seen) (last : FieldsPull) (given : PulledItem) → stream ≡ id → stream < 2 ^ 62
-    → OnStream stream n u w (Pulls stream n u w given) → Pulls id n (record { endpoint = u.endpoint; last = last }) w given
-pulls_on id stream n u w last given is below pulls =
+pub pulls_on : (id stream : ℕ) (n : Told) (u w : Seen) (last : FieldsPull) (events : EventsSeen) (given : PulledItem) → u.events ≡ events → stream ≡ id → stream < 2 ^ 62
+    → OnStream stream n u w (Pulls stream n u w given) → Pulls id n (record { endpoint = u.endpoint; last = last; events = events }) w given
+pulls_on id stream n u w last events given same is below pulls =
     let p : Pulls stream n u w given = pulls.known below in
     let q : Pulls id n u w given = subst (λ i. Pulls i n u w given) is p in
-    record { done = q.done; pulled = q.pulled; list = q.list; given_so = q.given_so }
+    record { done = q.done; pulled = q.pulled; list = q.list; given_so = q.given_so; events = q.events ∙ same }
 
 -- nothing is held but that nothing came
 pub is_pending : (x : FieldsPull) → pull_of x ≡ pull.Pending → x ≡ answer.Pending

@@ -31,7 +31,7 @@ pub body_lacks : (v : Seen) (id stream size : ℕ) (bytes : List ℕ) (o : Optio
 body_lacks v id stream size bytes o n same below refuses len is =
     let here : RefusesBodies v.endpoint id size o = subst (λ i. RefusesBodies v.endpoint i size o) same refuses in
     record {
-      known = λ _. record { answer = Err (unwrap_or o refusal.OutOfMemory, bytes); is = is ∙ told_same o; done = here bytes len; last = refl };
+      known = λ _. record { answer = Err (unwrap_or o refusal.OutOfMemory, bytes); is = is ∙ told_same o; done = here bytes len; last = refl; events = refl };
       unknown = λ above. absurd (omega (arith, below, above));
     }
 
@@ -46,7 +46,7 @@ delivery_lacks v id stream bytes o n same below goes_on refuses is =
     let here : RefusesDeliveries v.endpoint id o = subst (λ i. RefusesDeliveries v.endpoint i o) same refuses in
     record {
       known = λ _. record {
-        taken = λ _. record { answer = Err (delivery_error o bytes); is = is ∙ delivery_same o bytes; done = here bytes; last = refl };
+        taken = λ _. record { answer = Err (delivery_error o bytes); is = is ∙ delivery_same o bytes; done = here bytes; last = refl; events = refl };
         refused = λ rejected. absurd (let wrong : false ≡ true = sym goes_on ∙ rejected in cc);
       };
       unknown = λ above. absurd (omega (arith, below, above));
@@ -80,7 +80,7 @@ module _ (v : Seen) (place : EndpointHistory → Option Refusal) (does : List Fi
   pub not_taken : (n : Told) (r : Refusal) → told.number ≢ 32 → ((fields : List Field) → does fields (Err (error.Refused r))) → n ≡ refusal_told r
       → (cut : Option (List Field)) → RefusesFields cut told → SendsCut cut place n v v does
   not_taken n r differs refuses is None h = absurd (differs (ap (λ (n : Told). n.number) h))
-  not_taken n r differs refuses is (Some fields) h = inr (record { answer = Err (error.Refused r); is = is; done = refuses fields; last = refl })
+  not_taken n r differs refuses is (Some fields) h = inr (record { answer = Err (error.Refused r); is = is; done = refuses fields; last = refl; events = refl })
 
   -- or there is no memory for it
   pub no_room : told.number ≢ 32 → ((e : EndpointHistory) → StandsFor v.endpoint e → place e ≡ None) → (cut : Option (List Field)) → RefusesFields cut told → SendsCut cut place told v v does

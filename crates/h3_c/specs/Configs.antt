@@ -11,6 +11,7 @@ use Rattle.h3_incoming.specs.declared.fields.FieldsPull.TheVariants.{Pending}
 use Rattle.h3_connection.specs.declared.setup.Announced.{Announced}
 use Rattle.h3_connection.specs.declared.setup.Limits.{Limits}
 use Rattle.h3_connection.specs.declared.setup.NewError.{NewError}
+use Rattle.h3_session.specs.Events.{nothing_seen}
 use Rattle.h3_c.specs.declared.config.GivenConfig.{GivenConfig}
 use Rattle.h3_c.specs.declared.numbers.Told.{Told}
 use Rattle.h3_c.specs.Numbers.{argument, ok, new_told}
@@ -126,9 +127,9 @@ abbrev pub made_told : Result EndpointState NewError → Told
 made_told (Ok s) = ok
 made_told (Err e) = new_told e
 
--- the handle owns the endpoint that was made, of which nothing was pulled; and what it owned before where none was made
+-- the handle owns the endpoint that was made, of which nothing was pulled or reported; and what it owned before where none was made
 abbrev pub IsMade : Result EndpointState NewError → Option Seen → Option Seen → Type 0
-IsMade (Ok s) before after = after ≡ Some (record { endpoint = s; last = Pending })
+IsMade (Ok s) before after = after ≡ Some (record { endpoint = s; last = Pending; events = nothing_seen })
 IsMade (Err e) before after = after ≡ before
 
 -- why none is made

@@ -50,6 +50,7 @@ pub record ReadsOne (v w : Seen) (bytes : List ℕ) (n : Told) (id id_after from
   pub done : ReadsDatagram v.endpoint w.endpoint bytes answer
   pub rest : w.endpoint ≡ record v.endpoint { closed = w.endpoint.closed }
   pub last : w.last ≡ v.last
+  pub events : w.events ≡ v.events
 
 -- `h3_capsule`
 abbrev pub capsule_shown : Capsule → CapsuleTold

@@ -15,6 +15,7 @@ pub record TakesEndOf (v w : Seen) (id : ℕ) (n : Told) : Type 0 where
   pub is : n ≡ end_told waited
   pub taken : TakesEnd v.endpoint w.endpoint id waited
   pub last : w.last ≡ v.last
+  pub events : w.events ≡ v.events
 
 -- `h3_next_to_send`: the least id from there on of a stream on which bytes or an end wait; or nothing waits on any of them, and no id is written
 abbrev pub SendsNext : Seen → ℕ → Told → ℕ → ℕ → Type 0

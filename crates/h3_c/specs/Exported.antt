@@ -27,12 +27,13 @@ use Rattle.h3_c.specs.Showing.{bit}
 abbrev pub Steps : Option Seen → Option Seen → (Seen → Seen → Type 0) → Type 0
 Steps before after goes = (v w : Seen) → before ≡ Some v → after ≡ Some w → goes v w
 
--- The call answered a result, which this number tells, and did this with it. The item that was pulled last stays.
+-- The call answered a result, which this number tells, and did this with it. The item that was pulled last stays, and what was reported.
 pub record Calls {R : Type 0} (told : R → Told) (n : Told) (v w : Seen) (does : R → Type 0) : Type 0 where
   pub answer : R
   pub is : n ≡ told answer
   pub done : does answer
   pub last : w.last ≡ v.last
+  pub events : w.events ≡ v.events
 
 -- A call on a stream: an id of 2^62 or more is refused, with nothing changed.
 pub record OnStream (id : ℕ) (n : Told) (v w : Seen) (goes : Type 0) : Type 0 where
@@ -69,6 +70,7 @@ pub record Pulls (id : ℕ) (n : Told) (v w : Seen) (given : PulledItem) : Type 
   pub pulled : PullsNext v.endpoint w.endpoint id (pull_of w.last)
   pub list : ListsNext v.endpoint id (list_of w.last)
   pub given_so : given ≡ shown w.last
+  pub events : w.events ≡ v.events
 
 -- The bytes of an item from one on, as many as fit.
 pub record ReadsBytes (v : Seen) (from : ℕ) (n : Told) (before after : List ℕ) (count_before count : ℕ) : Type 0 where
@@ -88,6 +90,7 @@ pub record Takes (v w : Seen) (id count : ℕ) (n : Told) : Type 0 where
   pub few : (e : EndpointHistory) → StandsFor v.endpoint e → count ≤ length (bytes_waiting e id) → (n ≡ ok) × Advances v.endpoint w.endpoint id count
   pub many : (e : EndpointHistory) → StandsFor v.endpoint e → length (bytes_waiting e id) < count → (n ≡ argument) × (w ≡ v)
   pub last : w.last ≡ v.last
+  pub events : w.events ≡ v.events
 
 -- `h3_open_request`: the id is the next one, and is not written where none is opened
 pub record OpensRequest (n : Told) (v w : Seen) (before after : ℕ) : Type 0 where

@@ -2,6 +2,7 @@ pub mod Closing
 pub mod Configs
 pub mod Datagrams
 pub mod Ending
+pub mod Events
 pub mod Exported
 pub mod Given
 pub mod Giving

@@ -71,6 +71,7 @@ pub record ReadsPlaced (v w : Seen) (id : ℕ) (bytes : List ℕ) (p : BodyPlace
   pub given_so : given ≡ place_shown p
   pub reads : ReadsBody v.endpoint w.endpoint id bytes p
   pub last : w.last ≡ answer.Pending
+  pub events : w.events ≡ v.events
 
 -- A read of bytes that are copied, with or without the end of the stream behind them, and how many of them it used.
 pub data ReadsCopied (v w : Seen) (id : ℕ) (bytes : List ℕ) (fin : ℕ) (n : Told) (before given : PulledItem) (used : ℕ) : Type 0 where
@@ -78,10 +79,10 @@ pub data ReadsCopied (v w : Seen) (id : ℕ) (bytes : List ℕ) (fin : ℕ) (n :
   pulled : (mid ended : EndpointState) → used ≤ length bytes → (0 < length bytes → 0 < used) → TakesBytes v.endpoint mid id (take used bytes) → TakesEnd (ends_with fin bytes used) (length bytes == 0) mid ended id
       → Pulls id n (record v { endpoint = ended }) w given → ReadsCopied v w id bytes fin n before given used
   -- the bytes were refused
-  stopped : (count : ℕ) (stop : Stop) → count ≤ length bytes → n ≡ stop.told → StopsAt v.endpoint w.endpoint id (take count bytes) stop → w.last ≡ v.last → used ≡ taken_of stop.is_taken count → given ≡ before
+  stopped : (count : ℕ) (stop : Stop) → count ≤ length bytes → n ≡ stop.told → StopsAt v.endpoint w.endpoint id (take count bytes) stop → w.last ≡ v.last → w.events ≡ v.events → used ≡ taken_of stop.is_taken count → given ≡ before
       → ReadsCopied v w id bytes fin n before given used
   -- the bytes were taken, and the end was refused
-  unended : (mid : EndpointState) → ends_with fin bytes used ≡ true → TakesBytes v.endpoint mid id bytes → RefusesEnd (length bytes == 0) mid w.endpoint id n → w.last ≡ v.last → given ≡ before
+  unended : (mid : EndpointState) → ends_with fin bytes used ≡ true → TakesBytes v.endpoint mid id bytes → RefusesEnd (length bytes == 0) mid w.endpoint id n → w.last ≡ v.last → w.events ≡ v.events → given ≡ before
       → ReadsCopied v w id bytes fin n before given used
 
 -- The same from an endpoint at which nothing changed before.

@@ -4,6 +4,7 @@ mod capsules;
 mod closing;
 mod datagrams;
 mod ending;
+mod events;
 mod heads;
 mod items;
 mod kinds;

@@ -61,3 +61,4 @@ pub mod Closing
 pub mod OpeningAt
 pub mod PeerKinds
 pub mod Unblocked
+pub mod Events

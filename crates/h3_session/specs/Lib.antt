@@ -8,6 +8,7 @@ pub mod Canceling
 pub mod Closing
 pub mod PeerKinds
 pub mod Unblocked
+pub mod Events
 pub mod Arriving
 pub mod SendingFields
 pub mod Pulling

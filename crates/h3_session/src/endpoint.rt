@@ -23,6 +23,7 @@ mod closing;
 mod copying;
 mod datagrams;
 mod ending;
+mod events;
 mod heads;
 mod kinds;
 mod lacking;
@@ -41,6 +42,7 @@ mod unread;
 
 pub use closing::ClosedStream;
 pub use datagrams::{DatagramError, DatagramRead};
+pub use events::{ConnectionEvent, EventsSeen};
 pub use lists::FieldsError;
 
 /// One endpoint of a connection: what was sent and what came on all its streams. It reads no socket: the caller delivers what

@@ -40,6 +40,7 @@
 //! - Datagrams: what is written in front of a payload reads back as the id of its stream (`datagrams_read_back`).
 //! - Shutting down: no request below the last GOAWAY is rejected (`nothing_below_a_goaway_is_rejected`). What is drained stays drained
 //!   (`drained_stays`).
+//! - Events: `next_event` answers `None` after at most two events, and then all was reported (`events_are_reported_once`).
 ghost use Rattle.std.specs.Prelude.{◌≡◌, ℕ, List};
 ghost use Rattle.h3_header.specs.Head.{head_fields};
 ghost use Rattle.h3_connection.specs.Endpoint.{EndpointHistory};
@@ -158,4 +159,18 @@ ghost use Rattle.h3_strict.specs.Tallies.{JudgesStrictly};
 /// what is sent before the settings came.
 pub fn sides_without_limits_take_all()
     ensures { (setup : Setup) (ends : Ends) (events : List Event) → JudgesStrictly setup → EarlyAreTaken setup ends events }
+{}
+
+ghost use Rattle.std.specs.Prelude.{is_some, true, Some, None};
+ghost use Rattle.h3_session.specs.Events.{asked_once, next_event, IsAllReported};
+ghost use Rattle.h3_session.specs.declared.endpoint.events.ConnectionEvent.TheVariants.{Settings, Goaway};
+ghost use Rattle.h3_session.specs.declared.endpoint.events.EventsSeen.{EventsSeen};
+
+/// In one state of the connection `next_event` reports at most two events, and then none, whatever was reported before. If it reports none,
+/// all was reported. It reports settings only if they came, and of the GOAWAY frames the id of the last one (RFC 9114, section 5.2).
+pub fn events_are_reported_once()
+    ensures ends { (e : EndpointHistory) (seen : EventsSeen) → next_event e (asked_once e (asked_once e seen)) ≡ None }
+    ensures all { (e : EndpointHistory) (seen : EventsSeen) → next_event e seen ≡ None → IsAllReported e seen }
+    ensures settings { (e : EndpointHistory) (seen : EventsSeen) → next_event e seen ≡ Some Settings → is_some e.peer.settings ≡ true }
+    ensures goaway { (e : EndpointHistory) (seen : EventsSeen) (id : ℕ) → next_event e seen ≡ Some (Goaway id) → last_id e.peer.goaways ≡ Some id }
 {}

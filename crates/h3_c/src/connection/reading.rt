@@ -90,6 +90,7 @@ impl Connection {
     #[tactic(auto, using(crate::proofs::Reading::takes_none, crate::proofs::Reading::takes_some))]
     fn take(&mut self, alloc: Global, id: StreamId, bytes: &[u8]) -> Result<(), Stop>
         ensures last { self.new.last ≡ self.old.last }
+        ensures events { self.new.events ≡ self.old.events }
         ensures ok { OnOk result (TakesBytes self.old.endpoint self.new.endpoint id bytes.now) }
         ensures stop { IfErr result (λ stop. StopsAt self.old.endpoint self.new.endpoint id bytes.now stop) }
     {
@@ -111,6 +112,7 @@ impl Connection {
     // The end is delivered if it comes right after what was used.
     fn take_fin(&mut self, id: StreamId, is_last: bool, is_alone: bool) -> Result<(), Told>
         ensures last { self.new.last ≡ self.old.last }
+        ensures events { self.new.events ≡ self.old.events }
         ensures ok { OnOk result (TakesEnd is_last is_alone self.old.endpoint self.new.endpoint id) }
         ensures refused { IfErr result (λ told. (is_last ≡ true) × RefusesEnd is_alone self.old.endpoint self.new.endpoint id told) }
     {
@@ -123,6 +125,7 @@ impl Connection {
     // The end is delivered. With no bytes before it, it may have come before.
     fn take_end(&mut self, id: StreamId, is_alone: bool) -> Result<(), Told>
         ensures last { self.new.last ≡ self.old.last }
+        ensures events { self.new.events ≡ self.old.events }
         ensures ok { OnOk result (EndsThere is_alone self.old.endpoint self.new.endpoint id) }
         ensures refused { IfErr result (λ told. RefusesEnd is_alone self.old.endpoint self.new.endpoint id told) }
     {

@@ -12,11 +12,11 @@ returns-in_default-clause-reads c =
 
 pub returns-clause-reads : goal.returns-clause-reads
 returns-clause-reads c =
-    goes_on (λ v i. ReadsNext v (record { endpoint = c.read_body.new.self; last = c.hold_none.new.last }) i c.args.bytes.now c.args.fin (record { number = 0; detail = 0 }) c.args.item.now c.placed.result
+    goes_on (λ v i. ReadsNext v (record { endpoint = c.read_body.new.self; last = c.hold_none.new.last; events = c.self.inside.events }) i c.args.bytes.now c.args.fin (record { number = 0; detail = 0 }) c.args.item.now c.placed.result
     (c.in-Some.place.offset + c.in-Some.place.len))
-    c.args.id c.in-Ok.stream (record { number = 0; detail = 0 }) _ c.args.self.now (record { endpoint = c.read_body.new.self; last = c.hold_none.new.last }) c.self.view_is c.in-Ok.ensures.ok.0 c.in-Ok.ensures.ok.1
+    c.args.id c.in-Ok.stream (record { number = 0; detail = 0 }) _ c.args.self.now (record { endpoint = c.read_body.new.self; last = c.hold_none.new.last; events = c.self.inside.events }) c.self.view_is c.in-Ok.ensures.ok.0 c.in-Ok.ensures.ok.1
     c.in-Ok.ensures.ok.2 (record {
       place = Some c.in-Some.place;
       is_next = c.in-Some.ensures.place;
-      reads = record { done = refl; used_is = refl; given_so = c.placed.ensures; reads = c.in-Some.ensures.reads; last = c.hold_none.ensures };
+      reads = record { done = refl; used_is = refl; given_so = c.placed.ensures; reads = c.in-Some.ensures.reads; last = c.hold_none.ensures; events = refl };
     })
