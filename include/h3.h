@@ -808,8 +808,8 @@ static inline uint32_t h3_deliver_reset(h3_endpoint *endpoint, uint64_t id, uint
  * Refused: H3_ARGUMENT (id not below 2^62); *item is not written, and the item before stays. */
 static inline uint32_t h3_pull(h3_endpoint *endpoint, uint64_t id, h3_item *item);
 
-/* The lowest id, from `from` on, of a stream whose last item was H3_WAITING and whose insertions
- * have arrived since: pull it. Returns H3_NONE, and does not write *id, if there is none. Call it
+/* The lowest stream id, `from` or above, that can be pulled on: its last item was H3_WAITING, and
+ * its insertions have arrived. Returns H3_NONE if there is none; *id is not written then. Call it
  * after data on a unidirectional stream of the peer:
  *   for (uint64_t id = 0; h3_next_unblocked(&e, id, &id) == H3_OK; id++) ..
  * It takes no memory. If no stream is unblocked it returns at once; else it looks at each stream
@@ -955,7 +955,7 @@ typedef struct {
 /* The state of the connection. h3_next_event says when has_settings or the GOAWAY changed. */
 static inline uint32_t h3_connection(h3_endpoint *endpoint, h3_state *state);
 
-/* What happened on the connection. */
+/* Events of the connection. */
 enum h3_event {
   H3_EVENT_SETTINGS = 1, /* the peer's settings came: h3_connection and h3_peer_setting show them;
                             `number` is 0 */
@@ -964,8 +964,9 @@ enum h3_event {
                             section 5.2) */
 };
 
-/* What happened on the connection since the last call: *kind is an h3_event. H3_NONE if nothing did
- * (neither is written then). Call it after data on a unidirectional stream of the peer:
+/* The next event of the connection that was not returned yet: *kind is an h3_event. Returns H3_NONE
+ * if there is none; neither is written then. Call it after data on a unidirectional stream of the
+ * peer:
  *   while (h3_next_event(&e, &kind, &number) == H3_OK) ..
  * The settings are returned once, before a GOAWAY. Of several GOAWAY frames only the last one is
  * returned, and none if its id was returned before. It takes no memory. */

@@ -397,7 +397,7 @@ class endpoint {
     h3_connection(&raw_, &state);
     return state;
   }
-  /* What happened on the connection since the last call. */
+  /* The next event of the connection that was not returned yet. */
   struct event {
     std::uint32_t kind;   /* an h3_event */
     std::uint64_t number; /* the id of H3_EVENT_GOAWAY */

@@ -78,7 +78,7 @@ func (e *Endpoint) Connection() ConnectionState {
 	return state
 }
 
-// EventKind says what happened on the connection, as h3_event.
+// EventKind is the kind of an event of the connection, as h3_event.
 type EventKind int
 
 const (
@@ -86,14 +86,14 @@ const (
 	EventGoaway   EventKind = C.H3_EVENT_GOAWAY   // the peer's last GOAWAY has another id than was returned before
 )
 
-// Event is what happened on the connection.
+// Event is an event of the connection.
 type Event struct {
 	Kind EventKind
 	ID   uint64 // of EventGoaway: a server processes no request from this id on (RFC 9114, section 5.2)
 }
 
-// NextEvent is what happened on the connection since the last call; false: nothing. Call it after data on a unidirectional stream of the peer,
-// until it returns false. The settings are returned once, and of several GOAWAY frames the last one.
+// NextEvent returns the next event of the connection that was not returned yet, or false if there is none. Call it after data on a
+// unidirectional stream of the peer, until it returns false. The settings are returned once, and of several GOAWAY frames the last one.
 func (e *Endpoint) NextEvent() (Event, bool) {
 	var kind C.uint32_t
 	var number C.uint64_t

@@ -448,7 +448,7 @@ class Endpoint:
         return ConnectionState(state.sending_table, state.receiving_table, state.waiting_heads, state.sent, goaway, peer)
 
     def next_event(self) -> SettingsCame | GoawayCame | None:
-        """What happened on the connection since the last call. Call it after data on a unidirectional stream of the peer, until it returns
+        """The next event of the connection that was not returned yet. Call it after data on a unidirectional stream of the peer, until it returns
         None. The settings are returned once, and of several GOAWAY frames the last one."""
         kind, number = c_uint32(), c_uint64()
         answer = self._answer("h3_raw_next_event", byref(kind), byref(number))

@@ -562,7 +562,7 @@ impl Endpoint {
         })
     }
 
-    /// What happened on the connection since the last call. Call it after data on a unidirectional stream of the peer, until it returns
+    /// The next event of the connection that was not returned yet. Call it after data on a unidirectional stream of the peer, until it returns
     /// `None`. The settings are returned once, and of several GOAWAY frames the last one.
     pub fn next_event(&mut self) -> Option<ConnectionEvent> {
         let (mut kind, mut number) = (0, 0);

@@ -77,7 +77,7 @@ pub struct ConnectionState {
     pub peer: Option<PeerLimits>,
 }
 
-/// What happened on the connection.
+/// An event of the connection.
 #[derive(Debug, Clone, Copy, PartialEq, Eq)]
 #[non_exhaustive]
 pub enum ConnectionEvent {
