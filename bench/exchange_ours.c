@@ -53,7 +53,7 @@ static void free_given(given_list *all, size_t count) {
 
 static void read_fields(side *to, const h3_item *head) {
   static h3_field_size sizes[MOST_FIELDS];
-  done("h3_item_fields", h3_item_fields(&to->end, sizes, MOST_FIELDS, copied, sizeof copied));
+  done("h3_item_fields", h3_item_fields(&to->end, sizes, NULL, MOST_FIELDS, copied, sizeof copied));
   for (size_t i = 0; i < head->fields; i++) to->got.field_bytes += sizes[i].name + sizes[i].value;
   to->got.fields += head->fields;
   to->got.heads++;
@@ -146,7 +146,7 @@ static void carry_all(side *from, side *to, int is_server, const exchange_kind *
 
 static void send(side *from, uint64_t id) {
   const given_list *list = &from->lists[id / 4 % from->lists_count];
-  done("h3_send_head", h3_send_head(&from->end, id, list->sizes, list->count, list->bytes.bytes, list->bytes.len, NULL));
+  done("h3_send_head", h3_send_head(&from->end, id, list->sizes, NULL, list->count, list->bytes.bytes, list->bytes.len, NULL));
   if (from->body) done("h3_send_body_of", h3_send_body_of(&from->end, id, from->body, NULL));
   done("h3_finish", h3_finish(&from->end, id, NULL));
 }

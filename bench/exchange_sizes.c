@@ -94,7 +94,7 @@ static void send_list(heads_run *run, uint64_t id, const field_list *list) {
     put_bytes(&bytes, list->fields[j].name, list->fields[j].namelen);
     put_bytes(&bytes, list->fields[j].value, list->fields[j].valuelen);
   }
-  done("h3_send_head", h3_send_head(&run->end, id, sizes, list->count, bytes.bytes, bytes.len, NULL));
+  done("h3_send_head", h3_send_head(&run->end, id, sizes, NULL, list->count, bytes.bytes, bytes.len, NULL));
   done("h3_finish", h3_finish(&run->end, id, NULL));
   free(sizes);
   free_pack(&bytes);

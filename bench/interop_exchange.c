@@ -1,5 +1,5 @@
 /* An endpoint of build/c/libbeanwhile_h3.a beside one of nghttp3, in both roles: requests and responses with trailers, in random cuts, without a dynamic table and
- * with tables that fill. Each message has to come out as it was sent. */
+ * with tables that fill. Each message has to come out as it was sent, with the fields that are never to be indexed marked so. */
 #include "interop_exchange.h"
 #include <stdio.h>
 #include <stdlib.h>
@@ -50,6 +50,7 @@ static pack sorted(const field_list *list) {
   for (size_t i = 0; i < list->count; i++) {
     put_string(&all, fields[i]->name, fields[i]->namelen);
     put_string(&all, fields[i]->value, fields[i]->valuelen);
+    put_bytes(&all, &fields[i]->flags, 1);
   }
   free(fields);
   return all;
@@ -68,12 +69,13 @@ static int same_message(const message *sent, const message *got) {
          sent->body.len == got->body.len && (sent->body.len == 0 || !memcmp(sent->body.bytes, got->body.bytes, sent->body.len));
 }
 
-/* a message with a body and a trailer of random lengths */
+/* a message with a body and a trailer of random lengths, of which some fields are never to be indexed */
 static message message_of(const field_list *head) {
   static nghttp3_nv checksums[] = {{(uint8_t *)"checksum", (uint8_t *)"", 8, 0, NGHTTP3_NV_FLAG_NONE},
                                    {(uint8_t *)"checksum", (uint8_t *)"12345678", 8, 8, NGHTTP3_NV_FLAG_NONE},
-                                   {(uint8_t *)"checksum", (uint8_t *)"9abcdef0", 8, 8, NGHTTP3_NV_FLAG_NONE}};
+                                   {(uint8_t *)"checksum", (uint8_t *)"9abcdef0", 8, 8, NGHTTP3_NV_FLAG_NEVER_INDEX}};
   message made = {.head = *head, .is_whole = 1};
+  for (size_t i = 0; i < head->count; i++) head->fields[i].flags = below(8) ? NGHTTP3_NV_FLAG_NONE : NGHTTP3_NV_FLAG_NEVER_INDEX;
   size_t len = below(4) ? below(20000) : 0;
   for (size_t i = 0; i < len; i++) {
     uint8_t byte = (uint8_t)below(256);
@@ -83,12 +85,12 @@ static message message_of(const field_list *head) {
   return made;
 }
 
-void keep_field(field_list *to, const uint8_t *name, size_t name_len, const uint8_t *value, size_t value_len) {
+void keep_field(field_list *to, const uint8_t *name, size_t name_len, const uint8_t *value, size_t value_len, uint8_t flags) {
   pack kept = {0};
   put_bytes(&kept, name, name_len);
   put_bytes(&kept, value, value_len);
   to->fields = realloc(to->fields, (to->count + 1) * sizeof *to->fields);
-  to->fields[to->count++] = (nghttp3_nv){kept.bytes, kept.bytes + name_len, name_len, value_len, NGHTTP3_NV_FLAG_NONE};
+  to->fields[to->count++] = (nghttp3_nv){kept.bytes, kept.bytes + name_len, name_len, value_len, flags};
 }
 
 static void free_list(field_list *list) {
@@ -135,7 +137,7 @@ static int check(int our_side, size_t table, size_t blocked, const field_lists *
   conn_end ours = our_end(our_side, table, blocked, requests->count), peers = peer_end(!our_side, table, blocked, requests->count);
   size_t wanted = 2 * requests->count;
   size_t right = our_side ? run(&peers, &ours, requests, responses) : run(&ours, &peers, requests, responses);
-  printf("%s exchanges: our %s and nghttp3's %s, table %zu/%zu: %zu of %zu messages as they were sent\n", right == wanted ? "ok" : "failed",
+  printf("%s exchanges: our %s and nghttp3's %s, table %zu/%zu: %zu of %zu messages as they were sent, with their flags\n", right == wanted ? "ok" : "failed",
          our_side ? "server" : "client", our_side ? "client" : "server", table, blocked, right, wanted);
   ours.free(ours.data);
   peers.free(peers.data);

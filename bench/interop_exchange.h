@@ -27,7 +27,7 @@ typedef struct {
 conn_end our_end(int is_server, size_t table, size_t blocked, size_t streams);
 conn_end peer_end(int is_server, size_t table, size_t blocked, size_t streams);
 
-/* Adds a copy of a field to a list. */
-void keep_field(field_list *to, const uint8_t *name, size_t name_len, const uint8_t *value, size_t value_len);
+/* Adds a copy of a field to a list, with its flags of nghttp3. */
+void keep_field(field_list *to, const uint8_t *name, size_t name_len, const uint8_t *value, size_t value_len, uint8_t flags);
 void free_messages(message *all, size_t count);
 #endif

@@ -31,11 +31,12 @@ static int next(void *data, uint64_t *id, uint8_t *bytes, size_t room, size_t *l
 
 static void read_fields(side *to, field_list *list, size_t count) {
   static h3_field_size sizes[1 << 10];
-  static uint8_t bytes[1 << 17], *at;
-  done("h3_item_fields", h3_item_fields(&to->end, sizes, sizeof sizes / sizeof *sizes, bytes, sizeof bytes));
+  static uint8_t flags[1 << 10], bytes[1 << 17], *at;
+  done("h3_item_fields", h3_item_fields(&to->end, sizes, flags, sizeof sizes / sizeof *sizes, bytes, sizeof bytes));
   at = bytes;
   for (size_t i = 0; i < count; at += sizes[i].name + sizes[i].value, i++)
-    keep_field(list, at, sizes[i].name, at + sizes[i].name, sizes[i].value);
+    keep_field(list, at, sizes[i].name, at + sizes[i].name, sizes[i].value,
+               flags[i] == H3_NEVER_INDEX ? NGHTTP3_NV_FLAG_NEVER_INDEX : NGHTTP3_NV_FLAG_NONE);
 }
 
 static void read_body(side *to, pack *body, size_t len) {
@@ -81,17 +82,20 @@ static void take(void *data, uint64_t id, const uint8_t *bytes, size_t len, int 
 static void send_list(side *from, uint64_t id, const field_list *list, int is_trailer) {
   pack bytes = {0};
   h3_field_size *sizes = calloc(list->count, sizeof *sizes);
+  uint8_t *flags = calloc(list->count, 1);
   for (size_t i = 0; i < list->count; i++) {
     const nghttp3_nv *field = &list->fields[i];
     sizes[i] = (h3_field_size){(uint32_t)field->namelen, (uint32_t)field->valuelen};
+    flags[i] = field->flags & NGHTTP3_NV_FLAG_NEVER_INDEX ? H3_NEVER_INDEX : 0;
     put_bytes(&bytes, field->name, field->namelen);
     put_bytes(&bytes, field->value, field->valuelen);
   }
   if (is_trailer)
-    done("h3_send_trailer", h3_send_trailer(&from->end, id, sizes, list->count, bytes.bytes, bytes.len, NULL));
+    done("h3_send_trailer", h3_send_trailer(&from->end, id, sizes, flags, list->count, bytes.bytes, bytes.len, NULL));
   else
-    done("h3_send_head", h3_send_head(&from->end, id, sizes, list->count, bytes.bytes, bytes.len, NULL));
+    done("h3_send_head", h3_send_head(&from->end, id, sizes, flags, list->count, bytes.bytes, bytes.len, NULL));
   free(sizes);
+  free(flags);
   free_pack(&bytes);
 }
 

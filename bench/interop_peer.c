@@ -14,20 +14,20 @@ static void done(const char *what, long answer) {
   if (answer < 0) stop(what, answer);
 }
 
-static void keep(field_list *list, nghttp3_rcbuf *name, nghttp3_rcbuf *value) {
+static void keep(field_list *list, nghttp3_rcbuf *name, nghttp3_rcbuf *value, uint8_t flags) {
   nghttp3_vec n = nghttp3_rcbuf_get_buf(name), v = nghttp3_rcbuf_get_buf(value);
-  keep_field(list, n.base, n.len, v.base, v.len);
+  keep_field(list, n.base, n.len, v.base, v.len, flags);
 }
 
 static int on_field(nghttp3_conn *end, int64_t id, int32_t token, nghttp3_rcbuf *name, nghttp3_rcbuf *value, uint8_t flags, void *data,
                     void *of_stream) {
-  keep(&((side *)data)->got[id / 4].head, name, value);
+  keep(&((side *)data)->got[id / 4].head, name, value, flags);
   return 0;
 }
 
 static int on_trailer(nghttp3_conn *end, int64_t id, int32_t token, nghttp3_rcbuf *name, nghttp3_rcbuf *value, uint8_t flags, void *data,
                       void *of_stream) {
-  keep(&((side *)data)->got[id / 4].trailer, name, value);
+  keep(&((side *)data)->got[id / 4].trailer, name, value, flags);
   return 0;
 }
 

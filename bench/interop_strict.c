@@ -42,7 +42,7 @@ static void send_request(h3_endpoint *client, const char *method) {
     sizes[count] = (h3_field_size){.name = strlen(fields[count][0]), .value = strlen(fields[count][1])};
     len += (size_t)sprintf(bytes + len, "%s%s", fields[count][0], fields[count][1]);
   }
-  if (h3_open_request(client, &id, NULL) || h3_send_head(client, id, sizes, count, bytes, len, NULL)) fail("no request");
+  if (h3_open_request(client, &id, NULL) || h3_send_head(client, id, sizes, NULL, count, bytes, len, NULL)) fail("no request");
 }
 
 static answer said(const message *m, h3_item item, uint64_t code) {

@@ -110,7 +110,7 @@ static const char REQUEST_BYTES[] = ":methodGET:schemehttps:authoritywww.example
 static const char RESPONSE_BYTES[] = ":status200content-typetext/plain";
 
 static void send_request(uint64_t id) {
-  done("h3_send_head", id, h3_send_head(&ends[CLIENT], id, REQUEST, 4, REQUEST_BYTES, sizeof REQUEST_BYTES - 1, NULL));
+  done("h3_send_head", id, h3_send_head(&ends[CLIENT], id, REQUEST, NULL, 4, REQUEST_BYTES, sizeof REQUEST_BYTES - 1, NULL));
 }
 
 static void pull_to_the_end(int side, uint64_t id) {
@@ -131,7 +131,7 @@ static double exchange(void) {
   done("h3_finish", id, h3_finish(&ends[CLIENT], id, NULL));
   carry(CLIENT, id);
   pull_to_the_end(SERVER, id);
-  done("h3_send_head", id, h3_send_head(&ends[SERVER], id, RESPONSE, 2, RESPONSE_BYTES, sizeof RESPONSE_BYTES - 1, NULL));
+  done("h3_send_head", id, h3_send_head(&ends[SERVER], id, RESPONSE, NULL, 2, RESPONSE_BYTES, sizeof RESPONSE_BYTES - 1, NULL));
   done("h3_send_body", id, h3_send_body(&ends[SERVER], id, buffer, 100, NULL));
   done("h3_finish", id, h3_finish(&ends[SERVER], id, NULL));
   carry(SERVER, id);
@@ -455,7 +455,7 @@ static void peer_table_rows(uint32_t encoder_table, const char *size) {
     done("h3_deliver_end", id, h3_deliver_end(&ends[SERVER], id, NULL));
     pull_to_the_end(SERVER, id);
     if (i >= SECTIONS - TIMED) began = now();
-    done("h3_send_head", id, h3_send_head(&ends[SERVER], id, sizes, fields + 1, bytes, len, NULL));
+    done("h3_send_head", id, h3_send_head(&ends[SERVER], id, sizes, NULL, fields + 1, bytes, len, NULL));
     if (i >= SECTIONS - TIMED) taken += now() - began;
     done("h3_finish", id, h3_finish(&ends[SERVER], id, NULL));
     for (uint64_t from = 0; h3_next_to_send(&ends[SERVER], from, &from) == H3_OK;) {

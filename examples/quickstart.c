@@ -30,7 +30,7 @@ static void send_message(h3_endpoint *endpoint, uint64_t id, const char *const *
     if (count + 1 == MOST_FIELDS || sizes[count].name + sizes[count].value >= sizeof bytes - len) abort();
     len += (size_t)sprintf(bytes + len, "%s%s", texts[2 * count], texts[2 * count + 1]);
   }
-  check(h3_send_head(endpoint, id, sizes, count, bytes, len, NULL), "h3_send_head");
+  check(h3_send_head(endpoint, id, sizes, NULL, count, bytes, len, NULL), "h3_send_head");
   check(h3_send_body(endpoint, id, body, strlen(body), NULL), "h3_send_body");
   check(h3_finish(endpoint, id, NULL), "h3_finish");
 }
@@ -38,7 +38,7 @@ static void send_message(h3_endpoint *endpoint, uint64_t id, const char *const *
 static void print_fields(h3_endpoint *endpoint, const h3_item *item) {
   h3_field_size sizes[MOST_FIELDS];
   char bytes[MOST_BYTES], *at = bytes;
-  check(h3_item_fields(endpoint, sizes, MOST_FIELDS, bytes, sizeof bytes), "h3_item_fields"); /* H3_ROOM: they are larger */
+  check(h3_item_fields(endpoint, sizes, NULL, MOST_FIELDS, bytes, sizeof bytes), "h3_item_fields"); /* H3_ROOM: they are larger */
   for (size_t i = 0; i < item->fields; at += sizes[i].name + sizes[i].value, i++)
     printf("  %.*s = %.*s\n", (int)sizes[i].name, at, (int)sizes[i].value, at + sizes[i].name);
 }

@@ -11,7 +11,7 @@
  *   uint64_t id;                                // a request: a header section, a body, the end
  *   h3_open_request(&e, &id, NULL);             // then QUIC opens the stream of this id
  *   h3_field_size f[4] = {{7,3},{7,5},{10,9},{5,1}};
- *   h3_send_head(&e, id, f, 4, ":methodGET:schemehttps:authoritylocalhost:path/", 47, NULL);
+ *   h3_send_head(&e, id, f, NULL, 4, ":methodGET:schemehttps:authoritylocalhost:path/", 47, NULL);
  *   h3_send_body_of(&e, id, body_len, NULL);    // its length: the bytes stay with you
  *   h3_finish(&e, id, NULL);
  *
@@ -21,7 +21,7 @@
  *                                               // with the FIN h3_end_taken(&e, s)
  *   do {                                        // QUIC received len bytes on stream s, and fin
  *     h3_read(&e, s, bytes, len, fin, &used, &item, NULL);   // the next item of the message:
- *     ..                                        // a section: h3_item_fields(&e, sizes, 64, ..);
+ *     ..                                        // a section: h3_item_fields(&e, sizes, NULL, ..);
  *                                               // H3_BODY_GIVEN: item.len bytes of a body, from
  *     bytes += used, len -= used;               // bytes + item.number on
  *   } while (..);                               // until a pause, H3_END or a fault
@@ -515,25 +515,34 @@ typedef struct {
   uint32_t name, value;
 } h3_field_size;
 
+/* A flag of a field that is never indexed: its line has the bit N (RFC 9204, sections 4.5.4 to
+ * 4.5.6). It is written as a literal, no table keeps it, and nothing of its value stays with the
+ * encoder. Give it to fields with secrets (RFC 9204, section 7.1.3). A field that came with it has
+ * to be sent on with it: pass the flags on with the fields. */
+#define H3_NEVER_INDEX 1
+
 /* Sends a header section: `count` fields, each of them and in their order. `bytes` has all names
- * and values (name, value, name, value, ..), and `len` is the sum of all sizes. Names are in lower
- * case. Put pseudo-header fields in front, each once: a peer may refuse another order (RFC 9114,
- * section 4.3), and a strict endpoint does not send it. A response with a status from 100 to 199 is
- * an interim one: send a further header section after it.
- * Refused, in this order: H3_ARGUMENT (id not below 2^62; len is not the sum), H3_CLOSED,
- * H3_NOT_OPEN, H3_OUT_OF_ORDER, H3_FIELD_NAME, H3_FIELD_VALUE and H3_FIELD_COUNT (the first field
- * that is refused decides), H3_WRONG_SIDE, H3_MALFORMED (for white space around a value
+ * and values (name, value, name, value, ..), and `len` is the sum of all sizes. `flags` is NULL, or
+ * has a byte for each field: 0 or H3_NEVER_INDEX. Names are in lower case. Put pseudo-header fields
+ * in front, each once: a peer may refuse another order (RFC 9114, section 4.3), and a strict
+ * endpoint does not send it. A response with a status from 100 to 199 is an interim one: send a
+ * further header section after it.
+ * Refused, in this order: H3_ARGUMENT (id not below 2^62; len is not the sum; another flag),
+ * H3_CLOSED, H3_NOT_OPEN, H3_OUT_OF_ORDER, H3_FIELD_NAME, H3_FIELD_VALUE and H3_FIELD_COUNT (the
+ * first field that is refused decides), H3_WRONG_SIDE, H3_MALFORMED (for white space around a value
  * H3_FIELD_VALUE), H3_TOO_LARGE, H3_MEMORY. (If memory is needed to check or to send the list,
  * H3_MEMORY may come before the refusals after H3_OUT_OF_ORDER.) */
 static inline uint32_t h3_send_head(h3_endpoint *endpoint, uint64_t id, const h3_field_size *sizes,
-                                    size_t count, const void *bytes, size_t len, uint64_t *detail);
+                                    const uint8_t *flags, size_t count, const void *bytes,
+                                    size_t len, uint64_t *detail);
 
 /* Sends a trailer section, after which only the end comes. Send no empty one: it is allowed, but
  * some peers close the connection over it. Refused as h3_send_head, but after the refusals of the
  * list: H3_PSEUDO_IN_TRAILER, H3_MALFORMED (or H3_FIELD_VALUE), H3_TOO_LARGE, H3_MEMORY. */
 static inline uint32_t h3_send_trailer(h3_endpoint *endpoint, uint64_t id,
-                                       const h3_field_size *sizes, size_t count, const void *bytes,
-                                       size_t len, uint64_t *detail);
+                                       const h3_field_size *sizes, const uint8_t *flags,
+                                       size_t count, const void *bytes, size_t len,
+                                       uint64_t *detail);
 
 /* Sends a piece of a body, as one DATA frame; no bytes write nothing. Refused, in this order:
  * H3_ARGUMENT (id not below 2^62), H3_CLOSED, H3_NOT_OPEN, H3_OUT_OF_ORDER, H3_MALFORMED (with
@@ -819,10 +828,11 @@ static inline uint32_t h3_next_unblocked(h3_endpoint *endpoint, uint64_t from, u
 /* All fields of the header or trailer section that was pulled last, as they came and in their
  * order: the sizes of each at `sizes`, and all names and values at `bytes` (name, value, name,
  * value, ..), as h3_send_head takes them. `most` sizes and `room` bytes fit there: `fields` and
- * `len` of the item are enough. Any other item has no fields. Takes no memory.
+ * `len` of the item are enough. `flags` is NULL, or has room for `most` bytes: each field's is
+ * H3_NEVER_INDEX if its line had the bit N, else 0. Any other item has no fields. Takes no memory.
  * Refused, with nothing written: H3_ROOM. */
-static inline uint32_t h3_item_fields(h3_endpoint *endpoint, h3_field_size *sizes, size_t most,
-                                      void *bytes, size_t room);
+static inline uint32_t h3_item_fields(h3_endpoint *endpoint, h3_field_size *sizes, uint8_t *flags,
+                                      size_t most, void *bytes, size_t room);
 
 /* The bytes of the body or of the session that were pulled last, from `from` on, as many as fit; *n
  * says how many were copied. H3_NONE if `from` is past their end or the item has no bytes. */
@@ -1005,11 +1015,11 @@ uint32_t h3_raw_next_request_id(h3_endpoint endpoint, uint64_t *id, uint64_t *de
 uint32_t h3_raw_open_request_at(h3_endpoint endpoint, uint64_t id, uint64_t *detail,
                                 h3_endpoint *out);
 uint32_t h3_raw_send_head(h3_endpoint endpoint, uint64_t id, const h3_field_size *sizes,
-                          size_t count, const uint8_t *bytes, size_t len, uint64_t *detail,
-                          h3_endpoint *out);
+                          size_t count, const uint8_t *flags, size_t flags_count,
+                          const uint8_t *bytes, size_t len, uint64_t *detail, h3_endpoint *out);
 uint32_t h3_raw_send_trailer(h3_endpoint endpoint, uint64_t id, const h3_field_size *sizes,
-                             size_t count, const uint8_t *bytes, size_t len, uint64_t *detail,
-                             h3_endpoint *out);
+                             size_t count, const uint8_t *flags, size_t flags_count,
+                             const uint8_t *bytes, size_t len, uint64_t *detail, h3_endpoint *out);
 uint32_t h3_raw_send_body(h3_endpoint endpoint, uint64_t id, const uint8_t *bytes, size_t len,
                           uint64_t *detail, h3_endpoint *out);
 uint32_t h3_raw_send_body_of(h3_endpoint endpoint, uint64_t id, size_t len, uint64_t *detail,
@@ -1038,8 +1048,8 @@ uint32_t h3_raw_pull(h3_endpoint endpoint, uint64_t id, h3_item *item, h3_endpoi
 uint32_t h3_raw_read(h3_endpoint endpoint, uint64_t id, const uint8_t *bytes, size_t len,
                      uint32_t fin, size_t *used, h3_item *item, uint64_t *detail, h3_endpoint *out);
 uint32_t h3_raw_next_unblocked(h3_endpoint endpoint, uint64_t from, uint64_t *id, h3_endpoint *out);
-uint32_t h3_raw_item_fields(h3_endpoint endpoint, h3_field_size *sizes, size_t most, uint8_t *bytes,
-                            size_t room, h3_endpoint *out);
+uint32_t h3_raw_item_fields(h3_endpoint endpoint, h3_field_size *sizes, size_t most, uint8_t *flags,
+                            size_t flags_most, uint8_t *bytes, size_t room, h3_endpoint *out);
 uint32_t h3_raw_item_bytes(h3_endpoint endpoint, size_t from, uint8_t *buffer, size_t room,
                            size_t *n, h3_endpoint *out);
 uint32_t h3_raw_datagram_head(h3_endpoint endpoint, uint64_t id, uint8_t *buffer, size_t room,
@@ -1119,21 +1129,24 @@ static inline uint32_t h3_open_request_at(h3_endpoint *endpoint, uint64_t id, ui
   return h3_raw_open_request_at(*endpoint, id, detail ? detail : &none, endpoint);
 }
 static inline uint32_t h3_send_head(h3_endpoint *endpoint, uint64_t id, const h3_field_size *sizes,
-                                    size_t count, const void *bytes, size_t len, uint64_t *detail) {
+                                    const uint8_t *flags, size_t count, const void *bytes,
+                                    size_t len, uint64_t *detail) {
   uint64_t none; h3_field_size no_size = {0, 0};
   if (!endpoint || !endpoint->at) return H3_NO_ENDPOINT;
   if ((!sizes && count) || (!bytes && len)) return H3_ARGUMENT;
-  return h3_raw_send_head(*endpoint, id, sizes ? sizes : &no_size, count, h3_in_(bytes), len,
-                          detail ? detail : &none, endpoint);
+  return h3_raw_send_head(*endpoint, id, sizes ? sizes : &no_size, count, h3_in_(flags),
+                          flags ? count : 0, h3_in_(bytes), len, detail ? detail : &none, endpoint);
 }
 static inline uint32_t h3_send_trailer(h3_endpoint *endpoint, uint64_t id,
-                                       const h3_field_size *sizes, size_t count, const void *bytes,
-                                       size_t len, uint64_t *detail) {
+                                       const h3_field_size *sizes, const uint8_t *flags,
+                                       size_t count, const void *bytes, size_t len,
+                                       uint64_t *detail) {
   uint64_t none; h3_field_size no_size = {0, 0};
   if (!endpoint || !endpoint->at) return H3_NO_ENDPOINT;
   if ((!sizes && count) || (!bytes && len)) return H3_ARGUMENT;
-  return h3_raw_send_trailer(*endpoint, id, sizes ? sizes : &no_size, count, h3_in_(bytes), len,
-                             detail ? detail : &none, endpoint);
+  return h3_raw_send_trailer(*endpoint, id, sizes ? sizes : &no_size, count, h3_in_(flags),
+                             flags ? count : 0, h3_in_(bytes), len, detail ? detail : &none,
+                             endpoint);
 }
 static inline uint32_t h3_send_body(h3_endpoint *endpoint, uint64_t id, const void *bytes,
                                     size_t len, uint64_t *detail) {
@@ -1264,11 +1277,12 @@ static inline uint32_t h3_next_unblocked(h3_endpoint *endpoint, uint64_t from, u
   if (!id) return H3_ARGUMENT;
   return h3_raw_next_unblocked(*endpoint, from, id, endpoint);
 }
-static inline uint32_t h3_item_fields(h3_endpoint *endpoint, h3_field_size *sizes, size_t most,
-                                      void *bytes, size_t room) {
-  h3_field_size no_size; uint8_t nothing;
+static inline uint32_t h3_item_fields(h3_endpoint *endpoint, h3_field_size *sizes, uint8_t *flags,
+                                      size_t most, void *bytes, size_t room) {
+  h3_field_size no_size; uint8_t nothing, no_flag;
   if (!endpoint || !endpoint->at) return H3_NO_ENDPOINT;
   return h3_raw_item_fields(*endpoint, sizes ? sizes : &no_size, sizes ? most : 0,
+                            flags ? flags : &no_flag, flags ? most : 0,
                             bytes ? (uint8_t *)bytes : &nothing, bytes ? room : 0, endpoint);
 }
 static inline uint32_t h3_item_bytes(h3_endpoint *endpoint, size_t from, void *buffer, size_t room,

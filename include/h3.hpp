@@ -67,11 +67,14 @@ struct [[nodiscard]] result {
 
 struct field {
   std::string_view name, value;
+  bool never_indexed = false; /* H3_NEVER_INDEX: to be sent as a literal on every hop, as a secret */
 
-  friend bool operator==(const field &a, const field &b) noexcept { return a.name == b.name && a.value == b.value; }
+  friend bool operator==(const field &a, const field &b) noexcept {
+    return a.name == b.name && a.value == b.value && a.never_indexed == b.never_indexed;
+  }
 };
 
-/* The fields of a header section: their sizes, and all their bytes in one array, as h3.h takes and gives them. */
+/* The fields of a header section: their sizes, their flags, and all their bytes in one array, as h3.h takes and gives them. */
 class field_list {
  public:
   /* Goes over the fields. It holds while the list is not changed. */
@@ -83,11 +86,14 @@ class field_list {
     using pointer = void;
     using reference = field;
 
-    iterator(const h3_field_size *size, const char *bytes) noexcept : size_(size), bytes_(bytes) {}
-    field operator*() const noexcept { return {{bytes_, size_->name}, {bytes_ + size_->name, size_->value}}; }
+    iterator(const h3_field_size *size, const std::uint8_t *flags, const char *bytes) noexcept : size_(size), flags_(flags), bytes_(bytes) {}
+    field operator*() const noexcept {
+      return {{bytes_, size_->name}, {bytes_ + size_->name, size_->value}, *flags_ == H3_NEVER_INDEX};
+    }
     iterator &operator++() noexcept {
       bytes_ += std::size_t{size_->name} + size_->value;
       ++size_;
+      ++flags_;
       return *this;
     }
     iterator operator++(int) noexcept {
@@ -100,28 +106,33 @@ class field_list {
 
    private:
     const h3_field_size *size_;
+    const std::uint8_t *flags_;
     const char *bytes_;
   };
 
   field_list() = default;
   field_list(std::initializer_list<field> fields) {
-    for (const field &it : fields) add(it.name, it.value);
+    for (const field &it : fields) add(it);
   }
 
   /* A name or value has fewer than 2^32 bytes. */
-  void add(std::string_view name, std::string_view value) {
+  void add(std::string_view name, std::string_view value, bool never_indexed = false) {
     sizes_.push_back({static_cast<std::uint32_t>(name.size()), static_cast<std::uint32_t>(value.size())});
+    flags_.push_back(never_indexed ? H3_NEVER_INDEX : 0);
     bytes_.append(name).append(value);
   }
+  /* A field with its flag, as it came. */
+  void add(const field &it) { add(it.name, it.value, it.never_indexed); }
   void clear() noexcept {
     sizes_.clear();
+    flags_.clear();
     bytes_.clear();
   }
 
   std::size_t size() const noexcept { return sizes_.size(); }
   bool empty() const noexcept { return sizes_.empty(); }
-  iterator begin() const noexcept { return {sizes_.data(), bytes_.data()}; }
-  iterator end() const noexcept { return {sizes_.data() + sizes_.size(), nullptr}; }
+  iterator begin() const noexcept { return {sizes_.data(), flags_.data(), bytes_.data()}; }
+  iterator end() const noexcept { return {sizes_.data() + sizes_.size(), nullptr, nullptr}; }
 
   /* The first value of a name. */
   std::optional<std::string_view> find(std::string_view name) const noexcept {
@@ -133,6 +144,7 @@ class field_list {
  private:
   friend class endpoint;
   std::vector<h3_field_size> sizes_;
+  std::vector<std::uint8_t> flags_;
   std::string bytes_;
 };
 
@@ -429,7 +441,7 @@ class endpoint {
   }
   template <class Call>
   result send(Call made, std::uint64_t id, const field_list &list) noexcept {
-    return call(made, id, list.sizes_.data(), list.sizes_.size(), list.bytes_.data(), list.bytes_.size());
+    return call(made, id, list.sizes_.data(), list.flags_.data(), list.sizes_.size(), list.bytes_.data(), list.bytes_.size());
   }
   static void empty(item &into) noexcept {
     into.fields.clear();
@@ -451,8 +463,9 @@ class endpoint {
   }
   result read_fields(const h3_item &raw, field_list &into) {
     into.sizes_.resize(raw.fields);
+    into.flags_.resize(raw.fields);
     into.bytes_.resize(raw.len);
-    return {h3_item_fields(&raw_, into.sizes_.data(), into.sizes_.size(), into.bytes_.data(), into.bytes_.size()), 0};
+    return {h3_item_fields(&raw_, into.sizes_.data(), into.flags_.data(), raw.fields, into.bytes_.data(), raw.len), 0};
   }
 
   h3_endpoint raw_ = H3_NONE_YET;

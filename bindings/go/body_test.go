@@ -11,11 +11,11 @@ import (
 // TestBodies: the body of a message as an io.Writer and an io.Reader, with a trailer section, in a loop that a pause and 16 KiB end.
 func TestBodies(t *testing.T) {
 	sent := bytes.Repeat([]byte("0123456789"), 20000)
-	trailer := []Field{{"x-count", "1"}, {"x-count", "2"}}
+	trailer := []Field{{Name: "x-count", Value: "1"}, {Name: "x-count", Value: "2"}}
 	client, server := pair(t)
 	id, err := client.OpenRequest()
 	is(t, err, nil)
-	post := append([]Field{{":method", "POST"}}, get[1:]...)
+	post := append([]Field{{Name: ":method", Value: "POST"}}, get[1:]...)
 	is(t, client.SendHead(id, post), nil)
 	flushes, most := 0, uint64(0)
 	writer := client.BodyWriter(id, func() error {
@@ -51,7 +51,7 @@ func TestBodyReaderWaits(t *testing.T) {
 	client, server := pair(t)
 	id, err := client.OpenRequest()
 	is(t, err, nil)
-	is(t, client.SendHead(id, append([]Field{{":method", "POST"}}, get[1:]...)), nil)
+	is(t, client.SendHead(id, append([]Field{{Name: ":method", Value: "POST"}}, get[1:]...)), nil)
 	letters, stop, over := []string{"a", "b", "c"}, errors.New("stop"), false
 	reader := server.BodyReader(id, func(pause Item) error {
 		is(t, pause.Kind, Pending)
@@ -86,7 +86,7 @@ func TestBodyReaderWaits(t *testing.T) {
 	_, err = other.OpenRequest()
 	is(t, err, nil)
 	is(t, other.SendHead(0, get), nil)
-	is(t, other.SendTrailer(0, []Field{{"x-large", strings.Repeat("v", 300)}}), nil)
+	is(t, other.SendTrailer(0, []Field{{Name: "x-large", Value: strings.Repeat("v", 300)}}), nil)
 	is(t, other.Finish(0), nil)
 	carry(t, other, small, 1000)
 	pull(t, small, 0, Head)

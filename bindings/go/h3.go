@@ -70,11 +70,17 @@ func start(bytes []byte) unsafe.Pointer {
 }
 
 // Field is a field of a header or trailer section. A name is in lower case; a pseudo-header field's begins with ':'.
-type Field struct{ Name, Value string }
+type Field struct {
+	Name, Value string
+	// NeverIndexed: the field is a literal on every hop, and in no table of QPACK (RFC 9204, section 7.1.3): so secrets are sent. One that
+	// came so has to be sent on so.
+	NeverIndexed bool
+}
 
-// row is a list as the library takes it: the sizes of names and values, and all their bytes.
+// row is a list as the library takes it: the sizes of names and values, the flags of fields, and all bytes of names and values.
 type row struct {
 	sizes []C.h3_field_size
+	flags []C.uint8_t
 	bytes []byte
 }
 
@@ -83,9 +89,12 @@ func inARow(fields []Field) row {
 	for _, field := range fields {
 		total += len(field.Name) + len(field.Value)
 	}
-	list := row{make([]C.h3_field_size, len(fields)), make([]byte, 0, total)}
+	list := row{make([]C.h3_field_size, len(fields)), make([]C.uint8_t, len(fields)), make([]byte, 0, total)}
 	for i, field := range fields {
 		list.sizes[i].name, list.sizes[i].value = C.uint32_t(len(field.Name)), C.uint32_t(len(field.Value))
+		if field.NeverIndexed {
+			list.flags[i] = C.H3_NEVER_INDEX
+		}
 		list.bytes = append(append(list.bytes, field.Name...), field.Value...)
 	}
 	return list
@@ -98,6 +107,13 @@ func (list row) first() *C.h3_field_size {
 	return &list.sizes[0]
 }
 
+func (list row) firstFlags() *C.uint8_t {
+	if len(list.flags) == 0 {
+		return nil
+	}
+	return &list.flags[0]
+}
+
 func (list row) count() C.size_t { return C.size_t(len(list.sizes)) }
 
 func (list row) len() C.size_t { return C.size_t(len(list.bytes)) }
@@ -107,14 +123,16 @@ func (list row) len() C.size_t { return C.size_t(len(list.bytes)) }
 func (e *Endpoint) SendHead(id uint64, fields []Field) error {
 	var detail C.uint64_t
 	list := inARow(fields)
-	return refusal(C.h3_send_head(&e.raw, C.uint64_t(id), list.first(), list.count(), start(list.bytes), list.len(), &detail), detail)
+	answer := C.h3_send_head(&e.raw, C.uint64_t(id), list.first(), list.firstFlags(), list.count(), start(list.bytes), list.len(), &detail)
+	return refusal(answer, detail)
 }
 
 // SendTrailer sends a trailer section as the list that it is given as.
 func (e *Endpoint) SendTrailer(id uint64, fields []Field) error {
 	var detail C.uint64_t
 	list := inARow(fields)
-	return refusal(C.h3_send_trailer(&e.raw, C.uint64_t(id), list.first(), list.count(), start(list.bytes), list.len(), &detail), detail)
+	answer := C.h3_send_trailer(&e.raw, C.uint64_t(id), list.first(), list.firstFlags(), list.count(), start(list.bytes), list.len(), &detail)
+	return refusal(answer, detail)
 }
 
 // SendBody sends a piece of a body. The bytes are copied.

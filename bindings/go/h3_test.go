@@ -83,13 +83,38 @@ func body(t *testing.T, endpoint *Endpoint, id uint64) (all []byte, behind Item)
 	}
 }
 
-var get = []Field{{":method", "GET"}, {":scheme", "https"}, {":authority", "localhost"}, {":path", "/"}}
+var get = []Field{{Name: ":method", Value: "GET"}, {Name: ":scheme", Value: "https"}, {Name: ":authority", Value: "localhost"}, {Name: ":path", Value: "/"}}
+
+// A flag goes over and comes, in a header and a trailer section, and on to a next hop.
+func TestNeverIndexed(t *testing.T) {
+	secret := Field{Name: "authorization", Value: "a", NeverIndexed: true}
+	head, trailer := append(get[:4:4], secret), []Field{{Name: "x-a", Value: "1"}, {Name: "x-b", Value: "2", NeverIndexed: true}}
+	for hop := 0; hop < 2; hop++ {
+		client, server := pair(t)
+		id, err := client.OpenRequest()
+		is(t, err, nil)
+		is(t, client.SendHead(id, head), nil)
+		waiting := make([]byte, 64)
+		count, _ := client.Outgoing(id, waiting)
+		// RFC 9204, section 4.5.4: 01, N, T and the index 84; the value
+		is(t, bytes.HasSuffix(waiting[:count], []byte{0x7f, 0x45, 0x81, 0x1f}), true)
+		is(t, client.SendTrailer(id, trailer), nil)
+		is(t, client.Finish(id), nil)
+		carry(t, client, server, 1000)
+		came := pull(t, server, id, Head).Fields
+		is(t, came, head)
+		is(t, came[4].NeverIndexed && !came[0].NeverIndexed, true)
+		head, trailer = came, pull(t, server, id, Trailer).Fields
+		is(t, trailer[1].NeverIndexed && !trailer[0].NeverIndexed, true)
+		pull(t, server, id, End)
+	}
+}
 
 func TestExchange(t *testing.T) {
 	sent := bytes.Repeat([]byte("0123456789"), 2000)
-	head := append(append([]Field{}, get...), Field{"x-long", strings.Repeat("v", 3000)}, Field{"x-none", ""})
+	head := append(append([]Field{}, get...), Field{Name: "x-long", Value: strings.Repeat("v", 3000)}, Field{Name: "x-none", Value: ""})
 	head[0].Value = "POST"
-	trailer := []Field{{"x-count", "1"}, {"x-count", "2"}}
+	trailer := []Field{{Name: "x-count", Value: "1"}, {Name: "x-count", Value: "2"}}
 	for _, piece := range []int{1, 7, 1000, 100000} {
 		client, server := pair(t)
 		next, err := client.NextRequestID()
@@ -112,20 +137,20 @@ func TestExchange(t *testing.T) {
 		is(t, behind.Fields, trailer)
 		pull(t, server, id, End)
 
-		is(t, server.SendHead(id, []Field{{":status", "103"}}), nil)
-		is(t, server.SendHead(id, []Field{{":status", "200"}, {"x-a", "b"}}), nil)
-		is(t, server.SendTrailer(id, []Field{{"x-a", "b"}}), nil)
+		is(t, server.SendHead(id, []Field{{Name: ":status", Value: "103"}}), nil)
+		is(t, server.SendHead(id, []Field{{Name: ":status", Value: "200"}, {Name: "x-a", Value: "b"}}), nil)
+		is(t, server.SendTrailer(id, []Field{{Name: "x-a", Value: "b"}}), nil)
 		is(t, server.Finish(id), nil)
 		is(t, carry(t, server, client, piece), 1)
 		is(t, pull(t, client, id, Interim).Status, 103)
 		response := pull(t, client, id, Head)
 		is(t, response.Status, 200)
-		is(t, response.Fields, []Field{{":status", "200"}, {"x-a", "b"}})
+		is(t, response.Fields, []Field{{Name: ":status", Value: "200"}, {Name: "x-a", Value: "b"}})
 		value, ok := response.Value("x-a")
 		is(t, value == "b" && ok, true)
 		_, ok = response.Value("x-b")
 		is(t, ok, false)
-		is(t, pull(t, client, id, Trailer).Fields, []Field{{"x-a", "b"}})
+		is(t, pull(t, client, id, Trailer).Fields, []Field{{Name: "x-a", Value: "b"}})
 		pull(t, client, id, End)
 		is(t, client.Stream(id), StreamState{HasOutgoing: true, Finished: true, Tries: 1})
 	}
@@ -216,7 +241,9 @@ func TestFaults(t *testing.T) {
 		fault Fault
 		code  uint64
 	}{
-		{func(id uint64) error { return client.SendHead(id, append(get[:4:4], Field{"connection", "close"})) },
+		{func(id uint64) error {
+			return client.SendHead(id, append(get[:4:4], Field{Name: "connection", Value: "close"}))
+		},
 			Fault{FaultMalformed, uint64(ConnectionField)}, MessageError},
 		{func(id uint64) error { return server.DeliverEnd(id) }, Fault{FaultMalformed, uint64(NoHead)}, RequestIncomplete},
 		{func(id uint64) error { return server.DeliverReset(id, 0x10c) }, Fault{FaultReset, 0x10c}, RequestCancelled},
@@ -252,10 +279,10 @@ func TestRefusals(t *testing.T) {
 	client, server := pair(t)
 	id, _ := client.OpenRequest()
 	is(t, client.SendBody(id, []byte("a")), Error{Answer: OutOfOrder})
-	is(t, client.SendHead(id, []Field{{"Upper", "a"}}), Error{Answer: FieldName})
-	is(t, client.SendHead(id, []Field{{":method", "G T"}}), Error{Answer: FieldValue})
-	is(t, client.SendHead(id, []Field{{":status", "200"}}), Error{Answer: WrongSide})
-	is(t, client.SendHead(id, append(get[:4:4], Field{"connection", "close"})), Error{Malformed, uint64(ConnectionField)})
+	is(t, client.SendHead(id, []Field{{Name: "Upper", Value: "a"}}), Error{Answer: FieldName})
+	is(t, client.SendHead(id, []Field{{Name: ":method", Value: "G T"}}), Error{Answer: FieldValue})
+	is(t, client.SendHead(id, []Field{{Name: ":status", Value: "200"}}), Error{Answer: WrongSide})
+	is(t, client.SendHead(id, append(get[:4:4], Field{Name: "connection", Value: "close"})), Error{Malformed, uint64(ConnectionField)})
 	is(t, client.SendTrailer(id, nil), Error{Answer: OutOfOrder})
 	is(t, client.Reset(2), Error{Answer: Critical})
 	is(t, client.Advance(id, 1), Error{Answer: Argument})

@@ -54,13 +54,13 @@ func (i Item) Value(name string) (string, bool) {
 
 // fields reads the list of the header or trailer section that was pulled last, in the order that it came.
 func (e *Endpoint) fields(count, length int) ([]Field, error) {
-	sizes, bytes, fields := make([]C.h3_field_size, count), make([]byte, length), make([]Field, count)
-	if answer := C.h3_item_fields(&e.raw, &sizes[0], C.size_t(count), start(bytes), C.size_t(length)); answer != C.H3_OK {
+	sizes, flags, bytes, fields := make([]C.h3_field_size, count), make([]C.uint8_t, count), make([]byte, length), make([]Field, count)
+	if answer := C.h3_item_fields(&e.raw, &sizes[0], &flags[0], C.size_t(count), start(bytes), C.size_t(length)); answer != C.H3_OK {
 		return nil, refusal(answer, 0)
 	}
 	for i, size := range sizes {
 		name, value := int(size.name), int(size.value)
-		fields[i] = Field{string(bytes[:name]), string(bytes[name : name+value])}
+		fields[i] = Field{string(bytes[:name]), string(bytes[name : name+value]), flags[i] == C.H3_NEVER_INDEX}
 		bytes = bytes[name+value:]
 	}
 	return fields, nil

@@ -76,7 +76,7 @@ func TestBodiesInPlace(t *testing.T) {
 		is(t, client.SendHead(id, get), nil)
 		is(t, client.SendBodyOf(id, len(held)), nil)
 		is(t, client.SendBody(id, []byte("and more")), nil)
-		is(t, client.SendTrailer(id, []Field{{"x-count", "1"}}), nil)
+		is(t, client.SendTrailer(id, []Field{{Name: "x-count", Value: "1"}}), nil)
 		is(t, client.Finish(id), nil)
 		count, end := client.Outgoing(id, make([]byte, 100000))
 		is(t, count == 0 && !end, true) // bytes that the caller holds follow
@@ -93,7 +93,7 @@ func TestBodiesInPlace(t *testing.T) {
 		}
 		is(t, client.EndTaken(id), true)
 		is(t, got.head, get)
-		is(t, got.trailer, []Field{{"x-count", "1"}})
+		is(t, got.trailer, []Field{{Name: "x-count", Value: "1"}})
 		is(t, string(got.body), string(held)+"and more")
 		is(t, got.pieces > 0, true)
 		_, rest, err := server.Read(id, []byte("x"), false)

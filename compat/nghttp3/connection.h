@@ -56,11 +56,14 @@ typedef struct chunk {
   bool is_block;       /* of the pool of chunks */
 } chunk;
 
-/* A list of fields as h3_send_head takes it: the sizes, and all bytes after the last one. */
+/* A list of fields as h3_send_head takes it: the sizes, a byte of flags for each field after the last one, and then all bytes. */
 typedef struct {
   size_t count, length;
   h3_field_size *sizes;
+  bool has_flags; /* one is not 0 */
 } field_list;
+static inline uint8_t *field_list_flags(const field_list *list) { return (uint8_t *)(list->sizes + list->count); }
+static inline uint8_t *field_list_bytes(const field_list *list) { return field_list_flags(list) + list->count; }
 
 /* RFC 9218, section 4. */
 typedef struct {
@@ -143,6 +146,7 @@ struct nghttp3_rcbuf {
 struct section {
   size_t references; /* to the whole and to its buffers */
   size_t room;       /* after this struct */
+  uint8_t *flags;    /* of each field, as h3_item_fields writes them */
   nghttp3_rcbuf buffers[];
 };
 section *section_take(nghttp3_conn *connection, const h3_item *item);

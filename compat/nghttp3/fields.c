@@ -7,7 +7,7 @@
 
 /* The bytes that field_list_at writes, at most SIZE_MAX: then no memory is there for them. */
 size_t field_list_size(const nghttp3_nv *fields, size_t count) {
-  size_t size = count * sizeof(h3_field_size), bits = 0; /* bits: those of all lengths */
+  size_t size = count * (sizeof(h3_field_size) + 1), bits = 0; /* bits: those of all lengths */
   for (size_t i = 0; i < count; i++) {
     bits |= fields[i].namelen | fields[i].valuelen;
     size += fields[i].namelen + fields[i].valuelen;
@@ -27,9 +27,11 @@ static inline uint8_t *copy(uint8_t *to, const uint8_t *from, size_t size) {
 
 /* `place` is aligned for h3_field_size. */
 inline field_list field_list_at(void *place, const nghttp3_nv *fields, size_t count) {
-  field_list list = {count, 0, place};
-  uint8_t *begin = (uint8_t *)(list.sizes + count), *to = begin;
+  field_list list = {count, 0, place, false};
+  uint8_t *flags = field_list_flags(&list), *begin = flags + count, *to = begin;
   for (size_t i = 0; i < count; i++) {
+    flags[i] = fields[i].flags & NGHTTP3_NV_FLAG_NEVER_INDEX ? H3_NEVER_INDEX : 0;
+    list.has_flags |= flags[i] != 0;
     list.sizes[i] = (h3_field_size){(uint32_t)fields[i].namelen, (uint32_t)fields[i].valuelen};
     to = copy(to, fields[i].name, fields[i].namelen);
     to = copy(to, fields[i].value, fields[i].valuelen);
@@ -92,13 +94,14 @@ void section_give(nghttp3_conn *connection, section *all) {
 }
 
 section *section_take(nghttp3_conn *connection, const h3_item *item) {
-  size_t count = item->fields, buffers = 2 * count * sizeof(nghttp3_rcbuf), text = item->len + 2 * count;
+  size_t count = item->fields, buffers = 2 * count * sizeof(nghttp3_rcbuf), text = item->len + 3 * count; /* with NULs, and flags */
   section *all = section_of_room(connection, buffers + count * sizeof(h3_field_size) + text + 2 * STEP);
   if (!all) return NULL;
   h3_field_size *sizes = (h3_field_size *)(all->buffers + 2 * count);
-  uint8_t *to = (uint8_t *)(sizes + count), *from = to + 2 * count + STEP;
+  uint8_t *to = (uint8_t *)(sizes + count) + count, *from = to + 2 * count + STEP;
   all->references = 1;
-  if (h3_item_fields(&connection->endpoint, sizes, count, from, item->len) == H3_OK) {
+  all->flags = (uint8_t *)(sizes + count);
+  if (h3_item_fields(&connection->endpoint, sizes, all->flags, count, from, item->len) == H3_OK) {
     spread(all, count, sizes, to, from);
     return all;
   }

@@ -42,12 +42,12 @@ static void read_priority(nghttp3_conn *connection, stream *s, nghttp3_vec value
 
 static int tell_each(nghttp3_conn *connection, stream *s, section *all, size_t count, bool is_trailer) {
   nghttp3_recv_header tell = is_trailer ? connection->callbacks.recv_trailer : connection->callbacks.recv_header;
-  nghttp3_rcbuf *name = all->buffers, *end = name + 2 * count;
-  for (; name < end && !s->is_read_shut; name += 2) {
-    nghttp3_rcbuf *value = name + 1;
+  for (size_t i = 0; i < count && !s->is_read_shut; i++) {
+    nghttp3_rcbuf *name = all->buffers + 2 * i, *value = name + 1;
+    uint8_t flags = all->flags[i] & H3_NEVER_INDEX ? NGHTTP3_NV_FLAG_NEVER_INDEX : NGHTTP3_NV_FLAG_NONE;
     int32_t token = token_of(name->bytes.base, name->bytes.len);
     if (token == NGHTTP3_QPACK_TOKEN_PRIORITY && !is_trailer) read_priority(connection, s, value->bytes);
-    if (tell && tell(connection, s->id, token, name, value, 0, connection->user_data, s->user_data)) return NGHTTP3_ERR_CALLBACK_FAILURE;
+    if (tell && tell(connection, s->id, token, name, value, flags, connection->user_data, s->user_data)) return NGHTTP3_ERR_CALLBACK_FAILURE;
   }
   return 0;
 }

@@ -16,13 +16,13 @@ static size_t most_encoded(const field_list *fields) { return 9 + 20 + fields->l
 
 inline int send_fields(nghttp3_conn *connection, stream *s, const field_list *fields, bool is_trailer) {
   uint64_t detail = 0;
-  const uint8_t *bytes = (const uint8_t *)(fields->sizes + fields->count);
+  const uint8_t *bytes = field_list_bytes(fields), *flags = fields->has_flags ? field_list_flags(fields) : NULL;
   bool has_unsent = s->is_untaken || s->unsent_length > 0;
   int error = s->announced ? endpoint_take(connection, s) : 0;
   if (error) return error;
   h3_endpoint *endpoint = &connection->endpoint;
-  uint32_t answer = is_trailer ? h3_send_trailer(endpoint, s->endpoint_id, fields->sizes, fields->count, bytes, fields->length, &detail)
-                               : h3_send_head(endpoint, s->endpoint_id, fields->sizes, fields->count, bytes, fields->length, &detail);
+  uint32_t answer = is_trailer ? h3_send_trailer(endpoint, s->endpoint_id, fields->sizes, flags, fields->count, bytes, fields->length, &detail)
+                               : h3_send_head(endpoint, s->endpoint_id, fields->sizes, flags, fields->count, bytes, fields->length, &detail);
   if (connection->has_peer_table) may_have_bytes(connection, &connection->encoder);
   if (answer != H3_OK) return error_of_answer(answer, detail);
   s->is_untaken = true; /* what follows is taken in the same call, unless this alone fills what is unsent */

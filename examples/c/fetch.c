@@ -42,6 +42,7 @@ typedef struct {
 typedef struct {
   const char *post, *address, *method, *trailer;
   http3_field field; /* one more of each request; no name: none */
+  bool is_secret;    /* that field is never indexed */
   bool verbose, fields, sizes;
   size_t count, parallel;
   unsigned long long cancel; /* 0: nothing is given up */
@@ -109,7 +110,8 @@ static void show_fields(http3_request *request, const h3_item *head) {
   http3_list *list = http3_fields(request->connection, head);
   http3_line line;
   for (http3_at at = {0}; list && http3_next(list, &at, &line);)
-    fprintf(stderr, "%.*s: %.*s\n", (int)line.name_count, line.name, (int)line.value_count, line.value);
+    fprintf(stderr, "%.*s: %.*s%s\n", (int)line.name_count, line.name, (int)line.value_count, line.value,
+            line.never_indexed ? " (never indexed)" : "");
   free(list);
 }
 
@@ -188,6 +190,19 @@ static void on_over(void *user, const quic_ending *ending) {
 
 /* ---- requests ---- */
 
+/* Sends a request's header section, with the secret among its fields. */
+static bool send_fields(http3_request *request, const http3_field *fields, size_t count) {
+  http3_line lines[count];
+  for (size_t i = 0; i < count; i++) {
+    lines[i] = http3_line_of(&fields[i]);
+    lines[i].never_indexed = fetch.is_secret && fields[i].name == fetch.field.name;
+  }
+  http3_list *list = http3_list_of_lines(lines, count);
+  bool sent = list && http3_head(request, list);
+  free(list);
+  return sent;
+}
+
 static bool send_request(http3_request *request, exchange *exchange) {
   char authority[280], length[24];
   struct stat status;
@@ -207,7 +222,7 @@ static bool send_request(http3_request *request, exchange *exchange) {
     }
     snprintf(length, sizeof length, "%llu", (unsigned long long)status.st_size);
   }
-  if (!http3_head_of(request, fields, fetch.post ? count + 1 : count)) return false;
+  if (!send_fields(request, fields, fetch.post ? count + 1 : count)) return false;
   if (fetch.sizes) fprintf(stderr, "request of %llu bytes\n", (unsigned long long)http3_waiting(request));
   if (!fetch.post) http3_finish(request);
   return true;
@@ -258,7 +273,8 @@ static bool read_number(const char *text, unsigned long long most, unsigned long
 static bool read_options(int count, char **arguments, quic_identity *identity) {
   unsigned long long number;
   static const struct option options[] = {
-      {"trust", 1, 0, 't'},   {"address", 1, 0, 'a'}, {"method", 1, 0, 'm'}, {"field", 1, 0, 'w'},    {"trailer", 1, 0, 'r'},
+      {"trust", 1, 0, 't'},   {"address", 1, 0, 'a'}, {"method", 1, 0, 'm'}, {"field", 1, 0, 'w'},    {"secret", 1, 0, 'x'},
+      {"trailer", 1, 0, 'r'},
       {"post", 1, 0, 'p'},    {"count", 1, 0, 'n'},   {"cancel", 1, 0, 'c'}, {"parallel", 1, 0, 'l'}, {"seconds", 1, 0, 's'},
       {"head", 0, 0, 'h'},    {"verbose", 0, 0, 'v'}, {"sizes", 0, 0, 'z'},  {"fields", 0, 0, 'f'},   {0, 0, 0, 0}};
   for (int option; (option = getopt_long(count, arguments, "", options, NULL)) != -1;) switch (option) {
@@ -283,7 +299,9 @@ static bool read_options(int count, char **arguments, quic_identity *identity) {
     case 'h': fetch.method = "HEAD"; break;
     case 'm': fetch.method = optarg; break;
     case 'w':
+    case 'x':
       fetch.field = (http3_field){strtok(optarg, ":"), strtok(NULL, "")};
+      fetch.is_secret = option == 'x';
       if (!fetch.field.name || !fetch.field.value) return false;
       break;
     case 'r': fetch.trailer = optarg; break;
@@ -321,8 +339,8 @@ int main(int count, char **arguments) {
   http3_setup setup = {.events = &events};
   quic_identity identity = {0};
   if (!read_options(count, arguments, &identity)) {
-    fprintf(stderr, "fetch [--trust FILE] [--address PLACE] [--post FILE] [--trailer VALUE] [--field NAME:VALUE] [--method NAME] "
-                    "[--count N] [--parallel N] [--cancel BYTES] [--seconds N] [--head] "
+    fprintf(stderr, "fetch [--trust FILE] [--address PLACE] [--post FILE] [--trailer VALUE] [--field NAME:VALUE] [--secret NAME:VALUE] "
+                    "[--method NAME] [--count N] [--parallel N] [--cancel BYTES] [--seconds N] [--head] "
                     "[--verbose] [--fields] [--sizes] https://HOST[:PORT][/PATH]\n");
     return 2;
   }

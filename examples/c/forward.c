@@ -35,14 +35,14 @@ static bool is_for_heads(const http3_line *line) {
 /* A server sends no content-length with 204, also not 0 (RFC 9110, section 8.6). */
 static bool is_length(const http3_line *line) { return http3_is(line, "content-length"); }
 
-/* The fields of a list that go on, and `more` of others. `stays` tells those that do not. */
+/* The fields of a list that go on, never indexed where they came so (RFC 9204, section 7.1.3), and `more` of others. `stays` tells those that do not. */
 static http3_list *pass(const http3_list *list, const http3_field *more, size_t count, bool (*stays)(const http3_line *)) {
   http3_line *lines = malloc((http3_count(list) + count) * sizeof *lines);
   size_t found = 0;
   if (!lines) return NULL;
   for (http3_at at = {0}; http3_next(list, &at, &lines[found]);)
     if (!is_of_one_hop(&lines[found]) && !(stays && stays(&lines[found]))) found++;
-  for (; count > 0; more++, count--) lines[found++] = (http3_line){more->name, more->value, strlen(more->name), strlen(more->value)};
+  for (; count > 0; more++, count--) lines[found++] = http3_line_of(more);
   http3_list *passed = http3_list_of_lines(lines, found);
   free(lines);
   return passed;

@@ -622,9 +622,15 @@ bool http3_has_to_wait(const http3_request *request, uint64_t silence) {
   return request->unsent > 0 && quic_is_read(quic, (int64_t)request->entry.id) && quic_silence(quic) < silence;
 }
 
+/* A section goes out by a call of h3.h. */
+typedef uint32_t send_call(h3_endpoint *, uint64_t, const h3_field_size *, const uint8_t *, size_t, const void *, size_t, uint64_t *);
+static uint32_t send_section(send_call *call, http3_request *request, const http3_list *list) {
+  return call(&request->connection->endpoint, request->entry.id, list->sizes, list_flags(list), list->count, list_bytes(list), list->len, NULL);
+}
+
 bool http3_interim(http3_request *request, const http3_list *list) {
   http3 *h = request->connection;
-  if (h3_send_head(&h->endpoint, request->entry.id, list->sizes, list->count, list_bytes(list), list->len, NULL) != H3_OK) return false;
+  if (send_section(h3_send_head, request, list) != H3_OK) return false;
   qlog_section(h->log, true, request->entry.id, list);
   quic_wake(h->quic, 0);
   return true;
@@ -634,7 +640,7 @@ bool http3_head(http3_request *request, const http3_list *list) { return request
 
 bool http3_trailer(http3_request *request, const http3_list *list) {
   http3 *h = request->connection;
-  if (h3_send_trailer(&h->endpoint, request->entry.id, list->sizes, list->count, list_bytes(list), list->len, NULL) != H3_OK) return false;
+  if (send_section(h3_send_trailer, request, list) != H3_OK) return false;
   qlog_section(h->log, true, request->entry.id, list);
   quic_wake(h->quic, 0);
   return true;

@@ -72,10 +72,12 @@ typedef struct {
 /* Fields as the endpoint takes and gives them, in one block of memory: free() frees it. It may be sent any number of times. */
 typedef struct http3_list http3_list;
 
-/* A field whose name and value have lengths, and no NUL at their ends. */
+/* A field whose name and value have lengths, and no NUL at their ends. A secret is never indexed: it is a literal on every hop, and in no table of
+ * QPACK (RFC 9204, section 7.1.3). */
 typedef struct {
   const char *name, *value;
   size_t name_count, value_count;
+  bool never_indexed;
 } http3_line;
 
 /* How far a list was read: begin with all zero. */
@@ -110,6 +112,8 @@ void http3_close(http3 *, uint64_t code);
 http3_list *http3_list_of(const http3_field *fields, size_t count);
 /* The same of fields with lengths. */
 http3_list *http3_list_of_lines(const http3_line *lines, size_t count);
+/* A field with its lengths, which may be indexed. */
+http3_line http3_line_of(const http3_field *);
 /* All fields of the header or trailer section that came last, in their order. NULL: out of memory. */
 http3_list *http3_fields(http3 *, const h3_item *head);
 /* How many fields a list has. */

@@ -3,7 +3,7 @@
 #include <string.h>
 
 static http3_list *make_list(size_t count, size_t len) {
-  http3_list *list = malloc(sizeof *list + count * sizeof *list->sizes + len);
+  http3_list *list = malloc(sizeof *list + count * (sizeof *list->sizes + 1) + len);
   if (list) *list = (http3_list){count, len};
   return list;
 }
@@ -13,19 +13,25 @@ http3_list *http3_list_of_lines(const http3_line *lines, size_t count) {
   for (size_t i = 0; i < count; i++) len += lines[i].name_count + lines[i].value_count;
   http3_list *list = make_list(count, len);
   if (!list) return NULL;
+  uint8_t *flags = (uint8_t *)list_flags(list);
   char *at = (char *)list_bytes(list);
   for (size_t i = 0; i < count; i++) {
     list->sizes[i] = (h3_field_size){(uint32_t)lines[i].name_count, (uint32_t)lines[i].value_count};
+    flags[i] = lines[i].never_indexed ? H3_NEVER_INDEX : 0;
     at = mempcpy(at, lines[i].name, lines[i].name_count);
     at = mempcpy(at, lines[i].value, lines[i].value_count);
   }
   return list;
 }
 
+http3_line http3_line_of(const http3_field *field) {
+  return (http3_line){field->name, field->value, strlen(field->name), strlen(field->value), false};
+}
+
 http3_list *http3_list_of(const http3_field *fields, size_t count) {
   http3_line lines[count];
   for (size_t i = 0; i < count; i++)
-    lines[i] = (http3_line){fields[i].name, fields[i].value, strlen(fields[i].name), strlen(fields[i].value)};
+    lines[i] = http3_line_of(&fields[i]);
   return http3_list_of_lines(lines, count);
 }
 
@@ -33,6 +39,7 @@ size_t http3_count(const http3_list *list) { return list->count; }
 
 bool http3_next(const http3_list *list, http3_at *at, http3_line *line) {
   if (at->index == list->count) return false;
+  line->never_indexed = list_flags(list)[at->index] == H3_NEVER_INDEX;
   const h3_field_size *size = &list->sizes[at->index++];
   line->name = list_bytes(list) + at->offset;
   line->name_count = size->name;
@@ -83,7 +90,7 @@ bool http3_priority(const http3_list *list, uint32_t *urgency, uint32_t *increme
 
 /* Reads the section that came last into a list that has room for it. */
 static bool read_item(h3_endpoint *endpoint, http3_list *list) {
-  return h3_item_fields(endpoint, list->sizes, list->count, (char *)list_bytes(list), list->len) == H3_OK;
+  return h3_item_fields(endpoint, list->sizes, (uint8_t *)list_flags(list), list->count, (char *)list_bytes(list), list->len) == H3_OK;
 }
 
 http3_list *list_of_item(h3_endpoint *endpoint, const h3_item *item) {

@@ -23,7 +23,7 @@ static uint32_t ask(h3_endpoint *client, uint64_t *id) {
   static const h3_field_size sizes[] = {{7, 3}, {7, 5}, {10, 9}, {5, 1}};
   static const char fields[] = ":methodGET:schemehttps:authoritylocalhost:path/";
   uint32_t answer = h3_open_request(client, id, NULL);
-  if (!answer) answer = h3_send_head(client, *id, sizes, 4, fields, sizeof fields - 1, NULL);
+  if (!answer) answer = h3_send_head(client, *id, sizes, NULL, 4, fields, sizeof fields - 1, NULL);
   return answer ? answer : h3_finish(client, *id, NULL);
 }
 
@@ -32,7 +32,7 @@ static uint32_t print_request(h3_endpoint *server, uint64_t id) {
   h3_field_size sizes[16];
   char bytes[1024];
   uint32_t answer = h3_pull(server, id, &item);
-  if (!answer) answer = h3_item_fields(server, sizes, 16, bytes, sizeof bytes);
+  if (!answer) answer = h3_item_fields(server, sizes, NULL, 16, bytes, sizeof bytes);
   if (answer) return answer;
   const char *at = bytes;
   for (size_t i = 0; i < item.fields; at += sizes[i].name + sizes[i].value, i++) {

@@ -139,6 +139,7 @@ checks() {
   compile drained drained -Wl,--wrap=malloc,--wrap=realloc
   compile datagrams datagrams
   compile lists lists
+  compile never_indexed never_indexed
   compile in_memory in_memory
   compile ../../examples/quickstart quickstart "-I$lib" # includes <beanwhile/h3.h>, as its page says
   if [ "$bad" -eq 0 ]; then
@@ -168,6 +169,7 @@ checks() {
     websocket_frames
     programs
     run lists "$out/lists"
+    run never_indexed "$out/never_indexed"
     printed "$out/in_memory" tests/c/in_memory.stdout "in_memory: the lines of docs/GUIDE.md"
     printed "$out/quickstart" examples/quickstart.stdout "quickstart: the lines of docs/QUICKSTART.md"
   fi
@@ -182,6 +184,7 @@ checks() {
     compile past past_checked "${flags[@]}"
     compile details details_checked "${flags[@]}"
     compile lists lists_checked "${flags[@]}"
+    compile never_indexed never_indexed_checked "${flags[@]}"
     compile shutdown shutdown_checked "${flags[@]}"
     compile datagrams datagrams_checked "${flags[@]}"
     compile in_memory in_memory_checked "${flags[@]}"
@@ -196,6 +199,7 @@ checks() {
       run "past with sanitizers" "$out/past_checked" 5000 300
       run "details with sanitizers" "$out/details_checked"
       run "lists with sanitizers" "$out/lists_checked"
+      run "never_indexed with sanitizers" "$out/never_indexed_checked"
       run "shutdown with sanitizers" "$out/shutdown_checked"
       run "datagrams with sanitizers" "$out/datagrams_checked"
       printed "$out/in_memory_checked" tests/c/in_memory.stdout "in_memory with sanitizers"

@@ -1,6 +1,7 @@
 /* origin ADDRESS PORT CERTIFICATE KEY: a server for a proxy's checks, which does on each path one thing that a proxy has to pass on.
  *
- *   /all     an interim response, fields, a body and a trailer section
+ *   /all     an interim response, fields, of which x-secret is never indexed, a body and a trailer section
+ *   /secret  the names of the request's fields that came never indexed
  *   /echo    the body that comes, at the reader's pace, and the trailer section that came
  *   /reset   a part of a body, then a reset with H3_EXCESSIVE_LOAD
  *   /reject  H3_REQUEST_REJECTED and a body, in turn
@@ -34,16 +35,35 @@ static void answer(http3_request *request, const char *status, const char *text)
   if (http3_head_of(request, fields, 2) && http3_body(request, (const uint8_t *)text, strlen(text))) http3_finish(request);
 }
 
+/* A list of fields, of which the last one is never indexed. */
+static http3_list *with_secret(const http3_field *fields, size_t count) {
+  http3_line lines[count];
+  for (size_t i = 0; i < count; i++) lines[i] = http3_line_of(&fields[i]);
+  lines[count - 1].never_indexed = true;
+  http3_list *list = http3_list_of_lines(lines, count);
+  if (!list) abort();
+  return list;
+}
+
 static void answer_all(http3_request *request) {
   const http3_field early[] = {{":status", "103"}, {"link", "</style.css>; rel=preload"}}, last = {"x-count", "1"};
-  http3_list *interim = http3_list_of(early, 2), *trailer = http3_list_of(&last, 1);
-  const http3_field fields[] = {{":status", "200"}, {"x-origin", "yes"}};
-  if (!http3_interim(request, interim) || !http3_head_of(request, fields, 2) || !http3_body(request, (const uint8_t *)"body\n", 5) ||
-      !http3_trailer(request, trailer))
+  const http3_field fields[] = {{":status", "200"}, {"x-origin", "yes"}, {"x-secret", "kept"}};
+  http3_list *lists[] = {http3_list_of(early, 2), with_secret(fields, 3), with_secret(&last, 1)};
+  if (!http3_interim(request, lists[0]) || !http3_head(request, lists[1]) || !http3_body(request, (const uint8_t *)"body\n", 5) ||
+      !http3_trailer(request, lists[2]))
     abort();
   http3_finish(request);
-  free(interim);
-  free(trailer);
+  for (size_t i = 0; i < 3; i++) free(lists[i]);
+}
+
+static void answer_secrets(http3_request *request, const h3_item *item) {
+  char names[256] = "";
+  http3_list *list = http3_fields(request->connection, item);
+  http3_line line;
+  for (http3_at at = {0}; list && http3_next(list, &at, &line);)
+    if (line.never_indexed && strlen(names) + line.name_count + 2 < sizeof names) strcat(strncat(names, line.name, line.name_count), "\n");
+  free(list);
+  answer(request, "200", names);
 }
 
 static void begin_body(http3_request *request) {
@@ -80,6 +100,7 @@ static void on_head(http3_request *request, const h3_item *item) {
   if (work->is_echo || work->is_reset || work->is_both) begin_body(request);
   else if (strcmp(path, "/deaf") == 0) begin_deaf(request);
   else if (strcmp(path, "/all") == 0) answer_all(request);
+  else if (strcmp(path, "/secret") == 0) answer_secrets(request, item);
   else if (strcmp(path, "/reject") == 0 && has_turn(0)) http3_give_up(request, H3_CODE_REQUEST_REJECTED);
   else if (strcmp(path, "/lost") == 0 && has_turn(1)) http3_close(request->connection, H3_CODE_INTERNAL_ERROR);
   else if (strcmp(path, "/refuse") == 0) answer(request, "403", "no\n");

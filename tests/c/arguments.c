@@ -30,10 +30,10 @@ static void of_none(h3_endpoint *e) {
   IS(h3_open_request(e, &id, &detail), H3_NO_ENDPOINT);
   IS(h3_next_request_id(e, &id, &detail), H3_NO_ENDPOINT);
   IS(h3_open_request_at(e, 0, &detail), H3_NO_ENDPOINT);
-  IS(h3_send_head(e, 0, &f, 1, "ab", 2, &detail), H3_NO_ENDPOINT);
-  IS(h3_send_trailer(e, 0, &f, 1, "ab", 2, &detail), H3_NO_ENDPOINT);
-  IS(h3_send_head(e, 0, &f, 1, "ab", 2, &detail), H3_NO_ENDPOINT);
-  IS(h3_send_trailer(e, 0, &f, 1, "ab", 2, &detail), H3_NO_ENDPOINT);
+  IS(h3_send_head(e, 0, &f, NULL, 1, "ab", 2, &detail), H3_NO_ENDPOINT);
+  IS(h3_send_trailer(e, 0, &f, NULL, 1, "ab", 2, &detail), H3_NO_ENDPOINT);
+  IS(h3_send_head(e, 0, &f, NULL, 1, "ab", 2, &detail), H3_NO_ENDPOINT);
+  IS(h3_send_trailer(e, 0, &f, NULL, 1, "ab", 2, &detail), H3_NO_ENDPOINT);
   IS(h3_send_body(e, 0, "ab", 2, &detail), H3_NO_ENDPOINT);
   IS(h3_send_body_of(e, 0, 2, &detail), H3_NO_ENDPOINT);
   IS(h3_read(e, 0, "ab", 2, 1, &n, &item, &detail), H3_NO_ENDPOINT);
@@ -90,10 +90,10 @@ static void of_pointers(h3_endpoint *e, uint64_t id) {
   IS(h3_finish(NULL, id, NULL), H3_NO_ENDPOINT);
   IS(h3_open_request(e, NULL, NULL), H3_ARGUMENT);
   IS(h3_next_request_id(e, NULL, NULL), H3_ARGUMENT);
-  IS(h3_send_head(e, id, NULL, 1, ":methodGET", 10, NULL), H3_ARGUMENT);
-  IS(h3_send_head(e, id, &f, 1, NULL, 10, NULL), H3_ARGUMENT);
-  IS(h3_send_trailer(e, id, NULL, 1, ":methodGET", 10, NULL), H3_ARGUMENT);
-  IS(h3_send_trailer(e, id, &f, 1, NULL, 10, NULL), H3_ARGUMENT);
+  IS(h3_send_head(e, id, NULL, NULL, 1, ":methodGET", 10, NULL), H3_ARGUMENT);
+  IS(h3_send_head(e, id, &f, NULL, 1, NULL, 10, NULL), H3_ARGUMENT);
+  IS(h3_send_trailer(e, id, NULL, NULL, 1, ":methodGET", 10, NULL), H3_ARGUMENT);
+  IS(h3_send_trailer(e, id, &f, NULL, 1, NULL, 10, NULL), H3_ARGUMENT);
   IS(h3_send_body(e, id, NULL, 64, NULL), H3_ARGUMENT);
   IS(h3_read(e, id, NULL, 64, 0, &n, &item, NULL), H3_ARGUMENT);
   IS(h3_read(e, id, "ab", 2, 0, NULL, &item, NULL), H3_ARGUMENT);
@@ -289,10 +289,10 @@ static void of_ids(h3_endpoint *e) {
   h3_stream_state s;
   h3_field_size f = {7, 3};
   for (int i = 0; i < 3; i++) {
-    IS(h3_send_head(e, ids[i], &f, 1, ":methodGET", 10, &detail), H3_ARGUMENT);
-    IS(h3_send_trailer(e, ids[i], &f, 1, ":methodGET", 10, &detail), H3_ARGUMENT);
-    IS(h3_send_head(e, ids[i], &f, 1, ":methodGET", 10, &detail), H3_ARGUMENT);
-    IS(h3_send_trailer(e, ids[i], &f, 1, ":methodGET", 10, &detail), H3_ARGUMENT);
+    IS(h3_send_head(e, ids[i], &f, NULL, 1, ":methodGET", 10, &detail), H3_ARGUMENT);
+    IS(h3_send_trailer(e, ids[i], &f, NULL, 1, ":methodGET", 10, &detail), H3_ARGUMENT);
+    IS(h3_send_head(e, ids[i], &f, NULL, 1, ":methodGET", 10, &detail), H3_ARGUMENT);
+    IS(h3_send_trailer(e, ids[i], &f, NULL, 1, ":methodGET", 10, &detail), H3_ARGUMENT);
     IS(h3_send_body(e, ids[i], "ab", 2, &detail), H3_ARGUMENT);
     IS(h3_send_body_of(e, ids[i], 2, &detail), H3_ARGUMENT);
     n = 7;
@@ -323,22 +323,22 @@ static void of_ids(h3_endpoint *e) {
 static void of_fields(h3_endpoint *e, uint64_t id) {
   h3_field_size sizes[2] = {{7, 3}, {3, 1}}, empty = {0, 0}, upper = {3, 1}, huge = {UINT32_MAX, UINT32_MAX};
   static const char row[] = ":methodGETx-ab";
-  IS(h3_send_head(e, id, sizes, 2, row, 13, NULL), H3_ARGUMENT);
-  IS(h3_send_head(e, id, sizes, 2, row, 15, NULL), H3_ARGUMENT);
-  IS(h3_send_head(e, id, sizes, 1, row, 14, NULL), H3_ARGUMENT);
-  IS(h3_send_head(e, id, &huge, 1, row, 14, NULL), H3_ARGUMENT);
-  IS(h3_send_head(e, id, &empty, 1, NULL, 0, NULL), H3_FIELD_NAME);
-  IS(h3_send_head(e, id, &upper, 1, "X-ab", 4, NULL), H3_FIELD_NAME);
-  IS(h3_send_head(e, id, &upper, 1, ":-ab", 4, NULL), H3_FIELD_NAME);
-  IS(h3_send_head(e, id, &upper, 1, "x-a\n", 4, NULL), H3_FIELD_VALUE);
-  IS(h3_send_head(e, id, &(h3_field_size){7, 3}, 1, ":methodG T", 10, NULL), H3_FIELD_VALUE);
-  IS(h3_send_head(e, id, NULL, 0, NULL, 0, NULL), H3_WRONG_SIDE);
-  IS(h3_send_head(e, id, &(h3_field_size){7, 3}, 1, ":status200", 10, NULL), H3_WRONG_SIDE);
-  IS(h3_send_trailer(e, id, NULL, 0, NULL, 0, NULL), H3_OUT_OF_ORDER);
-  IS(h3_send_head(e, id, sizes, 2, row, 14, NULL), H3_OK);
-  IS(h3_send_head(e, id, sizes, 2, row, 14, NULL), H3_OUT_OF_ORDER);
-  IS(h3_send_trailer(e, id, sizes, 1, row, 10, NULL), H3_PSEUDO_IN_TRAILER);
-  IS(h3_send_trailer(e, id, NULL, 0, NULL, 0, NULL), H3_OK);
+  IS(h3_send_head(e, id, sizes, NULL, 2, row, 13, NULL), H3_ARGUMENT);
+  IS(h3_send_head(e, id, sizes, NULL, 2, row, 15, NULL), H3_ARGUMENT);
+  IS(h3_send_head(e, id, sizes, NULL, 1, row, 14, NULL), H3_ARGUMENT);
+  IS(h3_send_head(e, id, &huge, NULL, 1, row, 14, NULL), H3_ARGUMENT);
+  IS(h3_send_head(e, id, &empty, NULL, 1, NULL, 0, NULL), H3_FIELD_NAME);
+  IS(h3_send_head(e, id, &upper, NULL, 1, "X-ab", 4, NULL), H3_FIELD_NAME);
+  IS(h3_send_head(e, id, &upper, NULL, 1, ":-ab", 4, NULL), H3_FIELD_NAME);
+  IS(h3_send_head(e, id, &upper, NULL, 1, "x-a\n", 4, NULL), H3_FIELD_VALUE);
+  IS(h3_send_head(e, id, &(h3_field_size){7, 3}, NULL, 1, ":methodG T", 10, NULL), H3_FIELD_VALUE);
+  IS(h3_send_head(e, id, NULL, NULL, 0, NULL, 0, NULL), H3_WRONG_SIDE);
+  IS(h3_send_head(e, id, &(h3_field_size){7, 3}, NULL, 1, ":status200", 10, NULL), H3_WRONG_SIDE);
+  IS(h3_send_trailer(e, id, NULL, NULL, 0, NULL, 0, NULL), H3_OUT_OF_ORDER);
+  IS(h3_send_head(e, id, sizes, NULL, 2, row, 14, NULL), H3_OK);
+  IS(h3_send_head(e, id, sizes, NULL, 2, row, 14, NULL), H3_OUT_OF_ORDER);
+  IS(h3_send_trailer(e, id, sizes, NULL, 1, row, 10, NULL), H3_PSEUDO_IN_TRAILER);
+  IS(h3_send_trailer(e, id, NULL, NULL, 0, NULL, 0, NULL), H3_OK);
 }
 
 /* the bytes that wait on a stream are taken, and are these: HEADERS frames of static entries (RFC 9204, section 4.5.2) */
@@ -361,35 +361,35 @@ static void of_lists(void) {
   c.server = 1;
   IS(h3_new(&server, &c, NULL), H3_OK);
   /* what the stream refuses comes before what is malformed, and that before the side */
-  IS(h3_send_head(&client, 0, &upper, 1, "X-ab", 4, NULL), H3_NOT_OPEN);
-  IS(h3_send_trailer(&client, 0, &upper, 1, "X-ab", 4, NULL), H3_NOT_OPEN);
+  IS(h3_send_head(&client, 0, &upper, NULL, 1, "X-ab", 4, NULL), H3_NOT_OPEN);
+  IS(h3_send_trailer(&client, 0, &upper, NULL, 1, "X-ab", 4, NULL), H3_NOT_OPEN);
   IS(h3_open_request(&client, &id, NULL), H3_OK);
-  IS(h3_send_head(&client, id, &get, 1, ":methodGET", 9, NULL), H3_ARGUMENT);
-  IS(h3_send_trailer(&client, id, &upper, 1, "X-ab", 4, NULL), H3_OUT_OF_ORDER);
-  IS(h3_send_head(&client, id, &upper, 1, "X-ab", 4, NULL), H3_FIELD_NAME);
-  IS(h3_send_head(&client, id, &upper, 1, "x-a\n", 4, NULL), H3_FIELD_VALUE);
-  IS(h3_send_head(&client, id, &get, 1, ":methodG T", 10, NULL), H3_FIELD_VALUE);
-  IS(h3_send_head(&client, id, &status, 1, ":status200", 10, NULL), H3_WRONG_SIDE);
-  IS(h3_send_head(&client, id, NULL, 0, NULL, 0, NULL), H3_WRONG_SIDE);
+  IS(h3_send_head(&client, id, &get, NULL, 1, ":methodGET", 9, NULL), H3_ARGUMENT);
+  IS(h3_send_trailer(&client, id, &upper, NULL, 1, "X-ab", 4, NULL), H3_OUT_OF_ORDER);
+  IS(h3_send_head(&client, id, &upper, NULL, 1, "X-ab", 4, NULL), H3_FIELD_NAME);
+  IS(h3_send_head(&client, id, &upper, NULL, 1, "x-a\n", 4, NULL), H3_FIELD_VALUE);
+  IS(h3_send_head(&client, id, &get, NULL, 1, ":methodG T", 10, NULL), H3_FIELD_VALUE);
+  IS(h3_send_head(&client, id, &status, NULL, 1, ":status200", 10, NULL), H3_WRONG_SIDE);
+  IS(h3_send_head(&client, id, NULL, NULL, 0, NULL, 0, NULL), H3_WRONG_SIDE);
   /* the pseudo-header field stays behind: entries 32 (accept-ranges: bytes) and 17 (:method: GET) of the static table */
-  IS(h3_send_head(&client, id, behind, 2, "accept-rangesbytes:methodGET", 28, NULL), H3_OK);
+  IS(h3_send_head(&client, id, behind, NULL, 2, "accept-rangesbytes:methodGET", 28, NULL), H3_OK);
   of_bytes(&client, id, "\x01\x04\x00\x00\xe0\xd1", 6);
-  IS(h3_send_head(&client, id, &get, 1, ":methodGET", 10, NULL), H3_OUT_OF_ORDER);
-  IS(h3_send_trailer(&client, id, &get, 1, ":methodGET", 10, NULL), H3_PSEUDO_IN_TRAILER);
-  IS(h3_send_trailer(&client, id, &upper, 1, "X-ab", 4, NULL), H3_FIELD_NAME);
-  IS(h3_send_trailer(&client, id, NULL, 0, NULL, 0, NULL), H3_OK);
+  IS(h3_send_head(&client, id, &get, NULL, 1, ":methodGET", 10, NULL), H3_OUT_OF_ORDER);
+  IS(h3_send_trailer(&client, id, &get, NULL, 1, ":methodGET", 10, NULL), H3_PSEUDO_IN_TRAILER);
+  IS(h3_send_trailer(&client, id, &upper, NULL, 1, "X-ab", 4, NULL), H3_FIELD_NAME);
+  IS(h3_send_trailer(&client, id, NULL, NULL, 0, NULL, 0, NULL), H3_OK);
   of_bytes(&client, id, "\x01\x02\x00\x00", 4);
   /* a field that comes twice stays twice */
   IS(h3_open_request(&client, &id, NULL), H3_OK);
-  IS(h3_send_head(&client, id, twice, 2, ":methodGET:methodPOST", 21, NULL), H3_OK);
+  IS(h3_send_head(&client, id, twice, NULL, 2, ":methodGET:methodPOST", 21, NULL), H3_OK);
   of_bytes(&client, id, "\x01\x04\x00\x00\xd1\xd4", 6);
   /* an interim head, and then the final one */
   IS(h3_deliver(&server, 0, "\x01\x03\x00\x00\xd1", 5, NULL), H3_OK);
-  IS(h3_send_head(&server, 0, &status, 1, ":status103", 10, NULL), H3_OK);
+  IS(h3_send_head(&server, 0, &status, NULL, 1, ":status103", 10, NULL), H3_OK);
   of_bytes(&server, 0, "\x01\x03\x00\x00\xd8", 5);
-  IS(h3_send_head(&server, 0, &status, 1, ":status200", 10, NULL), H3_OK);
+  IS(h3_send_head(&server, 0, &status, NULL, 1, ":status200", 10, NULL), H3_OK);
   of_bytes(&server, 0, "\x01\x03\x00\x00\xd9", 5);
-  IS(h3_send_head(&server, 0, &status, 1, ":status200", 10, NULL), H3_OUT_OF_ORDER);
+  IS(h3_send_head(&server, 0, &status, NULL, 1, ":status200", 10, NULL), H3_OUT_OF_ORDER);
   h3_free(&client);
   h3_free(&server);
 }
@@ -405,17 +405,17 @@ static void of_strict_lists(void) {
   c.strict = 1;
   IS(h3_new(&client, &c, NULL), H3_OK);
   IS(h3_open_request(&client, &id, NULL), H3_OK);
-  IS(h3_send_head(&client, id, &get, 1, ":methodGET", 10, &rule), H3_MALFORMED);
+  IS(h3_send_head(&client, id, &get, NULL, 1, ":methodGET", 10, &rule), H3_MALFORMED);
   HOLDS(rule == H3_MISSING_PSEUDO_FIELD);
-  IS(h3_send_head(&client, id, behind, 2, "x-a1:methodGET", 14, &rule), H3_MALFORMED);
+  IS(h3_send_head(&client, id, behind, NULL, 2, "x-a1:methodGET", 14, &rule), H3_MALFORMED);
   HOLDS(rule == H3_LATE_PSEUDO_FIELD);
-  IS(h3_send_head(&client, id, request, 5, twice, 45, &rule), H3_MALFORMED);
+  IS(h3_send_head(&client, id, request, NULL, 5, twice, 45, &rule), H3_MALFORMED);
   HOLDS(rule == H3_REPEATED_PSEUDO_FIELD);
   of_bytes(&client, id, "", 0);
-  IS(h3_send_head(&client, id, request, 4, twice, 39, NULL), H3_OK);
-  IS(h3_send_trailer(&client, id, &host, 1, "hosta", 5, &rule), H3_MALFORMED);
+  IS(h3_send_head(&client, id, request, NULL, 4, twice, 39, NULL), H3_OK);
+  IS(h3_send_trailer(&client, id, &host, NULL, 1, "hosta", 5, &rule), H3_MALFORMED);
   HOLDS(rule == H3_NO_TRAILER_FIELD);
-  IS(h3_send_trailer(&client, id, &spaced, 1, "x-a b", 5, NULL), H3_FIELD_VALUE);
+  IS(h3_send_trailer(&client, id, &spaced, NULL, 1, "x-a b", 5, NULL), H3_FIELD_VALUE);
   h3_free(&client);
 }
 
@@ -429,7 +429,7 @@ static void of_strict_content(void) {
   h3_config_default(&c);
   IS(h3_new(&client, &c, NULL), H3_OK);
   IS(h3_open_request(&client, &id, NULL), H3_OK);
-  IS(h3_send_head(&client, id, post, 5, ":methodPOST:schemehttps:authoritya:path/content-length3", 55, NULL), H3_OK);
+  IS(h3_send_head(&client, id, post, NULL, 5, ":methodPOST:schemehttps:authoritya:path/content-length3", 55, NULL), H3_OK);
   IS(h3_send_body(&client, id, "ab", 2, NULL), H3_OK);
   IS(h3_send_body(&client, id, "cd", 2, &rule), H3_MALFORMED);
   HOLDS(rule == H3_BAD_CONTENT_LENGTH);
@@ -437,10 +437,10 @@ static void of_strict_content(void) {
   HOLDS(rule == H3_BAD_CONTENT_LENGTH);
   IS(h3_finish(&client, id, &rule), H3_MALFORMED);
   HOLDS(rule == H3_BAD_CONTENT_LENGTH);
-  IS(h3_send_trailer(&client, id, &trailer, 1, "x-a1", 4, &rule), H3_MALFORMED);
+  IS(h3_send_trailer(&client, id, &trailer, NULL, 1, "x-a1", 4, &rule), H3_MALFORMED);
   HOLDS(rule == H3_BAD_CONTENT_LENGTH);
   IS(h3_send_body(&client, id, "c", 1, NULL), H3_OK);
-  IS(h3_send_trailer(&client, id, &trailer, 1, "x-a1", 4, NULL), H3_OK);
+  IS(h3_send_trailer(&client, id, &trailer, NULL, 1, "x-a1", 4, NULL), H3_OK);
   IS(h3_finish(&client, id, NULL), H3_OK);
   h3_free(&client);
 
@@ -452,7 +452,7 @@ static void of_strict_content(void) {
   for (id = 0; id <= 4; id += 4) {
     IS(h3_pull(&server, id, &item), H3_OK);
     HOLDS(item.kind == H3_HEAD && item.fields == 4);
-    IS(h3_send_head(&server, id, ok, 2, ":status200content-length5", 25, NULL), H3_OK);
+    IS(h3_send_head(&server, id, ok, NULL, 2, ":status200content-length5", 25, NULL), H3_OK);
     IS(h3_send_body(&server, id, "abcdef", 6, &rule), H3_MALFORMED);
     HOLDS(rule == H3_BAD_CONTENT_LENGTH);
   }
@@ -498,7 +498,7 @@ static void of_rows_before_protocols(void) {
   few[offsetof(h3_config, strict) / sizeof *few] = 0;
   IS(h3_raw_new(few, FEW, &detail, &e), H3_OK);
   IS(h3_open_request(&e, &id, NULL), H3_OK);
-  IS(h3_send_head(&e, id, fields, 5, bytes, sizeof bytes - 1, &detail), H3_OK);
+  IS(h3_send_head(&e, id, fields, NULL, 5, bytes, sizeof bytes - 1, &detail), H3_OK);
   h3_free(&e);
 }
 
@@ -532,28 +532,28 @@ static void of_items(void) {
   plain_config(&config);
   config.server = 1;
   IS(h3_new(&e, &config, NULL), H3_OK);
-  IS(h3_item_fields(&e, sizes, 4, b, 64), H3_OK); /* an item without fields: nothing is written */
+  IS(h3_item_fields(&e, sizes, NULL, 4, b, 64), H3_OK); /* an item without fields: nothing is written */
   IS(h3_item_bytes(&e, 0, b, 64, &n), H3_NONE);
   HOLDS(n == 7);
   IS(h3_deliver(&e, 0, request, sizeof request, NULL), H3_OK);
   IS(h3_pull(&e, 0, &item), H3_OK);
   HOLDS(item.kind == H3_HEAD && item.fields == 3 && item.len == 33);
   memset(b, 0xee, sizeof b);
-  IS(h3_item_fields(&e, sizes, 2, b, 64), H3_ROOM);
-  IS(h3_item_fields(&e, sizes, 4, b, 32), H3_ROOM);
+  IS(h3_item_fields(&e, sizes, NULL, 2, b, 64), H3_ROOM);
+  IS(h3_item_fields(&e, sizes, NULL, 4, b, 32), H3_ROOM);
   HOLDS(b[0] == 0xee && !sizes[0].name);
   /* a refused pull leaves the item */
   memset(&same, 0x55, sizeof same);
   IS(h3_pull(&e, FAR, &same), H3_ARGUMENT);
   HOLDS(same.kind == 0x55555555);
-  IS(h3_item_fields(&e, sizes, 4, b, 64), H3_OK);
+  IS(h3_item_fields(&e, sizes, NULL, 4, b, 64), H3_OK);
   HOLDS(sizes[0].name == 7 && sizes[0].value == 3 && sizes[1].name == 7 && sizes[1].value == 5 && sizes[2].name == 10 && sizes[2].value == 1);
   HOLDS(!memcmp(b, ":methodGET:schemehttps:authoritya\xee", 34) && !sizes[3].name);
   IS(h3_item_bytes(&e, 0, b, 64, &n), H3_NONE);
   IS(h3_pull(&e, 0, &item), H3_OK);
   HOLDS(item.kind == H3_BODY && item.len == 2);
   b[0] = 0xee;
-  IS(h3_item_fields(&e, sizes, 4, b, 64), H3_OK);
+  IS(h3_item_fields(&e, sizes, NULL, 4, b, 64), H3_OK);
   HOLDS(b[0] == 0xee);
   IS(h3_item_bytes(&e, 0, b, 1, &n), H3_OK);
   HOLDS(n == 1 && b[0] == 'h');
@@ -621,7 +621,7 @@ static void of_ends(void) {
   }
   for (unsigned i = 0; i < STREAMS; i++) {
     IS(h3_open_request(&e, &id, NULL), H3_OK);
-    IS(h3_send_head(&e, id, &f, 1, ":methodGET", 10, NULL), H3_OK);
+    IS(h3_send_head(&e, id, &f, NULL, 1, ":methodGET", 10, NULL), H3_OK);
     IS(h3_stream(&e, id, &s), H3_OK);
     IS(h3_advance(&e, id, s.waiting - 1), H3_OK);
     IS(h3_finish(&e, id, NULL), H3_OK);
@@ -654,7 +654,7 @@ static void of_ends(void) {
   HOLDS(seen == STREAMS / 5);
   /* one that is reset behind its head has no end */
   IS(h3_open_request(&e, &id, NULL), H3_OK);
-  IS(h3_send_head(&e, id, &f, 1, ":methodGET", 10, NULL), H3_OK);
+  IS(h3_send_head(&e, id, &f, NULL, 1, ":methodGET", 10, NULL), H3_OK);
   IS(h3_finish(&e, id, NULL), H3_OK);
   IS(h3_next_to_send(&e, id, &found), H3_OK);
   IS(h3_reset(&e, id, NULL), H3_OK);
@@ -677,7 +677,7 @@ static void of_waiting(void) {
   for (unsigned i = 0; i < STREAMS; i++) IS(h3_open_request(&e, &id, NULL), H3_OK);
   of_sweep(&e, 4 * STREAMS, 3);
   /* from the last stream to the first one; an empty body, a further one and an end change nothing */
-  for (unsigned i = STREAMS; i-- > 0;) IS(h3_send_head(&e, 4 * i, &f, 1, ":methodGET", 10, NULL), H3_OK);
+  for (unsigned i = STREAMS; i-- > 0;) IS(h3_send_head(&e, 4 * i, &f, NULL, 1, ":methodGET", 10, NULL), H3_OK);
   for (unsigned i = 0; i < STREAMS; i += 7) {
     IS(h3_send_body(&e, 4 * i, NULL, 0, NULL), H3_OK);
     IS(h3_send_body(&e, 4 * i, "body", 4, NULL), H3_OK);
@@ -703,7 +703,7 @@ static void of_waiting(void) {
   of_sweep(&e, 4 * STREAMS, STREAMS / 4);
   IS(h3_deliver(&e, 3, "\x00\x04\x02\x06\x0a", 5, NULL), H3_OK);
   IS(h3_open_request(&e, &id, NULL), H3_OK);
-  IS(h3_send_head(&e, id, &f, 1, ":methodGET", 10, &detail), H3_TOO_LARGE);
+  IS(h3_send_head(&e, id, &f, NULL, 1, ":methodGET", 10, &detail), H3_TOO_LARGE);
   of_sweep(&e, 4 * STREAMS + 12, STREAMS / 4);
   /* a server opens none, and no id is written */
   h3_free(&e);

@@ -124,7 +124,7 @@ static void print_fields(const char *name, const h3_item *item) {
   printf("%s", name);
   h3_field_size *sizes = room_for(item->fields * sizeof *sizes);
   uint8_t *bytes = room_for(item->len);
-  if (h3_item_fields(&endpoint, sizes, item->fields, bytes, item->len) != H3_OK) exit(3);
+  if (h3_item_fields(&endpoint, sizes, NULL, item->fields, bytes, item->len) != H3_OK) exit(3);
   field *came = cut(sizes, item->fields, bytes), *fields = room_for(item->fields * sizeof *fields);
   size_t count = in_order(came, item->fields, fields);
   for (size_t i = 0; i < count; i++) {
@@ -293,7 +293,7 @@ static uint32_t send(uint64_t id, int is_trailer, field *given, size_t count, ui
     len += fields[i].name_len + fields[i].value_len;
     sizes[i] = (h3_field_size){fields[i].name_len, fields[i].value_len};
   }
-  uint32_t n = is_trailer ? h3_send_trailer(&endpoint, id, sizes, count, bytes, len, detail) : h3_send_head(&endpoint, id, sizes, count, bytes, len, detail);
+  uint32_t n = is_trailer ? h3_send_trailer(&endpoint, id, sizes, NULL, count, bytes, len, detail) : h3_send_head(&endpoint, id, sizes, NULL, count, bytes, len, detail);
   free(bytes);
   free(sizes);
   free(fields);

@@ -110,11 +110,11 @@ static void make_list(field_list *list, const plan *p) {
   }
 }
 
-typedef uint32_t send_call(h3_endpoint *, uint64_t, const h3_field_size *, size_t, const void *, size_t, uint64_t *);
+typedef uint32_t send_call(h3_endpoint *, uint64_t, const h3_field_size *, const uint8_t *, size_t, const void *, size_t, uint64_t *);
 
 static void send_section(int side, uint64_t id, const field_list *list, send_call *send) {
   if (broken) return;
-  uint32_t answer = send(&ends[side], id, list->sizes, list->count, list->bytes, list->len, NULL);
+  uint32_t answer = send(&ends[side], id, list->sizes, NULL, list->count, list->bytes, list->len, NULL);
   need(answer == H3_OK, "a list is not sent: answer", answer);
 }
 

@@ -48,11 +48,11 @@ static void of_nothing_done(void) {
   TELLS(h3_deliver(&none, 0, "a", 1, &detail), H3_NO_ENDPOINT, UNTOUCHED);
   TELLS(h3_open_request(&client, NULL, &detail), H3_ARGUMENT, UNTOUCHED);
   TELLS(h3_next_request_id(&client, NULL, &detail), H3_ARGUMENT, UNTOUCHED);
-  TELLS(h3_send_head(&client, 0, NULL, 1, ":methodGET", 10, &detail), H3_ARGUMENT, UNTOUCHED);
-  TELLS(h3_send_head(&client, 0, &size, 1, NULL, 10, &detail), H3_ARGUMENT, UNTOUCHED);
-  TELLS(h3_send_trailer(&client, 0, NULL, 1, ":methodGET", 10, &detail), H3_ARGUMENT, UNTOUCHED);
-  TELLS(h3_send_head(&client, 0, &size, 1, NULL, 10, &detail), H3_ARGUMENT, UNTOUCHED);
-  TELLS(h3_send_trailer(&client, 0, NULL, 1, ":methodGET", 10, &detail), H3_ARGUMENT, UNTOUCHED);
+  TELLS(h3_send_head(&client, 0, NULL, NULL, 1, ":methodGET", 10, &detail), H3_ARGUMENT, UNTOUCHED);
+  TELLS(h3_send_head(&client, 0, &size, NULL, 1, NULL, 10, &detail), H3_ARGUMENT, UNTOUCHED);
+  TELLS(h3_send_trailer(&client, 0, NULL, NULL, 1, ":methodGET", 10, &detail), H3_ARGUMENT, UNTOUCHED);
+  TELLS(h3_send_head(&client, 0, &size, NULL, 1, NULL, 10, &detail), H3_ARGUMENT, UNTOUCHED);
+  TELLS(h3_send_trailer(&client, 0, NULL, NULL, 1, ":methodGET", 10, &detail), H3_ARGUMENT, UNTOUCHED);
   TELLS(h3_send_body(&client, 0, NULL, 64, &detail), H3_ARGUMENT, UNTOUCHED);
   TELLS(h3_deliver(&client, 0, NULL, 64, &detail), H3_ARGUMENT, UNTOUCHED);
   TELLS(h3_read(&client, 0, NULL, 64, 0, &used, &item, &detail), H3_ARGUMENT, UNTOUCHED);
@@ -65,9 +65,9 @@ static void of_refusals(void) {
   h3_item item;
   size_t used;
   uint64_t detail;
-  TELLS(h3_send_head(&client, FAR, &size, 1, ":methodGET", 10, &detail), H3_ARGUMENT, 0);
-  TELLS(h3_send_head(&client, 0, &size, 1, ":methodGET", 9, &detail), H3_ARGUMENT, 0);
-  TELLS(h3_send_trailer(&client, FAR, &size, 1, ":methodGET", 10, &detail), H3_ARGUMENT, 0);
+  TELLS(h3_send_head(&client, FAR, &size, NULL, 1, ":methodGET", 10, &detail), H3_ARGUMENT, 0);
+  TELLS(h3_send_head(&client, 0, &size, NULL, 1, ":methodGET", 9, &detail), H3_ARGUMENT, 0);
+  TELLS(h3_send_trailer(&client, FAR, &size, NULL, 1, ":methodGET", 10, &detail), H3_ARGUMENT, 0);
   TELLS(h3_send_body(&client, FAR, "a", 1, &detail), H3_ARGUMENT, 0);
   TELLS(h3_finish(&client, FAR, &detail), H3_ARGUMENT, 0);
   TELLS(h3_reset(&client, FAR, &detail), H3_ARGUMENT, 0);
@@ -88,9 +88,9 @@ static void of_numbers(void) {
   uint64_t detail, id;
   TELLS(h3_open_request(&client, &id, &detail), H3_OK, 0);
   TELLS(h3_deliver(&client, 3, "\0\4\3\6\x40\x64", 6, &detail), H3_OK, 0); /* SETTINGS that take sections of 100 bytes */
-  TELLS(h3_send_head(&client, id, request.sizes, request.count, request.bytes, request.len, &detail), H3_TOO_LARGE, size_of(&request));
-  TELLS(h3_send_head(&client, id, request.sizes, 1, request.bytes, 10, &detail), H3_MALFORMED, H3_MISSING_PSEUDO_FIELD);
-  TELLS(h3_send_head(&client, id, response.sizes, response.count, response.bytes, response.len, &detail), H3_WRONG_SIDE, 0);
+  TELLS(h3_send_head(&client, id, request.sizes, NULL, request.count, request.bytes, request.len, &detail), H3_TOO_LARGE, size_of(&request));
+  TELLS(h3_send_head(&client, id, request.sizes, NULL, 1, request.bytes, 10, &detail), H3_MALFORMED, H3_MISSING_PSEUDO_FIELD);
+  TELLS(h3_send_head(&client, id, response.sizes, NULL, response.count, response.bytes, response.len, &detail), H3_WRONG_SIDE, 0);
   TELLS(h3_deliver(&client, 3, "\7\1\4", 3, &detail), H3_OK, 0); /* GOAWAY */
   TELLS(h3_open_request(&client, &id, &detail), H3_GOING_AWAY, 4);
   TELLS(h3_next_request_id(&client, &id, &detail), H3_GOING_AWAY, 4);

@@ -90,12 +90,12 @@ void exchange(std::size_t piece) {
   WANT(client.close_stream(12, frames).answer == H3_NOT_OPEN && frames.stop_sending);
   WANT(client.stream_kind(3) == std::uint32_t{H3_STREAM_CONTROL} && !client.stream_kind(0));
   const std::initializer_list<field> asked = {
-      {":method", "POST"}, {":scheme", "https"}, {":authority", "localhost"}, {":path", "/"}, {"x-none", ""}};
+      {":method", "POST"}, {":scheme", "https"}, {":authority", "localhost"}, {":path", "/"}, {"x-none", ""}, {"x-key", "a", true}};
   WANT(client.send_head(id, asked));
   WANT(client.send_body(id, std::string_view("some text")));
   const std::uint8_t more[] = {0, 255, 1};
   WANT(client.send_body(id, more));
-  WANT(client.send_trailer(id, {{"x-count", "1"}, {"x-count", "2"}}));
+  WANT(client.send_trailer(id, {{"x-count", "1"}, {"x-count", "2", true}}));
   WANT(client.finish(id));
   WANT(carry(client, server, piece) == 1);
   WANT(carry(client, server, piece) == 0);
@@ -103,7 +103,8 @@ void exchange(std::size_t piece) {
   WANT(is_list(request.head.fields, asked) && request.head.status == 0);
   WANT(request.head.fields.find(":path") == "/" && !request.head.fields.find("x-absent"));
   WANT(request.body == std::string_view("some text\0\xff\1", 12));
-  WANT(is_list(request.trailer, {{"x-count", "1"}, {"x-count", "2"}}));
+  WANT(is_list(request.trailer, {{"x-count", "1"}, {"x-count", "2", true}}));
+  WANT(!is_list(request.trailer, {{"x-count", "1", true}, {"x-count", "2"}}));
 
   WANT(server.send_head(id, {{":status", "200"}}));
   WANT(server.finish(id));

@@ -45,13 +45,13 @@ static inline void begin_response(field_list *list, const char *status) {
 }
 
 static inline uint32_t send_list(h3_endpoint *end, uint64_t id, const field_list *list) {
-  return h3_send_head(end, id, list->sizes, list->count, list->bytes, list->len, NULL);
+  return h3_send_head(end, id, list->sizes, NULL, list->count, list->bytes, list->len, NULL);
 }
 
 /* whether the head or trailer that was pulled last has the fields of this list, in its order */
 static inline int is_list(h3_endpoint *end, const h3_item *item, const field_list *list) {
   static field_list came;
-  if (item->fields != list->count || h3_item_fields(end, came.sizes, MOST_FIELDS, came.bytes, MOST_BYTES)) return 0;
+  if (item->fields != list->count || h3_item_fields(end, came.sizes, NULL, MOST_FIELDS, came.bytes, MOST_BYTES)) return 0;
   return !memcmp(came.sizes, list->sizes, list->count * sizeof *list->sizes) && !memcmp(came.bytes, list->bytes, list->len);
 }
 #endif

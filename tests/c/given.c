@@ -110,7 +110,7 @@ static void same_fields(h3_endpoint *e, const h3_item *item, const h3_field_size
   if (item->fields != count || item->len != len) return;
   h3_field_size *came_sizes = room_for(count * sizeof *sizes, sizeof(uint32_t));
   uint8_t *came = room_for(len, 1);
-  IS(h3_item_fields(e, came_sizes, count, came, len), H3_OK);
+  IS(h3_item_fields(e, came_sizes, NULL, count, came, len), H3_OK);
   HOLDS(!memcmp(came_sizes, sizes, count * sizeof *sizes) && !memcmp(came, bytes, len));
   let_go();
 }
@@ -133,13 +133,13 @@ static uint64_t send_request(h3_endpoint *client) {
   let_go();
   detail = ROOM(uint64_t);
   h3_field_size *sizes = memcpy(room_for(sizeof HEAD_SIZES, 4), HEAD_SIZES, sizeof HEAD_SIZES);
-  IS(h3_send_head(client, opened, sizes, 5, given(HEAD, sizeof HEAD - 1), sizeof HEAD - 1, detail), H3_OK);
+  IS(h3_send_head(client, opened, sizes, NULL, 5, given(HEAD, sizeof HEAD - 1), sizeof HEAD - 1, detail), H3_OK);
   let_go();
   IS(h3_send_body(client, opened, given(body, BODY), BODY, NULL), H3_OK);
   let_go();
   IS(h3_send_body_of(client, opened, BODY, NULL), H3_OK);
   sizes = memcpy(room_for(sizeof TRAILER_SIZES, 4), TRAILER_SIZES, sizeof TRAILER_SIZES);
-  IS(h3_send_trailer(client, opened, sizes, 1, given(TRAILER, sizeof TRAILER - 1), sizeof TRAILER - 1, NULL), H3_OK);
+  IS(h3_send_trailer(client, opened, sizes, NULL, 1, given(TRAILER, sizeof TRAILER - 1), sizeof TRAILER - 1, NULL), H3_OK);
   let_go();
   IS(h3_finish(client, opened, NULL), H3_OK);
   return opened;
@@ -278,7 +278,7 @@ static void ask_all(h3_endpoint *e) {
     h3_item item = {0};
     IS(h3_connection(e, &state), H3_OK);
     h3_item_bytes(e, 0, bytes, sizeof bytes, &n);
-    h3_item_fields(e, &size, 1, bytes, sizeof bytes);
+    h3_item_fields(e, &size, NULL, 1, bytes, sizeof bytes);
     h3_next_to_send(e, 0, &id);
     h3_outgoing(e, 0, bytes, sizeof bytes, &n, NULL, NULL);
     pulled(e, 0);

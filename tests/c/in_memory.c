@@ -118,7 +118,7 @@ static uint64_t ask(side *client, const char *path, const char *priority, size_t
   add(&head, ":authority", "localhost");
   add(&head, ":path", path);
   add(&head, "priority", priority);
-  answer = h3_send_head(&client->h3, id, head.sizes, head.count, head.bytes, head.len, NULL);
+  answer = h3_send_head(&client->h3, id, head.sizes, NULL, head.count, head.bytes, head.len, NULL);
   client->streams[id].to_make = body;
   if (answer == H3_OK && body == 0) answer = h3_finish(&client->h3, id, NULL);
   if (answer != H3_OK) give_up(client, id, H3_CODE_INTERNAL_ERROR);
@@ -134,11 +134,11 @@ static void respond(side *server, uint64_t id) {
   add(&head, ":status", "200");
   add(&head, "content-type", "text/plain");
   add(&trailer, "server-timing", "total;dur=3");
-  uint32_t answer = h3_send_head(h3, id, early.sizes, early.count, early.bytes, early.len, NULL);
-  if (answer == H3_OK) answer = h3_send_head(h3, id, head.sizes, head.count, head.bytes, head.len, NULL);
+  uint32_t answer = h3_send_head(h3, id, early.sizes, NULL, early.count, early.bytes, early.len, NULL);
+  if (answer == H3_OK) answer = h3_send_head(h3, id, head.sizes, NULL, head.count, head.bytes, head.len, NULL);
   server->streams[id].body = body; /* these bytes stay where they are: on_writable passes them to QUIC */
   if (answer == H3_OK) answer = h3_send_body_of(h3, id, strlen(body), NULL);
-  if (answer == H3_OK) answer = h3_send_trailer(h3, id, trailer.sizes, trailer.count, trailer.bytes, trailer.len, NULL);
+  if (answer == H3_OK) answer = h3_send_trailer(h3, id, trailer.sizes, NULL, trailer.count, trailer.bytes, trailer.len, NULL);
   if (answer == H3_OK) answer = h3_finish(h3, id, NULL);
   if (answer != H3_OK) give_up(server, id, H3_CODE_INTERNAL_ERROR); /* H3_MEMORY: this request alone is lost */
 }
@@ -164,7 +164,7 @@ static void on_fields(side *at, uint64_t id, const h3_item *item) {
   fields list;
   uint32_t incremental;
   size_t len;
-  if (h3_item_fields(&at->h3, list.sizes, SECTION / 32, list.bytes, sizeof list.bytes) != H3_OK) abort(); /* H3_ROOM: not with this room */
+  if (h3_item_fields(&at->h3, list.sizes, NULL, SECTION / 32, list.bytes, sizeof list.bytes) != H3_OK) abort(); /* H3_ROOM: not with this room */
   list.count = item->fields;
   const char *next = list.bytes;
   printf("%s, stream %u:", at->name, (unsigned)id);

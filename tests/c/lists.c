@@ -52,11 +52,11 @@ static void is_list(h3_endpoint *e, const h3_item *item, const list *l) {
   HOLDS(item->fields == l->count && item->len == len);
   memset(sizes, 0xa5, sizeof sizes);
   memset(bytes, 0xa5, sizeof bytes);
-  if (l->count) IS(h3_item_fields(e, sizes, l->count - 1, bytes, len), H3_ROOM);
-  if (len) IS(h3_item_fields(e, sizes, l->count, bytes, len - 1), H3_ROOM);
-  if (len) IS(h3_item_fields(e, NULL, 0, NULL, 0), H3_ROOM);
+  if (l->count) IS(h3_item_fields(e, sizes, NULL, l->count - 1, bytes, len), H3_ROOM);
+  if (len) IS(h3_item_fields(e, sizes, NULL, l->count, bytes, len - 1), H3_ROOM);
+  if (len) IS(h3_item_fields(e, NULL, NULL, 0, NULL, 0), H3_ROOM);
   HOLDS(bytes[0] == 0xa5 && sizes[0].name == 0xa5a5a5a5);
-  IS(h3_item_fields(e, sizes, l->count, bytes, len), H3_OK);
+  IS(h3_item_fields(e, sizes, NULL, l->count, bytes, len), H3_OK);
   HOLDS(!memcmp(sizes, l->sizes, l->count * sizeof *sizes) && !memcmp(bytes, l->bytes, len));
   HOLDS(sizes[l->count].name == 0xa5a5a5a5 && bytes[len] == 0xa5);
 }
@@ -85,7 +85,7 @@ static void of_messages(void) {
   h3_item item;
   made(&client, 0, 0), made(&server, 1, 0);
   IS(h3_open_request(&client, &id, NULL), H3_OK);
-  IS(h3_send_head(&client, id, request.sizes, request.count, request.bytes, length_of(&request), NULL), H3_OK);
+  IS(h3_send_head(&client, id, request.sizes, NULL, request.count, request.bytes, length_of(&request), NULL), H3_OK);
   IS(h3_send_body(&client, id, "body", 4, NULL), H3_OK);
   IS(h3_finish(&client, id, NULL), H3_OK);
   pulls(&server, id, H3_PENDING, 0, 0, NULL);
@@ -94,12 +94,12 @@ static void of_messages(void) {
   pulls(&server, id, H3_BODY, 0, 0, NULL);
   IS(h3_item_bytes(&server, 1, bytes, sizeof bytes, &n), H3_OK);
   HOLDS(n == 3 && !memcmp(bytes, "ody", 3));
-  IS(h3_item_fields(&server, NULL, 0, NULL, 0), H3_OK);
+  IS(h3_item_fields(&server, NULL, NULL, 0, NULL, 0), H3_OK);
   pulls(&server, id, H3_END, 0, 0, NULL);
   pulls(&server, id, H3_END, 0, 0, NULL);
-  IS(h3_send_head(&server, id, early.sizes, early.count, early.bytes, length_of(&early), NULL), H3_OK);
-  IS(h3_send_head(&server, id, answer.sizes, answer.count, answer.bytes, length_of(&answer), NULL), H3_OK);
-  IS(h3_send_trailer(&server, id, last.sizes, last.count, last.bytes, length_of(&last), NULL), H3_OK);
+  IS(h3_send_head(&server, id, early.sizes, NULL, early.count, early.bytes, length_of(&early), NULL), H3_OK);
+  IS(h3_send_head(&server, id, answer.sizes, NULL, answer.count, answer.bytes, length_of(&answer), NULL), H3_OK);
+  IS(h3_send_trailer(&server, id, last.sizes, NULL, last.count, last.bytes, length_of(&last), NULL), H3_OK);
   IS(h3_finish(&server, id, NULL), H3_OK);
   carry(&server, &client);
   pulls(&client, id, H3_INTERIM, 103, 0, &early);
@@ -110,7 +110,7 @@ static void of_messages(void) {
   IS(h3_pull(&client, id, NULL), H3_ARGUMENT);
   h3_free(&client), h3_free(&server);
   IS(h3_pull(&client, id, &item), H3_NO_ENDPOINT);
-  IS(h3_item_fields(&client, NULL, 0, NULL, 0), H3_NO_ENDPOINT);
+  IS(h3_item_fields(&client, NULL, NULL, 0, NULL, 0), H3_NO_ENDPOINT);
 }
 
 /* An encoded field section of literals (RFC 9204, section 4.5.6) of these fields, in a HEADERS frame. All lengths are below 7 bits of their prefix. */
@@ -184,7 +184,7 @@ static void of_protocols(void) {
   for (size_t i = 0; i < sizeof taken / sizeof *taken; i++) {
     list l = asking(bytes, taken[i]);
     IS(h3_open_request(&client, &id, NULL), H3_OK);
-    IS(h3_send_head(&client, id, l.sizes, l.count, l.bytes, length_of(&l), NULL), H3_OK);
+    IS(h3_send_head(&client, id, l.sizes, NULL, l.count, l.bytes, length_of(&l), NULL), H3_OK);
     carry(&client, &server);
     pulls(&server, id, H3_HEAD, 0, 0, &l);
   }
@@ -192,7 +192,7 @@ static void of_protocols(void) {
     list l = asking(bytes, refused[i]);
     uint8_t frame[ROOM];
     IS(h3_open_request(&client, &id, NULL), H3_OK);
-    IS(h3_send_head(&client, id, l.sizes, l.count, l.bytes, length_of(&l), NULL), H3_FIELD_VALUE);
+    IS(h3_send_head(&client, id, l.sizes, NULL, l.count, l.bytes, length_of(&l), NULL), H3_FIELD_VALUE);
     list alone = {1, {l.sizes[1]}, bytes + sizeof ":methodCONNECT" - 1};
     IS(h3_deliver(&server, id, frame, literal_frame(frame, &alone), NULL), H3_OK);
     pulls(&server, id, H3_FAULT_MALFORMED, 0, H3_BAD_VALUE, NULL);

@@ -88,9 +88,9 @@ static void head(int side, uint64_t id) {
   static const char *const asked = ":methodGET:schemehttps:authoritylocalhost:path/index.htmlx-ab01234567890123456789x-c1";
   static const char *const given = ":status200content-typetext/htmlx-ab01234567890123456789";
   if (side)
-    AGAIN(h3_send_head(&ends[1], id, response, 3, given, strlen(given), NULL), "send_head of a response");
+    AGAIN(h3_send_head(&ends[1], id, response, NULL, 3, given, strlen(given), NULL), "send_head of a response");
   else
-    AGAIN(h3_send_head(&ends[0], id, request, 6, asked, strlen(asked), NULL), "send_head of a request");
+    AGAIN(h3_send_head(&ends[0], id, request, NULL, 6, asked, strlen(asked), NULL), "send_head of a request");
 }
 
 static void gather(const uint8_t *bytes, size_t len) {
@@ -223,7 +223,7 @@ static void exchange(void) {
     pull_all(1, id);
     head(1, id);
     AGAIN(h3_send_body(&ends[1], id, body, 100, NULL), "send_body");
-    AGAIN(h3_send_trailer(&ends[1], id, trailer, 1, "x-tyz", 5, NULL), "send_trailer");
+    AGAIN(h3_send_trailer(&ends[1], id, trailer, NULL, 1, "x-tyz", 5, NULL), "send_trailer");
     AGAIN(h3_finish(&ends[1], id, NULL), "finish");
     carry_all(1);
     pull_all(0, id);
@@ -299,7 +299,7 @@ static void waiting_head(void) {
   }
   AGAIN(h3_open_request(&ends[0], &id, NULL), "open_request");
   carry(1, 3);
-  AGAIN(h3_send_head(&ends[0], id, sizes, 4, head_bytes, strlen(head_bytes), NULL), "send_head");
+  AGAIN(h3_send_head(&ends[0], id, sizes, NULL, 4, head_bytes, strlen(head_bytes), NULL), "send_head");
   item = carry_and_read(0, id);
   if (item.kind != H3_WAITING || item.number != 2) fail("the head does not wait for two insertions", item.kind);
   carry(0, 6);
@@ -387,22 +387,22 @@ static void reasons(void) {
   h3_config_default(&c);
   if (h3_new(e, &c, NULL)) fail("new", 0);
   all_refused = 1;
-  answers(h3_send_head(e, 0, sizes, 4, list, len - 1, NULL), H3_ARGUMENT, "a list whose sizes are not those of the bytes");
-  answers(h3_send_head(e, 0, sizes, 4, list, len, NULL), H3_NOT_OPEN, "a list on no stream");
-  answers(h3_send_trailer(e, 0, sizes, 4, list, len, NULL), H3_NOT_OPEN, "a trailer on no stream");
+  answers(h3_send_head(e, 0, sizes, NULL, 4, list, len - 1, NULL), H3_ARGUMENT, "a list whose sizes are not those of the bytes");
+  answers(h3_send_head(e, 0, sizes, NULL, 4, list, len, NULL), H3_NOT_OPEN, "a list on no stream");
+  answers(h3_send_trailer(e, 0, sizes, NULL, 4, list, len, NULL), H3_NOT_OPEN, "a trailer on no stream");
   answers(h3_send_body(e, 0, "a", 1, NULL), H3_NOT_OPEN, "a body on no stream");
   answers(h3_deliver(e, 2, "a", 1, NULL), H3_NOT_RECEIVING, "bytes on the local control stream");
   all_refused = 0;
   if (h3_open_request(e, &id, NULL)) fail("open_request", 0);
   all_refused = 1;
-  answers(h3_send_trailer(e, id, sizes, 4, list, len, NULL), H3_OUT_OF_ORDER, "a trailer ahead of the header section");
+  answers(h3_send_trailer(e, id, sizes, NULL, 4, list, len, NULL), H3_OUT_OF_ORDER, "a trailer ahead of the header section");
   answers(h3_send_body(e, id, "a", 1, NULL), H3_OUT_OF_ORDER, "a body ahead of the header section");
-  answers(h3_send_head(e, id, sizes, 4, list, len, NULL), H3_MEMORY, "a list that there is no memory for");
+  answers(h3_send_head(e, id, sizes, NULL, 4, list, len, NULL), H3_MEMORY, "a list that there is no memory for");
   answers(h3_deliver(e, id, "a", 1, NULL), H3_MEMORY, "bytes that there is no memory for");
   all_refused = 0;
-  if (h3_send_head(e, id, sizes, 4, list, len, NULL)) fail("send_fields", 0);
+  if (h3_send_head(e, id, sizes, NULL, 4, list, len, NULL)) fail("send_fields", 0);
   all_refused = 1;
-  answers(h3_send_head(e, id, sizes, 4, list, len, NULL), H3_OUT_OF_ORDER, "a second header section");
+  answers(h3_send_head(e, id, sizes, NULL, 4, list, len, NULL), H3_OUT_OF_ORDER, "a second header section");
   answers(h3_send_body(e, id, "a", 1, NULL), H3_MEMORY, "a body that there is no memory for");
   all_refused = 0;
   if (h3_finish(e, id, NULL) || h3_deliver_end(e, id, NULL)) fail("finish", 0);
@@ -412,7 +412,7 @@ static void reasons(void) {
   all_refused = 0;
   answers(h3_deliver(e, 3, "\x00\x00\x00", 3, NULL), H3_CONNECTION, "a control stream without SETTINGS");
   all_refused = 1;
-  answers(h3_send_head(e, id, sizes, 4, list, len, NULL), H3_CLOSED, "a list after a fault");
+  answers(h3_send_head(e, id, sizes, NULL, 4, list, len, NULL), H3_CLOSED, "a list after a fault");
   answers(h3_send_body(e, id, "a", 1, NULL), H3_CLOSED, "a body after a fault");
   answers(h3_deliver(e, 0, "a", 1, NULL), H3_CONNECTION, "bytes after a fault");
   all_refused = 0;

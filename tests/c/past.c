@@ -130,8 +130,8 @@ static void schedule(uint32_t seed) {
     IS(h3_open_request(&told, &id, NULL), H3_OK);
     IS(h3_open_request(&given, &id, NULL), H3_OK);
     if (i == 3) continue; /* no head: a body is refused */
-    IS(h3_send_head(&told, id, get, 1, ":methodGET", 10, NULL), H3_OK);
-    IS(h3_send_head(&given, id, get, 1, ":methodGET", 10, NULL), H3_OK);
+    IS(h3_send_head(&told, id, get, NULL, 1, ":methodGET", 10, NULL), H3_OK);
+    IS(h3_send_head(&given, id, get, NULL, 1, ":methodGET", 10, NULL), H3_OK);
   }
   for (int k = 0; k < 120; k++) {
     int i = (int)draw(STREAMS);
@@ -165,7 +165,7 @@ static void of_lengths(void) {
   for (size_t i = 0; i < sizeof rows / sizeof *rows; i++) {
     IS(h3_open_request(&told, &id, NULL), H3_OK);
     IS(h3_send_body_of(&told, id, rows[i].len, NULL), H3_OUT_OF_ORDER);
-    IS(h3_send_head(&told, id, get, 1, ":methodGET", 10, NULL), H3_OK);
+    IS(h3_send_head(&told, id, get, NULL, 1, ":methodGET", 10, NULL), H3_OK);
     IS(h3_advance(&told, id, 5), H3_OK);
     IS(h3_send_body_of(&told, id, 0, NULL), H3_OK);
     IS(h3_send_body_of(&told, id, rows[i].len, NULL), H3_OK);
@@ -198,7 +198,7 @@ static void of_content(void) {
   told = (h3_endpoint)H3_NONE_YET;
   IS(h3_new(&told, &c, NULL), H3_OK);
   IS(h3_open_request(&told, &id, NULL), H3_OK);
-  IS(h3_send_head(&told, id, sizes, 5, list, sizeof list - 1, NULL), H3_OK);
+  IS(h3_send_head(&told, id, sizes, NULL, 5, list, sizeof list - 1, NULL), H3_OK);
   IS(h3_send_body_of(&told, id, 6, NULL), H3_MALFORMED);
   IS(h3_send_body_of(&told, id, 3, NULL), H3_OK);
   IS(h3_finish(&told, id, NULL), H3_MALFORMED);

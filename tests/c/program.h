@@ -68,7 +68,8 @@ namespace {
 
 struct Field {
   std::string name, value;
-  bool operator==(const Field &other) const { return name == other.name && value == other.value; }
+  bool never_indexed = false;
+  bool operator==(const Field &other) const { return name == other.name && value == other.value && never_indexed == other.never_indexed; }
 };
 using FieldList = std::vector<Field>;
 
@@ -133,6 +134,7 @@ void add_others(FieldList &list, bool is_trailer) {
   if (one_in(80)) list.push_back({BAD_NAME, "x"});
   if (one_in(25)) list.push_back({"x-big", std::string(below(900), below(2) ? '\xf9' : 'a')});
   if (list.size() > 1 && one_in(12)) std::swap(list[below(list.size())], list[below(list.size())]);
+  for (Field &field : list) field.never_indexed = one_in(8);
 }
 
 // early answers to CONNECT and HEAD, and trailers after them
@@ -292,12 +294,13 @@ void Program::begins_with_list(int reader, uint64_t id, const h3_item &item, con
   if (item.kind != part.kind) return violated("begins", id, "an item of another kind");
   if (size_of(part.list) > most) violated("begins", id, "a list above the announced size");
   std::vector<h3_field_size> sizes(item.fields + 1);
+  std::vector<uint8_t> flags(item.fields + 1);
   std::string bytes(size_of(part.list) + 1, 0);
   FieldList came;
-  if (h3_item_fields(&sides_[reader].end, sizes.data(), sizes.size(), &bytes[0], bytes.size()) != H3_OK)
+  if (h3_item_fields(&sides_[reader].end, sizes.data(), flags.data(), sizes.size(), &bytes[0], bytes.size()) != H3_OK)
     return violated("begins", id, "no fields");
   for (size_t i = 0, at = 0; i < item.fields; at += sizes[i].name + sizes[i].value, i++)
-    came.push_back({bytes.substr(at, sizes[i].name), bytes.substr(at + sizes[i].name, sizes[i].value)});
+    came.push_back({bytes.substr(at, sizes[i].name), bytes.substr(at + sizes[i].name, sizes[i].value), flags[i] == H3_NEVER_INDEX});
   if (came != part.list) violated("begins", id, "another list");
 }
 
@@ -397,13 +400,15 @@ void Program::open_request() {
 
 uint32_t Program::give(int side, uint64_t id, const FieldList &list, bool is_trailer) {
   std::vector<h3_field_size> sizes;
+  std::vector<uint8_t> flags;
   std::string bytes;
   for (const Field &field : list) {
+    flags.push_back(field.never_indexed ? H3_NEVER_INDEX : 0);
     sizes.push_back({static_cast<uint32_t>(field.name.size()), static_cast<uint32_t>(field.value.size())});
     bytes += field.name + field.value;
   }
   auto send = is_trailer ? h3_send_trailer : h3_send_head;
-  return call([&] { return send(&sides_[side].end, id, sizes.data(), sizes.size(), bytes.data(), bytes.size(), nullptr); });
+  return call([&] { return send(&sides_[side].end, id, sizes.data(), flags.data(), sizes.size(), bytes.data(), bytes.size(), nullptr); });
 }
 
 void Program::send_head(int side, uint64_t id) {

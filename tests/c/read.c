@@ -73,7 +73,7 @@ static int take(side *s, const h3_item *item) {
   s->in_body = 0;
   put_item(s, item);
   if (item->fields) {
-    IS(h3_item_fields(&s->end, sizes, MOST_FIELDS, bytes, sizeof bytes), H3_OK);
+    IS(h3_item_fields(&s->end, sizes, NULL, MOST_FIELDS, bytes, sizeof bytes), H3_OK);
     put(s, sizes, item->fields * sizeof *sizes);
     put(s, bytes, item->len);
   }
@@ -242,7 +242,7 @@ static void add_message(h3_endpoint *client) {
   if (!below(3)) {
     list.count = list.len = 0;
     add_field(&list, "x-checksum", "a value that is inserted too");
-    h3_send_trailer(client, 0, list.sizes, list.count, list.bytes, list.len, NULL);
+    h3_send_trailer(client, 0, list.sizes, NULL, list.count, list.bytes, list.len, NULL);
     add_own(client);
     if (!below(6)) add_frame(0);
   }
@@ -345,7 +345,7 @@ static void places(void) {
   HOLDS(used == 9 && item.kind == H3_HEAD && item.fields == 3);
   IS(h3_read(&server, 0, packet + 9, 4, 0, &used, &item, NULL), H3_OK);
   HOLDS(used == 4 && item.kind == H3_BODY_GIVEN && item.number == 2 && item.len == 2);
-  IS(h3_item_fields(&server, NULL, 0, NULL, 0), H3_OK);
+  IS(h3_item_fields(&server, NULL, NULL, 0, NULL, 0), H3_OK);
   IS(h3_read(&server, 0, "llo\x21\x01x\x00\x01y", 9, 1, &used, &item, NULL), H3_OK);
   HOLDS(used == 3 && item.kind == H3_BODY_GIVEN && item.number == 0 && item.len == 3);
   IS(h3_read(&server, 0, "\x21\x01x\x00\x01y", 6, 1, &used, &item, NULL), H3_OK);

@@ -102,7 +102,7 @@ static void send_some(int side) {
       add(l, ":path", rnd(2) ? "/" : "/index.html");
     }
     add_random(l, rnd(5));
-    n = h3_send_head(&ends[side], id, l->sizes, l->count, l->bytes, l->len, &detail);
+    n = h3_send_head(&ends[side], id, l->sizes, NULL, l->count, l->bytes, l->len, &detail);
     WANT(is_memory_aside(n), "send_head", id, n);
     f->head_sent = 1;
     f->takes_no_trailer = side && l->bytes[7] == '2' && !flows[i][0].head_out;
@@ -115,7 +115,7 @@ static void send_some(int side) {
     f->body_len += len;
   } else if (rnd(3) == 0 && !f->trailer_sent) {
     add_random(&f->trailer, 1 + rnd(3));
-    n = h3_send_trailer(&ends[side], id, f->trailer.sizes, f->trailer.count, f->trailer.bytes, f->trailer.len, &detail);
+    n = h3_send_trailer(&ends[side], id, f->trailer.sizes, NULL, f->trailer.count, f->trailer.bytes, f->trailer.len, &detail);
     WANT(f->takes_no_trailer ? n == H3_MALFORMED && detail == H3_BAD_CONNECT : n == H3_OK, "send_trailer", id, n);
     f->trailer_sent = n == H3_OK;
     if (!f->trailer_sent) f->trailer = (list){0};

@@ -149,7 +149,7 @@ static void same_fields(int side, uint64_t id, const h3_item *item, const list *
   static h3_field_size sizes[FIELDS + 8];
   WANT(item->fields == l->count, "another count of fields", id, item->fields);
   WANT(item->len == l->len, "another length of fields", id, item->len);
-  DONE(h3_item_fields(&ends[side], sizes, FIELDS + 8, bytes, sizeof bytes), "h3_item_fields", id);
+  DONE(h3_item_fields(&ends[side], sizes, NULL, FIELDS + 8, bytes, sizeof bytes), "h3_item_fields", id);
   WANT(!memcmp(sizes, l->sizes, l->count * sizeof *sizes) && !memcmp(bytes, l->bytes, l->len), "other fields", id, l->count);
 }
 
@@ -168,10 +168,10 @@ static void same_body(int side, uint64_t id, size_t len) {
 static void send(int side, uint64_t id, const list *head, size_t len, const list *trailer) {
   h3_endpoint *end = &ends[side];
   h3_stream_state s;
-  DONE(h3_send_head(end, id, head->sizes, head->count, head->bytes, head->len, NULL), "h3_send_head", id);
+  DONE(h3_send_head(end, id, head->sizes, NULL, head->count, head->bytes, head->len, NULL), "h3_send_head", id);
   if (len && by_length) DONE(h3_send_body_of(end, id, len, NULL), "h3_send_body_of", id);
   if (len && !by_length) DONE(h3_send_body(end, id, body, len, NULL), "h3_send_body", id);
-  if (trailer) DONE(h3_send_trailer(end, id, trailer->sizes, trailer->count, trailer->bytes, trailer->len, NULL), "h3_send_trailer", id);
+  if (trailer) DONE(h3_send_trailer(end, id, trailer->sizes, NULL, trailer->count, trailer->bytes, trailer->len, NULL), "h3_send_trailer", id);
   DONE(h3_finish(end, id, NULL), "h3_finish", id);
   DONE(h3_stream(end, id, &s), "h3_stream", id);
   WANT(s.waiting > len && s.is_finished, "too few bytes wait", id, s.waiting);

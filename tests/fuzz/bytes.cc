@@ -73,7 +73,7 @@ class Reader {
     static const h3_field_size sizes[] = {{7, 3}, {7, 5}, {10, 1}, {5, 1}};
     uint64_t id;
     need(h3_open_request(&end_, &id, nullptr) == H3_OK, "no request is opened");
-    need(h3_send_head(&end_, id, sizes, 4, ":methodGET:schemehttps:authoritya:path/", 39, nullptr) == H3_OK, "no request is sent");
+    need(h3_send_head(&end_, id, sizes, nullptr, 4, ":methodGET:schemehttps:authoritya:path/", 39, nullptr) == H3_OK, "no request is sent");
   }
 
   void told(uint32_t answer, uint64_t code) {
@@ -172,7 +172,7 @@ class Reader {
     if (item.kind > H3_HEAD && item.kind != H3_TRAILER) return "";
     std::vector<h3_field_size> sizes(item.fields + 1);
     std::string bytes(item.len, 0), text;
-    need(h3_item_fields(&end_, sizes.data(), item.fields, &bytes[0], item.len) == H3_OK, "an item has no fields");
+    need(h3_item_fields(&end_, sizes.data(), nullptr, item.fields, &bytes[0], item.len) == H3_OK, "an item has no fields");
     for (size_t i = 0; i < item.fields; i++) text += std::to_string(sizes[i].name) + "," + std::to_string(sizes[i].value) + " ";
     return text + bytes;
   }

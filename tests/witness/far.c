@@ -33,7 +33,7 @@ static void ask(h3_endpoint *end, uint64_t id) {
 
 static void answer(h3_endpoint *end, uint64_t id) {
   h3_field_size size = {7, 3};
-  IS(h3_send_head(end, id, &size, 1, ":status200", 10, NULL), H3_OK);
+  IS(h3_send_head(end, id, &size, NULL, 1, ":status200", 10, NULL), H3_OK);
 }
 
 static int compare(const void *a, const void *b) {
@@ -112,11 +112,11 @@ static void lone_field(void) {
   char bytes[16] = "";
   IS(h3_open_request(&end, &id, NULL), H3_OK);
   HOLDS(id == first);
-  IS(h3_send_head(&end, id, request, 4, ":methodGET:schemehttps:authoritya:path/", 39, NULL), H3_OK);
+  IS(h3_send_head(&end, id, request, NULL, 4, ":methodGET:schemehttps:authoritya:path/", 39, NULL), H3_OK);
   IS(h3_deliver(&end, id, response, sizeof response, NULL), H3_OK);
   IS(h3_pull(&end, id, &item), H3_OK);
   IS((uint32_t)item.fields, 1);
-  IS(h3_item_fields(&end, &size, 1, bytes, sizeof bytes), H3_OK);
+  IS(h3_item_fields(&end, &size, NULL, 1, bytes, sizeof bytes), H3_OK);
   HOLDS(size.name == 7 && size.value == 3 && !memcmp(bytes, ":status200", 10));
   h3_free(&end);
 }
@@ -177,7 +177,7 @@ static void resets(void) {
     IS(h3_pull(&end, id, &item), H3_OK);
     IS(item.kind, H3_END);
     snprintf(bytes, sizeof bytes, ":status200content-length%u", (unsigned)(1000 + id));
-    IS(h3_send_head(&end, id, sizes, 2, bytes, 28, NULL), H3_OK);
+    IS(h3_send_head(&end, id, sizes, NULL, 2, bytes, 28, NULL), H3_OK);
     IS(h3_reset(&end, id, NULL), H3_OK);
   }
   for (uint64_t id = 0; id < CODES; id += 4) {
@@ -196,8 +196,8 @@ static void refused_head(void) {
   static const uint64_t both[] = {0, 4};
   h3_endpoint end = made(1, 1);
   ask(&end, 0), ask(&end, 4);
-  IS(h3_send_head(&end, 0, interim, 1, ":status103", 10, NULL), H3_OK);
-  IS(h3_send_head(&end, 0, broken, 2, ":status200connectionclose", 25, NULL), H3_MALFORMED);
+  IS(h3_send_head(&end, 0, interim, NULL, 1, ":status103", 10, NULL), H3_OK);
+  IS(h3_send_head(&end, 0, broken, NULL, 2, ":status200connectionclose", 25, NULL), H3_MALFORMED);
   answer(&end, 4);
   names(&end, both, 2);
   h3_free(&end);
@@ -243,7 +243,7 @@ static void tables(void) {
   IS(h3_deliver(&end, 2, "\x00\x04\x05\x01\x40\x50\x07\x02", 8, NULL), H3_OK);
   for (uint64_t id = 0; id < 128; id += 64) {
     ask(&end, id);
-    IS(h3_send_head(&end, id, sizes, 2, ":status200x-a1", 14, NULL), H3_OK);
+    IS(h3_send_head(&end, id, sizes, NULL, 2, ":status200x-a1", 14, NULL), H3_OK);
   }
   IS(h3_deliver(&end, 10, "\x03\x40\x7f\xc1\x3f\x7f\xc1\xff\x03", 9, NULL), H3_OK);
   h3_free(&end);

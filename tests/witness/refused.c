@@ -64,9 +64,9 @@ static void send(uint64_t id, int is_trailer, const char *name, const char *valu
   char bytes[128] = ":status200";
   strcat(strcat(bytes, name), value);
   if (is_trailer)
-    told("trailer", id, h3_send_trailer(&end, id, sizes + 1, 1, bytes + 10, strlen(bytes) - 10, &detail));
+    told("trailer", id, h3_send_trailer(&end, id, sizes + 1, NULL, 1, bytes + 10, strlen(bytes) - 10, &detail));
   else
-    told("head", id, h3_send_head(&end, id, sizes, 2, bytes, strlen(bytes), &detail));
+    told("head", id, h3_send_head(&end, id, sizes, NULL, 2, bytes, strlen(bytes), &detail));
 }
 
 static void tables(void) {
@@ -129,7 +129,7 @@ static void canceled(void) {
   kept_ids = 0;
   begin("a canceled stream", 1, 220, 2, 0);
   deliver(2, "0004050140500702"), deliver(10, "03"), deliver(0, GET), deliver(4, GET), deliver(8, GET), pull(0), pull(4), pull(8);
-  told("interim", 0, h3_send_head(&end, 0, interim, 2, ":status103x-a1", 14, &detail)), send(0, 0, "x-a", "1"), deliver(10, "48"), deliver(10, "80");
+  told("interim", 0, h3_send_head(&end, 0, interim, NULL, 2, ":status103x-a1", 14, &detail)), send(0, 0, "x-a", "1"), deliver(10, "48"), deliver(10, "80");
   send(8, 0, "x-a", "1"), send(4, 0, "x-a", "1"), send(0, 1, "x-a", "1"), out(7), out(8), out(4), out(0), deliver(10, "80"), deliver(10, "80"), tables();
 }
 

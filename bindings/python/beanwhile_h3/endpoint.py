@@ -22,6 +22,7 @@ from .items import (
     Item,
     Kind,
     Malformed,
+    NeverIndexed,
     NoMessages,
     Pause,
     Pending,
@@ -60,14 +61,16 @@ def _number(value: int) -> int:
     return value
 
 
-def _listed(fields: Iterable[tuple[Bytes, Bytes]]) -> tuple[ctypes.Array[raw.FieldSize], int, bytes]:
-    """A list of fields as the library takes it: the sizes, how many fields they are, and all bytes."""
+def _listed(fields: Iterable[tuple[Bytes, Bytes]]) -> tuple[ctypes.Array[raw.FieldSize], int, bytes, int, bytes]:
+    """A list of fields as the library takes it: the sizes and how many they are, the flags, and all bytes."""
+    fields = list(fields)
+    flags = bytes(isinstance(field, NeverIndexed) for field in fields)
     parts = [_as_bytes(part) for name, value in fields for part in (name, value)]
     if any(len(part) >> 32 for part in parts):
         raise refused(Answer.ARGUMENT)
     count = len(parts) // 2
     sizes = (raw.FieldSize * max(count, 1))(*(raw.FieldSize(len(parts[at]), len(parts[at + 1])) for at in range(0, 2 * count, 2)))
-    return sizes, count, b"".join(parts)
+    return sizes, count, flags, count, b"".join(parts)
 
 
 class Endpoint:
@@ -168,19 +171,19 @@ class Endpoint:
 
     def send_head(self, id: int, fields: Iterable[tuple[Bytes, Bytes]]) -> None:
         """Sends a header section as the list that it is given as: put pseudo-header fields in front, each once. A response with a status
-        from 100 to 199 is an interim one, after which another one is sent.
+        from 100 to 199 is an interim one, after which another one is sent. A field is a pair, or a `NeverIndexed`.
 
         Raises `Answer.CLOSED`, `NOT_OPEN`, `OUT_OF_ORDER`, `FIELD_NAME`, `FIELD_VALUE`, `FIELD_COUNT`, `WRONG_SIDE`, `MALFORMED` (a strict
         endpoint), `TOO_LARGE`, `MEMORY`. Nothing was sent then."""
-        sizes, count, data = _listed(fields)
-        self._call("h3_raw_send_head", _number(id), sizes, count, data, len(data))
+        *row, data = _listed(fields)
+        self._call("h3_raw_send_head", _number(id), *row, data, len(data))
 
     def send_trailer(self, id: int, fields: Iterable[tuple[Bytes, Bytes]]) -> None:
         """Sends a trailer section as the list that it is given as. Send no empty one: finish the stream.
 
         Raises what `send_head` raises, but `Answer.PSEUDO_IN_TRAILER` in place of `WRONG_SIDE`."""
-        sizes, count, data = _listed(fields)
-        self._call("h3_raw_send_trailer", _number(id), sizes, count, data, len(data))
+        *row, data = _listed(fields)
+        self._call("h3_raw_send_trailer", _number(id), *row, data, len(data))
 
     def send_body(self, id: int, data: Bytes) -> None:
         """Sends a piece of a body, as one DATA frame.
@@ -383,11 +386,14 @@ class Endpoint:
     def _fields(self, item: raw.RawItem) -> list[Field]:
         """The fields of the item that was pulled last."""
         sizes, data = (raw.FieldSize * max(item.fields, 1))(), ctypes.create_string_buffer(max(item.len, 1))
-        self._plain_call("h3_raw_item_fields", sizes, item.fields, data, item.len)
-        found, at, everything = [], 0, data.raw
-        for size in sizes[: item.fields]:
-            name, end = at + size.name, at + size.name + size.value
-            found.append((everything[at:name], everything[name:end]))
+        flags = ctypes.create_string_buffer(max(item.fields, 1))
+        self._plain_call("h3_raw_item_fields", sizes, item.fields, flags, item.fields, data, item.len)
+        found: list[Field] = []
+        at, everything = 0, data.raw
+        for size, flag in zip(sizes[: item.fields], flags.raw, strict=False):
+            middle, end = at + size.name, at + size.name + size.value
+            name, value = everything[at:middle], everything[middle:end]
+            found.append(NeverIndexed(name, value) if flag else (name, value))
             at = end
         return found
 

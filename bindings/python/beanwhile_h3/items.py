@@ -7,7 +7,25 @@ from typing import ClassVar
 from .errors import Code, Malformation
 
 Field = tuple[bytes, bytes]
-"""A name and a value."""
+"""A name and a value. It is a `NeverIndexed` where it came as one."""
+
+
+class NeverIndexed(tuple[bytes, bytes]):
+    """A name and a value that are a literal on every hop, and in no table of QPACK (RFC 9204, section 7.1.3): so secrets are sent. A field
+    that came so is one too, and goes on so if it is sent on.
+
+    It is a pair in all else, and equal to the pair of its name and value."""
+
+    __slots__ = ()
+
+    def __new__(cls, name: bytes, value: bytes) -> "NeverIndexed":
+        return super().__new__(cls, (name, value))
+
+    def __getnewargs__(self) -> tuple[bytes, bytes]:
+        return (self[0], self[1])
+
+    def __repr__(self) -> str:
+        return f"NeverIndexed({self[0]!r}, {self[1]!r})"
 
 
 class Kind(enum.IntEnum):

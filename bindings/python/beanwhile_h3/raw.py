@@ -116,7 +116,7 @@ SIZE_OUT = POINTER(c_size_t)
 SIZES = POINTER(FieldSize)
 OUT = POINTER(Handle)
 
-SENDS_LIST = (c_uint32, [Handle, c_uint64, SIZES, c_size_t, BYTES, c_size_t, U64_OUT, OUT])
+SENDS_LIST = (c_uint32, [Handle, c_uint64, SIZES, c_size_t, BYTES, c_size_t, BYTES, c_size_t, U64_OUT, OUT])
 TAKES_BYTES = (c_uint32, [Handle, c_uint64, BYTES, c_size_t, U64_OUT, OUT])
 TAKES_ID = (c_uint32, [Handle, c_uint64, U64_OUT, OUT])
 FINDS_NUMBER = (c_uint32, [Handle, c_uint64, U64_OUT, OUT])
@@ -159,7 +159,7 @@ DECLARATIONS: dict[str, tuple[Any, list[Any]]] = {
     "h3_raw_pull": (c_uint32, [Handle, c_uint64, POINTER(RawItem), OUT]),
     "h3_raw_read": (c_uint32, [Handle, c_uint64, BYTES, c_size_t, c_uint32, SIZE_OUT, POINTER(RawItem), U64_OUT, OUT]),
     "h3_raw_next_unblocked": FINDS_NUMBER,
-    "h3_raw_item_fields": (c_uint32, [Handle, SIZES, c_size_t, BUFFER, c_size_t, OUT]),
+    "h3_raw_item_fields": (c_uint32, [Handle, SIZES, c_size_t, BUFFER, c_size_t, BUFFER, c_size_t, OUT]),
     "h3_raw_item_bytes": (c_uint32, [Handle, c_size_t, BUFFER, c_size_t, SIZE_OUT, OUT]),
     "h3_raw_datagram_head": (c_uint32, [Handle, c_uint64, BUFFER, c_size_t, SIZE_OUT, U64_OUT, OUT]),
     "h3_raw_read_datagram": (c_uint32, [Handle, BYTES, c_size_t, U64_OUT, SIZE_OUT, U64_OUT, OUT]),

@@ -1,6 +1,7 @@
 """Two endpoints in one program: what was sent is what is received. Bytes that are expected come from the RFCs."""
 
 import doctest
+import pickle
 import threading
 import unittest
 from unittest import mock
@@ -18,6 +19,7 @@ from beanwhile_h3 import (
     GoawayCame,
     Head,
     Interim,
+    NeverIndexed,
     NoMessages,
     PeerLimits,
     Pending,
@@ -78,6 +80,26 @@ class Exchange(unittest.TestCase):
             self.assertEqual((state.waiting, state.unread), (0, 0))
             self.assertIn(state.tries, (1, 2))  # the header section may have come before its insertions
             pair.close()
+
+    def test_a_never_indexed_field_goes_over_and_on(self) -> None:
+        head: list[Field] = [*GET, NeverIndexed(b"authorization", b"a")]
+        trailer: list[Field] = [(b"x-a", b"1"), NeverIndexed(b"x-b", b"2")]
+        for _ in range(2):
+            pair = Pair()
+            id = pair.client.open_request()
+            pair.client.send_head(id, head)
+            # RFC 9204, section 4.5.4: 01, N, T and the index 84; the value
+            self.assertTrue(pair.client.outgoing(id)[0].endswith(b"\x7f\x45\x81\x1f"))
+            pair.client.send_trailer(id, trailer)
+            pair.client.finish(id)
+            pair.run(0)
+            came = joined(pair.received[Side.SERVER, id])
+            assert isinstance(came[0], Head) and isinstance(came[1], Trailer)
+            self.assertEqual((came[0].fields, came[1].fields), (head, trailer))
+            head, trailer = came[0].fields, came[1].fields
+            self.assertEqual([isinstance(field, NeverIndexed) for field in head + trailer], [False] * 4 + [True, False, True])
+            pair.close()
+        self.assertEqual((repr(head[4]), pickle.loads(pickle.dumps(head[4]))), ("NeverIndexed(b'authorization', b'a')", head[4]))
 
     def test_bytes_are_taken_by_any_count(self) -> None:
         client = Endpoint(Config.client())

@@ -1,7 +1,7 @@
 use crate::config::Config;
 use crate::datagram::{Datagram, HeadBytes};
 use crate::error::{Error, Fault, Malformation};
-use crate::fields::{in_a_row, Fields};
+use crate::fields::{in_a_row, AsField, Fields};
 use crate::item::{Came, Head, Item, Next, Pause};
 use crate::raw::{self, FieldSize, Handle, RawConnection, RawItem, RawStream};
 use crate::state::{ClosedStream, ConnectionEvent, ConnectionState, PeerLimits, StreamState, StreamType};
@@ -16,7 +16,8 @@ const NO_MESSAGES: u32 = 11;
 const BODY_GIVEN: u32 = 17;
 
 /// A call of the library that sends a list of fields.
-type SendsList = unsafe extern "C" fn(Handle, u64, *const FieldSize, usize, *const u8, usize, *mut u64, *mut Handle) -> u32;
+type SendsList =
+    unsafe extern "C" fn(Handle, u64, *const FieldSize, usize, *const u8, usize, *const u8, usize, *mut u64, *mut Handle) -> u32;
 
 /// One endpoint of a connection. `&mut self` is the rule of one call at a time, and `Drop` frees it. It may move between threads.
 pub struct Endpoint {
@@ -114,20 +115,37 @@ impl Endpoint {
         self.call(|handle, detail, out| unsafe { raw::h3_raw_open_request_at(handle, id, detail, out) })
     }
 
-    fn send_list<N: AsRef<[u8]>, V: AsRef<[u8]>>(&mut self, call: SendsList, id: u64, fields: &[(N, V)]) -> Result<(), Error> {
-        let (sizes, bytes) = in_a_row(fields).ok_or(Error::Argument)?;
-        self.call(|handle, detail, out| unsafe { call(handle, id, sizes.as_ptr(), sizes.len(), bytes.as_ptr(), bytes.len(), detail, out) })
+    fn send_list<F: AsField>(&mut self, call: SendsList, id: u64, fields: &[F]) -> Result<(), Error> {
+        let row = in_a_row(fields).ok_or(Error::Argument)?;
+        let (sizes, flags, bytes) = (row.sizes.as_ptr(), row.flags.as_ptr(), row.bytes.as_ptr());
+        let (count, len) = (fields.len(), row.bytes.len());
+        self.call(|handle, detail, out| unsafe { call(handle, id, sizes, count, flags, count, bytes, len, detail, out) })
     }
 
     /// Sends a header section as the list that it is given as: put pseudo-header fields in front, each once. A response's with a status
-    /// from 100 to 199 is an interim one, after which another goes.
+    /// from 100 to 199 is an interim one, after which another goes. Fields are pairs of a name and a value, or of the type [`Field`]:
+    ///
+    /// ```
+    /// # use beanwhile_h3::{AsField, Config, Endpoint, Error, Field};
+    /// # fn main() -> Result<(), Error> {
+    /// let mut client = Endpoint::new(&Config::client())?;
+    /// let id = client.open_request()?;
+    /// let pairs = [(":method", "GET"), (":scheme", "https"), (":authority", "localhost"), (":path", "/")];
+    /// let mut fields: Vec<Field> = pairs.iter().map(AsField::as_field).collect();
+    /// fields.push(Field { name: b"authorization", value: b"Basic YTpi", never_indexed: true });
+    /// client.send_head(id, &fields)?;
+    /// # Ok(())
+    /// # }
+    /// ```
+    ///
+    /// [`Field`]: crate::Field
     ///
     /// # Errors
     ///
     /// [`Error::FieldName`], [`Error::FieldValue`] or [`Error::FieldCount`] of the list; [`Error::Closed`], [`Error::NotOpen`],
     /// [`Error::OutOfOrder`], [`Error::WrongSide`], [`Error::Malformed`] (a strict endpoint), [`Error::TooLarge`] (for the peer),
     /// [`Error::Argument`] (the id is 2^62 or more), [`Error::Memory`]. Nothing was sent then.
-    pub fn send_head<N: AsRef<[u8]>, V: AsRef<[u8]>>(&mut self, id: u64, fields: &[(N, V)]) -> Result<(), Error> {
+    pub fn send_head<F: AsField>(&mut self, id: u64, fields: &[F]) -> Result<(), Error> {
         self.send_list(raw::h3_raw_send_head, id, fields)
     }
 
@@ -152,7 +170,7 @@ impl Endpoint {
     /// [`Error::FieldName`], [`Error::FieldValue`] or [`Error::FieldCount`] of the list; [`Error::Closed`], [`Error::NotOpen`],
     /// [`Error::OutOfOrder`], [`Error::PseudoInTrailer`], [`Error::Malformed`] (a strict endpoint), [`Error::TooLarge`] (for the peer),
     /// [`Error::Argument`] (the id is 2^62 or more), [`Error::Memory`]. Nothing was sent then.
-    pub fn send_trailer<N: AsRef<[u8]>, V: AsRef<[u8]>>(&mut self, id: u64, fields: &[(N, V)]) -> Result<(), Error> {
+    pub fn send_trailer<F: AsField>(&mut self, id: u64, fields: &[F]) -> Result<(), Error> {
         self.send_list(raw::h3_raw_send_trailer, id, fields)
     }
 
@@ -463,11 +481,12 @@ impl Endpoint {
     }
 
     fn fields(&mut self, item: RawItem) -> Result<Fields, Error> {
-        let (mut sizes, mut bytes) = (vec![FieldSize::default(); item.fields], vec![0; item.len]);
+        let (count, len) = (item.fields, item.len);
+        let (mut sizes, mut flags, mut bytes) = (vec![FieldSize::default(); count], vec![0; count], vec![0; len]);
         self.call(|handle, _, out| unsafe {
-            raw::h3_raw_item_fields(handle, sizes.as_mut_ptr(), sizes.len(), bytes.as_mut_ptr(), bytes.len(), out)
+            raw::h3_raw_item_fields(handle, sizes.as_mut_ptr(), count, flags.as_mut_ptr(), count, bytes.as_mut_ptr(), len, out)
         })?;
-        Ok(Fields::of(&sizes, bytes))
+        Ok(Fields::of(&sizes, flags, bytes))
     }
 
     fn bytes(&mut self, count: usize) -> Result<Vec<u8>, Error> {

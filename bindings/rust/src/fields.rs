@@ -1,13 +1,37 @@
 use crate::raw::FieldSize;
 use std::fmt;
 
-/// A name and a value.
+/// `H3_NEVER_INDEX` of h3.h.
+const NEVER_INDEX: u8 = 1;
+
+/// A name and a value, and whether the field is never indexed.
 #[derive(Debug, Clone, Copy, PartialEq, Eq)]
 pub struct Field<'a> {
     /// In lower case; a pseudo-header field's begins with ':'.
     pub name: &'a [u8],
     /// As it came.
     pub value: &'a [u8],
+    /// Whether the field is a literal on every hop, and in no table of QPACK (RFC 9204, section 7.1.3): so secrets are sent. One that came so
+    /// has to be sent on so.
+    pub never_indexed: bool,
+}
+
+/// What [`Endpoint::send_head`](crate::Endpoint::send_head) takes for a field: a pair of a name and a value, or a [`Field`].
+pub trait AsField {
+    /// The field.
+    fn as_field(&self) -> Field<'_>;
+}
+
+impl<N: AsRef<[u8]>, V: AsRef<[u8]>> AsField for (N, V) {
+    fn as_field(&self) -> Field<'_> {
+        Field { name: self.0.as_ref(), value: self.1.as_ref(), never_indexed: false }
+    }
+}
+
+impl AsField for Field<'_> {
+    fn as_field(&self) -> Field<'_> {
+        *self
+    }
 }
 
 /// The fields of a header or trailer section, in the order that they came.
@@ -16,6 +40,8 @@ pub struct Fields {
     bytes: Vec<u8>,
     /// the ends of each name and each value
     ends: Vec<(usize, usize)>,
+    /// of each field, as the library has them
+    flags: Vec<u8>,
 }
 
 impl Fields {
@@ -42,18 +68,19 @@ impl Fields {
     fn at(&self, index: usize) -> Option<Field<'_>> {
         let (name, value) = *self.ends.get(index)?;
         let start = if index == 0 { 0 } else { self.ends[index - 1].1 };
-        Some(Field { name: &self.bytes[start..name], value: &self.bytes[name..value] })
+        let never_indexed = self.flags[index] == NEVER_INDEX;
+        Some(Field { name: &self.bytes[start..name], value: &self.bytes[name..value], never_indexed })
     }
 
     /// The list that sizes cut from a row of bytes: name, value, name, value.
-    pub(crate) fn of(sizes: &[FieldSize], bytes: Vec<u8>) -> Fields {
+    pub(crate) fn of(sizes: &[FieldSize], flags: Vec<u8>, bytes: Vec<u8>) -> Fields {
         let mut end = 0;
         let ends = sizes.iter().map(|size| {
             let name = end + size.name as usize;
             end = name + size.value as usize;
             (name, end)
         });
-        Fields { ends: ends.collect(), bytes }
+        Fields { ends: ends.collect(), flags, bytes }
     }
 }
 
@@ -97,15 +124,23 @@ impl<'a> Iterator for FieldsIter<'a> {
 
 impl ExactSizeIterator for FieldsIter<'_> {}
 
-/// A list as the library takes it: the sizes of names and values, and all their bytes. None: a name or value has 2^32 bytes or more.
-pub(crate) fn in_a_row<N: AsRef<[u8]>, V: AsRef<[u8]>>(fields: &[(N, V)]) -> Option<(Vec<FieldSize>, Vec<u8>)> {
-    let total = fields.iter().map(|(name, value)| name.as_ref().len() + value.as_ref().len()).sum();
-    let (mut sizes, mut bytes) = (Vec::with_capacity(fields.len()), Vec::with_capacity(total));
-    for (name, value) in fields {
-        let (name, value) = (name.as_ref(), value.as_ref());
-        sizes.push(FieldSize { name: u32::try_from(name.len()).ok()?, value: u32::try_from(value.len()).ok()? });
-        bytes.extend_from_slice(name);
-        bytes.extend_from_slice(value);
+/// A list as the library takes it: the sizes of names and values, the flags of fields, and all bytes of names and values.
+pub(crate) struct Row {
+    pub(crate) sizes: Vec<FieldSize>,
+    pub(crate) flags: Vec<u8>,
+    pub(crate) bytes: Vec<u8>,
+}
+
+/// None: a name or value has 2^32 bytes or more.
+pub(crate) fn in_a_row<F: AsField>(fields: &[F]) -> Option<Row> {
+    let total = fields.iter().map(F::as_field).map(|field| field.name.len() + field.value.len()).sum();
+    let count = fields.len();
+    let mut row = Row { sizes: Vec::with_capacity(count), flags: Vec::with_capacity(count), bytes: Vec::with_capacity(total) };
+    for field in fields.iter().map(F::as_field) {
+        row.sizes.push(FieldSize { name: u32::try_from(field.name.len()).ok()?, value: u32::try_from(field.value.len()).ok()? });
+        row.flags.push(if field.never_indexed { NEVER_INDEX } else { 0 });
+        row.bytes.extend_from_slice(field.name);
+        row.bytes.extend_from_slice(field.value);
     }
-    Some((sizes, bytes))
+    Some(row)
 }

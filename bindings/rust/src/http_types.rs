@@ -2,7 +2,7 @@
 
 use crate::endpoint::Endpoint;
 use crate::error::Error;
-use crate::fields::Fields;
+use crate::fields::{Field, Fields};
 use crate::item::Head;
 use http::header::{COOKIE, HOST};
 use http::uri::{Authority, PathAndQuery, Scheme};
@@ -14,27 +14,37 @@ use http::{HeaderMap, HeaderName, HeaderValue, Method, Request, Response, Status
 pub struct Protocol(pub String);
 
 /// A list of fields, whose bytes are those of a message.
-type List<'a> = Vec<(&'a [u8], &'a [u8])>;
+type List<'a> = Vec<Field<'a>>;
 
+/// A pseudo-header field.
+fn pseudo<'a>(name: &'a str, value: &'a str) -> Field<'a> {
+    Field { name: name.as_bytes(), value: value.as_bytes(), never_indexed: false }
+}
+
+/// A sensitive value is one that is never indexed.
 fn push_all<'a>(list: &mut List<'a>, fields: &'a HeaderMap) {
-    list.extend(fields.iter().map(|(name, value)| (name.as_ref(), value.as_bytes())));
+    list.extend(fields.iter().map(|(name, value)| Field {
+        name: name.as_ref(),
+        value: value.as_bytes(),
+        never_indexed: value.is_sensitive(),
+    }));
 }
 
 /// The pseudo-header fields of a request (RFC 9114, section 4.3.1), and its fields.
 fn list_of_request<B>(request: &Request<B>) -> List<'_> {
     let (method, uri) = (request.method(), request.uri());
     let protocol = request.extensions().get::<Protocol>();
-    let mut list: List = vec![(b":method", method.as_str().as_bytes())];
+    let mut list: List = vec![pseudo(":method", method.as_str())];
     if let Some(Protocol(name)) = protocol {
-        list.push((b":protocol", name.as_bytes()));
+        list.push(pseudo(":protocol", name));
     }
     // CONNECT alone has neither a scheme nor a path (section 4.4)
     if method != Method::CONNECT || protocol.is_some() {
-        list.push((b":scheme", uri.scheme_str().unwrap_or("https").as_bytes()));
-        list.push((b":path", uri.path_and_query().map_or("/", |it| it.as_str()).as_bytes()));
+        list.push(pseudo(":scheme", uri.scheme_str().unwrap_or("https")));
+        list.push(pseudo(":path", uri.path_and_query().map_or("/", |it| it.as_str())));
     }
     if let Some(authority) = uri.authority() {
-        list.push((b":authority", authority.as_str().as_bytes()));
+        list.push(pseudo(":authority", authority.as_str()));
     }
     push_all(&mut list, request.headers());
     list
@@ -42,7 +52,7 @@ fn list_of_request<B>(request: &Request<B>) -> List<'_> {
 
 impl Endpoint {
     /// Sends the header section of a request: its method, URI and fields, and the [`Protocol`] among its extensions. A URI without a scheme has
-    /// `https`. The body is not sent, so any type may stand there.
+    /// `https`. The body is not sent, so any type may stand there. A value that is marked as sensitive is sent never indexed.
     ///
     /// ```
     /// # use beanwhile_h3::{Config, Endpoint};
@@ -70,7 +80,7 @@ impl Endpoint {
     /// Those of [`send_request`](Endpoint::send_request).
     pub fn send_response<B>(&mut self, id: u64, response: &Response<B>) -> Result<(), Error> {
         let status = response.status();
-        let mut list: List = vec![(b":status", status.as_str().as_bytes())];
+        let mut list: List = vec![pseudo(":status", status.as_str())];
         push_all(&mut list, response.headers());
         self.send_head(id, &list)
     }
@@ -91,13 +101,15 @@ impl Endpoint {
 fn join_cookies(map: &mut HeaderMap) -> Result<(), http::Error> {
     let cookies: Vec<&[u8]> = map.get_all(COOKIE).iter().map(HeaderValue::as_bytes).collect();
     if cookies.len() > 1 {
-        let joined = HeaderValue::from_bytes(&cookies.join(&b"; "[..]))?;
+        let mut joined = HeaderValue::from_bytes(&cookies.join(&b"; "[..]))?;
+        joined.set_sensitive(map.get_all(COOKIE).iter().any(HeaderValue::is_sensitive));
         map.insert(COOKIE, joined);
     }
     Ok(())
 }
 
-/// The fields but for pseudo-header fields, in the order of their names' first lines. Several `cookie` fields are one.
+/// The fields but for pseudo-header fields, in the order of their names' first lines. Several `cookie` fields are one. A value that came
+/// never indexed is sensitive, and so are cookies of which one is.
 ///
 /// # Errors
 ///
@@ -108,7 +120,9 @@ impl TryFrom<&Fields> for HeaderMap {
     fn try_from(fields: &Fields) -> Result<HeaderMap, http::Error> {
         let mut map = HeaderMap::new();
         for field in fields.iter().filter(|field| !field.name.starts_with(b":")) {
-            map.try_append(HeaderName::from_bytes(field.name)?, HeaderValue::from_bytes(field.value)?)?;
+            let mut value = HeaderValue::from_bytes(field.value)?;
+            value.set_sensitive(field.never_indexed);
+            map.try_append(HeaderName::from_bytes(field.name)?, value)?;
         }
         join_cookies(&mut map)?;
         Ok(map)

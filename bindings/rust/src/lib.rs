@@ -63,7 +63,7 @@ pub use config::Config;
 pub use datagram::{capsule_head, Capsule, CapsuleReader, Datagram, HeadBytes};
 pub use endpoint::Endpoint;
 pub use error::{code, Error, Fault, Malformation};
-pub use fields::{Field, Fields, FieldsIter};
+pub use fields::{AsField, Field, Fields, FieldsIter};
 #[cfg(feature = "http")]
 pub use http_types::Protocol;
 pub use item::{Came, Head, Item, Next, Pause};

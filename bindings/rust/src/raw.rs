@@ -81,8 +81,8 @@ extern "C" {
     pub(crate) fn h3_raw_open_request(endpoint: Handle, id: *mut u64, detail: *mut u64, out: *mut Handle) -> u32;
     pub(crate) fn h3_raw_next_request_id(endpoint: Handle, id: *mut u64, detail: *mut u64, out: *mut Handle) -> u32;
     pub(crate) fn h3_raw_open_request_at(endpoint: Handle, id: u64, detail: *mut u64, out: *mut Handle) -> u32;
-    pub(crate) fn h3_raw_send_head(endpoint: Handle, id: u64, sizes: *const FieldSize, count: usize, bytes: *const u8, len: usize, detail: *mut u64, out: *mut Handle) -> u32;
-    pub(crate) fn h3_raw_send_trailer(endpoint: Handle, id: u64, sizes: *const FieldSize, count: usize, bytes: *const u8, len: usize, detail: *mut u64, out: *mut Handle) -> u32;
+    pub(crate) fn h3_raw_send_head(endpoint: Handle, id: u64, sizes: *const FieldSize, count: usize, flags: *const u8, flags_count: usize, bytes: *const u8, len: usize, detail: *mut u64, out: *mut Handle) -> u32;
+    pub(crate) fn h3_raw_send_trailer(endpoint: Handle, id: u64, sizes: *const FieldSize, count: usize, flags: *const u8, flags_count: usize, bytes: *const u8, len: usize, detail: *mut u64, out: *mut Handle) -> u32;
     pub(crate) fn h3_raw_send_body(endpoint: Handle, id: u64, bytes: *const u8, len: usize, detail: *mut u64, out: *mut Handle) -> u32;
     pub(crate) fn h3_raw_send_body_of(endpoint: Handle, id: u64, len: usize, detail: *mut u64, out: *mut Handle) -> u32;
     pub(crate) fn h3_raw_finish(endpoint: Handle, id: u64, detail: *mut u64, out: *mut Handle) -> u32;
@@ -104,7 +104,7 @@ extern "C" {
     pub(crate) fn h3_raw_pull(endpoint: Handle, id: u64, item: *mut RawItem, out: *mut Handle) -> u32;
     pub(crate) fn h3_raw_read(endpoint: Handle, id: u64, bytes: *const u8, len: usize, fin: u32, used: *mut usize, item: *mut RawItem, detail: *mut u64, out: *mut Handle) -> u32;
     pub(crate) fn h3_raw_next_unblocked(endpoint: Handle, from: u64, id: *mut u64, out: *mut Handle) -> u32;
-    pub(crate) fn h3_raw_item_fields(endpoint: Handle, sizes: *mut FieldSize, most: usize, bytes: *mut u8, room: usize, out: *mut Handle) -> u32;
+    pub(crate) fn h3_raw_item_fields(endpoint: Handle, sizes: *mut FieldSize, most: usize, flags: *mut u8, flags_most: usize, bytes: *mut u8, room: usize, out: *mut Handle) -> u32;
     pub(crate) fn h3_raw_item_bytes(endpoint: Handle, from: usize, buffer: *mut u8, room: usize, n: *mut usize, out: *mut Handle) -> u32;
     pub(crate) fn h3_raw_datagram_head(endpoint: Handle, id: u64, buffer: *mut u8, room: usize, n: *mut usize, detail: *mut u64, out: *mut Handle) -> u32;
     pub(crate) fn h3_raw_read_datagram(endpoint: Handle, bytes: *const u8, len: usize, id: *mut u64, from: *mut usize, detail: *mut u64, out: *mut Handle) -> u32;

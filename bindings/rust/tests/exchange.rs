@@ -1,6 +1,6 @@
 //! Two endpoints in one program, with the bytes between them carried by hand: what was sent is what is handed out, once.
 
-use beanwhile_h3::{own_ids, ClosedStream, Config, ConnectionEvent, Endpoint, Error, Fields, Head, Item, Next, Pause, StreamType, Version};
+use beanwhile_h3::{own_ids, AsField, ClosedStream, Config, ConnectionEvent, Endpoint, Error, Field, Fields, Head, Item, Next, Pause, StreamType, Version};
 
 /// Carries all that waits, in pieces, and each end once. Answers how many ends went over.
 fn carry(from: &mut Endpoint, to: &mut Endpoint, piece: usize) -> usize {
@@ -115,6 +115,34 @@ fn an_exchange_goes_over_whole() {
         assert_eq!((state.has_outgoing, state.is_finished, state.is_reset), (true, true, false));
         assert_eq!((state.waiting, state.unread, state.tries), (0, 0, 1));
     }
+}
+
+/// A request with these fields goes over, and comes: its head and trailer.
+fn over<F: AsField>(fields: &[F], trailer: &[F]) -> (Vec<u8>, Fields, Fields) {
+    let (mut client, mut server) = pair();
+    let id = client.open_request().unwrap();
+    client.send_head(id, fields).unwrap();
+    let mut waiting = [0; 64];
+    let (count, _) = client.outgoing(id, &mut waiting).unwrap();
+    client.send_trailer(id, trailer).unwrap();
+    client.finish(id).unwrap();
+    carry(&mut client, &mut server, 4096);
+    let (head, _, trailer) = read(&mut server, id);
+    (waiting[..count].to_vec(), head.fields, trailer.unwrap())
+}
+
+#[test]
+fn a_flag_goes_over_and_on() {
+    let pairs = [(":method", "GET"), (":scheme", "https"), (":authority", "a"), (":path", "/")];
+    let mut fields: Vec<Field> = pairs.iter().map(AsField::as_field).collect();
+    fields.push(Field { name: b"authorization", value: b"a", never_indexed: true });
+    let last = [Field { name: b"x-a", value: b"1", never_indexed: true }, Field { name: b"x-b", value: b"2", never_indexed: false }];
+    let (section, head, trailer) = over(&fields, &last);
+    // RFC 9204, section 4.5.4: 01, N, T and the index 84; the value
+    assert_eq!(section[section.len() - 4..], [0x7f, 0x45, 0x81, 0x1f]);
+    assert_eq!((head.iter().collect::<Vec<_>>(), trailer.iter().collect::<Vec<_>>()), (fields, last.to_vec()));
+    let (again, next, _) = over(&head.iter().collect::<Vec<_>>(), &trailer.iter().collect::<Vec<_>>());
+    assert_eq!((again, next), (section, head));
 }
 
 #[test]

@@ -95,6 +95,22 @@ fn several_cookies_are_one() {
 }
 
 #[test]
+fn a_sensitive_value_is_never_indexed() {
+    let mut secret = HeaderValue::from_static("Basic YTpi");
+    secret.set_sensitive(true);
+    let (mut client, mut server) = pair();
+    let id = client.open_request().unwrap();
+    let request = Request::get("https://localhost/").header("authorization", secret).header("cookie", "a=b").body(()).unwrap();
+    client.send_request(id, &request).unwrap();
+    carry(&mut client, &mut server);
+    let head = head(&mut server, id);
+    let flags: Vec<bool> = head.fields.iter().map(|field| field.never_indexed).collect();
+    assert_eq!(flags, [false, false, false, false, true, false]);
+    let got = Request::try_from(&head).unwrap();
+    assert!(got.headers()["authorization"].is_sensitive() && !got.headers()["cookie"].is_sensitive());
+}
+
+#[test]
 fn responses_and_trailers_go_back() {
     let (mut client, mut server) = pair();
     let id = client.open_request().unwrap();

@@ -43,7 +43,7 @@ fn calls_say_why_they_are_refused() {
     assert_eq!(client.send_head(id, &[("Upper", "a")]), Err(Error::FieldName));
     assert_eq!(client.send_head(id, &[(":method", "G T")]), Err(Error::FieldValue));
     assert_eq!(client.send_head(id, &[(":status", "200")]), Err(Error::WrongSide));
-    assert_eq!(client.send_trailer::<&str, &str>(id, &[]), Err(Error::OutOfOrder));
+    assert_eq!(client.send_trailer::<(&str, &str)>(id, &[]), Err(Error::OutOfOrder));
     assert_eq!(client.finish(id + 4), Err(Error::NotOpen));
     assert_eq!(client.reset(2), Err(Error::Critical));
     assert_eq!(client.advance(id, 1), Err(Error::Argument));

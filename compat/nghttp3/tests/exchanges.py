@@ -4,7 +4,7 @@ is told is held against what the other one sent, and the bytes that were acknowl
 import random
 import sys
 
-from library import END, IS_VERSION_1, NO_END_STREAM, WOULDBLOCK, Connection, check, libraries, pairs
+from library import END, IS_VERSION_1, NEVER_INDEX, NO_END_STREAM, WOULDBLOCK, Connection, check, libraries, pairs
 
 NAMES = [b"accept", b"user-agent", b"cookie", b"x-a", b"x-b", b"x-long", b"content-type", b"cache-control", b"referer"]
 # what a trailer may have: a sender leaves out of it what says how a message is framed, routed, secured, formatted or cached (RFC 9110, 6.5.1)
@@ -16,7 +16,13 @@ LENGTHS_OF_PIECES = (1, 5, 63, 64, 100, 1000, 5000, 20000)
 
 def random_fields(chance, count, names=NAMES):
     values = (bytes(chance.choice(b"abcdefgh0123 ") for _ in range(chance.choice(LENGTHS_OF_VALUES))).strip() for _ in range(count))
-    return [(chance.choice(names), value) for value in values]
+    return [(chance.choice(names), value, NEVER_INDEX if chance.random() < 0.2 else 0) for value in values]
+
+
+def told_of(kind, field):
+    """what an application is told of a field: the name, the value, and its flags, which are none where none were given"""
+    name, value, *flags = field
+    return (kind, name, value, *(flags or [0]))
 
 
 def random_body(chance):
@@ -42,11 +48,11 @@ class Message:
         """what the receiver's application is told of it"""
         out = []
         for fields in [*self.interim, self.head]:
-            out += [("begin_headers",), *(("header", name, value) for name, value in fields), ("end_headers",)]
+            out += [("begin_headers",), *(told_of("header", field) for field in fields), ("end_headers",)]
         if self.pieces:
             out.append(("data", b"".join(self.pieces)))
         if self.trailer is not None:
-            out += [("begin_trailers",), *(("trailer", name, value) for name, value in self.trailer), ("end_trailers",)]
+            out += [("begin_trailers",), *(told_of("trailer", field) for field in self.trailer), ("end_trailers",)]
         return [*out, ("end_stream",)]
 
 
@@ -92,7 +98,7 @@ class Side:
         elif kind == "settings":
             self.settings.append(stream)
         else:
-            told.append((kind, *what[:1]) if kind == "data" else (kind, *what[:3]) if kind in ("header", "trailer") else (kind,))
+            told.append((kind, *what[:1]) if kind == "data" else (kind, *what[:4]) if kind in ("header", "trailer") else (kind,))
 
     def messages(self, stream):
         """without tokens, and without the close of the stream"""

@@ -10,6 +10,7 @@ with open(os.environ["HEADER"], encoding="utf-8") as header:
 ERRORS = {number: name[4:] for name, number in NUMBERS.items() if name.startswith("ERR_")}
 IS_VERSION_1 = "PRI_V1" in NUMBERS
 WOULDBLOCK, END, NO_END_STREAM = NUMBERS["ERR_WOULDBLOCK"], 1, 2
+NEVER_INDEX = 1  # NGHTTP3_NV_FLAG_NEVER_INDEX
 NOT_FOUND, INVALID_ARGUMENT = NUMBERS["ERR_STREAM_NOT_FOUND"], NUMBERS["ERR_INVALID_ARGUMENT"]
 
 
@@ -148,8 +149,8 @@ def pairs(found):
 
 def field_array(fields):
     array = (Field * max(1, len(fields)))()
-    for index, (name, value) in enumerate(fields):
-        array[index] = Field(name, value, len(name), len(value), 0)
+    for index, (name, value, *flags) in enumerate(fields):
+        array[index] = Field(name, value, len(name), len(value), *flags or [0])
     return array
 
 

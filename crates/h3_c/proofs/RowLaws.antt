@@ -9,7 +9,8 @@ use Rattle.std.proofs.lemmas.Option.{get_or_from_slice_get}
 use Rattle.std.proofs.lemmas.Grind.{drop_more_same}
 use Rattle.h3_field.specs.Field.{Field}
 use Rattle.h3_field.specs.FieldBlock.{end_to_end}
-use Rattle.h3_c.specs.Rows.{is_short, row_len, row_of, size_of, sizes_of}
+use Rattle.h3_c.specs.Rows.{flags_of, is_short, row_len, row_of, size_of, sizes_of}
+use Rattle.h3_c.specs.Showing.{bit}
 use Rattle.h3_c.specs.declared.fields.FieldSize.{FieldSize}
 
 -- the fields from one on
@@ -56,6 +57,27 @@ sizes_last fields i sizes before past at =
     let front : take i sizes ≡ sizes_of fields =
     sym (append-nil (take i sizes)) ∙ sym (ap (λ l. take i sizes ++ sizes_of l) (drop_all i fields (omega (arith, past)))) ∙ at.front in
     sym (take-append-drop i sizes) ∙ ap (λ l. l ++ drop i sizes) front ∙ ap (λ l. sizes_of fields ++ l) at.rest ∙ ap (λ n. sizes_of fields ++ drop n before) past
+
+-- The flags of the fields before one are written.
+pub record FlagsAt (fields : List Field) (i : ℕ) (flags before : List ℕ) : Type 0 where
+  pub front : take i flags ++ flags_of (drop i fields) ≡ flags_of fields
+  pub rest : drop i flags ≡ drop i before
+  pub len : length flags ≡ length before
+
+pub flags_start : (fields : List Field) (flags : List ℕ) → FlagsAt fields 0 flags flags
+flags_start fields flags = record { front = refl; rest = refl; len = refl }
+
+pub flags_next : (fields : List Field) (i : ℕ) (f : Field) (flags before : List ℕ) → i < length fields → slice_get fields i ≡ Some f → i < length flags
+    → FlagsAt fields i flags before → FlagsAt fields (i + 1) (set flags i (bit f.never_indexed)) before
+flags_next fields i f flags before inside is there at =
+    let rest = drop (i + 1) fields in
+    record {
+      front =
+          ap (λ l. l ++ flags_of rest) (take_more_set flags i (bit f.never_indexed) there) ∙ append_assoc (take i flags) (bit f.never_indexed ∷ []) (flags_of rest)
+          ∙ sym (ap (λ l. take i flags ++ flags_of l) (field_first fields i f inside is)) ∙ at.front;
+      rest = drop-set-lt (i + 1) flags i (bit f.never_indexed) (omega arith) ∙ drop_more_same flags before i at.rest;
+      len = length-set flags i (bit f.never_indexed) ∙ at.len;
+    }
 
 -- The sizes from one on are short, as all are, where those before it are.
 pub short_next : (fields : List Field) (i : ℕ) (f : Field) (all : Bool) → i < length fields → slice_get fields i ≡ Some f → is_short f ≡ true → list_all is_short (drop i fields) ≡ all → list_all is_short (drop (i + 1) fields) ≡ all

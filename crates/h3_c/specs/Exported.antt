@@ -17,7 +17,7 @@ use Rattle.h3_c.specs.declared.numbers.Told.{Told}
 use Rattle.h3_incoming.specs.FieldsPulls.{list_of, pull_of}
 use Rattle.h3_session.specs.Listing.{ListsNext}
 use Rattle.h3_c.specs.Items.{bytes_of, fields_of, shown}
-use Rattle.h3_c.specs.Rows.{fits, row_of, sizes_of}
+use Rattle.h3_c.specs.Rows.{fits, flags_of, row_of, sizes_of}
 use Rattle.h3_c.specs.declared.fields.FieldSize.{FieldSize}
 use Rattle.h3_c.specs.Numbers.{ok, none, room, argument, memory, rejected, call_told, list_told, refusal_told}
 use Rattle.h3_c.specs.Seen.{Seen}
@@ -58,7 +58,7 @@ pub record UnlessRejected (id : ℕ) (n : Told) (v w : Seen) (goes : Type 0) : T
 abbrev pub DeliversOn : {R : Type 0} → (R → Told) → ℕ → Told → Seen → Seen → (R → Type 0) → Type 0
 DeliversOn told id n v w does = OnStream id n v w (UnlessRejected id n v w (Calls told n v w does))
 
--- The list that C gave is sent; or its sizes are not those of its bytes; or there was no memory for it, where `place` tells that no rule of
+-- The list that C gave is sent; or its sizes are not those of its bytes or a flag is not known; or there was no memory for it, where `place` tells that no rule of
 -- the stream refuses each list there.
 abbrev pub SendsCut : Option (List Field) → (EndpointHistory → Option Refusal) → Told → Seen → Seen → (List Field → Result Unit FieldsError → Type 0) → Type 0
 SendsCut None place n v w does = (n ≡ argument) × (w ≡ v)
@@ -106,12 +106,15 @@ GivesId (Err refusal) n before after = (n ≡ refusal_told refusal) × (after �
 abbrev pub ShowsNextId : Seen → Told → ℕ → ℕ → Type 0
 ShowsNextId v n before after = (e : EndpointHistory) → StandsFor v.endpoint e → GivesId (next_request e) n before after
 
--- All fields are written at the front of C's two buffers, and the rest of these stays; or nothing is, since one is too small.
-pub record GivesFields (fields : List Field) (n : Told) (sizes_before sizes : List FieldSize) (before after : List ℕ) : Type 0 where
+-- All fields are written at the front of C's buffers, and the rest of these stays; or nothing is, since one is too small. Flags are written
+-- as many as have room: C that asks for none gives none.
+pub record GivesFields (fields : List Field) (n : Told) (sizes_before sizes : List FieldSize) (flags_before flags before after : List ℕ) : Type 0 where
   pub whole : fits fields (length sizes_before) (length before) ≡ true
-      → (n ≡ ok) × (sizes ≡ sizes_of fields ++ drop (length fields) sizes_before) × (after ≡ row_of fields ++ drop (length (row_of fields)) before)
-  pub small : fits fields (length sizes_before) (length before) ≡ false → (n ≡ room) × (sizes ≡ sizes_before) × (after ≡ before)
+      → (n ≡ ok) × (sizes ≡ sizes_of fields ++ drop (length fields) sizes_before)
+      × (flags ≡ take (length flags_before) (flags_of fields) ++ drop (length fields) flags_before)
+      × (after ≡ row_of fields ++ drop (length (row_of fields)) before)
+  pub small : fits fields (length sizes_before) (length before) ≡ false → (n ≡ room) × (sizes ≡ sizes_before) × (flags ≡ flags_before) × (after ≡ before)
 
 -- All fields of the header or trailer section that was pulled last.
-abbrev pub ReadsFields : Seen → Told → List FieldSize → List FieldSize → List ℕ → List ℕ → Type 0
-ReadsFields v n sizes_before sizes before after = GivesFields (fields_of v.last) n sizes_before sizes before after
+abbrev pub ReadsFields : Seen → Told → List FieldSize → List FieldSize → List ℕ → List ℕ → List ℕ → List ℕ → Type 0
+ReadsFields v n sizes_before sizes flags_before flags before after = GivesFields (fields_of v.last) n sizes_before sizes flags_before flags before after

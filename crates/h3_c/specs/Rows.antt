@@ -1,7 +1,8 @@
--- The fields of a head or trailer, as C gets them all at once: their sizes, and their names and values one behind another.
+-- The fields of a head or trailer, as C gets them all at once: their sizes, their flags, and their names and values one behind another.
 use Rattle.std.specs.Prelude.{ℕ, ◌^◌, Bool, ◌&&◌, nat_le, nat_lt, List, [], ◌∷◌, ◌++◌, length, min, ◌-◌}
 use Rattle.std.specs.List.{list_all}
 use Rattle.h3_field.specs.Field.{Field}
+use Rattle.h3_c.specs.Showing.{bit}
 use Rattle.h3_c.specs.declared.fields.FieldSize.{FieldSize}
 
 abbrev pub size_of : Field → FieldSize
@@ -10,6 +11,11 @@ size_of f = record { name = length f.name; value = length f.value }
 abbrev pub sizes_of : List Field → List FieldSize
 sizes_of [] = []
 sizes_of (f ∷ fields) = size_of f ∷ sizes_of fields
+
+-- a byte for each field: 1 where it is never indexed
+abbrev pub flags_of : List Field → List ℕ
+flags_of [] = []
+flags_of (f ∷ fields) = bit f.never_indexed ∷ flags_of fields
 
 abbrev pub row_of : List Field → List ℕ
 row_of [] = []

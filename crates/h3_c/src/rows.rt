@@ -1,17 +1,23 @@
-//! All fields of a header or trailer section, as C gets them at once: their sizes, and their names and values in order.
-ghost use Rattle.std.specs.Prelude.{◌≡◌, ◌≤◌, ◌++◌, true, length, drop};
+//! All fields of a header or trailer section, as C gets them at once: their sizes, their flags, and their names and values in order.
+ghost use Rattle.std.specs.Prelude.{◌≡◌, ◌≤◌, ◌++◌, true, length, take, drop};
 ghost use Rattle.std.specs.List.{list_all};
 ghost use Rattle.h3_c.specs.Exported.{GivesFields};
-ghost use Rattle.h3_c.specs.Rows.{is_short, row_len, size_of, sizes_of};
+ghost use Rattle.h3_c.specs.Rows.{flags_of, is_short, row_len, size_of, sizes_of};
+ghost use Rattle.h3_c.specs.Showing.{bit};
 
 use crate::fields::FieldSize;
 use crate::numbers::{OK, ROOM, Told};
 use h3_field::{FieldBlock, FieldRef, Fields};
 
-/// Returns all fields, if there is room for all of them.
+/// Returns all fields, if there is room for all of them, and the flags of as many as have room.
 #[tactic(auto, using(crate::proofs::RowLaws::row_is_end_to_end))]
-pub(crate) fn fields_at_once(block: &FieldBlock, sizes: &mut [FieldSize], bytes: &mut [u8]) -> Told
-    ensures { GivesFields block.now result sizes.old sizes.new bytes.old bytes.new }
+pub(crate) fn fields_at_once(
+    block: &FieldBlock,
+    sizes: &mut [FieldSize],
+    flags: &mut [u8],
+    bytes: &mut [u8],
+) -> Told
+    ensures { GivesFields block.now result sizes.old sizes.new flags.old flags.new bytes.old bytes.new }
 {
     let fields = block.fields();
     let len = bytes_in(block);
@@ -25,6 +31,7 @@ pub(crate) fn fields_at_once(block: &FieldBlock, sizes: &mut [FieldSize], bytes:
         return ROOM;
     }
     put_sizes(&fields, sizes);
+    put_flags(&fields, flags);
     put_row(block.bytes(), bytes);
     OK
 }
@@ -85,6 +92,26 @@ fn size_of(field: &FieldRef<'_>) -> FieldSize
         name: field.name().len() as u32,
         value: field.value().len() as u32,
     }
+}
+
+// Writes the flags of the fields, as many as have room.
+#[tactic(auto, using(crate::proofs::RowLaws::flags_start))]
+fn put_flags(fields: &Fields<'_>, flags: &mut [u8])
+    ensures { flags.new ≡ take (length flags.old) (flags_of fields.now) ++ drop (length fields.now) flags.old }
+{
+    for place in 0..fields.len() {
+        if place >= flags.len() {
+            return;
+        }
+        flags[place] = flag_of(&fields.get(place));
+    }
+}
+
+// The flags of a field.
+fn flag_of(field: &FieldRef<'_>) -> u8
+    ensures { result ≡ bit field.now.never_indexed }
+{
+    if field.is_never_indexed() { 1 } else { 0 }
 }
 
 /// Copies all of these bytes to the front of a buffer.

@@ -104,39 +104,44 @@ fn put_empty(told: &mut Told, kind: &str, index: usize, out: &mut Vec<u8>)
 {
     let value = Vec::new(told.alloc());
     match kind {
-        "static_named" => told.done(LiteralWithNameRef::Static { index, value }.encode(out)),
-        "post_base_named" => told.done(LiteralWithPostBaseNameRef { index, value }.encode(out)),
+        "static_named" => told.done(LiteralWithNameRef::new_static(index, value).encode(out)),
+        "post_base_named" => told.done(LiteralWithPostBaseNameRef::new(index, value).encode(out)),
         "literal" => {
             let name = Vec::new(told.alloc());
-            told.done(Literal { name, value }.encode(out));
+            told.done(Literal::new(name, value).encode(out));
         }
         _ => told.unreadable(),
     }
 }
 
-/// A line: an index or a name, and a value after it.
+/// A line: an index or a name, and a value after it. A kind that begins with `never_` has the bit N.
 fn write(told: &mut Told, kind: &str, first: &str, value: &[u8])
     requires { length value.now ≤ 1000 }
 {
     let mut out = Vec::new(told.alloc());
+    let (kind, never) = match kind.strip_prefix("never_") {
+        Some(rest) => (rest, true),
+        None => (kind, false),
+    };
     if kind == "literal" {
         let name = told.text(first);
-        told.done(Literal::write(&name, value, &mut out));
+        told.done(Literal::write(&name, value, never, &mut out));
     } else {
         let index = told.small(first);
-        write_named(told, kind, index, value, &mut out);
+        write_named(told, (kind, never), index, value, &mut out);
     }
     told.digits(&out);
 }
 
-fn write_named(told: &mut Told, kind: &str, index: usize, value: &[u8], out: &mut Vec<u8>)
+fn write_named(told: &mut Told, form: (&str, bool), index: usize, value: &[u8], out: &mut Vec<u8>)
     requires index { index < 65536 }
     requires value { length value.now ≤ 1000 }
 {
+    let (kind, never) = form;
     match kind {
-        "static" => told.done(LiteralWithNameRef::write_static(index, value, out)),
-        "dynamic" => told.done(LiteralWithNameRef::write_dynamic(index, value, out)),
-        "post_base" => told.done(LiteralWithPostBaseNameRef::write(index, value, out)),
+        "static" => told.done(LiteralWithNameRef::write_static(index, value, never, out)),
+        "dynamic" => told.done(LiteralWithNameRef::write_dynamic(index, value, never, out)),
+        "post_base" => told.done(LiteralWithPostBaseNameRef::write(index, value, never, out)),
         _ => told.unreadable(),
     }
 }

@@ -2,7 +2,7 @@
 use Rattle.std.proofs.Common.{arith, ◌≡◌, ◌≤◌, ℕ, ◌+◌, Bool, true, false, zero, suc, List, [], ◌∷◌, ◌++◌, length, refl, sym, ◌∙◌, ap, subst, inl, inr}
 use Rattle.std.specs.Prelude.{Option, Some, None, if◌then◌else◌, nat_lt, nat_le, unwrap_or}
 use Rattle.std.proofs.lemmas.Bool.{cases_eq, cases_lt, lt-ltb}
-use Rattle.h3_field.specs.Field.{Field}
+use Rattle.h3_field.specs.Field.{Field, plain_field}
 use Rattle.h3_field.specs.Reading.{Reading, Whole, Unfinished, Bad}
 use Rattle.h3_field.specs.Instruction.{EncoderInstruction}
 use Rattle.h3_field.specs.Instruction.EncoderInstruction.{SetCapacity, InsertWithStaticName, InsertWithEntryName, InsertLiteral, Duplicate}
@@ -140,7 +140,7 @@ grows_one : (r : DecoderState) (i : EncoderInstruction) (s : DecoderState) → d
 grows_one r (SetCapacity capacity) s is = grows_set (nat_le capacity (greatest_capacity r)) r s _ refl is
 grows_one r (InsertWithStaticName index value) s is = grows_by r _ s is
 grows_one r (InsertWithEntryName index value) s is = grows_by r _ s is
-grows_one r (InsertLiteral name value) s is = grows_by r (Some (record { name = name; value = value })) s is
+grows_one r (InsertLiteral name value) s is = grows_by r (Some (plain_field name value)) s is
 grows_one r (Duplicate index) s is = grows_by r _ s is
 
 grows_form : (r : DecoderState) (i : Option EncoderInstruction) (s : DecoderState) → decoder_after_form r i ≡ Some s → Grows r s

@@ -73,3 +73,4 @@ pub mod StandsLaws
 pub mod StrictSends
 pub mod SentContent
 pub mod StrictSendingLaws
+pub mod FlagLaws

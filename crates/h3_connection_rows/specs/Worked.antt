@@ -1,6 +1,6 @@
 -- Values of worked cases: bytes written as digits, heads by their field lists, and plain configurations.
 use Rattle.std.specs.Prelude.{true, ℕ, ◌+◌, ◌*◌, ◌-◌, List, [], ◌∷◌, map, if◌then◌else◌, nat_lt}
-use Rattle.h3_field.specs.Field.{Field}
+use Rattle.h3_field.specs.Field.{Field, plain_field}
 use Rattle.h3_header.specs.Head.{Head, trailer_head, head_fields}
 use Rattle.h3_header.specs.HeadRead.{HeadRead, IsHead, IsNone, head_of}
 use Rattle.h3_proto.specs.Config.{no_choices}
@@ -21,7 +21,7 @@ hex (c ∷ []) = []
 hex (c ∷ d ∷ cs) = (16 * digit c + digit d) ∷ hex cs
 
 abbrev pub field : List ℕ → List ℕ → Field
-field name value = record { name = name; value = value }
+field name value = plain_field name value
 
 abbrev pub read_head : HeadRead → Head
 read_head (IsHead h) = h

@@ -1,5 +1,5 @@
 -- Lines with a string for which there is no memory: what names no static entry is no field.
-use Rattle.std.proofs.Common.{◌≡◌, ◌==◌, ◌%◌, ℕ, ◌≤◌, Bool, true, false, List, Option, Some, None, is_some, Err, refl, sym, ◌∙◌}
+use Rattle.std.proofs.Common.{◌≡◌, ◌==◌, ◌/◌, ◌%◌, ℕ, ◌≤◌, Bool, true, false, List, Option, Some, None, is_some, Err, refl, sym, ◌∙◌}
 use Rattle.h3_field.specs.Reading.{Reading, Whole, Unfinished, Bad, then_read}
 use Rattle.h3_field.specs.IntegerReading.{integer}
 use Rattle.h3_field.specs.StringReading.{Payload, string}
@@ -32,61 +32,61 @@ some_value (Some value) e = (value, refl)
 pub literal_asks : (old : List ℕ) → line old ≡ literal old → (form : LineForm) (rest : List ℕ) → literal old ≡ Whole form rest → HasString form → LineTakesMemory form → BeginsWithLiteral old
 literal_asks old own form rest e string memory = from (two_strings 4 old) e
   where
-    with : (p q : Payload) → literal old ≡ Whole (LiteralField p q) rest → LineTakesMemory (LiteralField p q) → BeginsWithLiteral old
-    with p q is memory =
+    with : (p q : Payload) (n : Bool) → literal old ≡ Whole (LiteralField p q n) rest → LineTakesMemory (LiteralField p q n) → BeginsWithLiteral old
+    with p q n is memory =
         let name = some_value (string_of p) memory.0 in
         let value = some_value (string_of q) memory.1 in
-        let here : line old ≡ Whole (LiteralField p q) rest = own ∙ is in (
-          LiteralField p q,
+        let here : line old ≡ Whole (LiteralField p q n) rest = own ∙ is in (
+          LiteralField p q n,
           rest,
-          record { name = name.0; value = value.0 },
+          record { name = name.0; value = value.0; never_indexed = n },
           here,
           tt,
           memory,
           record {
-            line = Literal name.0 value.0;
-            here = record { form = LiteralField p q; whole = here; says = (name.0, value.0, string_is p name.0 name.1, string_is q value.0 value.1, refl) };
+            line = Literal name.0 value.0 n;
+            here = record { form = LiteralField p q n; whole = here; says = (name.0, value.0, string_is p name.0 name.1, string_is q value.0 value.1, refl) };
             names = refl;
-            less = literal_less old rest (LiteralField p q) is;
+            less = literal_less old rest (LiteralField p q n) is;
           },
         )
 
-    from : (t : Reading TwoStrings) → then_read t (λ parts after. Whole (LiteralField parts.name parts.value) after) ≡ Whole form rest → BeginsWithLiteral old
+    from : (t : Reading TwoStrings) → then_read t (λ parts after. Whole (LiteralField parts.name parts.value (parts.flags % 2 == 1)) after) ≡ Whole form rest → BeginsWithLiteral old
     from (Whole parts after) is =
-        let same = whole_same (LiteralField parts.name parts.value) form after rest is in
-        with parts.name parts.value (rw (← same.0) at e) (rw (← same.0) at memory)
+        let same = whole_same (LiteralField parts.name parts.value (parts.flags % 2 == 1)) form after rest is in
+        with parts.name parts.value (parts.flags % 2 == 1) (rw (← same.0) at e) (rw (← same.0) at memory)
     from Unfinished is = absurd (cc)
     from Bad is = absurd (cc)
 
 -- a line that names no static entry
-no_named : (old after : List ℕ) (is_static : Bool) (index : ℕ) (p : Payload) → line old ≡ Whole (Named is_static index p) after → (is_static ≡ true → 99 ≤ index) → HasNoField old
-no_named old after true index p is le rest l f here names =
-    let same = whole_same (Named true index p) here.form after rest (sym is ∙ here.whole) in
-    let says : SaysLine (Named true index p) l = rw (← same.0) at here.says in
+no_named : (old after : List ℕ) (is_static : Bool) (index : ℕ) (p : Payload) (n : Bool) → line old ≡ Whole (Named is_static index p n) after → (is_static ≡ true → 99 ≤ index) → HasNoField old
+no_named old after true index p n is le rest l f here names =
+    let same = whole_same (Named true index p n) here.form after rest (sym is ∙ here.whole) in
+    let says : SaysLine (Named true index p n) l = rw (← same.0) at here.says in
     let none : line_field l ≡ None = rw (says.2, static_none index (le refl)) refl in
     absurd (cc)
-no_named old after false index p is le rest l f here names =
-    let same = whole_same (Named false index p) here.form after rest (sym is ∙ here.whole) in
-    let says : SaysLine (Named false index p) l = rw (← same.0) at here.says in
+no_named old after false index p n is le rest l f here names =
+    let same = whole_same (Named false index p n) here.form after rest (sym is ∙ here.whole) in
+    let says : SaysLine (Named false index p n) l = rw (← same.0) at here.says in
     let none : line_field l ≡ None = rw says.2 refl in
     absurd (cc)
 
 -- a line that names a static entry
-named_asks : (old after : List ℕ) (is_static : Bool) (index : ℕ) (p : Payload) (name : List ℕ) → line old ≡ named old → line old ≡ Whole (Named is_static index p) after → is_static ≡ true → NamesEntry index name → LineTakesMemory (Named is_static index p) → BeginsWithLiteral old
-named_asks old after false index p name own here coded entry memory = absurd (cc)
-named_asks old after true index p name own here coded entry memory =
+named_asks : (old after : List ℕ) (is_static : Bool) (index : ℕ) (p : Payload) (n : Bool) (name : List ℕ) → line old ≡ named old → line old ≡ Whole (Named is_static index p n) after → is_static ≡ true → NamesEntry index name → LineTakesMemory (Named is_static index p n) → BeginsWithLiteral old
+named_asks old after false index p n name own here coded entry memory = absurd (cc)
+named_asks old after true index p n name own here coded entry memory =
     let value = some_value (string_of p) memory.0 in (
-      Named true index p,
+      Named true index p n,
       after,
-      record { name = name; value = value.0 },
+      record { name = name; value = value.0; never_indexed = n },
       here,
       tt,
       memory,
       record {
-        line = StaticName index value.0;
-        here = record { form = Named true index p; whole = here; says = (value.0, string_is p value.0 value.1, refl) };
-        names = named_entry index name value.0 entry;
-        less = named_less old after (Named true index p) (sym own ∙ here);
+        line = StaticName index value.0 n;
+        here = record { form = Named true index p n; whole = here; says = (value.0, string_is p value.0 value.1, refl) };
+        names = named_entry index name value.0 n entry;
+        less = named_less old after (Named true index p n) (sym own ∙ here);
       },
     )
 
@@ -113,10 +113,10 @@ not_memory AtString Overflow e = absurd (cc)
 
 -- the line with this integer, and this string behind it
 abbrev with_string : ℕ × ℕ → Reading (ℕ × Payload) → Reading LineForm
-with_string head s = then_read (then_read s (λ value after. Whole (record { flags = head.0; index = head.1; value = value.1 }) after)) (λ (parts : IndexAndString) rest. Whole (Named (parts.flags % 2 == 1) parts.index parts.value) rest)
+with_string head s = then_read (then_read s (λ value after. Whole (record { flags = head.0; index = head.1; value = value.1 }) after)) (λ (parts : IndexAndString) rest. Whole (Named (parts.flags % 2 == 1) parts.index parts.value (parts.flags / 2 % 2 == 1)) rest)
 
 abbrev behind_integer : Reading (ℕ × ℕ) → Reading LineForm
-behind_integer r = then_read (then_read r (λ head rest. then_read (string 8 rest) (λ value after. Whole (record { flags = head.0; index = head.1; value = value.1 }) after))) (λ (parts : IndexAndString) rest. Whole (Named (parts.flags % 2 == 1) parts.index parts.value) rest)
+behind_integer r = then_read (then_read r (λ head rest. then_read (string 8 rest) (λ value after. Whole (record { flags = head.0; index = head.1; value = value.1 }) after))) (λ (parts : IndexAndString) rest. Whole (Named (parts.flags % 2 == 1) parts.index parts.value (parts.flags / 2 % 2 == 1)) rest)
 
 wants_memory : (place : Place) (old new : List ℕ) (e : DecoderError) → line old ≡ named old → AnswersLine named_line place (named old) old new (Err OutOfMemory) → IsNameRefusal (integer 4 old) e → IsReason (BeginsWithLiteral old) (HasNoField old) (λ size. ⊥) e
 wants_memory place old new e own h k = from (integer 4 old) own h k
@@ -124,8 +124,8 @@ wants_memory place old new e own h k = from (integer 4 old) own h k
     told : (head : ℕ × ℕ) (s : Reading (ℕ × Payload)) → line old ≡ with_string head s → AnswersLine named_line place (with_string head s) old new (Err OutOfMemory) → IsReason (NamesStatic head) (NamesNoStatic head) (λ size. ⊥) e → IsReason (BeginsWithLiteral old) (HasNoField old) (λ size. ⊥) e
     told head (Whole value after) is h k =
         other_reasons (NamesStatic head) (BeginsWithLiteral old) (NamesNoStatic head) (HasNoField old)
-        (λ n. named_asks old after (head.0 % 2 == 1) head.1 value.1 n.1.0 own is n.0 n.1.1 h.1)
-        (λ n. no_named old after (head.0 % 2 == 1) head.1 value.1 is n) e k
+        (λ n. named_asks old after (head.0 % 2 == 1) head.1 value.1 (head.0 / 2 % 2 == 1) n.1.0 own is n.0 n.1.1 h.1)
+        (λ n. no_named old after (head.0 % 2 == 1) head.1 value.1 (head.0 / 2 % 2 == 1) is n) e k
     told head Unfinished is h k = absurd (not_memory place UnexpectedEnd (cc))
     told head Bad is h k = absurd (not_memory place Overflow (cc))
 

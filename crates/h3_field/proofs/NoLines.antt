@@ -1,5 +1,5 @@
 -- Lines that are not read, and those that name no static entry.
-use Rattle.std.proofs.Common.{◌≡◌, ℕ, ◌<◌, ◌≤◌, List, length, Some, None, Ok, Err, refl, sym, ◌∙◌}
+use Rattle.std.proofs.Common.{◌≡◌, ℕ, Bool, ◌<◌, ◌≤◌, List, length, Some, None, Ok, Err, refl, sym, ◌∙◌}
 use Rattle.h3_field.specs.Field.{Field}
 use Rattle.h3_field.specs.Reading.{Reading, Whole, Unfinished, Bad}
 use Rattle.h3_field.specs.Line.{FieldLine}
@@ -71,5 +71,5 @@ refused_line memory place line_of Bad old new e asks is h =
 pub no_static : {L : Type 0} (place : Place) (line_of : L → FieldLine) (r : Reading LineForm) (old new : List ℕ) (l : L) → line old ≡ r → AnswersLine line_of place r old new (Ok l) → (index : ℕ) → 99 ≤ index → line_of l ≡ StaticField index → HasNoField old
 no_static place line_of r old new l e h index le is = no_field place line_of r old new l e h (rw is (static_none index le))
 
-pub no_static_name : {L : Type 0} (place : Place) (line_of : L → FieldLine) (r : Reading LineForm) (old new : List ℕ) (l : L) → line old ≡ r → AnswersLine line_of place r old new (Ok l) → (index : ℕ) (value : List ℕ) → 99 ≤ index → line_of l ≡ StaticName index value → HasNoField old
-no_static_name place line_of r old new l e h index value le is = no_field place line_of r old new l e h (rw (is, static_none index le) refl)
+pub no_static_name : {L : Type 0} (place : Place) (line_of : L → FieldLine) (r : Reading LineForm) (old new : List ℕ) (l : L) → line old ≡ r → AnswersLine line_of place r old new (Ok l) → (index : ℕ) (value : List ℕ) (n : Bool) → 99 ≤ index → line_of l ≡ StaticName index value n → HasNoField old
+no_static_name place line_of r old new l e h index value n le is = no_field place line_of r old new l e h (rw (is, static_none index le) refl)

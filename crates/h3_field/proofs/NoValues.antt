@@ -48,10 +48,10 @@ some_of_both build (Some name) (Some value) e h = refl
 pub line_of_memory : (form : LineForm) → LineTakesMemory form → is_some (line_of form) ≡ true
 line_of_memory (Indexed is_static index) h = absurd h
 line_of_memory (PostBase index) h = absurd h
-line_of_memory (Named true index p) h = some_mapped (λ value. StaticName index value) (string_of p) h.0
-line_of_memory (Named false index p) h = some_mapped (λ value. RelativeName index value) (string_of p) h.0
-line_of_memory (PostBaseNamed index p) h = some_mapped (λ value. PostBaseName index value) (string_of p) h.0
-line_of_memory (LiteralField p q) h = some_of_both Literal (string_of p) (string_of q) h.0 h.1
+line_of_memory (Named true index p n) h = some_mapped (λ value. StaticName index value n) (string_of p) h.0
+line_of_memory (Named false index p n) h = some_mapped (λ value. RelativeName index value n) (string_of p) h.0
+line_of_memory (PostBaseNamed index p n) h = some_mapped (λ value. PostBaseName index value n) (string_of p) h.0
+line_of_memory (LiteralField p q n) h = some_of_both (λ name value. Literal name value n) (string_of p) (string_of q) h.0 h.1
 
 pub instruction_none : (form : InstructionForm) → ((i : EncoderInstruction) → Says form i → ⊥) → instruction_of form ≡ None
 instruction_none form h = none_left (instruction_of form) (λ i e. h i (instruction_is form i e))

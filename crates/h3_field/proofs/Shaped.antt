@@ -1,8 +1,9 @@
 -- What two parts, read one behind the other, answer: at each place where the reading may stop, and where both are there.
-use Rattle.std.proofs.Common.{◌≡◌, ℕ, List, Ok, Err, refl}
+use Rattle.std.proofs.Common.{◌≡◌, ◌==◌, ◌%◌, ℕ, List, Ok, Err, refl}
 use Rattle.h3_field.specs.Reading.{Reading, Whole, Unfinished, Bad, then_read}
 use Rattle.std.specs.Prelude.{Vec}
 use Rattle.std.specs.declared.alloc.Global.{Global}
+use Rattle.h3_field.specs.Field.{Field}
 use Rattle.h3_field.specs.IntegerAnswer.{AnswersInteger}
 use Rattle.h3_field.specs.StringReading.{Payload, StandsFor, string}
 use Rattle.h3_field.specs.StringAnswer.{AnswersPayload, AnswersBytes, of_integer}
@@ -16,7 +17,7 @@ use Rattle.h3_field.specs.declared.shapes.TwoStrings.{TwoStrings}
 
 -- two strings, the second of which is read as given
 abbrev pub both_of : ℕ × Payload → Reading (ℕ × Payload) → Reading shape.TwoStrings
-both_of name r = then_read r (λ value after. Whole (record { name = name.1; value = value.1 }) after)
+both_of name r = then_read r (λ value after. Whole (record { flags = name.0; name = name.1; value = value.1 }) after)
 
 abbrev pub two_of : Reading (ℕ × Payload) → Reading shape.TwoStrings
 two_of r = then_read r (λ name rest. both_of name (string 8 rest))
@@ -39,28 +40,28 @@ second_stops Unfinished old mid new name e h k = absurd (cc)
 second_stops Bad old mid new name e h k = absurd (cc)
 
 -- both payloads are there: it is as their strings say
-second_read : (name value : ℕ × Payload) (r : Reading (ℕ × Payload)) (old mid new : List ℕ) (parts : TwoStrings) → AnswersPayload r mid new (Ok value) → AnswersBothStrings name.1 value.1 (Ok parts) → AnswersTwoStrings (both_of name r) old new (Ok parts)
+second_read : (name value : ℕ × Payload) (r : Reading (ℕ × Payload)) (old mid new : List ℕ) (parts : TwoStrings) → AnswersPayload r mid new (Ok value) → AnswersBothStrings name.0 name.1 value.1 (Ok parts) → AnswersTwoStrings (both_of name r) old new (Ok parts)
 second_read name value (Whole v rest) old mid new parts h k =
     let same : value ≡ v = cc in
-    rw (← same) (k.0, k.1, h.1)
+    rw (← same) (k.0, k.1, k.2, h.1)
 second_read name value Unfinished old mid new parts h k = absurd (cc)
 second_read name value Bad old mid new parts h k = absurd (cc)
 
-pub both_read : (r : Reading (ℕ × Payload)) (old mid new : List ℕ) (name value : ℕ × Payload) (parts : TwoStrings) → AnswersPayload r old mid (Ok name) → AnswersPayload (string 8 mid) mid new (Ok value) → AnswersBothStrings name.1 value.1 (Ok parts) → AnswersTwoStrings (two_of r) old new (Ok parts)
+pub both_read : (r : Reading (ℕ × Payload)) (old mid new : List ℕ) (name value : ℕ × Payload) (parts : TwoStrings) → AnswersPayload r old mid (Ok name) → AnswersPayload (string 8 mid) mid new (Ok value) → AnswersBothStrings name.0 name.1 value.1 (Ok parts) → AnswersTwoStrings (two_of r) old new (Ok parts)
 both_read (Whole n rest) old mid new name value parts h k b =
     let same : name ≡ n = cc in
     rw (← same) (second_read name value (string 8 rest) old rest new parts (rw h.1 at k) b)
 both_read Unfinished old mid new name value parts h k b = absurd (cc)
 both_read Bad old mid new name value parts h k b = absurd (cc)
 
-second_refused : (name value : ℕ × Payload) (r : Reading (ℕ × Payload)) (old mid new : List ℕ) (e : ParseError) → AnswersPayload r mid new (Ok value) → AnswersBothStrings name.1 value.1 (Err e) → AnswersTwoStrings (both_of name r) old old (Err e)
+second_refused : (name value : ℕ × Payload) (r : Reading (ℕ × Payload)) (old mid new : List ℕ) (e : ParseError) → AnswersPayload r mid new (Ok value) → AnswersBothStrings name.0 name.1 value.1 (Err e) → AnswersTwoStrings (both_of name r) old old (Err e)
 second_refused name value (Whole v rest) old mid new e h k =
     let same : value ≡ v = cc in
     rw (← same) (k, refl)
 second_refused name value Unfinished old mid new e h k = absurd (cc)
 second_refused name value Bad old mid new e h k = absurd (cc)
 
-pub both_refused : (r : Reading (ℕ × Payload)) (old mid new : List ℕ) (name value : ℕ × Payload) (e : ParseError) → AnswersPayload r old mid (Ok name) → AnswersPayload (string 8 mid) mid new (Ok value) → AnswersBothStrings name.1 value.1 (Err e) → AnswersTwoStrings (two_of r) old old (Err e)
+pub both_refused : (r : Reading (ℕ × Payload)) (old mid new : List ℕ) (name value : ℕ × Payload) (e : ParseError) → AnswersPayload r old mid (Ok name) → AnswersPayload (string 8 mid) mid new (Ok value) → AnswersBothStrings name.0 name.1 value.1 (Err e) → AnswersTwoStrings (two_of r) old old (Err e)
 both_refused (Whole n rest) old mid new name value e h k b =
     let same : name ≡ n = cc in
     rw (← same) (second_refused name value (string 8 rest) old rest new e (rw h.1 at k) b)
@@ -120,16 +121,16 @@ short_read (Whole h rest) old mid new s head value is k b =
 short_read Unfinished old mid new s head value is k b = absurd (cc)
 short_read Bad old mid new s head value is k b = absurd (cc)
 
-second_short : (name value : ℕ × Payload) (r : Reading (ℕ × Payload)) (mid new s t : List ℕ) → AnswersPayload r mid new (Ok value) → StandsFor name.1 s → StandsFor value.1 t → AreTwoStrings (both_of name r) s t new
-second_short name value (Whole v rest) mid new s t h k b =
+second_short : (name value : ℕ × Payload) (r : Reading (ℕ × Payload)) (mid new : List ℕ) (f : Field) → AnswersPayload r mid new (Ok value) → StandsFor name.1 f.name → StandsFor value.1 f.value → f.never_indexed ≡ (name.0 % 2 == 1) → AreTwoStrings (both_of name r) f new
+second_short name value (Whole v rest) mid new f h k b n =
     let same : value ≡ v = cc in
-    rw (← same) (k, b, h.1)
-second_short name value Unfinished mid new s t h k b = absurd (cc)
-second_short name value Bad mid new s t h k b = absurd (cc)
+    rw (← same) (k, b, n, h.1)
+second_short name value Unfinished mid new f h k b n = absurd (cc)
+second_short name value Bad mid new f h k b n = absurd (cc)
 
-pub both_short : (r : Reading (ℕ × Payload)) (old mid new s t : List ℕ) (name value : ℕ × Payload) → AnswersPayload r old mid (Ok name) → AnswersPayload (string 8 mid) mid new (Ok value) → StandsFor name.1 s → StandsFor value.1 t → AreTwoStrings (two_of r) s t new
-both_short (Whole n rest) old mid new s t name value h k a b =
-    let same : name ≡ n = cc in
-    rw (← same) (second_short name value (string 8 rest) rest new s t (rw h.1 at k) a b)
-both_short Unfinished old mid new s t name value h k a b = absurd (cc)
-both_short Bad old mid new s t name value h k a b = absurd (cc)
+pub both_short : (r : Reading (ℕ × Payload)) (old mid new : List ℕ) (f : Field) (name value : ℕ × Payload) → AnswersPayload r old mid (Ok name) → AnswersPayload (string 8 mid) mid new (Ok value) → StandsFor name.1 f.name → StandsFor value.1 f.value → f.never_indexed ≡ (name.0 % 2 == 1) → AreTwoStrings (two_of r) f new
+both_short (Whole m rest) old mid new f name value h k a b n =
+    let same : name ≡ m = cc in
+    rw (← same) (second_short name value (string 8 rest) rest new f (rw h.1 at k) a b n)
+both_short Unfinished old mid new f name value h k a b n = absurd (cc)
+both_short Bad old mid new f name value h k a b n = absurd (cc)

@@ -1,10 +1,10 @@
 -- What the hashes find is what a search finds.
-use Rattle.std.proofs.Common.{◌≡◌, ◌==◌, ℕ, zero, suc, ◌+◌, ◌<◌, ◌≤◌, ◌⊎◌, nat_lt, bytes_eq, Bool, true, false, not, ◌&&◌, List, [], ◌∷◌, length, Option, Some, None, refl, ap, sym, ◌∙◌, arith, inl, inr}
+use Rattle.std.proofs.Common.{◌≡◌, ◌==◌, ℕ, zero, suc, ◌+◌, ◌<◌, ◌≤◌, ◌⊎◌, nat_lt, bytes_eq, Bool, true, false, not, ◌&&◌, List, [], ◌∷◌, length, Option, Some, None, refl, ap, sym, subst, ◌∙◌, arith, inl, inr}
 use Rattle.std.specs.List.{slice_get, position_or_len}
 use Rattle.std.proofs.lemmas.Bool.{and_parts, eqb-true, leb-true, ltb-true, cases_eq, cases_lt, le-ltb, false≢true}
 use Rattle.std.proofs.lemmas.Slice.Eq.{bytes_eq-Decides}
 use Rattle.h3_huffman.specs.PayloadLaws.{bytes_same}
-use Rattle.h3_field.specs.Field.{Field, field_eq}
+use Rattle.h3_field.specs.Field.{Field, plain_field, field_eq}
 use Rattle.h3_field.specs.FieldLaws.{same_field}
 use Rattle.h3_field.specs.StaticTable.{static_name, static_field, static_table, NamesEntry}
 use Rattle.h3_field.specs.StaticTableLaws.{table_length}
@@ -45,7 +45,7 @@ names_at i (suc k) h lt =
     ]
 
 abbrev entry_of : ℕ → Field
-entry_of i = record { name = name_of i; value = value_of i }
+entry_of i = plain_field (name_of i) (value_of i)
 
 fields_at : (i k : ℕ) → all_fields field_slot name_of value_of k ≡ true → i < k → static_field (entry_of i) ≡ Some (slot_of_field field_slot (entry_of i))
 fields_at i zero h lt = absurd (omega arith)
@@ -63,10 +63,12 @@ name_match name slot is lt same =
     rw is (sym (rw same at at))
 
 -- the entry at the slot is the one that is looked for
-field_match : (f : Field) (slot : ℕ) → slot ≡ slot_of_field field_slot f → slot < 99 → name_of slot ≡ f.name → value_of slot ≡ f.value → Some slot ≡ static_field f
-field_match f slot is lt same value =
-    let at = fields_at slot 99 fields_found lt in
-    rw is (sym (rw (same, value) at at))
+field_match : (f : Field) (slot : ℕ) → slot ≡ slot_of_field field_slot f → slot < 99 → name_of slot ≡ f.name → value_of slot ≡ f.value → f.never_indexed ≡ false → Some slot ≡ static_field f
+field_match f slot is lt same value plain =
+    let flag = sym plain in
+    let e : entry_of slot ≡ f = λ i. record { name = same i; value = value i; never_indexed = flag i } in
+    let at = subst (λ (g : Field). static_field g ≡ Some (slot_of_field field_slot g)) e (fields_at slot 99 fields_found lt) in
+    rw is (sym at)
 
 -- What holds of a name that an entry has.
 pub record HasName (name : List ℕ) : Type 0 where
@@ -80,6 +82,7 @@ pub record HasField (f : Field) : Type 0 where
   pub same : name_of (slot_of_field field_slot f) ≡ f.name
   pub value : value_of (slot_of_field field_slot f) ≡ f.value
   pub some : 0 < length f.name
+  pub plain : f.never_indexed ≡ false
 
 pub two_ways : (b : Bool) → (b ≡ true) ⊎ (b ≡ false)
 two_ways true = inl refl
@@ -100,12 +103,23 @@ look_up (entry ∷ rows) name h some =
       | inr other ↦ look_up rows name parts.1 (let less = rw other at some in omega (arith, less))
     ]
 
-field_parts : (name other value more : List ℕ) → name ≡ other → value ≡ more → ◌≡◌ {A = Field} (record { name = name; value = value }) (record { name = other; value = more })
-field_parts name other value more e f = rw (e, f) refl
+-- no entry has the flag
+abbrev are_plain : List Field → Bool
+are_plain [] = true
+are_plain (entry ∷ rows) = not entry.never_indexed && are_plain rows
 
-look_up_field : (rows : List Field) (f : Field) → are_fields_found field_slot name_of value_of rows ≡ true → position_or_len (λ entry. field_eq entry f) rows < length rows → HasField f
-look_up_field [] f h some = absurd (omega arith)
-look_up_field (entry ∷ rows) f h some =
+table_plain : are_plain static_table ≡ true
+unfolding static_table
+table_plain = refl
+
+is_plain : (b : Bool) → not b ≡ true → b ≡ false
+is_plain true h = absurd (cc)
+is_plain false h = refl
+
+look_up_field : (rows : List Field) (f : Field) → are_fields_found field_slot name_of value_of rows ≡ true → are_plain rows ≡ true → position_or_len (λ entry. field_eq entry f) rows < length rows → HasField f
+look_up_field [] f h plain some = absurd (omega arith)
+look_up_field (entry ∷ rows) f h plain some =
+    let flags = and_parts (not entry.never_indexed) (are_plain rows) plain in
     let parts = and_parts _ (are_fields_found field_slot name_of value_of rows) h in
     elim (two_ways (field_eq entry f)) [
       | inl same ↦
@@ -114,9 +128,9 @@ look_up_field (entry ∷ rows) f h some =
           let d = and_parts _ (nat_lt 0 (length entry.name)) parts.0 in
           let c = and_parts _ (bytes_eq (value_of slot) entry.value) d.0 in
           let b = and_parts (nat_lt slot 99) (bytes_eq (name_of slot) entry.name) c.0 in
-          let here : HasField entry = record { lt = ltb-true _ _ b.0; same = bytes_same _ _ b.1; value = bytes_same _ _ c.1; some = ltb-true _ _ d.1 } in
+          let here : HasField entry = record { lt = ltb-true _ _ b.0; same = bytes_same _ _ b.1; value = bytes_same _ _ c.1; some = ltb-true _ _ d.1; plain = is_plain entry.never_indexed flags.0 } in
           rw e at here
-      | inr other ↦ look_up_field rows f parts.1 (let less = rw other at some in omega (arith, less))
+      | inr other ↦ look_up_field rows f parts.1 flags.1 (let less = rw other at some in omega (arith, less))
     ]
 
 name_not_found : (name : List ℕ) → (HasName name → ⊥) → None ≡ static_name name
@@ -133,7 +147,7 @@ unfolding static_field
 field_not_found f h =
     let first = position_or_len (λ (entry : Field). field_eq entry f) static_table in
     elim (cases_lt first (length static_table)) [
-      | inl some ↦ absurd (h (look_up_field static_table f entries_found some))
+      | inl some ↦ absurd (h (look_up_field static_table f entries_found table_plain some))
       | inr none ↦ rw (le-ltb first (length static_table) none) refl
     ]
 
@@ -161,23 +175,26 @@ name_place i lt = places_at name_start 1294 i 99 name_places lt
 pub value_place : (i : ℕ) → i < 99 → (value_start i ≤ value_start (i + 1)) × (value_start (i + 1) ≤ 732)
 value_place i lt = places_at value_start 732 i 99 value_places lt
 
-entry_from : (k i : ℕ) (rows : List Field) → are_entries name_of value_of k rows ≡ true → i < length rows → slice_get rows i ≡ Some (entry_of (k + i))
-entry_from k i [] h lt = absurd (omega arith)
-entry_from k zero (entry ∷ rows) h lt =
+entry_from : (k i : ℕ) (rows : List Field) → are_entries name_of value_of k rows ≡ true → are_plain rows ≡ true → i < length rows → slice_get rows i ≡ Some (entry_of (k + i))
+entry_from k i [] h plain lt = absurd (omega arith)
+entry_from k zero (entry ∷ rows) h plain lt =
     let parts = and_parts (bytes_eq (name_of k) entry.name && bytes_eq (value_of k) entry.value) _ h in
     let both = and_parts (bytes_eq (name_of k) entry.name) (bytes_eq (value_of k) entry.value) parts.0 in
-    let e : entry ≡ entry_of k = field_parts entry.name (name_of k) entry.value (value_of k) (sym (bytes_same (name_of k) entry.name both.0)) (sym (bytes_same (value_of k) entry.value both.1)) in
+    let name = sym (bytes_same (name_of k) entry.name both.0) in
+    let value = sym (bytes_same (value_of k) entry.value both.1) in
+    let flag = is_plain entry.never_indexed (and_parts (not entry.never_indexed) (are_plain rows) plain).0 in
+    let e : entry ≡ entry_of k = λ j. record { name = name j; value = value j; never_indexed = flag j } in
     let here : k + 0 ≡ k = omega arith in
     rw here (ap (λ x. Some x) e)
-entry_from k (suc i) (entry ∷ rows) h lt =
+entry_from k (suc i) (entry ∷ rows) h plain lt =
     let parts = and_parts (bytes_eq (name_of k) entry.name && bytes_eq (value_of k) entry.value) (are_entries name_of value_of (k + 1) rows) h in
     let e : k + 1 + i ≡ k + suc i = omega arith in
-    entry_from (k + 1) i rows parts.1 (omega arith) ∙ ap (λ n. Some (entry_of n)) e
+    entry_from (k + 1) i rows parts.1 (and_parts (not entry.never_indexed) (are_plain rows) plain).1 (omega arith) ∙ ap (λ n. Some (entry_of n)) e
 
-pub entry_is : (i : ℕ) (name value : List ℕ) → i < 99 → name ≡ name_of i → value ≡ value_of i → slice_get static_table i ≡ Some (record { name = name; value = value })
+pub entry_is : (i : ℕ) (name value : List ℕ) → i < 99 → name ≡ name_of i → value ≡ value_of i → slice_get static_table i ≡ Some (plain_field name value)
 entry_is i name value lt n v =
     let e : 0 + i ≡ i = omega arith in
-    rw (n, v) (entry_from 0 i static_table table_is (rw table_length lt) ∙ ap (λ k. Some (entry_of k)) e)
+    rw (n, v) (entry_from 0 i static_table table_is table_plain (rw table_length lt) ∙ ap (λ k. Some (entry_of k)) e)
 
 -- the exits of the two searches
 not_same : (a b : List ℕ) → true ≡ not (bytes_eq a b) → a ≡ b → ⊥
@@ -219,6 +236,13 @@ at_slot f hash slot s = s.slot_is ∙ ap (λ x. field_slot x) s.hash_is
 pub field_empty : (f : Field) → true ≡ (length f.name == 0) → None ≡ static_field f
 field_empty f h = field_not_found f (λ has. let none = eqb-true _ _ (sym h) in absurd (omega (arith, has.some, none)))
 
+pub field_flagged : (f : Field) → true ≡ f.never_indexed → None ≡ static_field f
+field_flagged f h = field_not_found f (λ has. absurd (false≢true (sym has.plain ∙ sym h)))
+
+-- what was found of a name and a value, of the field without the flag that they are of
+pub field_plain : (f : Field) (name value : List ℕ) (found : Option ℕ) → found ≡ static_field (plain_field name value) → name ≡ f.name → value ≡ f.value → false ≡ f.never_indexed → found ≡ static_field f
+field_plain f name value found is n v flag = is ∙ ap (λ (g : Field). static_field g) (λ i. record { name = n i; value = v i; never_indexed = flag i })
+
 pub field_free : (f : Field) (hash slot : ℕ) → Sought f hash slot → 99 ≤ slot → None ≡ static_field f
 field_free f hash slot s le = field_not_found f (λ has. absurd (omega (arith, has.lt, at_slot f hash slot s)))
 
@@ -230,9 +254,9 @@ pub field_other_value : (f : Field) (found : List ℕ) (hash slot : ℕ) → Sou
 field_other_value f found hash slot s at ne =
     field_not_found f (λ has. not_same found f.value ne (at ∙ ap (λ x. value_of x) (at_slot f hash slot s) ∙ has.value))
 
-pub field_here : (f : Field) (name value : List ℕ) (hash slot : ℕ) → Sought f hash slot → slot < 99 → name ≡ name_of slot → false ≡ not (bytes_eq name f.name) → value ≡ value_of slot → false ≡ not (bytes_eq value f.value) → Some slot ≡ static_field f
-field_here f name value hash slot s lt at eq value_at value_eq =
-    field_match f slot (at_slot f hash slot s) lt (sym at ∙ are_same name f.name eq) (sym value_at ∙ are_same value f.value value_eq)
+pub field_here : (f : Field) (name value : List ℕ) (hash slot : ℕ) → Sought f hash slot → slot < 99 → name ≡ name_of slot → false ≡ not (bytes_eq name f.name) → value ≡ value_of slot → false ≡ not (bytes_eq value f.value) → f.never_indexed ≡ false → Some slot ≡ static_field f
+field_here f name value hash slot s lt at eq value_at value_eq plain =
+    field_match f slot (at_slot f hash slot s) lt (sym at ∙ are_same name f.name eq) (sym value_at ∙ are_same value f.value value_eq) plain
 
 pub names_entry : (i : ℕ) (name : List ℕ) → i < 99 → name ≡ name_of i → NamesEntry i name
 names_entry i name lt n = record { entry = entry_of i; here = entry_is i (name_of i) (value_of i) lt refl refl; name_is = sym n }

@@ -1,5 +1,5 @@
 -- Fields whose names and values lie in one row of bytes.
-use Rattle.std.specs.Prelude.{◌≡◌, ℕ, ◌+◌, ◌-◌, ◌≤◌, List, [], ◌∷◌, ◌++◌, map, take, drop, length}
+use Rattle.std.specs.Prelude.{◌≡◌, ℕ, Bool, ◌+◌, ◌-◌, ◌≤◌, List, [], ◌∷◌, ◌++◌, map, take, drop, length}
 use Rattle.std.specs.List.{All}
 use Rattle.h3_field.specs.Field.{Field}
 use Rattle.h3_field.specs.declared.field_block.FieldPlace.{FieldPlace}
@@ -9,7 +9,7 @@ abbrev pub between : ℕ → ℕ → List ℕ → List ℕ
 between start end bytes = take (end - start) (drop start bytes)
 
 abbrev pub field_at : List ℕ → FieldPlace → Field
-field_at bytes p = record { name = between p.start p.middle bytes; value = between p.middle p.end bytes }
+field_at bytes p = record { name = between p.start p.middle bytes; value = between p.middle p.end bytes; never_indexed = p.never_indexed }
 
 abbrev pub fields_at : List ℕ → List FieldPlace → List Field
 fields_at bytes places = map (field_at bytes) places
@@ -28,8 +28,9 @@ pub record IsBlock (bytes : List ℕ) (places : List FieldPlace) : Type 0 where
   pub within : All (LiesIn (length bytes)) places
   pub whole : end_to_end (fields_at bytes places) ≡ bytes
 
--- where the next field lies: behind the bytes
-pub record IsNext (bytes name value : List ℕ) (p : FieldPlace) : Type 0 where
+-- where the next field lies: behind the bytes; and its flag
+pub record IsNext (bytes name value : List ℕ) (n : Bool) (p : FieldPlace) : Type 0 where
   pub start : p.start ≡ length bytes
   pub middle : p.middle ≡ length bytes + length name
   pub end : p.end ≡ length bytes + length name + length value
+  pub flag : p.never_indexed ≡ n

@@ -1,5 +1,5 @@
--- Field lines, and how each is written (RFC 9204, sections 4.5.2 to 4.5.6). The bit N is written 0.
-use Rattle.std.specs.Prelude.{ℕ, List, ◌++◌}
+-- Field lines, and how each is written (RFC 9204, sections 4.5.2 to 4.5.6).
+use Rattle.std.specs.Prelude.{ℕ, ◌+◌, ◌*◌, Bool, true, false, List, ◌++◌}
 use Rattle.h3_field.specs.Integer.{prefixed}
 use Rattle.h3_field.specs.StringLiteral.{string_literal}
 
@@ -10,18 +10,23 @@ pub data FieldLine : Type 0 where
   -- indexed field line with post-base index (4.5.3): | 0 | 0 | 0 | 1 | index (4+) |
   PostBaseField : (index : ℕ) → FieldLine
   -- literal field line with name reference (4.5.4): | 0 | 1 | N | T | name index (4+) | H | value length (7+) | value |
-  StaticName : (index : ℕ) (value : List ℕ) → FieldLine
-  RelativeName : (index : ℕ) (value : List ℕ) → FieldLine
+  StaticName : (index : ℕ) (value : List ℕ) (never_indexed : Bool) → FieldLine
+  RelativeName : (index : ℕ) (value : List ℕ) (never_indexed : Bool) → FieldLine
   -- literal field line with post-base name reference (4.5.5): | 0 | 0 | 0 | 0 | N | name index (3+) | H | value length (7+) | value |
-  PostBaseName : (index : ℕ) (value : List ℕ) → FieldLine
+  PostBaseName : (index : ℕ) (value : List ℕ) (never_indexed : Bool) → FieldLine
   -- literal field line with literal name (4.5.6): | 0 | 0 | 1 | N | H | name length (3+) | name | H | value length (7+) | value |
-  Literal : (name value : List ℕ) → FieldLine
+  Literal : (name value : List ℕ) (never_indexed : Bool) → FieldLine
+
+-- the bit N
+abbrev pub bit_n : Bool → ℕ
+bit_n true = 1
+bit_n false = 0
 
 abbrev pub line_bytes : FieldLine → List ℕ
 line_bytes (StaticField index) = prefixed 6 3 index
 line_bytes (RelativeField index) = prefixed 6 2 index
 line_bytes (PostBaseField index) = prefixed 4 1 index
-line_bytes (StaticName index value) = prefixed 4 5 index ++ string_literal 8 0 value
-line_bytes (RelativeName index value) = prefixed 4 4 index ++ string_literal 8 0 value
-line_bytes (PostBaseName index value) = prefixed 3 0 index ++ string_literal 8 0 value
-line_bytes (Literal name value) = string_literal 4 2 name ++ string_literal 8 0 value
+line_bytes (StaticName index value n) = prefixed 4 (5 + 2 * bit_n n) index ++ string_literal 8 0 value
+line_bytes (RelativeName index value n) = prefixed 4 (4 + 2 * bit_n n) index ++ string_literal 8 0 value
+line_bytes (PostBaseName index value n) = prefixed 3 (bit_n n) index ++ string_literal 8 0 value
+line_bytes (Literal name value n) = string_literal 4 (2 + bit_n n) name ++ string_literal 8 0 value

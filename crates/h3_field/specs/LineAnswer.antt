@@ -1,6 +1,7 @@
 -- What the calls of field lines read and write.
-use Rattle.std.specs.Prelude.{◌≡◌, ◌<◌, ◌≤◌, ◌^◌, ℕ, List, length, Result, Ok, Err}
+use Rattle.std.specs.Prelude.{◌≡◌, ◌<◌, ◌≤◌, ◌^◌, ℕ, Bool, List, length, Result, Ok, Err}
 use Rattle.h3_field.specs.Reading.{Reading, Whole, Unfinished, Bad}
+use Rattle.h3_field.specs.Field.{Field}
 use Rattle.h3_field.specs.Line.{FieldLine}
 use Rattle.h3_field.specs.Line.{FieldLine as of}
 use Rattle.h3_field.specs.LineReading.{LineForm, Indexed, PostBase, Named, PostBaseNamed, LiteralField, SaysLine, HasString}
@@ -25,36 +26,53 @@ abbrev pub post_base_line : IndexedWithPostBase → FieldLine
 post_base_line l = of.PostBaseField l.0
 
 abbrev pub named_line : named.LiteralWithNameRef → FieldLine
-named_line (named.TheVariants.Static index value) = of.StaticName index value.items
-named_line (named.TheVariants.Dynamic index value) = of.RelativeName index value.items
+named_line (named.TheVariants.Static index value n) = of.StaticName index value.items n
+named_line (named.TheVariants.Dynamic index value n) = of.RelativeName index value.items n
 
-abbrev pub short_named_line : List ℕ → name_ref.NameRef → FieldLine
-short_named_line value (name_ref.TheVariants.Static index) = of.StaticName index value
-short_named_line value (name_ref.TheVariants.Dynamic index) = of.RelativeName index value
+-- the same with that bit N
+abbrev pub named_with : named.LiteralWithNameRef → Bool → named.LiteralWithNameRef
+named_with (named.TheVariants.Static index value old) n = named.TheVariants.Static index value n
+named_with (named.TheVariants.Dynamic index value old) n = named.TheVariants.Dynamic index value n
+
+-- of a name, by the value and the bit N
+abbrev pub line_of_name : List ℕ → Bool → name_ref.NameRef → FieldLine
+line_of_name value n (name_ref.TheVariants.Static index) = of.StaticName index value n
+line_of_name value n (name_ref.TheVariants.Dynamic index) = of.RelativeName index value n
+
+-- of a value, by a name and the bit N
+abbrev pub short_named_line : List ℕ → name_ref.NameRef × Bool → FieldLine
+short_named_line value head = line_of_name value head.1 head.0
+
+-- of a value, by a post-base index and the bit N
+abbrev pub short_post_base_named_line : List ℕ → ℕ × Bool → FieldLine
+short_post_base_named_line value head = of.PostBaseName head.0 value head.1
 
 abbrev pub post_base_named_line : LiteralWithPostBaseNameRef → FieldLine
-post_base_named_line l = of.PostBaseName l.index l.value.items
+post_base_named_line l = of.PostBaseName l.index l.value.items l.never_indexed
 
 abbrev pub literal_line : Literal → FieldLine
-literal_line l = of.Literal l.name.items l.value.items
+literal_line l = of.Literal l.name.items l.value.items l.never_indexed
+
+abbrev pub field_line : Field → FieldLine
+field_line f = of.Literal f.name f.value f.never_indexed
 
 -- indexes and lengths that a writer takes
 abbrev pub IsWritable : FieldLine → Type 0
 IsWritable (of.StaticField index) = index < 2 ^ 62
 IsWritable (of.RelativeField index) = index < 2 ^ 62
 IsWritable (of.PostBaseField index) = index < 2 ^ 62
-IsWritable (of.StaticName index value) = (index < 2 ^ 62) × (length value < 2 ^ 62)
-IsWritable (of.RelativeName index value) = (index < 2 ^ 62) × (length value < 2 ^ 62)
-IsWritable (of.PostBaseName index value) = (index < 2 ^ 62) × (length value < 2 ^ 62)
-IsWritable (of.Literal name value) = (length name < 2 ^ 62) × (length value < 2 ^ 62)
+IsWritable (of.StaticName index value n) = (index < 2 ^ 62) × (length value < 2 ^ 62)
+IsWritable (of.RelativeName index value n) = (index < 2 ^ 62) × (length value < 2 ^ 62)
+IsWritable (of.PostBaseName index value n) = (index < 2 ^ 62) × (length value < 2 ^ 62)
+IsWritable (of.Literal name value n) = (length name < 2 ^ 62) × (length value < 2 ^ 62)
 
 -- Each string of the line is one, and not all are empty.
 abbrev pub LineTakesMemory : LineForm → Type 0
 LineTakesMemory (Indexed is_static index) = ⊥
 LineTakesMemory (PostBase index) = ⊥
-LineTakesMemory (Named is_static index value) = TakesMemory value
-LineTakesMemory (PostBaseNamed index value) = TakesMemory value
-LineTakesMemory (LiteralField name value) = TakeMemory name value
+LineTakesMemory (Named is_static index value n) = TakesMemory value
+LineTakesMemory (PostBaseNamed index value n) = TakesMemory value
+LineTakesMemory (LiteralField name value n) = TakeMemory name value
 
 -- The line, and what stands behind it is left; or why it is none, and nothing is taken. Memory is asked for by strings
 -- alone; only a string of a whole line is refused, and as want of memory only where the line is one.

@@ -1,5 +1,5 @@
 -- What holds of the reading of field lines.
-use Rattle.std.proofs.Common.{◌≡◌, ℕ, ◌%◌, ◌==◌, ◌<◌, true, List, ◌++◌, length, refl}
+use Rattle.std.proofs.Common.{◌≡◌, ℕ, ◌/◌, ◌%◌, ◌==◌, ◌<◌, true, List, ◌++◌, length, refl}
 use Rattle.h3_huffman.specs.Huffman.{huffman}
 use Rattle.h3_field.specs.Integer.{prefixed}
 use Rattle.h3_field.specs.StringLiteral.{string_literal}
@@ -17,13 +17,13 @@ pub post_base_read : (flags index : ℕ) (rest : List ℕ) → index < integer_l
 post_base_read flags index rest h = rw (prefixed_read 4 flags index rest h) refl
 
 pub named_read : (flags index : ℕ) (value rest : List ℕ) → index < integer_limit 4 → length (huffman value) < integer_limit 7 →
-    named ((prefixed 4 flags index ++ string_literal 8 0 value) ++ rest) ≡ Whole (Named (flags % 2 == 1) index (record { is_huffman = true; bytes = huffman value })) rest
+    named ((prefixed 4 flags index ++ string_literal 8 0 value) ++ rest) ≡ Whole (Named (flags % 2 == 1) index (record { is_huffman = true; bytes = huffman value }) (flags / 2 % 2 == 1)) rest
 named_read flags index value rest h k = rw (index_and_string_read 4 flags index value rest h k) refl
 
 pub post_base_named_read : (flags index : ℕ) (value rest : List ℕ) → index < integer_limit 3 → length (huffman value) < integer_limit 7 →
-    post_base_named ((prefixed 3 flags index ++ string_literal 8 0 value) ++ rest) ≡ Whole (PostBaseNamed index (record { is_huffman = true; bytes = huffman value })) rest
+    post_base_named ((prefixed 3 flags index ++ string_literal 8 0 value) ++ rest) ≡ Whole (PostBaseNamed index (record { is_huffman = true; bytes = huffman value }) (flags % 2 == 1)) rest
 post_base_named_read flags index value rest h k = rw (index_and_string_read 3 flags index value rest h k) refl
 
 pub literal_read : (flags : ℕ) (name value rest : List ℕ) → length (huffman name) < integer_limit 3 → length (huffman value) < integer_limit 7 →
-    literal ((string_literal 4 flags name ++ string_literal 8 0 value) ++ rest) ≡ Whole (LiteralField (record { is_huffman = true; bytes = huffman name }) (record { is_huffman = true; bytes = huffman value })) rest
+    literal ((string_literal 4 flags name ++ string_literal 8 0 value) ++ rest) ≡ Whole (LiteralField (record { is_huffman = true; bytes = huffman name }) (record { is_huffman = true; bytes = huffman value }) (flags % 2 == 1)) rest
 literal_read flags name value rest h k = rw (two_strings_read 4 flags name value rest h k) refl

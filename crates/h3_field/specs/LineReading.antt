@@ -1,5 +1,5 @@
 -- How a field line is read (RFC 9204, sections 4.5.2 to 4.5.6). Its payloads are judged only once it is whole.
-use Rattle.std.specs.Prelude.{◌≡◌, ◌==◌, ℕ, ◌%◌, Bool, true, false, List, [], ◌∷◌, if◌then◌else◌, nat_le}
+use Rattle.std.specs.Prelude.{◌≡◌, ◌==◌, ℕ, ◌/◌, ◌%◌, Bool, true, false, List, [], ◌∷◌, if◌then◌else◌, nat_le}
 use Rattle.h3_field.specs.Reading.{Reading, Whole, Unfinished, then_read}
 use Rattle.h3_field.specs.IntegerReading.{integer}
 use Rattle.h3_field.specs.StringReading.{Payload, StandsFor}
@@ -11,17 +11,17 @@ use Rattle.h3_field.specs.Line.FieldLine.{StaticField, RelativeField, PostBaseFi
 pub data LineForm : Type 0 where
   Indexed : (is_static : Bool) (index : ℕ) → LineForm
   PostBase : (index : ℕ) → LineForm
-  Named : (is_static : Bool) (index : ℕ) (value : Payload) → LineForm
-  PostBaseNamed : (index : ℕ) (value : Payload) → LineForm
-  LiteralField : (name value : Payload) → LineForm
+  Named : (is_static : Bool) (index : ℕ) (value : Payload) (never_indexed : Bool) → LineForm
+  PostBaseNamed : (index : ℕ) (value : Payload) (never_indexed : Bool) → LineForm
+  LiteralField : (name value : Payload) (never_indexed : Bool) → LineForm
 
 -- The line has a string of its own.
 abbrev pub HasString : LineForm → Type 0
 HasString (Indexed is_static index) = ⊥
 HasString (PostBase index) = ⊥
-HasString (Named is_static index value) = Unit {0}
-HasString (PostBaseNamed index value) = Unit {0}
-HasString (LiteralField name value) = Unit {0}
+HasString (Named is_static index value n) = Unit {0}
+HasString (PostBaseNamed index value n) = Unit {0}
+HasString (LiteralField name value n) = Unit {0}
 
 abbrev pub indexed : List ℕ → Reading LineForm
 indexed bytes = then_read (integer 6 bytes) (λ head rest. Whole (Indexed (head.0 % 2 == 1) head.1) rest)
@@ -29,14 +29,15 @@ indexed bytes = then_read (integer 6 bytes) (λ head rest. Whole (Indexed (head.
 abbrev pub post_base : List ℕ → Reading LineForm
 post_base bytes = then_read (integer 4 bytes) (λ head rest. Whole (PostBase head.1) rest)
 
+-- The bit N is above the bit T, and else the lowest flag.
 abbrev pub named : List ℕ → Reading LineForm
-named bytes = then_read (index_and_string 4 bytes) (λ parts rest. Whole (Named (parts.flags % 2 == 1) parts.index parts.value) rest)
+named bytes = then_read (index_and_string 4 bytes) (λ parts rest. Whole (Named (parts.flags % 2 == 1) parts.index parts.value (parts.flags / 2 % 2 == 1)) rest)
 
 abbrev pub post_base_named : List ℕ → Reading LineForm
-post_base_named bytes = then_read (index_and_string 3 bytes) (λ parts rest. Whole (PostBaseNamed parts.index parts.value) rest)
+post_base_named bytes = then_read (index_and_string 3 bytes) (λ parts rest. Whole (PostBaseNamed parts.index parts.value (parts.flags % 2 == 1)) rest)
 
 abbrev pub literal : List ℕ → Reading LineForm
-literal bytes = then_read (two_strings 4 bytes) (λ parts rest. Whole (LiteralField parts.name parts.value) rest)
+literal bytes = then_read (two_strings 4 bytes) (λ parts rest. Whole (LiteralField parts.name parts.value (parts.flags % 2 == 1)) rest)
 
 -- by the top bits of the first byte
 abbrev pub line : List ℕ → Reading LineForm
@@ -52,7 +53,7 @@ abbrev pub SaysLine : LineForm → FieldLine → Type 0
 SaysLine (Indexed true index) l = l ≡ StaticField index
 SaysLine (Indexed false index) l = l ≡ RelativeField index
 SaysLine (PostBase index) l = l ≡ PostBaseField index
-SaysLine (Named true index payload) l = (value : List ℕ) × StandsFor payload value × (l ≡ StaticName index value)
-SaysLine (Named false index payload) l = (value : List ℕ) × StandsFor payload value × (l ≡ RelativeName index value)
-SaysLine (PostBaseNamed index payload) l = (value : List ℕ) × StandsFor payload value × (l ≡ PostBaseName index value)
-SaysLine (LiteralField first second) l = (name value : List ℕ) × StandsFor first name × StandsFor second value × (l ≡ Literal name value)
+SaysLine (Named true index payload n) l = (value : List ℕ) × StandsFor payload value × (l ≡ StaticName index value n)
+SaysLine (Named false index payload n) l = (value : List ℕ) × StandsFor payload value × (l ≡ RelativeName index value n)
+SaysLine (PostBaseNamed index payload n) l = (value : List ℕ) × StandsFor payload value × (l ≡ PostBaseName index value n)
+SaysLine (LiteralField first second n) l = (name value : List ℕ) × StandsFor first name × StandsFor second value × (l ≡ Literal name value n)

@@ -22,10 +22,10 @@ abbrev pub IsLineOfBytes : FieldLine → Type 0
 IsLineOfBytes (StaticField index) = Unit {0}
 IsLineOfBytes (RelativeField index) = Unit {0}
 IsLineOfBytes (PostBaseField index) = Unit {0}
-IsLineOfBytes (StaticName index value) = AreBytes value
-IsLineOfBytes (RelativeName index value) = AreBytes value
-IsLineOfBytes (PostBaseName index value) = AreBytes value
-IsLineOfBytes (Literal name value) = AreBytes name × AreBytes value
+IsLineOfBytes (StaticName index value n) = AreBytes value
+IsLineOfBytes (RelativeName index value n) = AreBytes value
+IsLineOfBytes (PostBaseName index value n) = AreBytes value
+IsLineOfBytes (Literal name value n) = AreBytes name × AreBytes value
 
 abbrev pub IsInstructionOfBytes : EncoderInstruction → Type 0
 IsInstructionOfBytes (SetCapacity capacity) = Unit {0}

@@ -1,15 +1,15 @@
 -- What is written is read back, whatever follows.
-use Rattle.std.proofs.Common.{◌≡◌, ℕ, ◌+◌, ◌-◌, ◌*◌, ◌^◌, ◌<◌, ◌≤◌, nat_le, true, false, List, [], ◌∷◌, ◌++◌, length, refl, sym, ◌∙◌, arith, inl, inr, append_assoc, length-append}
+use Rattle.std.proofs.Common.{◌≡◌, ℕ, ◌+◌, ◌-◌, ◌*◌, ◌/◌, ◌%◌, ◌^◌, ◌==◌, ◌<◌, ◌≤◌, nat_le, Bool, true, false, List, [], ◌∷◌, ◌++◌, length, refl, sym, ◌∙◌, arith, inl, inr, append_assoc, length-append}
 use Rattle.std.proofs.lemmas.Bool.{le-leb, lt-leb, lt-ltb, le-ltb, cases_lt, and_parts, leb-true}
 use Rattle.std.proofs.lemmas.Nat.{pow_pos}
 use Rattle.h3_huffman.specs.Huffman.{huffman}
 use Rattle.h3_field.specs.Integer.{prefixed, ones, groups}
 use Rattle.h3_field.specs.IntegerReading.{integer_limit}
 use Rattle.h3_field.specs.StringLiteral.{string_literal}
-use Rattle.h3_field.specs.StringReading.{StandsFor}
+use Rattle.h3_field.specs.StringReading.{Payload, StandsFor}
 use Rattle.h3_field.specs.Reading.{Whole}
 use Rattle.h3_field.specs.Shapes.{begins}
-use Rattle.h3_field.specs.Line.{FieldLine, line_bytes}
+use Rattle.h3_field.specs.Line.{FieldLine, bit_n, line_bytes}
 use Rattle.h3_field.specs.Line.FieldLine.{StaticField, RelativeField, PostBaseField, StaticName, RelativeName, PostBaseName, Literal}
 use Rattle.h3_field.specs.LineReading.{Indexed, PostBase, Named, PostBaseNamed, LiteralField}
 use Rattle.h3_field.specs.LineLaws.{indexed_read, post_base_read, named_read, post_base_named_read, literal_read}
@@ -60,6 +60,27 @@ begins_string size flags low high bytes more rest a b =
     let p = prefixed (size - 1) (2 * flags + 1) (length (huffman bytes)) in
     rw (append_assoc p (huffman bytes) more) (begins_pair (size - 1) (2 * flags + 1) (length (huffman bytes)) low high (huffman bytes ++ more) rest a b)
 
+below : (n : Bool) → bit_n n < 2
+below true = omega arith
+below false = omega arith
+
+-- the bits N and T of what is written are read
+static_flags : (n : Bool) (index : ℕ) (value : Payload) (rest : List ℕ) → Whole (Named ((5 + 2 * bit_n n) % 2 == 1) index value ((5 + 2 * bit_n n) / 2 % 2 == 1)) rest ≡ Whole (Named true index value n) rest
+static_flags true index value rest = refl
+static_flags false index value rest = refl
+
+relative_flags : (n : Bool) (index : ℕ) (value : Payload) (rest : List ℕ) → Whole (Named ((4 + 2 * bit_n n) % 2 == 1) index value ((4 + 2 * bit_n n) / 2 % 2 == 1)) rest ≡ Whole (Named false index value n) rest
+relative_flags true index value rest = refl
+relative_flags false index value rest = refl
+
+post_base_flags : (n : Bool) (index : ℕ) (value : Payload) (rest : List ℕ) → Whole (PostBaseNamed index value (bit_n n % 2 == 1)) rest ≡ Whole (PostBaseNamed index value n) rest
+post_base_flags true index value rest = refl
+post_base_flags false index value rest = refl
+
+literal_flags : (n : Bool) (name value : Payload) (rest : List ℕ) → Whole (LiteralField name value ((2 + bit_n n) % 2 == 1)) rest ≡ Whole (LiteralField name value n) rest
+literal_flags true name value rest = refl
+literal_flags false name value rest = refl
+
 pub line_reads_back : (l : FieldLine) (rest : List ℕ) → IsWritable l → IsLineOfBytes l → length (line_bytes l) < 2 ^ 63 → HasLine (line_bytes l ++ rest) l rest
 line_reads_back (StaticField index) rest w b fits =
     let begin = begins_prefixed 6 3 index 128 255 rest (omega arith) (omega arith) in
@@ -70,23 +91,27 @@ line_reads_back (RelativeField index) rest w b fits =
 line_reads_back (PostBaseField index) rest w b fits =
     let begin = begins_prefixed 4 1 index 16 31 rest (omega arith) (omega arith) in
     record { form = PostBase index; whole = line_post_base _ begin.1 begin.0 ∙ post_base_read 1 index rest (omega (arith, w)); says = refl }
-line_reads_back (StaticName index value) rest w b fits =
-    let begin = begins_pair 4 5 index 64 127 (string_literal 8 0 value) rest (omega arith) (omega arith) in
-    let len = string_fits 8 0 value (behind (prefixed 4 5 index) (string_literal 8 0 value) fits) in
-    record { form = Named true index _; whole = line_named _ begin.1 begin.0 ∙ named_read 5 index value rest (omega (arith, w.0)) (in_range 7 _ len); says = (value, coded value b, refl) }
-line_reads_back (RelativeName index value) rest w b fits =
-    let begin = begins_pair 4 4 index 64 127 (string_literal 8 0 value) rest (omega arith) (omega arith) in
-    let len = string_fits 8 0 value (behind (prefixed 4 4 index) (string_literal 8 0 value) fits) in
-    record { form = Named false index _; whole = line_named _ begin.1 begin.0 ∙ named_read 4 index value rest (omega (arith, w.0)) (in_range 7 _ len); says = (value, coded value b, refl) }
-line_reads_back (PostBaseName index value) rest w b fits =
-    let begin = begins_pair 3 0 index 0 15 (string_literal 8 0 value) rest (omega arith) (omega arith) in
-    let len = string_fits 8 0 value (behind (prefixed 3 0 index) (string_literal 8 0 value) fits) in
-    record { form = PostBaseNamed index _; whole = line_post_base_named _ begin.1 begin.0 ∙ post_base_named_read 0 index value rest (omega (arith, w.0)) (in_range 7 _ len); says = (value, coded value b, refl) }
-line_reads_back (Literal name value) rest w b fits =
-    let begin = begins_string 4 2 32 63 name (string_literal 8 0 value) rest (omega arith) (omega arith) in
-    let first = string_fits 4 2 name (before (string_literal 4 2 name) (string_literal 8 0 value) fits) in
-    let second = string_fits 8 0 value (behind (string_literal 4 2 name) (string_literal 8 0 value) fits) in
-    record { form = LiteralField _ _; whole = line_literal _ begin.1 begin.0 ∙ literal_read 2 name value rest (in_range 3 _ first) (in_range 7 _ second); says = (name, value, coded name b.0, coded value b.1, refl) }
+line_reads_back (StaticName index value n) rest w b fits =
+    let begin = begins_pair 4 (5 + 2 * bit_n n) index 64 127 (string_literal 8 0 value) rest (omega (arith, below n)) (omega (arith, below n)) in
+    let len = string_fits 8 0 value (behind (prefixed 4 (5 + 2 * bit_n n) index) (string_literal 8 0 value) fits) in
+    let whole = line_named _ begin.1 begin.0 ∙ named_read (5 + 2 * bit_n n) index value rest (omega (arith, w.0)) (in_range 7 _ len) in
+    record { form = Named true index _ n; whole = whole ∙ static_flags n index _ rest; says = (value, coded value b, refl) }
+line_reads_back (RelativeName index value n) rest w b fits =
+    let begin = begins_pair 4 (4 + 2 * bit_n n) index 64 127 (string_literal 8 0 value) rest (omega (arith, below n)) (omega (arith, below n)) in
+    let len = string_fits 8 0 value (behind (prefixed 4 (4 + 2 * bit_n n) index) (string_literal 8 0 value) fits) in
+    let whole = line_named _ begin.1 begin.0 ∙ named_read (4 + 2 * bit_n n) index value rest (omega (arith, w.0)) (in_range 7 _ len) in
+    record { form = Named false index _ n; whole = whole ∙ relative_flags n index _ rest; says = (value, coded value b, refl) }
+line_reads_back (PostBaseName index value n) rest w b fits =
+    let begin = begins_pair 3 (bit_n n) index 0 15 (string_literal 8 0 value) rest (omega arith) (omega (arith, below n)) in
+    let len = string_fits 8 0 value (behind (prefixed 3 (bit_n n) index) (string_literal 8 0 value) fits) in
+    let whole = line_post_base_named _ begin.1 begin.0 ∙ post_base_named_read (bit_n n) index value rest (omega (arith, w.0)) (in_range 7 _ len) in
+    record { form = PostBaseNamed index _ n; whole = whole ∙ post_base_flags n index _ rest; says = (value, coded value b, refl) }
+line_reads_back (Literal name value n) rest w b fits =
+    let begin = begins_string 4 (2 + bit_n n) 32 63 name (string_literal 8 0 value) rest (omega (arith, below n)) (omega (arith, below n)) in
+    let first = string_fits 4 (2 + bit_n n) name (before (string_literal 4 (2 + bit_n n) name) (string_literal 8 0 value) fits) in
+    let second = string_fits 8 0 value (behind (string_literal 4 (2 + bit_n n) name) (string_literal 8 0 value) fits) in
+    let whole = line_literal _ begin.1 begin.0 ∙ literal_read (2 + bit_n n) name value rest (in_range 3 _ first) (in_range 7 _ second) in
+    record { form = LiteralField _ _ n; whole = whole ∙ literal_flags n _ _ rest; says = (name, value, coded name b.0, coded value b.1, refl) }
 
 -- which instruction the first byte begins
 pub instruction_named : (bytes : List ℕ) → 0 < length bytes → begins 128 255 bytes ≡ true → instruction bytes ≡ name_reference bytes

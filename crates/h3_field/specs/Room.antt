@@ -10,8 +10,8 @@ HasRoom spare bytes = 0 < vec_len bytes → vec_len bytes + spare ≤ vec_capaci
 
 -- the value of a line, with its block
 abbrev pub line_value : line.LiteralWithNameRef → Vec ℕ Global
-line_value (line.TheVariants.Static index value) = value
-line_value (line.TheVariants.Dynamic index value) = value
+line_value (line.TheVariants.Static index value n) = value
+line_value (line.TheVariants.Dynamic index value n) = value
 
 -- the value of an insertion, with its block
 abbrev pub inserted_value : insertion.InsertWithNameRef → Vec ℕ Global

@@ -1,5 +1,5 @@
 -- Encoded field sections (RFC 9204, section 4.5) as lists of field lines, and those that name no dynamic entry.
-use Rattle.std.specs.Prelude.{◌≡◌, ◌+◌, ◌<◌, ◌≤◌, ◌^◌, ◌-◌, ℕ, List, [], ◌∷◌, ◌++◌, min, flat_map, slice_get, Option, Some, None, option_map}
+use Rattle.std.specs.Prelude.{◌≡◌, ◌+◌, ◌<◌, ◌≤◌, ◌^◌, ◌-◌, ℕ, Bool, List, [], ◌∷◌, ◌++◌, min, flat_map, slice_get, Option, Some, None, option_map}
 use Rattle.h3_field.specs.Field.{Field, field_size}
 use Rattle.h3_field.specs.StaticTable.{static_table, static_field, static_name}
 use Rattle.h3_field.specs.Line.{FieldLine, line_bytes}
@@ -19,29 +19,30 @@ pub data AreLines : List ℕ → List FieldLine → Type 0 where
   NoLine : AreLines [] []
   NextLine : (bytes rest : List ℕ) (l : FieldLine) (ls : List FieldLine) → HasLine bytes l rest → AreLines rest ls → AreLines bytes (l ∷ ls)
 
--- a present entry's name with another value
-abbrev pub with_value : List ℕ → Option Field → Option Field
-with_value value entry = option_map (λ e. record { name = e.name; value = value }) entry
+-- a present entry's name with another value and flag
+abbrev pub with_value : List ℕ → Bool → Option Field → Option Field
+with_value value n entry = option_map (λ e. record { name = e.name; value = value; never_indexed = n }) entry
 
 -- the field of a line that names no dynamic entry
 abbrev pub line_field : FieldLine → Option Field
 line_field (StaticField index) = slice_get static_table index
-line_field (StaticName index value) = with_value value (slice_get static_table index)
-line_field (Literal name value) = Some (record { name = name; value = value })
+line_field (StaticName index value n) = with_value value n (slice_get static_table index)
+line_field (Literal name value n) = Some (record { name = name; value = value; never_indexed = n })
 line_field (RelativeField index) = None
 line_field (PostBaseField index) = None
-line_field (RelativeName index value) = None
-line_field (PostBaseName index value) = None
+line_field (RelativeName index value n) = None
+line_field (PostBaseName index value n) = None
 
 abbrev pub literal_line : Option ℕ → Field → FieldLine
-literal_line (Some index) f = StaticName index f.value
-literal_line None f = Literal f.name f.value
+literal_line (Some index) f = StaticName index f.value f.never_indexed
+literal_line None f = Literal f.name f.value f.never_indexed
 
 abbrev pub line_or_literal : Option ℕ → Field → FieldLine
 line_or_literal (Some index) f = StaticField index
 line_or_literal None f = literal_line (static_name f.name) f
 
--- the line of a field that names no dynamic entry: the equal static entry, or a literal with a static or literal name
+-- The line of a field that names no dynamic entry: the equal static entry, or a literal with a static or literal name. No entry has the
+-- flag, so a field with it is a literal.
 abbrev pub static_line : Field → FieldLine
 static_line f = line_or_literal (static_field f) f
 

@@ -1,5 +1,5 @@
 -- The steps of reading a field section.
-use Rattle.std.proofs.Common.{◌≡◌, ℕ, ◌<◌, nat_le, true, List, [], ◌∷◌, length, Some, Ok, refl, sym, ◌∙◌, arith}
+use Rattle.std.proofs.Common.{◌≡◌, ℕ, Bool, ◌<◌, nat_le, true, List, [], ◌∷◌, length, Some, Ok, refl, sym, ◌∙◌, arith}
 use Rattle.std.specs.List.{slice_get}
 use Rattle.std.proofs.lemmas.Bool.{and_parts, leb-true, lt-leb}
 use Rattle.h3_field.specs.Reading.{Reading, Whole, Unfinished, Bad}
@@ -62,5 +62,5 @@ has_line place line_of (Whole form rest) old new l e h = record { form = form; w
 has_line place line_of Unfinished old new l e h = absurd (cc)
 has_line place line_of Bad old new l e h = absurd (cc)
 
-pub named_entry : (index : ℕ) (name value : List ℕ) → NamesEntry index name → with_value value (slice_get static_table index) ≡ Some (record { name = name; value = value })
-named_entry index name value n = rw (n.here, n.name_is) refl
+pub named_entry : (index : ℕ) (name value : List ℕ) (flag : Bool) → NamesEntry index name → with_value value flag (slice_get static_table index) ≡ Some (record { name = name; value = value; never_indexed = flag })
+named_entry index name value flag n = rw (n.here, n.name_is) refl

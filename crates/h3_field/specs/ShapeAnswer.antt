@@ -1,5 +1,6 @@
 -- What the readers of an integer and a string, and of two strings, answer.
-use Rattle.std.specs.Prelude.{◌≡◌, ◌⊎◌, ◌+◌, ◌<◌, ℕ, true, List, length, is_some, Result, Ok, Err}
+use Rattle.std.specs.Prelude.{◌≡◌, ◌==◌, ◌⊎◌, ◌+◌, ◌%◌, ◌<◌, ℕ, true, List, length, is_some, Result, Ok, Err}
+use Rattle.h3_field.specs.Field.{Field}
 use Rattle.h3_field.specs.Reading.{Reading, Whole, Unfinished, Bad}
 use Rattle.h3_field.specs.StringReading.{Payload, StandsFor, StandsForNone}
 use Rattle.h3_field.specs.StringAnswer.{TakesMemory, of_integer}
@@ -63,13 +64,13 @@ AnswersIndexAndString place (Whole p rest) old new (Err e) = IsRefused (TakesMem
 AnswersIndexAndString place Unfinished old new result = (result ≡ Err (error_at place UnexpectedEnd)) × (new ≡ old)
 AnswersIndexAndString place Bad old new result = (result ≡ Err (error_at place Overflow)) × (new ≡ old)
 
--- the strings of two payloads
-abbrev pub AnswersBothStrings : Payload → Payload → Result TwoStrings ParseError → Type 0
-AnswersBothStrings first second (Ok r) = StandsFor first r.name.items × StandsFor second r.value.items
-AnswersBothStrings first second (Err e) = IsRefused (TakeMemory first second) (StandsForNone first ⊎ StandsForNone second) e
+-- the strings of two payloads, and the flags
+abbrev pub AnswersBothStrings : ℕ → Payload → Payload → Result TwoStrings ParseError → Type 0
+AnswersBothStrings flags first second (Ok r) = (r.flags ≡ flags) × StandsFor first r.name.items × StandsFor second r.value.items
+AnswersBothStrings flags first second (Err e) = IsRefused (TakeMemory first second) (StandsForNone first ⊎ StandsForNone second) e
 
 abbrev pub AnswersTwoStrings : Reading shape.TwoStrings → List ℕ → List ℕ → Result TwoStrings ParseError → Type 0
-AnswersTwoStrings (Whole p rest) old new (Ok r) = StandsFor p.name r.name.items × StandsFor p.value r.value.items × (new ≡ rest)
+AnswersTwoStrings (Whole p rest) old new (Ok r) = (r.flags ≡ p.flags) × StandsFor p.name r.name.items × StandsFor p.value r.value.items × (new ≡ rest)
 AnswersTwoStrings (Whole p rest) old new (Err e) = IsRefused (TakeMemory p.name p.value) (StandsForNone p.name ⊎ StandsForNone p.value) e × (new ≡ old)
 AnswersTwoStrings Unfinished old new result = (result ≡ Err (error_at AtString UnexpectedEnd)) × (new ≡ old)
 AnswersTwoStrings Bad old new result = (result ≡ Err (error_at AtString Overflow)) × (new ≡ old)
@@ -80,8 +81,8 @@ IsIndexAndString (Whole p rest) head value new = (head.flags ≡ p.flags) × (he
 IsIndexAndString Unfinished head value new = ⊥
 IsIndexAndString Bad head value new = ⊥
 
--- what is read is these two strings
-abbrev pub AreTwoStrings : Reading shape.TwoStrings → List ℕ → List ℕ → List ℕ → Type 0
-AreTwoStrings (Whole p rest) name value new = StandsFor p.name name × StandsFor p.value value × (new ≡ rest)
-AreTwoStrings Unfinished name value new = ⊥
-AreTwoStrings Bad name value new = ⊥
+-- what is read is these two strings, and the lowest flag
+abbrev pub AreTwoStrings : Reading shape.TwoStrings → Field → List ℕ → Type 0
+AreTwoStrings (Whole p rest) f new = StandsFor p.name f.name × StandsFor p.value f.value × (f.never_indexed ≡ (p.flags % 2 == 1)) × (new ≡ rest)
+AreTwoStrings Unfinished f new = ⊥
+AreTwoStrings Bad f new = ⊥

@@ -25,7 +25,7 @@ index_and_string_read size flags index value rest h k =
     rw (front, prefixed_read size flags index (string_literal 8 0 value ++ rest) h, string_literal_read 8 0 value rest k) refl
 
 pub two_strings_read : (size flags : ℕ) (name value rest : List ℕ) → length (huffman name) < integer_limit (size - 1) → length (huffman value) < integer_limit 7 →
-    two_strings size ((string_literal size flags name ++ string_literal 8 0 value) ++ rest) ≡ Whole (record { name = record { is_huffman = true; bytes = huffman name }; value = record { is_huffman = true; bytes = huffman value } }) rest
+    two_strings size ((string_literal size flags name ++ string_literal 8 0 value) ++ rest) ≡ Whole (record { flags = flags; name = record { is_huffman = true; bytes = huffman name }; value = record { is_huffman = true; bytes = huffman value } }) rest
 two_strings_read size flags name value rest h k =
     let front = append_assoc (string_literal size flags name) (string_literal 8 0 value) rest in
     rw (front, string_literal_read size flags name (string_literal 8 0 value ++ rest) h, string_literal_read 8 0 value rest k) refl

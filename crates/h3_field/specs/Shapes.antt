@@ -21,6 +21,7 @@ index_and_string size bytes =
     Whole (record { flags = head.0; index = head.1; value = value.1 }) after))
 
 pub record TwoStrings : Type 0 where
+  pub flags : ℕ
   pub name : Payload
   pub value : Payload
 
@@ -28,4 +29,4 @@ abbrev pub two_strings : ℕ → List ℕ → Reading TwoStrings
 two_strings size bytes =
     then_read (string size bytes) (λ name rest.
     then_read (string 8 rest) (λ value after.
-    Whole (record { name = name.1; value = value.1 }) after))
+    Whole (record { flags = name.0; name = name.1; value = value.1 }) after))

@@ -1,6 +1,6 @@
 -- The hashes that tell the names and the entries of the static table apart, and what their tables have to say.
 use Rattle.std.specs.Prelude.{◌==◌, ℕ, zero, suc, ◌+◌, ◌-◌, ◌*◌, ◌/◌, ◌%◌, nat_lt, bytes_eq, Bool, true, false, ◌&&◌, List, [], ◌∷◌, length, slice_index, Option, Some, None}
-use Rattle.h3_field.specs.Field.{Field}
+use Rattle.h3_field.specs.Field.{Field, plain_field}
 use Rattle.h3_field.specs.StaticTable.{static_name, static_field}
 
 abbrev pub name_hash : List ℕ → ℕ
@@ -43,7 +43,7 @@ are_fields_found field_slot name_of value_of (entry ∷ more) =
 
 abbrev pub all_fields : (ℕ → ℕ) → (ℕ → List ℕ) → (ℕ → List ℕ) → ℕ → Bool
 all_fields field_slot name_of value_of zero = true
-all_fields field_slot name_of value_of (suc i) = is_field_found field_slot (record { name = name_of i; value = value_of i }) && all_fields field_slot name_of value_of i
+all_fields field_slot name_of value_of (suc i) = is_field_found field_slot (plain_field (name_of i) (value_of i)) && all_fields field_slot name_of value_of i
 
 -- the entries from the first one on, by index
 abbrev pub are_entries : (ℕ → List ℕ) → (ℕ → List ℕ) → ℕ → List Field → Bool

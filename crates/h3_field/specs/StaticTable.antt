@@ -1,10 +1,10 @@
 -- The static table (RFC 9204, appendix A): names, and the values of consecutive indexes.
 use Rattle.std.specs.Prelude.{ℕ, List, [], ◌∷◌, map, codes, flat_map, position, bytes_eq, Option, Some, slice_get, ◌≡◌}
-use Rattle.h3_field.specs.Field.{Field, field_eq}
+use Rattle.h3_field.specs.Field.{Field, plain_field, field_eq}
 
 -- one entry for each value
 abbrev pub entries : List ℕ × List (List ℕ) → List Field
-entries row = map (λ value. record { name = row.0; value = value }) row.1
+entries row = map (λ value. plain_field row.0 value) row.1
 
 abbrev pub static_rows : List (List ℕ × List (List ℕ))
 static_rows =

@@ -52,19 +52,19 @@ pub line_some : (form : LineForm) (l : FieldLine) → SaysLine form l → line_o
 line_some (Indexed true index) l h = rw h refl
 line_some (Indexed false index) l h = rw h refl
 line_some (PostBase index) l h = rw h refl
-line_some (Named true index p) l h = mapped (λ value. StaticName index value) p h.0 l h.1 h.2
-line_some (Named false index p) l h = mapped (λ value. RelativeName index value) p h.0 l h.1 h.2
-line_some (PostBaseNamed index p) l h = mapped (λ value. PostBaseName index value) p h.0 l h.1 h.2
-line_some (LiteralField p q) l h = both_mapped Literal p q h.0 h.1 l h.2 h.3 h.4
+line_some (Named true index p n) l h = mapped (λ value. StaticName index value n) p h.0 l h.1 h.2
+line_some (Named false index p n) l h = mapped (λ value. RelativeName index value n) p h.0 l h.1 h.2
+line_some (PostBaseNamed index p n) l h = mapped (λ value. PostBaseName index value n) p h.0 l h.1 h.2
+line_some (LiteralField p q n) l h = both_mapped (λ name value. Literal name value n) p q h.0 h.1 l h.2 h.3 h.4
 
 pub line_is : (form : LineForm) (l : FieldLine) → line_of form ≡ Some l → SaysLine form l
 line_is (Indexed true index) l e = sym (some_same (StaticField index) l e)
 line_is (Indexed false index) l e = sym (some_same (RelativeField index) l e)
 line_is (PostBase index) l e = sym (some_same (PostBaseField index) l e)
-line_is (Named true index p) l e = let u = unmapped (λ value. StaticName index value) (string_of p) l e in (u.0, string_is p u.0 u.1, u.2)
-line_is (Named false index p) l e = let u = unmapped (λ value. RelativeName index value) (string_of p) l e in (u.0, string_is p u.0 u.1, u.2)
-line_is (PostBaseNamed index p) l e = let u = unmapped (λ value. PostBaseName index value) (string_of p) l e in (u.0, string_is p u.0 u.1, u.2)
-line_is (LiteralField p q) l e = let u = both_unmapped Literal (string_of p) (string_of q) l e in (u.0, u.1, string_is p u.0 u.2, string_is q u.1 u.3, u.4)
+line_is (Named true index p n) l e = let u = unmapped (λ value. StaticName index value n) (string_of p) l e in (u.0, string_is p u.0 u.1, u.2)
+line_is (Named false index p n) l e = let u = unmapped (λ value. RelativeName index value n) (string_of p) l e in (u.0, string_is p u.0 u.1, u.2)
+line_is (PostBaseNamed index p n) l e = let u = unmapped (λ value. PostBaseName index value n) (string_of p) l e in (u.0, string_is p u.0 u.1, u.2)
+line_is (LiteralField p q n) l e = let u = both_unmapped (λ name value. Literal name value n) (string_of p) (string_of q) l e in (u.0, u.1, string_is p u.0 u.2, string_is q u.1 u.3, u.4)
 
 -- a form says one line
 pub one_line_said : (form : LineForm) (l k : FieldLine) → SaysLine form l → SaysLine form k → l ≡ k

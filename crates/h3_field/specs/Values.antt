@@ -27,10 +27,10 @@ abbrev pub line_of : LineForm → Option FieldLine
 line_of (Indexed true index) = Some (StaticField index)
 line_of (Indexed false index) = Some (RelativeField index)
 line_of (PostBase index) = Some (PostBaseField index)
-line_of (Named true index value) = option_map (λ v. StaticName index v) (string_of value)
-line_of (Named false index value) = option_map (λ v. RelativeName index v) (string_of value)
-line_of (PostBaseNamed index value) = option_map (λ v. PostBaseName index v) (string_of value)
-line_of (LiteralField name value) = of_both Literal (string_of name) (string_of value)
+line_of (Named true index value n) = option_map (λ v. StaticName index v n) (string_of value)
+line_of (Named false index value n) = option_map (λ v. RelativeName index v n) (string_of value)
+line_of (PostBaseNamed index value n) = option_map (λ v. PostBaseName index v n) (string_of value)
+line_of (LiteralField name value n) = of_both (λ first second. Literal first second n) (string_of name) (string_of value)
 
 abbrev pub instruction_of : InstructionForm → Option EncoderInstruction
 instruction_of (Capacity n) = Some (SetCapacity n)

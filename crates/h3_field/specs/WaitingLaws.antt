@@ -66,7 +66,7 @@ both_agree bytes read ends =
     in_parts (literal_name_wait bytes) (string 6 bytes) _ read
     (string_agrees 6 (string_wait 8 (λ after. wait.Nothing)) _ bytes (λ name rest.
     in_parts (string_wait 8 (λ after. wait.Nothing) rest) (string 8 rest) _ read
-    (string_agrees 8 (λ after. wait.Nothing) _ rest (λ value after. sym (ends (record { name = name.1; value = value.1 }) after)))))
+    (string_agrees 8 (λ after. wait.Nothing) _ rest (λ value after. sym (ends (record { flags = name.0; name = name.1; value = value.1 }) after)))))
 
 by_test : {A : Type 0} (b : Bool) (v w : Wait) (x y : Reading A) → Agrees v x → Agrees w y → Agrees (if b then v else w) (if b then x else y)
 by_test true v w x y p q = p

@@ -20,7 +20,7 @@ use std::borrow::CowSlice;
 /// A decoded field section.
 #[derive(Drop)]
 pub struct Decoded {
-    /// The fields, in order.
+    /// The fields, in order. A field whose line had the bit N has the flag (RFC 9204, section 4.5.4).
     pub fields: Vec<HeaderField>,
     /// Whether the required insert count was above 0.
     pub dyn_ref: bool,
@@ -84,8 +84,10 @@ fn take_short_named(buf: &mut SliceCursor<'_>) -> Option<HeaderField>
 {
     let mut ahead = SliceCursor::new(buf.chunk());
     let mut value = ShortString::new();
-    let Some(NameRef::Static(index)) = LiteralWithNameRef::decode_short(&mut ahead, &mut value)
-    else {
+    let Some(head) = LiteralWithNameRef::decode_short(&mut ahead, &mut value) else {
+        return None;
+    };
+    let NameRef::Static(index) = head.0 else {
         return None;
     };
     let Ok(name) = StaticTable::get_name(index) else {
@@ -95,7 +97,7 @@ fn take_short_named(buf: &mut SliceCursor<'_>) -> Option<HeaderField>
         return None;
     };
     *buf = ahead;
-    Some(field)
+    Some(field.with_never_indexed(head.1))
 }
 
 /// The field of a line with a literal value and the name of an entry.
@@ -117,8 +119,16 @@ fn take_long_named(alloc: Global, buf: &mut SliceCursor<'_>) -> Result<HeaderFie
     ensures { AnswersField buf.old buf.new result }
 {
     match LiteralWithNameRef::decode(alloc, buf) {
-        Ok(LiteralWithNameRef::Static { index, value }) => match StaticTable::get_name(index) {
-            Ok(name) => Ok(HeaderField::with_static_name(name, value)),
+        Ok(
+            LiteralWithNameRef::Static {
+                index,
+                value,
+                never_indexed,
+            },
+        ) => match StaticTable::get_name(index) {
+            Ok(name) => {
+                Ok(HeaderField::with_static_name(name, value).with_never_indexed(never_indexed))
+            }
             Err(e) => Err(DecoderError::InvalidStaticIndex(e)),
         },
         Ok(LiteralWithNameRef::Dynamic { .. }) => Err(DecoderError::MissingRefs(0)),
@@ -145,10 +155,16 @@ fn take_long_literal(alloc: Global, buf: &mut SliceCursor<'_>) -> Result<HeaderF
     ensures { AnswersField buf.old buf.new result }
 {
     match Literal::decode(alloc, buf) {
-        Ok(Literal { name, value }) => Ok(HeaderField::new(
-            CowSlice::Owned(name),
-            CowSlice::Owned(value),
-        )),
+        Ok(
+            Literal {
+                name,
+                value,
+                never_indexed,
+            },
+        ) => {
+            let field = HeaderField::new(CowSlice::Owned(name), CowSlice::Owned(value));
+            Ok(field.with_never_indexed(never_indexed))
+        }
         Err(e) => Err(DecoderError::from(e)),
     }
 }
@@ -166,9 +182,9 @@ fn take_field(alloc: Global, buf: &mut SliceCursor<'_>) -> Result<HeaderField, D
     }
 }
 
-/// How many fields get room at first: most sections have no more, and the list of their fields need not grow. Eighteen are the most
+/// How many fields get room at first: most sections have no more, and the list of their fields need not grow. Sixteen are the most
 /// that fit 1,032 bytes, up to which an allocator of the C library keeps blocks at hand.
-const FIRST_ROOM: usize = 18;
+const FIRST_ROOM: usize = 16;
 
 /// Adds a field after which so many bytes are left: each may be a field. A list that has the room is not given more.
 fn keep(fields: &mut Vec<HeaderField>, field: HeaderField, left: usize) -> Result<(), AllocError>

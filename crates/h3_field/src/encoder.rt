@@ -14,7 +14,8 @@ use crate::field::HeaderField;
 use crate::fields::{FieldRef, Fields};
 use crate::static_::StaticTable;
 
-/// Appends the line of a field: an entry of the static table, or a literal with a static or literal name.
+/// Appends the line of a field: an entry of the static table, or a literal with a static or literal name. A field with the flag is a
+/// literal with the bit N (RFC 9204, section 4.5.4).
 fn put_field(field: &FieldRef<'_>, block: &mut Vec<u8>) -> Result<(), EncoderError>
     requires { field_size field.now < 2 ^ 62 }
     ensures memory { IsOkUnless result OutOfMemory }
@@ -26,10 +27,10 @@ fn put_field(field: &FieldRef<'_>, block: &mut Vec<u8>) -> Result<(), EncoderErr
         return Ok(());
     }
     if let Some(index) = StaticTable::find_name(field.name()) {
-        LiteralWithNameRef::write_static(index, field.value(), block)?;
+        LiteralWithNameRef::write_static(index, field.value(), field.is_never_indexed(), block)?;
         return Ok(());
     }
-    Literal::write(field.name(), field.value(), block)?;
+    Literal::write(field.name(), field.value(), field.is_never_indexed(), block)?;
     Ok(())
 }
 

@@ -1,5 +1,5 @@
 //! What the definitions give at values of the standards. These functions do nothing: the check computes their contracts.
-ghost use Rattle.std.specs.Prelude.{◌≡◌, ◌∷◌, [], length, codes, Some, None, true};
+ghost use Rattle.std.specs.Prelude.{◌≡◌, ◌∷◌, [], length, codes, Some, None, true, false};
 ghost use Rattle.h3_huffman.specs.Huffman.{huffman};
 ghost use Rattle.h3_field.specs.Integer.{prefixed};
 ghost use Rattle.h3_field.specs.IntegerReading.{integer};
@@ -11,7 +11,11 @@ ghost use Rattle.h3_field.specs.Instruction.{encoder_bytes, decoder_bytes};
 ghost use Rattle.h3_field.specs.Instruction.EncoderInstruction.{SetCapacity};
 ghost use Rattle.h3_field.specs.Instruction.DecoderInstruction.{Increment};
 ghost use Rattle.h3_field.specs.InstructionReading.{instruction, Repeat};
-ghost use Rattle.h3_field.specs.LineReading.{line, Indexed};
+ghost use Rattle.h3_field.specs.Field.{flagged, plain_field};
+ghost use Rattle.h3_field.specs.Line.{line_bytes};
+ghost use Rattle.h3_field.specs.Line.FieldLine.{PostBaseName};
+ghost use Rattle.h3_field.specs.LineReading.{line, Indexed, Named, PostBaseNamed, LiteralField};
+ghost use Rattle.h3_field.specs.Section.{static_line};
 ghost use Rattle.h3_field.specs.Waiting.{behind, encoder_wait, decoder_wait};
 ghost use Rattle.h3_field.specs.declared.waiting.Wait.TheVariants.{Nothing, Integer, Bytes};
 
@@ -43,9 +47,9 @@ pub fn prefixes()
 #[tactic(auto, unfolding(crate::specs::StaticTable::static_table, crate::specs::StaticTable::static_field, crate::specs::StaticTable::static_name))]
 pub fn static_entries()
     ensures count { length static_table ≡ 99 }
-    ensures equal { static_field (record { name = codes ":status"; value = codes "200" }) ≡ Some 25 }
-    ensures last { static_field (record { name = codes "x-frame-options"; value = codes "sameorigin" }) ≡ Some 98 }
-    ensures other_value { static_field (record { name = codes ":status"; value = codes "201" }) ≡ None }
+    ensures equal { static_field (plain_field (codes ":status") (codes "200")) ≡ Some 25 }
+    ensures last { static_field (plain_field (codes "x-frame-options") (codes "sameorigin")) ≡ Some 98 }
+    ensures other_value { static_field (plain_field (codes ":status") (codes "201")) ≡ None }
     ensures least { static_name (codes ":status") ≡ Some 24 }
     ensures unknown { static_name (codes "x-a") ≡ None }
 {}
@@ -57,6 +61,22 @@ pub fn instructions()
     ensures short { instruction (31 ∷ []) ≡ Unfinished }
     ensures duplicate { instruction (2 ∷ 9 ∷ []) ≡ Whole (Repeat 2) (9 ∷ []) }
     ensures indexed { line (217 ∷ []) ≡ Whole (Indexed true 25) [] }
+{}
+
+/// Lines with a literal value, with the bit N and without it: with it a field that the static table has is a literal too (RFC 9204,
+/// sections 4.5.4 to 4.5.6).
+#[tactic(auto, unfolding(crate::specs::StaticTable::static_table, crate::specs::StaticTable::static_field, crate::specs::StaticTable::static_name))]
+pub fn never_indexed()
+    ensures named_plain { line_bytes (static_line (plain_field (codes "authorization") (codes "a"))) ≡ 95 ∷ 69 ∷ 129 ∷ 31 ∷ [] }
+    ensures named { line_bytes (static_line (flagged (plain_field (codes "authorization") (codes "a")) true)) ≡ 127 ∷ 69 ∷ 129 ∷ 31 ∷ [] }
+    ensures literal_plain { line_bytes (static_line (plain_field (codes "x-a") (codes "1"))) ≡ 43 ∷ 242 ∷ 176 ∷ 255 ∷ 129 ∷ 15 ∷ [] }
+    ensures literal { line_bytes (static_line (flagged (plain_field (codes "x-a") (codes "1")) true)) ≡ 59 ∷ 242 ∷ 176 ∷ 255 ∷ 129 ∷ 15 ∷ [] }
+    ensures entry_plain { line_bytes (static_line (plain_field (codes ":path") (codes "/"))) ≡ 193 ∷ [] }
+    ensures entry { line_bytes (static_line (flagged (plain_field (codes ":path") (codes "/")) true)) ≡ 113 ∷ 129 ∷ 99 ∷ [] }
+    ensures post_base { line_bytes (PostBaseName 0 (codes "1") true) ≡ 8 ∷ 129 ∷ 15 ∷ [] }
+    ensures named_read { line (113 ∷ 1 ∷ 47 ∷ []) ≡ Whole (Named true 1 (record { is_huffman = false; bytes = 47 ∷ [] }) true) [] }
+    ensures literal_read { line (49 ∷ 97 ∷ 1 ∷ 98 ∷ []) ≡ Whole (LiteralField (record { is_huffman = false; bytes = 97 ∷ [] }) (record { is_huffman = false; bytes = 98 ∷ [] }) true) [] }
+    ensures post_base_read { line (8 ∷ 1 ∷ 97 ∷ []) ≡ Whole (PostBaseNamed 0 (record { is_huffman = false; bytes = 97 ∷ [] }) true) [] }
 {}
 
 /// What an unfinished instruction waits for: a group of a capacity or of an acknowledgment, a byte of a name, the length of a value, four

@@ -1,8 +1,8 @@
-//! A field of two byte strings, static or owned.
+//! A field of two byte strings, static or owned, and the flag of one that no table keeps.
 ghost use Rattle.std.specs.Prelude.{◌≡◌, ◌++◌, ◌∷◌, codes, string_bytes, IfOk, OnErr, IfSome, IfNone, ◌⊎◌, Some, encode_utf8_all, nat_eq, min, ◌^◌, ◌-◌, ◌+◌, ◌<◌, ◌≤◌, length, take, drop};
 ghost use Rattle.std.specs.Cow.{cow_slice_items};
 ghost use Rattle.std.specs.Vec.{vec_len, vec_capacity};
-ghost use Rattle.h3_field.specs.Field.{field_size, section_size};
+ghost use Rattle.h3_field.specs.Field.{plain_field, field_size, section_size};
 ghost use Rattle.h3_field.specs.FieldForm.{part_bytes};
 ghost use Rattle.h3_field.specs.ReadBack.{IsFieldOfBytes};
 ghost use Rattle.std.specs.Hash as fed;
@@ -25,14 +25,16 @@ use std::marker::Model;
 /// What a field counts beside its bytes (RFC 9204, section 3.2.1).
 pub const ESTIMATED_OVERHEAD_BYTES: usize = 32;
 
-/// A name and a value, in at most 56 bytes beside the memory that it owns: a short field owns none. A contract sees the two byte lists.
+/// A name and a value, in 64 bytes beside the memory that it owns: a short field owns none. And whether its line has the bit N (RFC 9204,
+/// section 4.5.4), which no constructor sets. A contract sees the two byte lists and the flag.
 #[derive(Drop)]
 pub struct HeaderField {
     form: Form,
+    never_indexed: bool,
 }
 
-// A short field takes no more room than the longest form does.
-const _: () = prove!(size_of::<HeaderField>() == 56);
+// A short field takes no more room than the longest form does, and the flag takes eight bytes.
+const _: () = prove!(size_of::<HeaderField>() == 64);
 
 /// How the bytes of a field's name and value are stored.
 #[derive(Drop)]
@@ -49,13 +51,13 @@ pub(crate) enum Form {
 }
 
 impl Model for HeaderField {
-    ghost use Rattle.h3_field.specs.Field.{Field};
+    ghost use Rattle.h3_field.specs.Field.{Field, flagged};
 
     ghost Value = { Field };
 
     ghost use Rattle.h3_field.specs.FieldForm.{field_in, IsForm};
 
-    ghost view = { λ f. field_in f.form };
+    ghost view = { λ f. flagged (field_in f.form) f.never_indexed };
 
     ghost invariant = { λ f. IsForm f.form };
 }
@@ -71,7 +73,7 @@ fn set_front(room: &mut [u8], bytes: &[u8])
 impl HeaderField {
     /// The field with that name and value, as bytes. Static ones are not copied. It does not ask whether HTTP allows them.
     pub fn new(name: CowSlice<'static, u8>, value: CowSlice<'static, u8>) -> HeaderField
-        ensures { result ≡ record { name = cow_slice_items name.entry; value = cow_slice_items value.entry } }
+        ensures { result ≡ plain_field (cow_slice_items name.entry) (cow_slice_items value.entry) }
     {
         let form = match name {
             CowSlice::Borrowed(name) => match value {
@@ -83,30 +85,35 @@ impl HeaderField {
                 CowSlice::Owned(value) => Form::Owned(name, value),
             },
         };
-        HeaderField { form }
+        HeaderField {
+            form,
+            never_indexed: false,
+        }
     }
 
     /// A static name and a static value. It takes no memory.
     pub fn from_static(name: &'static [u8], value: &'static [u8]) -> HeaderField
-        ensures { result ≡ record { name = name.now; value = value.now } }
+        ensures { result ≡ plain_field name.now value.now }
     {
         HeaderField {
             form: Form::Static(name, value),
+            never_indexed: false,
         }
     }
 
     /// A static name and an owned value.
     pub fn with_static_name(name: &'static [u8], value: Vec<u8>) -> HeaderField
-        ensures { result ≡ record { name = name.now; value = value.items } }
+        ensures { result ≡ plain_field name.now value.items }
     {
         HeaderField {
             form: Form::StaticName(name, value),
+            never_indexed: false,
         }
     }
 
     /// A copy of the name in front of the value, in the value's block. It takes memory only if that block has no room for the name.
     pub fn with_copied_name(name: &[u8], value: Vec<u8>) -> Result<HeaderField, AllocError>
-        ensures ok { IfOk result (λ f. f ≡ record { name = name.now; value = value.items }) }
+        ensures ok { IfOk result (λ f. f ≡ plain_field name.now value.items) }
         ensures err { OnErr result (vec_capacity value < vec_len value + length name.now) }
     {
         let mut block = value;
@@ -120,10 +127,11 @@ impl HeaderField {
     /// A field in one block: the first bytes, as many as the length, are the name, and those after them the value.
     pub fn from_block(bytes: Vec<u8>, name_length: usize) -> HeaderField
         requires { name_length ≤ length bytes.items }
-        ensures { result ≡ record { name = take name_length bytes.items; value = drop name_length bytes.items } }
+        ensures { result ≡ plain_field (take name_length bytes.items) (drop name_length bytes.items) }
     {
         HeaderField {
             form: Form::Block(bytes, name_length),
+            never_indexed: false,
         }
     }
 
@@ -133,12 +141,13 @@ impl HeaderField {
         name: &'static [u8],
         value: &[u8],
     ) -> Result<HeaderField, AllocError>
-        ensures ok { IfOk result (λ f. f ≡ record { name = name.now; value = value.now }) }
+        ensures ok { IfOk result (λ f. f ≡ plain_field name.now value.now) }
         ensures err { OnErr result (36 < length value.now) }
     {
         if let Some(value) = ShortValue::of(value) {
             return Ok(HeaderField {
                 form: Form::ShortValue(value, name),
+                never_indexed: false,
             });
         }
         let value = Vec::from_slice(alloc, value)?;
@@ -147,12 +156,13 @@ impl HeaderField {
 
     /// A static name and a copy of a value, which take no memory. None: the value is too long.
     pub fn short_with_static_name(name: &'static [u8], value: &[u8]) -> Option<HeaderField>
-        ensures some { IfSome result (λ f. f ≡ record { name = name.now; value = value.now }) }
+        ensures some { IfSome result (λ f. f ≡ plain_field name.now value.now) }
         ensures none { IfNone result (36 < length value.now) }
     {
         match ShortValue::of(value) {
             Some(value) => Some(HeaderField {
                 form: Form::ShortValue(value, name),
+                never_indexed: false,
             }),
             None => None,
         }
@@ -160,7 +170,7 @@ impl HeaderField {
 
     /// Copies of a name and a value, which take no memory. None: the value is empty, or they are too long.
     pub fn short(name: &[u8], value: &[u8]) -> Option<HeaderField>
-        ensures some { IfSome result (λ f. f ≡ record { name = name.now; value = value.now }) }
+        ensures some { IfSome result (λ f. f ≡ plain_field name.now value.now) }
         ensures none { IfNone result ((length value.now ≡ 0) ⊎ (50 < length name.now + length value.now)) }
     {
         if value.is_empty() {
@@ -169,6 +179,7 @@ impl HeaderField {
         match ShortField::of(name, value) {
             Some(field) => Some(HeaderField {
                 form: Form::Short(field),
+                never_indexed: false,
             }),
             None => None,
         }
@@ -176,7 +187,7 @@ impl HeaderField {
 
     /// A field of copies: a short one takes no memory, and any other lies in one block. It takes no memory if both are empty.
     pub fn copied(alloc: Global, name: &[u8], value: &[u8]) -> Result<HeaderField, AllocError>
-        ensures ok { IfOk result (λ f. f ≡ record { name = name.now; value = value.now }) }
+        ensures ok { IfOk result (λ f. f ≡ plain_field name.now value.now) }
         ensures err { OnErr result (0 < length name.now + length value.now) }
     {
         if name.is_empty() && value.is_empty() {
@@ -191,19 +202,36 @@ impl HeaderField {
         Ok(HeaderField::from_block(bytes, name.len()))
     }
 
-    /// The field with another value. A name that is not static is copied.
+    /// The field with that flag. With it an encoder writes a literal with the bit N, and inserts nothing (RFC 9204, section 7.1.3), and so
+    /// does every hop that follows the RFC.
+    #[inline(always)]
+    pub fn with_never_indexed(mut self, never_indexed: bool) -> HeaderField
+        ensures { result ≡ record { name = self.name; value = self.value; never_indexed = never_indexed } }
+    {
+        self.never_indexed = never_indexed;
+        self
+    }
+
+    /// Whether the line of the field had the bit N, or is to have it (RFC 9204, section 4.5.4).
+    pub fn is_never_indexed(&self) -> bool
+        ensures { result ≡ self.now.never_indexed }
+    {
+        self.never_indexed
+    }
+
+    /// The field with another value, and with its flag. A name that is not static is copied.
     pub fn with_value(
         &self,
         alloc: Global,
         value: CowSlice<'static, u8>,
     ) -> Result<HeaderField, AllocError>
-        ensures { IfOk result (λ f. f ≡ record { name = self.now.name; value = cow_slice_items value.entry }) }
+        ensures { IfOk result (λ f. f ≡ record { name = self.now.name; value = cow_slice_items value.entry; never_indexed = self.now.never_indexed }) }
     {
         let name = match self.name_part() {
             Part::Static(name) => CowSlice::Borrowed(name),
             Part::Lent(name) => CowSlice::Owned(Vec::from_slice(alloc, name)?),
         };
-        Ok(HeaderField::new(name, value))
+        Ok(HeaderField::new(name, value).with_never_indexed(self.never_indexed))
     }
 
     /// The name and the value. Only a field in one block and a short one take memory, for copies of what has no block of its own.
@@ -385,7 +413,7 @@ impl AsRef<HeaderField> for HeaderField {
 }
 
 impl From<(CowSlice<'static, u8>, CowSlice<'static, u8>)> for HeaderField {
-    ghost from_gives = { λ parts f. f ≡ record { name = cow_slice_items parts.0; value = cow_slice_items parts.1 } };
+    ghost from_gives = { λ parts f. f ≡ plain_field (cow_slice_items parts.0) (cow_slice_items parts.1) };
 
     fn from(parts: (CowSlice<'static, u8>, CowSlice<'static, u8>)) -> HeaderField {
         let (name, value) = parts;

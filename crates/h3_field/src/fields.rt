@@ -1,19 +1,22 @@
 //! Fields that are read by their places, in a list or in a block.
-ghost use Rattle.std.specs.Prelude.{◌≡◌, ◌<◌, ◌^◌, ◌-◌, min, length, slice_get, Some};
-ghost use Rattle.h3_field.specs.Field.{field_size};
+ghost use Rattle.std.specs.Prelude.{◌≡◌, ◌<◌, ◌^◌, ◌-◌, ◌+◌, min, length, slice_get, Some, IfOk, OnErr};
+ghost use Rattle.h3_field.specs.Field.{plain_field, field_size};
 ghost use Rattle.h3_field.specs.ReadBack.{IsFieldOfBytes};
 ghost use Rattle.h3_field.specs.FieldBlock.{fields_at, IsBlock};
 
 use crate::field::{ESTIMATED_OVERHEAD_BYTES, HeaderField};
 use crate::field_block::FieldPlace;
 use crate::octets::are_bytes;
+use std::alloc::{AllocError, Global};
 use std::marker::Model;
 
-/// A name and a value that lie elsewhere. A contract sees the two byte lists.
+/// A name and a value that lie elsewhere, and the flag of the field (`HeaderField::is_never_indexed`). A contract sees the two byte lists
+/// and the flag.
 #[derive(Drop)]
 pub struct FieldRef<'a> {
     name: &'a [u8],
     value: &'a [u8],
+    never_indexed: bool,
 }
 
 impl<'a> Model for FieldRef<'a> {
@@ -21,22 +24,46 @@ impl<'a> Model for FieldRef<'a> {
 
     ghost Value = { Field };
 
-    ghost view = { λ f. record { name = f.name.now; value = f.value.now } };
+    ghost view = { λ f. record { name = f.name.now; value = f.value.now; never_indexed = f.never_indexed } };
 }
 
 impl<'a> FieldRef<'a> {
-    /// A name and a value.
+    /// A name and a value, without the flag.
     pub fn new(name: &'a [u8], value: &'a [u8]) -> FieldRef<'a>
-        ensures { result ≡ record { name = name.now; value = value.now } }
+        ensures { result ≡ plain_field name.now value.now }
     {
-        FieldRef { name, value }
+        FieldRef {
+            name,
+            value,
+            never_indexed: false,
+        }
+    }
+
+    /// The same with that flag.
+    #[inline(always)]
+    pub fn with_never_indexed(mut self, never_indexed: bool) -> FieldRef<'a>
+        ensures { result ≡ record { name = self.entry.name; value = self.entry.value; never_indexed = never_indexed } }
+    {
+        self.never_indexed = never_indexed;
+        self
     }
 
     /// Those of a field.
     pub fn of(field: &'a HeaderField) -> FieldRef<'a>
         ensures { result ≡ field.now }
     {
-        FieldRef::new(field.name(), field.value())
+        FieldRef {
+            name: field.name(),
+            value: field.value(),
+            never_indexed: field.is_never_indexed(),
+        }
+    }
+
+    /// Whether the line of the field had the bit N, or is to have it (RFC 9204, section 4.5.4).
+    pub fn is_never_indexed(&self) -> bool
+        ensures { result ≡ self.now.never_indexed }
+    {
+        self.never_indexed
     }
 
     /// The bytes of the name.
@@ -51,6 +78,15 @@ impl<'a> FieldRef<'a> {
         ensures { result.now ≡ self.now.value }
     {
         self.value
+    }
+
+    /// The field with copies of both, and with the flag, as `HeaderField::copied` makes it.
+    pub fn copied(&self, alloc: Global) -> Result<HeaderField, AllocError>
+        ensures ok { IfOk result (λ f. f ≡ self.now) }
+        ensures err { OnErr result (0 < length self.now.name + length self.now.value) }
+    {
+        let field = HeaderField::copied(alloc, self.name, self.value)?;
+        Ok(field.with_never_indexed(self.never_indexed))
     }
 
     /// Each item of name and value is a byte. It does nothing: a proof that needs the fact calls it.
@@ -146,8 +182,7 @@ fn listed<'a>(fields: &'a [HeaderField], place: usize) -> FieldRef<'a>
     requires { place < length fields.now }
     ensures { slice_get fields.now place ≡ Some result }
 {
-    let field = &fields[place];
-    FieldRef::new(field.name(), field.value())
+    FieldRef::of(&fields[place])
 }
 
 // The field at a place of a block.
@@ -158,5 +193,9 @@ fn placed<'a>(places: &'a [FieldPlace], bytes: &'a [u8], place: usize) -> FieldR
     ensures { slice_get (fields_at bytes.now places.now) place ≡ Some result }
 {
     let at = places[place];
-    FieldRef::new(&bytes[at.start..at.middle], &bytes[at.middle..at.end])
+    FieldRef {
+        name: &bytes[at.start..at.middle],
+        value: &bytes[at.middle..at.end],
+        never_indexed: at.never_indexed,
+    }
 }

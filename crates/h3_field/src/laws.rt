@@ -15,7 +15,7 @@ ghost use Rattle.h3_field.specs.StringReading.{Payload, StandsFor, StandsForNone
 ghost use Rattle.h3_field.specs.LineReading.{LineForm, SaysLine, line};
 ghost use Rattle.h3_field.specs.Values.{string_of, line_of, instruction_of};
 ghost use Rattle.h3_field.specs.Ends.{LeavesEnds};
-ghost use Rattle.h3_field.specs.Field.{Field, field_eq, section_size};
+ghost use Rattle.h3_field.specs.Field.{Field, text_eq, section_size};
 ghost use Rattle.h3_field.specs.Section.{HasLine, Answer, Fields, AnswersSection, section_bytes};
 ghost use Rattle.h3_field.specs.Reading.{Whole};
 ghost use Rattle.h3_field.specs.ReadBack.{IsFieldOfBytes, IsLineOfBytes, IsInstructionOfBytes, HasInstruction, answer_from};
@@ -87,10 +87,11 @@ pub fn string_reads_back()
     ensures one { (p : Payload) (s t : List ℕ) → StandsFor p s → StandsFor p t → s ≡ t }
 {}
 
-/// Equality of fields is that of their bytes, and equal fields hash alike, whether their parts are borrowed or owned.
+/// Equality of fields is that of their bytes, and equal fields hash alike, whether their parts are borrowed or owned, and whichever flag
+/// each has.
 pub fn equal_fields_hash_alike()
-    ensures equality { (a b : Field) → ⟦<HeaderField as PartialEq>⟧.eq a b ≡ field_eq a b }
-    ensures hash { (a b : Field) → field_eq a b ≡ true → ⟦<HeaderField as Hash>⟧.hash_input a ≡ ⟦<HeaderField as Hash>⟧.hash_input b }
+    ensures equality { (a b : Field) → ⟦<HeaderField as PartialEq>⟧.eq a b ≡ text_eq a b }
+    ensures hash { (a b : Field) → text_eq a b ≡ true → ⟦<HeaderField as Hash>⟧.hash_input a ≡ ⟦<HeaderField as Hash>⟧.hash_input b }
 {}
 
 /// What a payload stands for is a value: the string, or none.

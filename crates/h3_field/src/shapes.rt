@@ -111,16 +111,16 @@ pub(crate) fn take_index_and_short(
     Some(FlaggedIndex { flags, index })
 }
 
-/// Takes two strings from the front, as a field that takes no memory. None: the field may be long, its value is empty, or the read is
+/// Takes two strings from the front, as a field that takes no memory. It has the flag if the lowest flag is 1. None: the field may be long, its value is empty, or the read is
 /// refused. Then nothing is taken.
 pub(crate) fn take_short_field(size: u8, buf: &mut SliceCursor<'_>) -> Option<HeaderField>
     requires least { 2 ≤ size }
     requires most { size ≤ 8 }
-    ensures some { IfSome result (λ f. AreTwoStrings (two_strings size buf.old) f.name f.value buf.new) }
+    ensures some { IfSome result (λ f. AreTwoStrings (two_strings size buf.old) f buf.new) }
     ensures none { IfNone result (buf.new ≡ buf.old) }
 {
     let mut ahead = SliceCursor::new(buf.chunk());
-    let Ok((_, first)) = take_payload(size, &mut ahead) else {
+    let Ok((flags, first)) = take_payload(size, &mut ahead) else {
         return None;
     };
     let Ok((_, second)) = take_payload(8, &mut ahead) else {
@@ -141,12 +141,13 @@ pub(crate) fn take_short_field(size: u8, buf: &mut SliceCursor<'_>) -> Option<He
         return None;
     };
     *buf = ahead;
-    Some(field)
+    Some(field.with_never_indexed(flags % 2 == 1))
 }
 
-/// Two strings, one after the other.
+/// Two strings, one after the other, and the flags above the first.
 #[derive(Drop)]
 pub(crate) struct TwoStrings {
+    pub(crate) flags: u8,
     pub(crate) name: Vec<u8>,
     pub(crate) value: Vec<u8>,
 }
@@ -161,13 +162,14 @@ fn refusal_before(second: &Payload<'_>) -> ParseError
     ParseError::String(prefix_string::Error::HuffmanDecoding)
 }
 
-/// The strings of two payloads. If one is no string, this is the answer, whether there is memory or not.
+/// The strings of two payloads, and the flags. If one is no string, this is the answer, whether there is memory or not.
 fn both_strings(
     alloc: Global,
+    flags: u8,
     first: &Payload<'_>,
     second: &Payload<'_>,
 ) -> Result<TwoStrings, ParseError>
-    ensures { AnswersBothStrings first.now second.now result }
+    ensures { AnswersBothStrings flags first.now second.now result }
 {
     let name = match first.to_bytes(alloc, 0) {
         Ok(name) => name,
@@ -175,7 +177,7 @@ fn both_strings(
         Err(e) => return Err(ParseError::String(e)),
     };
     match second.to_bytes(alloc, 0) {
-        Ok(value) => Ok(TwoStrings { name, value }),
+        Ok(value) => Ok(TwoStrings { flags, name, value }),
         Err(prefix_string::Error::OutOfMemory) => Err(ParseError::OutOfMemory),
         Err(e) => Err(ParseError::String(e)),
     }
@@ -193,15 +195,15 @@ pub(crate) fn take_two_strings(
     ensures rest { IsEndOf buf.old buf.new }
 {
     let mut ahead = SliceCursor::new(buf.chunk());
-    let first = match take_payload(size, &mut ahead) {
-        Ok((_, payload)) => payload,
+    let (flags, first) = match take_payload(size, &mut ahead) {
+        Ok(found) => found,
         Err(e) => return Err(ParseError::String(prefix_string::Error::from(e))),
     };
     let second = match take_payload(8, &mut ahead) {
         Ok((_, payload)) => payload,
         Err(e) => return Err(ParseError::String(prefix_string::Error::from(e))),
     };
-    match both_strings(alloc, &first, &second) {
+    match both_strings(alloc, flags, &first, &second) {
         Ok(parts) => {
             *buf = ahead;
             Ok(parts)

@@ -1,5 +1,6 @@
 //! Short bytes that lie in a field itself, so that it takes no memory.
 ghost use Rattle.std.specs.Prelude.{◌≡◌, ◌+◌, ◌<◌, MatchOption, length};
+ghost use Rattle.h3_field.specs.Field.{plain_field};
 
 use std::marker::Model;
 
@@ -60,11 +61,11 @@ pub(crate) struct ShortField {
 
 impl Model for ShortField {
     ghost use Rattle.std.specs.Prelude.{◌≤◌, ◌+◌, take, drop};
-    ghost use Rattle.h3_field.specs.Field.{Field};
+    ghost use Rattle.h3_field.specs.Field.{Field, plain_field};
 
     ghost Value = { Field };
 
-    ghost view = { λ f. record { name = take f.name_len f.bytes; value = take f.value_len (drop f.name_len f.bytes) } };
+    ghost view = { λ f. plain_field (take f.name_len f.bytes) (take f.value_len (drop f.name_len f.bytes)) };
 
     ghost invariant = { λ f. f.name_len + f.value_len ≤ 50 };
 }
@@ -72,7 +73,7 @@ impl Model for ShortField {
 impl ShortField {
     /// Copies of a name and a value. None: they are too long.
     pub(crate) fn of(name: &[u8], value: &[u8]) -> Option<ShortField>
-        ensures { MatchOption result (50 < length name.now + length value.now) (λ f. f ≡ record { name = name.now; value = value.now }) }
+        ensures { MatchOption result (50 < length name.now + length value.now) (λ f. f ≡ plain_field name.now value.now) }
     {
         let name_len = name.len();
         let value_len = value.len();

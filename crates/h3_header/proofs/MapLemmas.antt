@@ -11,7 +11,7 @@ use Rattle.http_header.specs.FieldName.{IsHeaderName}
 use Rattle.http_header.specs.FieldValue.{FieldValue, plain_value, IsFieldValue}
 use Rattle.http_header.specs.HeaderMap.{Entry, Entries, entry_at, pairs, owned_pairs, pairs_without_name, append, value_count, ContainsKey, IsUnique, IsHeaderMap, RefusesAppend}
 use Rattle.http_header.proofs.PlacesLemmas.{ContainsKey-from_entry}
-use Rattle.h3_field.specs.Field.{Field}
+use Rattle.h3_field.specs.Field.{Field, plain_field}
 use Rattle.h3_header.specs.Head.{Head, to_field, regular_fields}
 use Rattle.h3_header.specs.Left.{owned_fields}
 use Rattle.h3_header.specs.Reads.{kind_of, AcceptsAt, Accepts, AcceptsAll, with_kind, with_field}
@@ -138,12 +138,12 @@ with_map h m = record h { regular = m }
 
 module _ (any : Bool) (h : Head) where
   regular_step : (done : Entries FieldValue) (name bytes : List ℕ) (rest : List Field) (b : Head) → IsHeaderName name → IsFieldValue bytes
-      → ¬ (RefusesAppend done name) → Reading any (with_map h (append done name (plain_value bytes))) rest b → Reading any (with_map h done) (record { name = name; value = bytes } ∷ rest) b
+      → ¬ (RefusesAppend done name) → Reading any (with_map h (append done name (plain_value bytes))) rest b → Reading any (with_map h done) (plain_field name bytes ∷ rest) b
   regular_step done name bytes rest b is_name is_value room r =
       let e = kind_of-regular name is_name in
-      Reading-one any _ b (record { name = name; value = bytes }) rest
-      (subst (λ at. AcceptsAt any at (with_map h done) (record { name = name; value = bytes })) (sym e) (record { name = is_name; value = is_value; room = room }))
-      (subst (λ a. Reading any a rest b) (sym (ap (λ at. with_kind at (with_map h done) (record { name = name; value = bytes })) e)) r)
+      Reading-one any _ b (plain_field name bytes) rest
+      (subst (λ at. AcceptsAt any at (with_map h done) (plain_field name bytes)) (sym e) (record { name = is_name; value = is_value; room = room }))
+      (subst (λ a. Reading any a rest b) (sym (ap (λ at. with_kind at (with_map h done) (plain_field name bytes)) e)) r)
 
   has_last : (done : Entries FieldValue) (name : List ℕ) (values : List FieldValue) → ContainsKey (done ++ (name, values) ∷ []) name
   has_last done name values =
@@ -177,7 +177,7 @@ module _ (any : Bool) (h : Head) where
       let after = count_append done (e ∷ []) in
       let one = count_cons e [] in
       let same = length-map values unmark in
-      subst (λ fields. Reading any (with_map h done) (record { name = name; value = v.bytes } ∷ fields) (with_map h (done ++ e ∷ unmarked m)))
+      subst (λ fields. Reading any (with_map h done) (plain_field name v.bytes ∷ fields) (with_map h (done ++ e ∷ unmarked m)))
       (sym (map-append to_field (map (λ x. (name, x)) values) (pairs m)))
       (regular_step done name v.bytes _ _ valid.1.0 valid.1.1.0.0
       (λ refused. elim refused [ inl full ↦ omega arith | inr new ↦ elim new.1 [ inl many ↦ omega arith | inr full ↦ omega arith ] ])
@@ -190,7 +190,7 @@ module _ (any : Bool) (h : Head) where
 
 same_values : (name : List ℕ) (values : List FieldValue) → value_fields name (map unmark values) ≡ value_fields name values
 same_values name [] = refl
-same_values name (v ∷ values) = ap (λ r. record { name = name; value = v.bytes } ∷ r) (same_values name values)
+same_values name (v ∷ values) = ap (λ r. plain_field name v.bytes ∷ r) (same_values name values)
 
 pub regular_fields-unmarked : (m : Entries FieldValue) → regular_fields (unmarked m) ≡ regular_fields m
 regular_fields-unmarked [] = refl
@@ -236,13 +236,13 @@ Reading-map any h m map_is all =
 owned_tail : (name : List ℕ) (values : List FieldValue) (rest : List (Option (List ℕ) × FieldValue))
     → owned_fields (Some name) (pairs_without_name values ++ rest) ≡ value_fields name values ++ owned_fields (Some name) rest
 owned_tail name [] rest = refl
-owned_tail name (v ∷ values) rest = ap (λ r. record { name = name; value = v.bytes } ∷ r) (owned_tail name values rest)
+owned_tail name (v ∷ values) rest = ap (λ r. plain_field name v.bytes ∷ r) (owned_tail name values rest)
 
 -- a map that was taken apart gives the fields in the map's order
 pub owned_fields-owned_pairs : (last : Option (List ℕ)) (m : Entries FieldValue) → owned_fields last (owned_pairs m) ≡ regular_fields m
 owned_fields-owned_pairs last [] = refl
 owned_fields-owned_pairs last ((name, []) ∷ m) = owned_fields-owned_pairs last m
 owned_fields-owned_pairs last ((name, v ∷ values) ∷ m) =
-    ap (λ r. record { name = name; value = v.bytes } ∷ r)
+    ap (λ r. plain_field name v.bytes ∷ r)
     (owned_tail name values (owned_pairs m) ∙ ap (λ r. value_fields name values ++ r) (owned_fields-owned_pairs (Some name) m)
     ∙ sym (map-append to_field (map (λ x. (name, x)) values) (pairs m)))

@@ -5,7 +5,7 @@ use Rattle.http_header.specs.FieldValue.{FieldValue}
 use Rattle.http_header.specs.HeaderMap.{Entries, pairs}
 use Rattle.http.specs.StatusCode.{code_digits}
 use Rattle.http_uri.specs.Grammar.{or_slash}
-use Rattle.h3_field.specs.Field.{Field}
+use Rattle.h3_field.specs.Field.{Field, plain_field}
 
 -- the pseudo-header fields, each as its bytes or its number, and the map of the regular ones
 pub record Head : Type 0 where
@@ -28,11 +28,11 @@ response_head n m = record { method = None; scheme = None; authority = None; pat
 -- a field that may be missing
 abbrev pub optional_field : List ℕ → Option (List ℕ) → List Field
 optional_field name None = []
-optional_field name (Some value) = record { name = name; value = value } ∷ []
+optional_field name (Some value) = plain_field name value ∷ []
 
 -- the field of a name and a value in a map
 abbrev pub to_field : List ℕ × FieldValue → Field
-to_field p = record { name = p.0; value = p.1.bytes }
+to_field p = plain_field p.0 p.1.bytes
 
 -- the regular fields in the map's order, the values of one name together
 abbrev pub regular_fields : Entries FieldValue → List Field

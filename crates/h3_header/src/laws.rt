@@ -1,7 +1,7 @@
 //! Laws on headers and their field lists, each the contract of a function.
-ghost use Rattle.std.specs.Prelude.{◌≡◌, ◌<◌, ◌≤◌, ℕ, Bool, true, false, codes, ◌∷◌, IfOk, IfErr, List, [], All, length, take, get_or, Some, None};
+ghost use Rattle.std.specs.Prelude.{◌≡◌, ◌<◌, ◌≤◌, ℕ, Bool, true, false, codes, ◌∷◌, IfOk, IfErr, List, [], All, length, map, take, get_or, Some, None};
 ghost use Rattle.std.specs.List.{AllByRecursion};
-ghost use Rattle.h3_field.specs.Field.{Field};
+ghost use Rattle.h3_field.specs.Field.{Field, flagged, plain_field};
 ghost use Rattle.h3_field.specs.ReadBack.{IsFieldOfBytes};
 ghost use Rattle.h3_header.specs.BadPart.{bad_part, refusal_of, IsHeadUnlessMany};
 ghost use Rattle.h3_header.specs.declared.headers.judge.BadPart.{BadPart};
@@ -9,6 +9,7 @@ ghost use Rattle.http_header.specs.FieldValue.{FieldValue};
 ghost use Rattle.http_header.specs.HeaderMap.{Entries};
 ghost use Rattle.h3_header.specs.AnyProtocol.{asked, asking};
 ghost use Rattle.h3_header.specs.Connect.{connect_head};
+ghost use Rattle.h3_header.specs.FlagLaws.{unflagged};
 ghost use Rattle.h3_header.specs.Head.{Head, head_fields, regular_fields, trailer_head};
 ghost use Rattle.h3_header.specs.HeadRead.{HeadRefusal, IsHead, IsNone, Value, head_by, head_of, told};
 ghost use Rattle.h3_header.specs.Parts.{head_of_parts};
@@ -65,6 +66,14 @@ pub fn lists_are_their_value()
     ensures named { (any : Bool) (fields : List Field) (h : Head) → IsHeadOf false fields h → head_by any fields ≡ IsHead h }
 {}
 
+/// A list is read by names and values alone: it reads alike whichever flag each of its fields gets (RFC 9204, 4.5.4), and so do any two
+/// lists of the same names and values. What a header is written as has no flag.
+pub fn heads_have_no_flags()
+    ensures flags { (any : Bool) (flag : Field → Bool) (fields : List Field) → head_by any (map (λ f. flagged f (flag f)) fields) ≡ head_by any fields }
+    ensures texts { (any : Bool) (fields others : List Field) → map unflagged fields ≡ map unflagged others → head_by any fields ≡ head_by any others }
+    ensures written { (h : Head) → map unflagged (head_fields h) ≡ head_fields h }
+{}
+
 /// What the choice of any protocol changes. A list without `:protocol` reads alike with it and without it. A list that is a header section
 /// with the two names is the same one with any token. And each header section with a token of at most 31 bytes as its protocol is what its
 /// own fields read as.
@@ -90,7 +99,7 @@ pub fn protocols_read_as_worked()
 /// `:path` or `:protocol`, which are wrong there, and both that are needed are there once.
 pub fn a_connect_is_method_and_authority()
     ensures sent { (authority : List ℕ) (m : Entries FieldValue) → head_fields (connect_head authority m)
-        ≡ record { name = codes ":method"; value = codes "CONNECT" } ∷ record { name = codes ":authority"; value = authority } ∷ regular_fields m }
+        ≡ plain_field (codes ":method") (codes "CONNECT") ∷ plain_field (codes ":authority") authority ∷ regular_fields m }
     ensures row { head_fields (connect_head (codes "example.com:443") [])
-        ≡ record { name = codes ":method"; value = codes "CONNECT" } ∷ record { name = codes ":authority"; value = codes "example.com:443" } ∷ [] }
+        ≡ plain_field (codes ":method") (codes "CONNECT") ∷ plain_field (codes ":authority") (codes "example.com:443") ∷ [] }
 {}

@@ -4,5 +4,6 @@ pub mod Known
 pub mod Messages
 pub mod OwnMessageLaws
 pub mod OwnMessages
+pub mod FlagLaws
 pub mod ResponseSaid
 pub mod Survey

@@ -9,6 +9,7 @@ pub mod content;
 pub mod head;
 mod host;
 mod known;
+pub mod laws;
 mod name_set;
 pub mod own;
 mod pseudo;

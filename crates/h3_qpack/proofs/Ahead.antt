@@ -1,5 +1,5 @@
 -- What an economical encoder inserts for later sections, behind the line of a field.
-use Rattle.std.proofs.Common.{◌≡◌, ℕ, ◌-◌, ◌^◌, ◌<◌, ◌≤◌, Bool, true, false, not, ◌&&◌, ◌==◌, List, [], ◌∷◌, ◌++◌, length, refl, sym, ◌∙◌, ap, subst, arith, flat_map, nat_le, nat_lt, Option, Some, None, is_none, unwrap_or, if◌then◌else◌}
+use Rattle.std.proofs.Common.{◌≡◌, ℕ, ◌-◌, ◌^◌, ◌<◌, ◌≤◌, Bool, true, false, not, ◌&&◌, ◌==◌, List, [], ◌∷◌, ◌++◌, length, inl, inr, refl, sym, ◌∙◌, ap, subst, arith, flat_map, nat_le, nat_lt, Option, Some, None, is_none, option_map, unwrap_or, if◌then◌else◌}
 use Rattle.std.proofs.lemmas.Grind.{common_steps}
 use Rattle.std.proofs.lemmas.Bool.{and_parts}
 use Rattle.std.proofs.lemmas.List.{flat_map_more}
@@ -16,8 +16,8 @@ use Rattle.h3_table.specs.declared.entries.Match.TheVariants as what
 use Rattle.h3_qpack.specs.Marks.{with_mark}
 use Rattle.h3_qpack.specs.EncoderHistory.{EncoderHistory, blocks_out}
 use Rattle.h3_qpack.specs.EncoderState.{EncoderState, encoder_state}
-use Rattle.h3_qpack.specs.SectionEncoding.{Draft, draining, held, any_equal, is_usable, is_worth_to, marked, marks_after, entry_name_line, evictions_by, finds_room, is_new, is_insertable_ahead, insertion, add_ahead, write_field, insert_ahead, add_field}
-use Rattle.h3_qpack.specs.Drafting.{IsDraftState, IsDraftedWith, IsDrafted, IsSmall, IsChosen, IsPossible, IsPutAhead, MayInsertAhead, is_worth_in, equal_in, noted, is_literal, line_for, section_after, encoder_state_with, instructions_after, insertion_for}
+use Rattle.h3_qpack.specs.SectionEncoding.{Draft, draining, held, any_equal, is_usable, is_worth_to, unless_never, marked, marks_after, entry_name_line, evictions_by, finds_room, is_new, is_insertable_ahead, insertion, add_ahead, write_field, insert_ahead, add_field}
+use Rattle.h3_qpack.specs.Drafting.{IsDraftState, IsDraftedWith, IsDrafted, IsSmall, IsChosen, IsLiteral, IsPossible, IsPutAhead, MayInsertAhead, is_worth_in, equal_in, noted, is_literal, line_for, section_after, encoder_state_with, instructions_after, insertion_for}
 use Rattle.h3_qpack.specs.declared.section.Section.{Section}
 use Rattle.h3_qpack.specs.declared.section.Choice.{Choice}
 use Rattle.h3_qpack.specs.declared.section.Choice.TheVariants as choice
@@ -88,16 +88,16 @@ not_behind : (s : EncoderHistory) (d : Draft) (t : EncoderState) (section : Sect
     → is_insertable_ahead s marks (drafted s d f c) f ≡ false
 not_behind s d t section f (choice.Static index) marks k h plain =
     let e = drafted s d f (choice.Static index) in
-    third_fails s.economical (s.limit == 0) (is_new s e f) (is_worth_to s (not (is_none (any_equal s e f))) marks e f) (finds_room s e f) (rw h refl)
+    third_fails s.economical (s.limit == 0) (is_new s e f) (is_worth_to s (not (is_none (any_equal s e f))) marks e f) (finds_room s e f) (rw h.1 refl)
 not_behind s d t section f (choice.Entry number) marks k h plain =
-    let entry : held s d f ≡ Some number = sym (older_kept s d marks t section f k) ∙ h.1 in
+    let entry : held s d f ≡ Some number = sym (older_kept s d marks t section f k) ∙ h.2 in
     let e = drafted s d f (choice.Entry number) in
     third_fails s.economical (s.limit == 0) (is_new s e f) (is_worth_to s (not (is_none (any_equal s e f))) marks e f) (finds_room s e f)
-    (and_fails (is_none (static_field f)) (nat_le (unwrap_or (any_equal s d f) 0) (draining s)) (held_least s d f number (draining s) entry (subst (λ n. n < number) k.draining h.2)))
+    (and_fails (is_none (static_field f)) (nat_le (unwrap_or (any_equal s d f) 0) (draining s)) (held_least s d f number (draining s) entry (subst (λ n. n < number) k.draining h.3)))
 not_behind s d t section f (choice.Insertion after searched) marks k h plain =
     let e = drafted s d f (choice.Insertion after searched) in
     second_fails s.economical (s.limit == 0) (is_new s e f) (is_worth_to s (not (is_none (any_equal s e f))) marks e f) (finds_room s e f)
-    (some_limit (blocks_out s) s.limit (sym k.may_block ∙ h.1.may_block))
+    (some_limit (blocks_out s) s.limit (sym k.may_block ∙ h.2.may_block))
   where
     some_limit : (n limit : ℕ) → nat_lt n limit ≡ true → (limit == 0) ≡ false
     some_limit n limit e = grind (arith, common_steps, e)
@@ -123,20 +123,27 @@ plain_marks s d f choice.Literal e = absurd (cc)
 
 -- the marks behind a literal
 abbrev with_literal : EncoderHistory → List ℕ → Field → List ℕ
-with_literal s marks f = if s.economical then with_mark marks f.value else marks
+with_literal s marks f = if s.economical && not f.never_indexed then with_mark marks f.value else marks
+
+marked_literal : (economical n : Bool) (marks value : List ℕ)
+    → unwrap_or (option_map (λ v. if economical then with_mark marks v else marks) (unless_never n value)) marks ≡ (if economical && not n then with_mark marks value else marks)
+marked_literal true true marks value = refl
+marked_literal true false marks value = refl
+marked_literal false true marks value = refl
+marked_literal false false marks value = refl
 
 literal_marks : (s : EncoderHistory) (d : Draft) (f : Field) (c : Choice) → is_literal c ≡ true → marks_after s (drafted s d f c).lines ≡ with_literal s (marks_after s d.lines) f
 literal_marks s d f (choice.Static index) e = absurd (cc)
 literal_marks s d f (choice.Entry number) e = absurd (cc)
 literal_marks s d f (choice.Insertion after searched) e = absurd (cc)
-literal_marks s d f (choice.StaticName index) e = marks_more s d.lines (line.StaticName index f.value)
-literal_marks s d f (choice.EntryName number) e = marks_more s d.lines (entry_name_line (length s.inserted) number f.value) ∙ either_line (nat_le number (length s.inserted))
+literal_marks s d f (choice.StaticName index) e = marks_more s d.lines (line.StaticName index f.value f.never_indexed) ∙ marked_literal s.economical f.never_indexed (marks_after s d.lines) f.value
+literal_marks s d f (choice.EntryName number) e = marks_more s d.lines (entry_name_line (length s.inserted) number f.value f.never_indexed) ∙ either_line (nat_le number (length s.inserted))
   where
-    either_line : (b : Bool) → marked s.economical (marks_after s d.lines) (if b then line.RelativeName (length s.inserted - number) f.value else line.PostBaseName (number - length s.inserted - 1) f.value)
+    either_line : (b : Bool) → marked s.economical (marks_after s d.lines) (if b then line.RelativeName (length s.inserted - number) f.value f.never_indexed else line.PostBaseName (number - length s.inserted - 1) f.value f.never_indexed)
         ≡ with_literal s (marks_after s d.lines) f
-    either_line true = refl
-    either_line false = refl
-literal_marks s d f choice.Literal e = marks_more s d.lines (line.Literal f.name f.value)
+    either_line true = marked_literal s.economical f.never_indexed (marks_after s d.lines) f.value
+    either_line false = marked_literal s.economical f.never_indexed (marks_after s d.lines) f.value
+literal_marks s d f choice.Literal e = marks_more s d.lines (line.Literal f.name f.value f.never_indexed) ∙ marked_literal s.economical f.never_indexed (marks_after s d.lines) f.value
 
 -- The line is all of the field.
 line_alone : (s : EncoderHistory) (d : Draft) (t : EncoderState) (section : Section) (f : Field) (c : Choice) (lines start instruction_bytes : List ℕ) → IsDrafted s d t section lines start instruction_bytes
@@ -161,13 +168,17 @@ literal_keeps t f (choice.StaticName index) e = refl
 literal_keeps t f (choice.EntryName number) e = refl
 literal_keeps t f choice.Literal e = refl
 
-literal_not_static : (t : EncoderState) (section : Section) (f : Field) (c : Choice) → IsChosen t section f c → is_literal c ≡ true → static_field f ≡ None
+not_static : (t : EncoderState) (section : Section) (f : Field) → IsLiteral t section f → f.never_indexed ≡ false → static_field f ≡ None
+not_static t section f (inl never) plain = absurd (cc)
+not_static t section f (inr h) plain = h.1.nowhere.no_static
+
+literal_not_static : (t : EncoderState) (section : Section) (f : Field) (c : Choice) → IsChosen t section f c → is_literal c ≡ true → f.never_indexed ≡ false → static_field f ≡ None
 literal_not_static t section f (choice.Static index) h e = absurd (cc)
 literal_not_static t section f (choice.Entry number) h e = absurd (cc)
 literal_not_static t section f (choice.Insertion after searched) h e = absurd (cc)
-literal_not_static t section f (choice.StaticName index) h e = h.0.nowhere.no_static
-literal_not_static t section f (choice.EntryName number) h e = h.0.nowhere.no_static
-literal_not_static t section f choice.Literal h e = h.0.nowhere.no_static
+literal_not_static t section f (choice.StaticName index) h e = not_static t section f h.0
+literal_not_static t section f (choice.EntryName number) h e = not_static t section f h.0
+literal_not_static t section f choice.Literal h e = not_static t section f h.0
 
 -- how many entries are evicted behind an insertion
 after_kept : (s : EncoderHistory) (d : Draft) (marks : List ℕ) (t : EncoderState) (section : Section) (f : Field) → IsDraftState s d marks t section → field_size f ≤ t.table.capacity → evicted (with_entry t.table f) ≡ evictions_by s d f
@@ -176,7 +187,7 @@ after_kept s d marks t section f k small =
     ap (λ (u : EncoderState). evicted (with_entry u.table f)) k.stores ∙ ap evicted (with_entry-held s.capacity d.inserted f fits)
 
 -- The rule inserts exactly where what is kept allows it.
-ahead_kept : (s : EncoderHistory) (d : Draft) (marks : List ℕ) (t : EncoderState) (section : Section) (f : Field) → IsDraftState s d marks t section → NameEntries s → length d.inserted < 2 ^ 62 → static_field f ≡ None
+ahead_kept : (s : EncoderHistory) (d : Draft) (marks : List ℕ) (t : EncoderState) (section : Section) (f : Field) → IsDraftState s d marks t section → NameEntries s → length d.inserted < 2 ^ 62 → (f.never_indexed ≡ false → static_field f ≡ None)
     → MayInsertAhead t section f → is_insertable_ahead s marks d f ≡ true
 ahead_kept s d marks t section f k names few static m =
     let economical : s.economical ≡ true = sym (ap (λ (u : EncoderState). u.economical) k.stores) ∙ m.economical in
@@ -185,7 +196,7 @@ ahead_kept s d marks t section f k names few static m =
     let drains : nat_le (unwrap_or (any_equal s d f) 0) (draining s) ≡ true = le_true _ _ (subst (λ o. unwrap_or o 0 ≤ draining s) equal (subst (λ n. unwrap_or (equal_in t f) 0 ≤ n) k.draining m.no_entry)) in
     let worth : is_worth_to s (not (is_none (any_equal s d f))) marks d f ≡ true =
     sym (worth_kept s d marks t section (not (is_none (any_equal s d f))) f k) ∙ ap (λ o. is_worth_in t (not (is_none o)) f) (sym equal) ∙ m.worth in
-    let new : is_new s d f ≡ true = both (is_none (static_field f)) (nat_le (unwrap_or (any_equal s d f) 0) (draining s)) (rw static refl) drains in
+    let new : is_new s d f ≡ true = both (is_none (static_field f)) (nat_le (unwrap_or (any_equal s d f) 0) (draining s)) (rw (static m.may.plain) refl) drains in
     five (s.economical) (s.limit == 0) (is_new s d f) (is_worth_to s (not (is_none (any_equal s d f))) marks d f) (finds_room s d f)
     economical (rw limit refl) new worth (room_kept s d marks t section f k names few m.may)
   where
@@ -243,7 +254,7 @@ ahead_drafted s d marks t section f lines start instruction_bytes h small =
 
 -- Behind the line an insertion is made where the rule makes one.
 put_drafted : (s : EncoderHistory) (d : Draft) (marks : List ℕ) (t : EncoderState) (section : Section) (f : Field) (new : EncoderState) (lines start instruction_bytes after : List ℕ) → IsDraftedWith s d marks t section lines start instruction_bytes
-    → IsSmall t → static_field f ≡ None → IsPutAhead t section f new instruction_bytes after → IsDraftedWith s (insert_ahead s marks d f) marks new section lines start after
+    → IsSmall t → (f.never_indexed ≡ false → static_field f ≡ None) → IsPutAhead t section f new instruction_bytes after → IsDraftedWith s (insert_ahead s marks d f) marks new section lines start after
 put_drafted s d marks t section f new lines start instruction_bytes after h small static p = by_test (is_insertable_ahead s marks d f) refl
   where
     names : NameEntries s

@@ -10,7 +10,7 @@ use Rattle.std.proofs.lemmas.List.Elements.{filter-append}
 use Rattle.std.proofs.lemmas.List.Sums.{sum_by-cons}
 use Rattle.h3_field.specs.Field.{Field, field_eq, field_size, section_size}
 use Rattle.h3_field.specs.ReadBack.{IsFieldOfBytes}
-use Rattle.h3_field.specs.StaticTable.{static_field, static_name}
+use Rattle.h3_field.specs.StaticTable.{static_table, static_field, static_name}
 use Rattle.h3_field.specs.Line.{FieldLine, line_bytes}
 use Rattle.h3_field.specs.Line.FieldLine.{StaticField, RelativeField, StaticName, Literal}
 use Rattle.h3_field.specs.Instruction.{encoder_bytes}
@@ -21,7 +21,7 @@ use Rattle.h3_qpack.specs.EncoderHistory.{EncoderHistory, blocks_out, referenced
 use Rattle.h3_table.specs.Cancellations.{counts_as_canceled}
 use Rattle.h3_qpack.specs.EncoderState.{EncoderState, encoder_state, was_canceled_in}
 use Rattle.h3_qpack.proofs.EncoderStates.{tracked_state}
-use Rattle.h3_qpack.specs.SectionEncoding.{Draft, add_line, add_literal, add_ahead, write_field, add_field, unnamed, held, found, found_name, any_equal, is_usable, is_worth_to, literal_value, marked, marks_after, entry_name_line, evictions_by, finds_room, is_insertable, is_new, is_insertable_ahead, draft_of, required_insert_count, encoded_section, instructions_for, having_inserted, sent_section}
+use Rattle.h3_qpack.specs.SectionEncoding.{Draft, add_line, add_literal, add_ahead, write_indexed, write_field, add_field, unnamed, held, found, found_name, any_equal, is_usable, is_worth_to, literal_value, marked, marks_after, entry_name_line, evictions_by, finds_room, is_insertable, is_new, is_insertable_ahead, draft_of, required_insert_count, encoded_section, instructions_for, having_inserted, sent_section}
 use Rattle.h3_qpack.specs.Drafting.{IsSent, IsCutOff}
 use Rattle.h3_qpack.proofs.Newest.{newest_from-none}
 
@@ -82,15 +82,16 @@ too_large size capacity none some = grind (arith, common_steps, none, some)
 -- nothing fits
 no_room : (s : EncoderHistory) (d : Draft) (f : Field) → s.capacity ≡ 0 → finds_room s d f ≡ false
 no_room s d f none =
-    second (nat_lt (length d.inserted + 1) (2 ^ 62)) (nat_le (field_size f) s.capacity)
+    third (not f.never_indexed) (nat_lt (length d.inserted + 1) (2 ^ 62)) (nat_le (field_size f) s.capacity)
     (nat_le (evictions_by s d f) (max s.known_received (evictions s.capacity d.inserted)))
     (list_all (λ number. nat_lt (evictions_by s d f) number) (referenced_entries s ++ d.references))
     (too_large (field_size f) s.capacity none (omega arith))
   where
-    second : (a b c d : Bool) → b ≡ false → (a && b && c && d) ≡ false
-    second a true c d h = absurd (cc)
-    second false false c d h = refl
-    second true false c d h = refl
+    third : (n a b c d : Bool) → b ≡ false → (n && a && b && c && d) ≡ false
+    third n a true c d h = absurd (cc)
+    third false a false c d h = refl
+    third true false false c d h = refl
+    third true true false c d h = refl
 
 pub not_ahead : (s : EncoderHistory) (marks : List ℕ) (d : Draft) (f : Field) → (s.economical ≡ false) ⊎ (s.capacity ≡ 0) → is_insertable_ahead s marks d f ≡ false
 not_ahead s marks d f (inl plain) = rw plain refl
@@ -119,9 +120,9 @@ no_name s lines f h =
     fails false b c h = refl
 
 literal_added : (s : EncoderHistory) (lines : List FieldLine) (f : Field) (o n : Option ℕ) → n ≡ None
-    → unwrap_or (option_map (λ index. add_line (with_lines s lines) (StaticName index f.value) []) o) (
-    unwrap_or (option_map (λ number. add_line (with_lines s lines) (entry_name_line (length s.inserted) number f.value) (number ∷ [])) n)
-    (add_line (with_lines s lines) (Literal f.name f.value) []))
+    → unwrap_or (option_map (λ index. add_line (with_lines s lines) (StaticName index f.value f.never_indexed) []) o) (
+    unwrap_or (option_map (λ number. add_line (with_lines s lines) (entry_name_line (length s.inserted) number f.value f.never_indexed) (number ∷ [])) n)
+    (add_line (with_lines s lines) (Literal f.name f.value f.never_indexed) []))
     ≡ with_lines s (lines ++ literal_line o f ∷ [])
 literal_added s lines f None None e = refl
 literal_added s lines f (Some i) None e = refl
@@ -138,11 +139,22 @@ line_added s lines f None None false inserted literal e d l = l
 line_added s lines f o (Some i) b inserted literal e d l = absurd (grind (arith, common_steps, e))
 line_added s lines f o None true inserted literal e d l = absurd (grind (arith, common_steps, d))
 
+-- No static entry is never indexed.
+never_static : (f : Field) → f.never_indexed ≡ true → static_field f ≡ None
+unfolding static_table static_field
+never_static f never = rw never refl
+
 line_of_field : (s : EncoderHistory) (lines : List FieldLine) (f : Field) → NamesNone s → write_field s (with_lines s lines) f ≡ with_lines s (lines ++ static_line f ∷ [])
-line_of_field s lines f h =
-    line_added s lines f (static_field f) (found s (with_lines s lines) f) (is_insertable s (with_lines s lines) f) _ (add_literal s (with_lines s lines) f)
-    (none_found s lines f h) (not_insertable s lines f h)
-    (literal_added s lines f (static_name f.name) (found_name s (with_lines s lines) f) (no_name s lines f h))
+line_of_field s lines f h = by_flag f.never_indexed refl
+  where
+    literal : add_literal s (with_lines s lines) f ≡ with_lines s (lines ++ literal_line (static_name f.name) f ∷ [])
+    literal = literal_added s lines f (static_name f.name) (found_name s (with_lines s lines) f) (no_name s lines f h)
+
+    by_flag : (b : Bool) → f.never_indexed ≡ b → (if b then add_literal s (with_lines s lines) f else write_indexed s (with_lines s lines) f) ≡ with_lines s (lines ++ static_line f ∷ [])
+    by_flag true never = literal ∙ ap (λ o. with_lines s (lines ++ line_or_literal o f ∷ [])) (sym (never_static f never))
+    by_flag false plain =
+        line_added s lines f (static_field f) (found s (with_lines s lines) f) (is_insertable s (with_lines s lines) f) _ (add_literal s (with_lines s lines) f)
+        (none_found s lines f h) (not_insertable s lines f h) literal
 
 field_added : (s : EncoderHistory) (lines : List FieldLine) (f : Field) → NamesNone s → add_field s (with_lines s lines) f ≡ with_lines s (lines ++ static_line f ∷ [])
 field_added s lines f h =

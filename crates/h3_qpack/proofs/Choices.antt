@@ -1,5 +1,5 @@
 -- Each choice of the encoder's rule, made by what is kept.
-use Rattle.std.proofs.Common.{◌≡◌, ℕ, ◌+◌, ◌-◌, ◌^◌, ◌<◌, ◌≤◌, Bool, true, false, ◌&&◌, ◌||◌, List, [], ◌∷◌, ◌++◌, length, min, max, refl, sym, ◌∙◌, ap, arith, length-append, nat_le, nat_lt, bytes_eq, if◌then◌else◌, map, fold}
+use Rattle.std.proofs.Common.{◌≡◌, ℕ, ◌+◌, ◌-◌, ◌^◌, ◌<◌, ◌≤◌, Bool, true, false, not, ◌&&◌, ◌||◌, List, [], ◌∷◌, ◌++◌, length, min, max, refl, sym, ◌∙◌, ap, arith, length-append, nat_le, nat_lt, bytes_eq, if◌then◌else◌, map, fold}
 use Rattle.std.specs.List.{AllByRecursion, list_all, flat_map}
 use Rattle.std.proofs.lemmas.Grind.{common_steps}
 use Rattle.std.proofs.lemmas.Bool.{and_parts}
@@ -209,7 +209,17 @@ room_held s d f t table known tracked named small h =
     tracked_free (evictions_by s d f) s.tracked named ∙ ap (is_free_to (evictions_by s d f)) (sym tracked) ∙ ap (λ n. is_free_to n t.tracked) (sym after) ∙ h.free in
     let own : list_all (λ k. nat_lt (evictions_by s d f) k) d.references ≡ true =
     drafted_free (evictions_by s d f) d.references (omega (arith, small, length-append d.inserted (f ∷ []))) ∙ lt_true (evictions_by s d f) (oldest_of d.references) (omega (arith, h.own, after)) in
-    rw (few, room, received, list_all-append (evictions_by s d f) (referenced_entries s) d.references, free, own) refl
+    all f.never_indexed _ _ _ _ h.plain few room received (list_all-append (evictions_by s d f) (referenced_entries s) d.references ∙ both _ _ free own)
+  where
+    both : (a b : Bool) → a ≡ true → b ≡ true → (a && b) ≡ true
+    both a b x y = rw (x, y) refl
+
+    all : (n a b c d : Bool) → n ≡ false → a ≡ true → b ≡ true → c ≡ true → d ≡ true → (not n && a && b && c && d) ≡ true
+    all n a b c d v w x y z = rw (v, w, x, y, z) refl
+
+is_plain : (b : Bool) → not b ≡ true → b ≡ false
+is_plain true h = absurd (cc)
+is_plain false h = refl
 
 is_le : (a b : ℕ) → nat_le a b ≡ true → a ≤ b
 is_le a b h = grind (arith, common_steps)
@@ -222,13 +232,15 @@ pub held_room : (s : EncoderHistory) (d : Draft) (f : Field) (t : EncoderState) 
 held_room s d f t table known tracked named small h =
     let a = and_parts _ (list_all (λ number. nat_lt (evictions_by s d f) number) (referenced_entries s ++ d.references)) h in
     let b = and_parts _ (nat_le (evictions_by s d f) (max s.known_received (evictions s.capacity d.inserted))) a.0 in
-    let c = and_parts (nat_lt (length d.inserted + 1) (2 ^ 62)) (nat_le (field_size f) s.capacity) b.0 in
+    let c = and_parts _ (nat_le (field_size f) s.capacity) b.0 in
+    let e = and_parts (not f.never_indexed) (nat_lt (length d.inserted + 1) (2 ^ 62)) c.0 in
     let named_all = and_parts _ _ (sym (list_all-append (evictions_by s d f) (referenced_entries s) d.references) ∙ a.1) in
     let fits = is_le (field_size f) s.capacity c.1 in
     let after : evicted (with_entry t.table f) ≡ evictions_by s d f = ap (λ k. evicted (with_entry k f)) table ∙ ap evicted (with_entry-held s.capacity d.inserted f fits) in
     let before : evicted t.table ≡ evictions s.capacity d.inserted = ap evicted table in
     record {
-      few = omega (arith, is_lt _ _ c.0, ap (λ k. k.inserted) table);
+      plain = is_plain f.never_indexed e.0;
+      few = omega (arith, is_lt _ _ e.1, ap (λ k. k.inserted) table);
       fits = omega (arith, fits, ap (λ k. k.capacity) table);
       known = omega (arith, is_le _ _ b.1, after, before, known);
       free = ap (λ n. is_free_to n t.tracked) after ∙ ap (is_free_to (evictions_by s d f)) tracked ∙ sym (tracked_free (evictions_by s d f) s.tracked named) ∙ named_all.0;

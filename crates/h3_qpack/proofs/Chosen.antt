@@ -1,5 +1,5 @@
 -- Each choice made by what is kept is that of the encoder's rule.
-use Rattle.std.proofs.Common.{◌≡◌, ℕ, ◌-◌, ◌^◌, ◌<◌, ◌≤◌, Bool, true, false, not, ◌&&◌, List, [], ◌∷◌, length, min, max, refl, sym, ◌∙◌, ap, subst, arith, nat_lt, if◌then◌else◌, Option, Some, None, is_none}
+use Rattle.std.proofs.Common.{◌≡◌, ℕ, ◌-◌, ◌^◌, ◌<◌, ◌≤◌, Bool, true, false, not, ◌&&◌, List, [], ◌∷◌, length, min, max, inl, inr, refl, sym, ◌∙◌, ap, subst, arith, nat_lt, if◌then◌else◌, Option, Some, None, is_none}
 use Rattle.std.specs.Prelude.{IfSome}
 use Rattle.std.proofs.lemmas.Grind.{common_steps}
 use Rattle.std.proofs.lemmas.Bool.{and_parts}
@@ -9,8 +9,8 @@ use Rattle.h3_table.specs.TableState.{evicted, newest_in}
 use Rattle.h3_table.specs.Matches.{matches}
 use Rattle.h3_qpack.specs.EncoderHistory.{EncoderHistory, blocks_out}
 use Rattle.h3_qpack.specs.EncoderState.{EncoderState, MayInsertInto}
-use Rattle.h3_qpack.specs.SectionEncoding.{Draft, draining, held, marks_after, is_worth_to, add_line, add_inserted, write_field, entry_name_line, found, found_name, evictions_by, finds_room, is_insertable, insertion}
-use Rattle.h3_qpack.specs.Drafting.{IsDraftState, IsChosen, IsUnnamed, MayInsertFor, older, named_lasting, is_worth_in, most_usable, insertion_for}
+use Rattle.h3_qpack.specs.SectionEncoding.{Draft, draining, held, marks_after, is_worth_to, add_line, add_literal, add_inserted, write_indexed, write_field, entry_name_line, found, found_name, evictions_by, finds_room, is_insertable, insertion}
+use Rattle.h3_qpack.specs.Drafting.{IsDraftState, IsChosen, IsLiteral, IsNotHeld, IsUnnamed, MayInsertFor, older, named_lasting, is_worth_in, most_usable, insertion_for}
 use Rattle.h3_table.specs.declared.entries.Match.TheVariants as what
 use Rattle.h3_qpack.specs.declared.section.Section.{Section}
 use Rattle.h3_qpack.specs.declared.section.Choice.{Choice}
@@ -24,9 +24,9 @@ abbrev pub drafted : EncoderHistory → Draft → Field → Choice → Draft
 drafted s d f (choice.Static index) = add_line d (line.StaticField index) []
 drafted s d f (choice.Entry number) = add_line d (line.RelativeField (length s.inserted - number)) (number ∷ [])
 drafted s d f (choice.Insertion after searched) = add_inserted s d f
-drafted s d f (choice.StaticName index) = add_line d (line.StaticName index f.value) []
-drafted s d f (choice.EntryName number) = add_line d (entry_name_line (length s.inserted) number f.value) (number ∷ [])
-drafted s d f choice.Literal = add_line d (line.Literal f.name f.value) []
+drafted s d f (choice.StaticName index) = add_line d (line.StaticName index f.value f.never_indexed) []
+drafted s d f (choice.EntryName number) = add_line d (entry_name_line (length s.inserted) number f.value f.never_indexed) (number ∷ [])
+drafted s d f choice.Literal = add_line d (line.Literal f.name f.value f.never_indexed) []
 
 usable_kept : (s : EncoderHistory) (d : Draft) (marks : List ℕ) (t : EncoderState) (section : Section) (n m : ℕ) → IsDraftState s d marks t section → n ≡ m → most_usable t section n ≡ usable_to s m
 usable_kept s d marks t section n m k e =
@@ -128,19 +128,33 @@ not_inserted_kept s d t section f k names few none = by_test (is_insertable s d 
         let j = and_parts (nat_lt (blocks_out s) s.limit) (is_worth_to s (not (is_none (held s d f))) marks d f) i.0 in
         absurd (none (record { may_block = k.may_block ∙ j.0; worth = worth_for s d marks t section f k ∙ j.1; may = kept_room s d marks t section f k names few i.1 }))
 
+-- A field that is not held is written as a literal.
+not_held_kept : (s : EncoderHistory) (d : Draft) (t : EncoderState) (section : Section) (f : Field) → IsDraftState s d (marks_after s d.lines) t section → NameEntries s → length d.inserted < 2 ^ 62
+    → IsNotHeld t section f → write_indexed s d f ≡ add_literal s d f
+not_held_kept s d t section f k names few h =
+    rw (h.nowhere.no_static, none_found s d (marks_after s d.lines) t section f k h.nowhere, not_inserted_kept s d t section f k names few h.no_room) refl
+
+plain_written : (s : EncoderHistory) (d : Draft) (f : Field) → f.never_indexed ≡ false → write_field s d f ≡ write_indexed s d f
+plain_written s d f plain = ap (λ b. if b then add_literal s d f else write_indexed s d f) plain
+
+-- So is one that is never indexed.
+literal_kept : (s : EncoderHistory) (d : Draft) (t : EncoderState) (section : Section) (f : Field) → IsDraftState s d (marks_after s d.lines) t section → NameEntries s → length d.inserted < 2 ^ 62
+    → IsLiteral t section f → write_field s d f ≡ add_literal s d f
+literal_kept s d t section f k names few (inl never) = ap (λ b. if b then add_literal s d f else write_indexed s d f) never
+literal_kept s d t section f k names few (inr h) = plain_written s d f h.0 ∙ not_held_kept s d t section f k names few h.1
+
 -- The rule says the same.
 pub rule_kept : (s : EncoderHistory) (d : Draft) (t : EncoderState) (section : Section) (f : Field) (c : Choice) → IsDraftState s d (marks_after s d.lines) t section → NameEntries s → length d.inserted < 2 ^ 62
     → IsChosen t section f c → write_field s d f ≡ drafted s d f c
-rule_kept s d t section f (choice.Static index) k names few h = rw h refl
+rule_kept s d t section f (choice.Static index) k names few h = plain_written s d f h.0 ∙ rw h.1 refl
 rule_kept s d t section f (choice.Entry number) k names few h =
-    rw (h.0, entry_found s d (marks_after s d.lines) t section f number k h.1 h.2) refl
+    plain_written s d f h.0 ∙ rw (h.1, entry_found s d (marks_after s d.lines) t section f number k h.2 h.3) refl
 rule_kept s d t section f (choice.Insertion after searched) k names few h =
-    rw (h.0.no_static, none_found s d (marks_after s d.lines) t section f k h.0, inserted_kept s d t section f k names few h.1) refl
-rule_kept s d t section f (choice.StaticName index) k names few h =
-    rw (h.0.nowhere.no_static, none_found s d (marks_after s d.lines) t section f k h.0.nowhere, not_inserted_kept s d t section f k names few h.0.no_room, h.1) refl
+    plain_written s d f h.0 ∙ rw (h.1.no_static, none_found s d (marks_after s d.lines) t section f k h.1, inserted_kept s d t section f k names few h.2) refl
+rule_kept s d t section f (choice.StaticName index) k names few h = literal_kept s d t section f k names few h.0 ∙ rw h.1 refl
 rule_kept s d t section f (choice.EntryName number) k names few h =
     let entry : found_name s d f ≡ Some number = sym (named_kept s d (marks_after s d.lines) t section f k) ∙ h.2 in
-    rw (h.0.nowhere.no_static, none_found s d (marks_after s d.lines) t section f k h.0.nowhere, not_inserted_kept s d t section f k names few h.0.no_room, h.1, entry) refl
+    literal_kept s d t section f k names few h.0 ∙ rw (h.1, entry) refl
 rule_kept s d t section f choice.Literal k names few h =
     let no_name : found_name s d f ≡ None = sym (named_kept s d (marks_after s d.lines) t section f k) ∙ h.2 in
-    rw (h.0.nowhere.no_static, none_found s d (marks_after s d.lines) t section f k h.0.nowhere, not_inserted_kept s d t section f k names few h.0.no_room, h.1, no_name) refl
+    literal_kept s d t section f k names few h.0 ∙ rw (h.1, no_name) refl

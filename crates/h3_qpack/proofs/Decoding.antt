@@ -89,10 +89,10 @@ found_back s d f number h =
     let le = le_is number (length s.inserted) b.1 in
     (omega (arith, le), omega (arith, p.above), omega (arith, p.below))
 
-pub name_back : (base number : ℕ) (value : List ℕ) (b : Bool) → nat_le number base ≡ b → 0 < number
-    → entry_number base (if b then RelativeName (base - number) value else PostBaseName (number - base - 1) value) ≡ number
-name_back base number value true e above = grind (arith, common_steps)
-name_back base number value false e above = grind (arith, common_steps)
+pub name_back : (base number : ℕ) (value : List ℕ) (n b : Bool) → nat_le number base ≡ b → 0 < number
+    → entry_number base (if b then RelativeName (base - number) value n else PostBaseName (number - base - 1) value n) ≡ number
+name_back base number value n true e above = grind (arith, common_steps)
+name_back base number value n false e above = grind (arith, common_steps)
 
 record Both (s : EncoderHistory) (d : Draft) : Type 0 where
   longer : length s.inserted ≤ length d.inserted
@@ -104,7 +104,7 @@ literal_both s d f h =
     chosen (Both s) (found_name s d f) _ _ (λ number e.
     let p = newest_from-passes _ 1 d.inserted number e in
     let above : 0 < number = omega (arith, p.above) in
-    record { longer = h.longer; counted = named_counted s d _ number (name_back (length s.inserted) number f.value _ refl above) above (omega (arith, p.below)) h.counted }) (λ none.
+    record { longer = h.longer; counted = named_counted s d _ number (name_back (length s.inserted) number f.value f.never_indexed _ refl above) above (omega (arith, p.below)) h.counted }) (λ none.
     record { longer = h.longer; counted = plain_counted s d _ refl h.counted }))
 
 ahead_both : (s : EncoderHistory) (d : Draft) (f : Field) → Both s d → Both s (add_ahead s d f)
@@ -117,11 +117,12 @@ ahead_both s d f h =
 
 line_of_field_both : (s : EncoderHistory) (d : Draft) (f : Field) → Both s d → Both s (write_field s d f)
 line_of_field_both s d f h =
+    either_way (Both s) f.never_indexed _ _ (λ never. literal_both s d f h) (
     chosen (Both s) (static_field f) _ _ (λ index e. record { longer = h.longer; counted = plain_counted s d _ refl h.counted }) (λ none.
     chosen (Both s) (found s d f) _ _ (λ number e. let k = found_back s d f number e in record { longer = h.longer; counted = named_counted s d _ number k.0 k.1 k.2 h.counted }) (λ none.
     either_way (Both s) (is_insertable s d f) _ _
     (λ e. record { longer = omega (arith, h.longer, length-append d.inserted (f ∷ [])); counted = inserted_counted s d f h.longer h.counted })
-    (literal_both s d f h)))
+    (literal_both s d f h))))
 
 field_both : (s : EncoderHistory) (d : Draft) (f : Field) → Both s d → Both s (add_field s d f)
 field_both s d f h = with_field (Both s) s d f (line_of_field_both s d f h) (λ e test k. ahead_both s e f k)

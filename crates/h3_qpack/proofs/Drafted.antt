@@ -100,10 +100,10 @@ chosen_drafted s d marks t section f (choice.Static index) lines start instructi
 chosen_drafted s d marks t section f (choice.Entry number) lines start instruction_bytes h p =
     entry_drafted s d marks t section lines start instruction_bytes _ _ number h (ap (λ n. line.RelativeField (n - number)) h.state.base)
 chosen_drafted s d marks t section f (choice.Insertion after searched) lines start instruction_bytes h p = insertion_drafted s d marks t section f after searched lines start instruction_bytes h p
-chosen_drafted s d marks t section f (choice.StaticName index) lines start instruction_bytes h p = plain_drafted s d marks t section lines start instruction_bytes (line.StaticName index f.value) h
+chosen_drafted s d marks t section f (choice.StaticName index) lines start instruction_bytes h p = plain_drafted s d marks t section lines start instruction_bytes (line.StaticName index f.value f.never_indexed) h
 chosen_drafted s d marks t section f (choice.EntryName number) lines start instruction_bytes h p =
-    entry_drafted s d marks t section lines start instruction_bytes _ _ number h (ap (λ n. entry_name_line n number f.value) h.state.base)
-chosen_drafted s d marks t section f choice.Literal lines start instruction_bytes h p = plain_drafted s d marks t section lines start instruction_bytes (line.Literal f.name f.value) h
+    entry_drafted s d marks t section lines start instruction_bytes _ _ number h (ap (λ n. entry_name_line n number f.value f.never_indexed) h.state.base)
+chosen_drafted s d marks t section f choice.Literal lines start instruction_bytes h p = plain_drafted s d marks t section lines start instruction_bytes (line.Literal f.name f.value f.never_indexed) h
 
 -- what sections that are tracked name is there
 pub names_kept : (s : EncoderHistory) (d : Draft) (marks : List ℕ) (t : EncoderState) (section : Section) → IsDraftState s d marks t section → AllByRecursion (λ u. 0 < u.oldest) t.tracked → NameEntries s

@@ -58,6 +58,7 @@ still_there capacity (g ∷ fs) f h = grind (arith, common_steps, still_there ca
 
 -- what the test of room says
 pub record MayInsert (s : EncoderHistory) (d : Draft) (f : Field) : Type 0 where
+  pub plain : f.never_indexed ≡ false
   pub few : length d.inserted + 1 < 2 ^ 62
   pub fits : field_size f ≤ s.capacity
   pub known_received : evictions_by s d f ≤ max s.known_received (evictions s.capacity d.inserted)
@@ -70,14 +71,20 @@ le_true a b e = grind (arith, common_steps)
 lt_true : (a b : ℕ) → nat_lt a b ≡ true → a < b
 lt_true a b e = grind (arith, common_steps)
 
+is_plain : (b : Bool) → not b ≡ true → b ≡ false
+is_plain true h = absurd (cc)
+is_plain false h = refl
+
 pub room_found : (s : EncoderHistory) (d : Draft) (f : Field) → finds_room s d f ≡ true → MayInsert s d f
 room_found s d f h =
     let a = and_parts _ (list_all (λ number. nat_lt (evictions_by s d f) number) (referenced_entries s ++ d.references)) h in
     let b = and_parts _ (nat_le (evictions_by s d f) (max s.known_received (evictions s.capacity d.inserted))) a.0 in
-    let c = and_parts (nat_lt (length d.inserted + 1) (2 ^ 62)) (nat_le (field_size f) s.capacity) b.0 in
+    let c = and_parts _ (nat_le (field_size f) s.capacity) b.0 in
+    let e = and_parts (not f.never_indexed) (nat_lt (length d.inserted + 1) (2 ^ 62)) c.0 in
     let all = All-tested (evictions_by s d f) (referenced_entries s ++ d.references) a.1 in
     record {
-      few = lt_true _ _ c.0;
+      plain = is_plain f.never_indexed e.0;
+      few = lt_true _ _ e.1;
       fits = le_true _ _ c.1;
       known_received = le_true _ _ b.1;
       present = All-first (λ number. evictions_by s d f < number) (referenced_entries s) d.references all;
@@ -174,9 +181,10 @@ either_way P false x y p q = q
 
 line_of_field_is_draft : (s : EncoderHistory) (d : Draft) (f : Field) → IsDraft s d → IsDraft s (write_field s d f)
 line_of_field_is_draft s d f h =
+    either_way (IsDraft s) f.never_indexed _ _ (λ never. literal_is_draft s d f h) (
     chosen (IsDraft s) (static_field f) _ _ (λ index e. line_is_draft s d _ [] h tt) (λ none.
     chosen (IsDraft s) (found s d f) _ _ (λ number e. line_is_draft s d _ (number ∷ []) h (found_is_named s d f number e, tt)) (λ none.
-    either_way (IsDraft s) (is_insertable s d f) _ _ (λ e. inserted_is_draft s d f h (may_insert s d f e) (may_block s d f e)) (literal_is_draft s d f h)))
+    either_way (IsDraft s) (is_insertable s d f) _ _ (λ e. inserted_is_draft s d f h (may_insert s d f e) (may_block s d f e)) (literal_is_draft s d f h))))
 
 -- what holds of a draft holds of it with a field, where it goes through a line and an insertion for later sections
 pub with_field : (P : Draft → Type 0) (s : EncoderHistory) (d : Draft) (f : Field) → P (write_field s d f) → ((e : Draft) → is_insertable_ahead s (marks_after s d.lines) e f ≡ true → P e → P (add_ahead s e f)) → P (add_field s d f)

@@ -81,14 +81,15 @@ literal_named P s d f h =
     chosen (Naming P s) (static_name f.name) _ _ (λ index e. plain_named P s d _ refl h) (λ none.
     chosen (Naming P s) (found_name s d f) _ _ (λ number e.
     let p = newest_from-passes _ 1 d.inserted number e in
-    entry_named P s d _ number (name_back (length s.inserted) number f.value _ refl (omega (arith, p.above))) h) (λ none.
+    entry_named P s d _ number (name_back (length s.inserted) number f.value f.never_indexed _ refl (omega (arith, p.above))) h) (λ none.
     plain_named P s d _ refl h))
 
 line_of_field_named : (P : ℕ → Type 0) (s : EncoderHistory) (d : Draft) (f : Field) → Naming P s d → Naming P s (write_field s d f)
 line_of_field_named P s d f h =
+    either_way (Naming P s) f.never_indexed _ _ (λ never. literal_named P s d f h) (
     chosen (Naming P s) (static_field f) _ _ (λ index e. plain_named P s d _ refl h) (λ none.
     chosen (Naming P s) (found s d f) _ _ (λ number e. entry_named P s d _ number (found_back s d f number e).0 h) (λ none.
-    either_way (Naming P s) (is_insertable s d f) _ _ (λ e. inserted_named P s d f h) (literal_named P s d f h)))
+    either_way (Naming P s) (is_insertable s d f) _ _ (λ e. inserted_named P s d f h) (literal_named P s d f h))))
 
 field_named : (P : ℕ → Type 0) (s : EncoderHistory) (d : Draft) (f : Field) → Naming P s d → Naming P s (add_field s d f)
 field_named P s d f h =
@@ -230,10 +231,10 @@ line_same : (h k : TableState) (base : ℕ) (l : FieldLine) → h.entries ≡ k.
 line_same h k base (StaticField index) e f = refl
 line_same h k base (RelativeField index) e f = entry_same h k (base - index) e f
 line_same h k base (PostBaseField index) e f = entry_same h k (base + index + 1) e f
-line_same h k base (StaticName index value) e f = refl
-line_same h k base (RelativeName index value) e f = ap (with_value value) (entry_same h k (base - index) e f)
-line_same h k base (PostBaseName index value) e f = ap (with_value value) (entry_same h k (base + index + 1) e f)
-line_same h k base (Literal name value) e f = refl
+line_same h k base (StaticName index value n) e f = refl
+line_same h k base (RelativeName index value n) e f = ap (with_value value n) (entry_same h k (base - index) e f)
+line_same h k base (PostBaseName index value n) e f = ap (with_value value n) (entry_same h k (base + index + 1) e f)
+line_same h k base (Literal name value n) e f = refl
 
 lines_same : (h k : TableState) (base : ℕ) (ls : List FieldLine) (fs : List Field) → h.entries ≡ k.entries → h.inserted ≡ k.inserted → HaveFields h base ls fs → HaveFields k base ls fs
 lines_same h k base [] [] e f a = tt

@@ -3,7 +3,7 @@ use Rattle.std.proofs.lemmas.List.{take-append-le}
 use Rattle.std.proofs.Math.Seq.{take-length}
 use Rattle.h3_field.specs.FieldLaws.{same_bytes, same_field}
 use Rattle.h3_field.specs.Line.{FieldLine}
-use Rattle.std.proofs.Common.{take, ◌≡◌, ℕ, ◌+◌, ◌-◌, ◌^◌, ◌<◌, ◌≤◌, Bool, true, false, ◌&&◌, List, [], ◌∷◌, ◌++◌, length, max, refl, sym, ◌∙◌, ap, subst, arith, length-append, Option, Some, None, nat_le, nat_lt, bytes_eq, fold, append-nil, append_assoc}
+use Rattle.std.proofs.Common.{take, ◌≡◌, ℕ, ◌+◌, ◌-◌, ◌^◌, ◌<◌, ◌≤◌, Bool, true, false, ◌&&◌, List, [], ◌∷◌, ◌++◌, length, max, refl, sym, ◌∙◌, ap, subst, arith, length-append, Option, Some, None, nat_le, nat_lt, bytes_eq, fold, append-nil, append_assoc, slice_get}
 use Rattle.std.proofs.lemmas.Grind.{common_steps}
 use Rattle.std.proofs.lemmas.Bool.{and_parts}
 use Rattle.h3_field.specs.Field.{Field, field_eq, field_size}
@@ -33,17 +33,18 @@ remains s d f test number h =
     still a b n le e = grind (arith, common_steps)
 
 -- the insertion names the field
-pub insertion_names : (s : EncoderHistory) (d : Draft) (f : Field) → field_inserted (table_of s.capacity d.inserted) (insertion s d f) ≡ Some f
+pub insertion_names : (s : EncoderHistory) (d : Draft) (f : Field) → f.never_indexed ≡ false → field_inserted (table_of s.capacity d.inserted) (insertion s d f) ≡ Some f
 unfolding static_table static_name
-insertion_names s d f =
+insertion_names s d f plain =
     let P : EncoderInstruction → Type 0 = λ i. field_inserted (table_of s.capacity d.inserted) i ≡ Some f in
     chosen P (remaining s d f (λ entry. field_eq entry f)) _ _
     (λ number e. let r = remains s d f (λ entry. field_eq entry f) number e in r.2 ∙ ap Some (same_field r.0 f r.1)) (λ none.
-    chosen P (static_name f.name) _ _ (λ index e. name_at static_table f index e) (λ none.
+    chosen P (static_name f.name) _ _ (λ index e. ap (λ n. with_value f.value n (slice_get static_table index)) (sym plain) ∙ name_at static_table f index e) (λ none.
     chosen P (remaining s d f (λ entry. bytes_eq entry.name f.name)) _ _
     (λ number e. let r = remains s d f (λ entry. bytes_eq entry.name f.name) number e in
     let n = same_bytes r.0.name f.name r.1 in
-    ap (with_value f.value) r.2 ∙ ap Some (λ i. record { name = n i; value = f.value })) (λ none. refl)))
+    let flag = sym plain in
+    ap (with_value f.value false) r.2 ∙ ap Some (λ i. record { name = n i; value = f.value; never_indexed = flag i })) (λ none. ap (λ n. Some (record { name = f.name; value = f.value; never_indexed = n })) (sym plain))))
 
 -- an insertion is no change of the capacity
 inserts : (greatest : ℕ) (h : TableHistory) (s : EncoderHistory) (d : Draft) (f : Field) → table_after greatest h (insertion s d f) ≡ table_after_insertion h (field_inserted h (insertion s d f))
@@ -66,7 +67,7 @@ pub insertion_read : (greatest : ℕ) (s : EncoderHistory) (d : Draft) (f : Fiel
     → table_after greatest (table_of s.capacity d.inserted) (insertion s d f) ≡ Some (table_of s.capacity (d.inserted ++ f ∷ []))
 insertion_read greatest s d f m =
     inserts greatest (table_of s.capacity d.inserted) s d f
-    ∙ ap (table_after_insertion (table_of s.capacity d.inserted)) (insertion_names s d f)
+    ∙ ap (table_after_insertion (table_of s.capacity d.inserted)) (insertion_names s d f m.plain)
     ∙ fits_longer s.capacity d.inserted f m.few m.fits
 
 pub table_after_all-append : (greatest : ℕ) (h : Option TableHistory) (xs ys : List EncoderInstruction) → table_after_all greatest h (xs ++ ys) ≡ table_after_all greatest (table_after_all greatest h xs) ys
@@ -136,11 +137,12 @@ line_of_field_read_as : (greatest : ℕ) (s : EncoderHistory) (before : List Enc
     → IsReadAs greatest s.capacity (before ++ d.instructions) d.inserted → IsReadAs greatest s.capacity (before ++ (write_field s d f).instructions) (write_field s d f).inserted
 line_of_field_read_as greatest s before d f h =
     let P : Draft → Type 0 = λ e. IsReadAs greatest s.capacity (before ++ e.instructions) e.inserted in
+    either_way P f.never_indexed _ _ (λ never. literal_read_as greatest s before d f h) (
     chosen P (static_field f) _ _ (λ index e. h) (λ none.
     chosen P (found s d f) _ _ (λ number e. h) (λ none.
     either_way P (is_insertable s d f) _ _
     (λ e. inserted_read_as greatest s before d f (may_insert s d f e) h)
-    (literal_read_as greatest s before d f h)))
+    (literal_read_as greatest s before d f h))))
 
 field_read_as : (greatest : ℕ) (s : EncoderHistory) (before : List EncoderInstruction) (d : Draft) (f : Field)
     → IsReadAs greatest s.capacity (before ++ d.instructions) d.inserted → IsReadAs greatest s.capacity (before ++ (add_field s d f).instructions) (add_field s d f).inserted

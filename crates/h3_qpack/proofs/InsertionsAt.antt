@@ -35,10 +35,10 @@ has_instruction {I} place says r old new o i e is answer = from r e (subst (λ (
 -- the field of an insertion that was read
 pub begins_insertion : {I : Type 0} (place : Place) (h : TableState) (says : I → EncoderInstruction) (read : List ℕ → Reading InstructionForm) (old new : List ℕ) (o : Option I) (i : I) (f : Field)
     → ((bytes rest : List ℕ) (form : InstructionForm) → read bytes ≡ Whole form rest → length rest < length bytes) → instruction old ≡ read old
-    → o ≡ Some i → AnswersInstruction says place (read old) old new (Ok o) → is_insertion (says i) ≡ true → insertion_of h (says i) ≡ Some f → BeginsInsertion h old f new
-begins_insertion place h says read old new o i f shorter e is answer inserts names =
+    → o ≡ Some i → AnswersInstruction says place (read old) old new (Ok o) → is_insertion (says i) ≡ true → insertion_of h (says i) ≡ Some f → f.never_indexed ≡ false → BeginsInsertion h old f new
+begins_insertion place h says read old new o i f shorter e is answer inserts names plain =
     let here = has_instruction place says (read old) old new o i e is answer in
-    record { i = says i; here = here; inserts = inserts; names = names; less = shorter old new here.form (sym e ∙ here.whole) }
+    record { i = says i; here = here; inserts = inserts; names = names; plain = plain; less = shorter old new here.form (sym e ∙ here.whole) }
 
 -- an insertion that was read and names no field
 pub begins_no_insertion : {I : Type 0} (place : Place) (h : TableState) (says : I → EncoderInstruction) (read : Reading InstructionForm) (old new : List ℕ) (o : Option I) (i : I) → instruction old ≡ read

@@ -1,6 +1,6 @@
 -- A line at the front of some bytes, and the field that it is of.
-use Rattle.std.proofs.Common.{◌≡◌, ℕ, ◌<◌, List, [], ◌∷◌, ◌++◌, length, Option, Some, None, Result, Ok, Err, inl, inr, sym, ap, ◌∙◌}
-use Rattle.std.specs.Prelude.{IfSome, OnOk, IfErr}
+use Rattle.std.proofs.Common.{◌≡◌, ℕ, ◌<◌, Bool, List, [], ◌∷◌, ◌++◌, length, Some, None, Result, Ok, Err, inl, inr, sym, ◌∙◌}
+use Rattle.std.specs.Prelude.{OnOk, IfErr}
 use Rattle.h3_field.specs.Field.{Field}
 use Rattle.h3_field.specs.Reading.{Reading, Whole, Unfinished, Bad}
 use Rattle.h3_field.specs.Line.{FieldLine}
@@ -8,7 +8,7 @@ use Rattle.h3_field.specs.LineReading.{LineForm, SaysLine, line, named}
 use Rattle.h3_field.specs.LineAnswer.{AnswersLine, short_named_line}
 use Rattle.h3_field.specs.IntegerReading.{integer}
 use Rattle.h3_field.specs.StringReading.{string}
-use Rattle.h3_field.specs.OntoAnswer.{AnswersField, AnswersIndex, name_ref_of}
+use Rattle.h3_field.specs.OntoAnswer.{AnswersField, AnswersIndex, named_head}
 use Rattle.h3_field.specs.OntoLaws.{named_onto}
 use Rattle.h3_field.specs.ShorterLaws.{named_less}
 use Rattle.h3_field.specs.declared.block.literal.NameRef as name_ref
@@ -78,11 +78,6 @@ refused_line place h base line_of Bad old new e is k =
     let same : e ≡ error_at place Overflow = cc in
     rw same (bad_at (BeginsWithString old) (BeginsWithNone h base old) place Overflow (not_read h base old Bad is (λ form rest x. absurd (cc))))
 
--- a field that a name and a value are of, where it is made
-pub made_of : (made named : Option Field) (f : Field) → named ≡ Some f → IfSome made (λ g. g ≡ f) → IfSome made (λ g. named ≡ Some g)
-made_of None named f e is = tt
-made_of (Some g) named f e is = e ∙ ap Some (sym is)
-
 -- a line of a field that was to be put
 pub puts : (h : TableState) (base : ℕ) (old new : List ℕ) (before after : List Field) (f : Field) (result : Result Unit DecoderError) → BeginsWith h base old f new
     → OnOk result (after ≡ before ++ f ∷ []) → IfErr result (λ e. e ≡ error.OutOfMemory) → PutsLine h base old new before after result
@@ -94,13 +89,13 @@ pub puts_none : (h : TableState) (base : ℕ) (old : List ℕ) (e : DecoderError
 puts_none h base old e reason = reason_with_map _ _ _ _ e (λ string. inl string) (λ none. none) reason
 
 -- a line with the name of an entry, whose value was read onto a block behind the bytes of that name
-pub named_put : (h : TableState) (base : ℕ) (old mid new bytes : List ℕ) (before after : List Field) (name : name_ref.NameRef) → line old ≡ named old
-    → AnswersIndex name_ref_of (integer 4 old) old mid (Ok name) → AnswersField bytes (string 8 mid) mid new before after (Ok tt)
-    → ((value : List ℕ) → field_at h base (short_named_line value name) ≡ Some (record { name = bytes; value = value })) → HasPut h base old new before after
-named_put h base old mid new bytes before after name is index value names =
-    let told = named_onto old mid new bytes before after name index value in
+pub named_put : (h : TableState) (base : ℕ) (old mid new bytes : List ℕ) (before after : List Field) (head : name_ref.NameRef × Bool) → line old ≡ named old
+    → AnswersIndex named_head (integer 4 old) old mid (Ok head) → AnswersField bytes head.1 (string 8 mid) mid new before after (Ok tt)
+    → ((value : List ℕ) → field_at h base (short_named_line value head) ≡ Some (record { name = bytes; value = value; never_indexed = head.1 })) → HasPut h base old new before after
+named_put h base old mid new bytes before after head is index value names =
+    let told = named_onto old mid new bytes before after head index value in
     record {
-      field = record { name = bytes; value = told.0 };
-      begins = begins_with AtInteger h base (short_named_line told.0) named old new name (record { name = bytes; value = told.0 }) named_less is told.1 (names told.0);
+      field = record { name = bytes; value = told.0; never_indexed = head.1 };
+      begins = begins_with AtInteger h base (short_named_line told.0) named old new head (record { name = bytes; value = told.0; never_indexed = head.1 }) named_less is told.1 (names told.0);
       added = told.2;
     }

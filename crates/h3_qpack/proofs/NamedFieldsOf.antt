@@ -28,9 +28,9 @@ insertion_at-append : (fs gs : List Field) (number : ℕ) (f : Field) → insert
 insertion_at-append fs gs zero f h = h
 insertion_at-append fs gs (suc n) f h = slice_get-append fs gs n f h
 
-pub with_value-more : (value : List ℕ) (a b : Option Field) (f : Field) → ((g : Field) → a ≡ Some g → b ≡ Some g) → with_value value a ≡ Some f → with_value value b ≡ Some f
-with_value-more value None b f more h = cc
-with_value-more value (Some g) b f more h = ap (with_value value) (more g refl) ∙ h
+pub with_value-more : (value : List ℕ) (n : Bool) (a b : Option Field) (f : Field) → ((g : Field) → a ≡ Some g → b ≡ Some g) → with_value value n a ≡ Some f → with_value value n b ≡ Some f
+with_value-more value n None b f more h = cc
+with_value-more value n (Some g) b f more h = ap (with_value value n) (more g refl) ∙ h
 
 -- a line is of the same field, where what it names here is there too
 pub line_alike : (here there : ℕ → Option Field) (base other : ℕ) (line : FieldLine) (f : Field) → ((g : Field) → here (entry_number base line) ≡ Some g → there (entry_number other line) ≡ Some g)
@@ -38,10 +38,10 @@ pub line_alike : (here there : ℕ → Option Field) (base other : ℕ) (line : 
 line_alike here there base other (StaticField index) f same h = h
 line_alike here there base other (RelativeField index) f same h = same f h
 line_alike here there base other (PostBaseField index) f same h = same f h
-line_alike here there base other (StaticName index value) f same h = h
-line_alike here there base other (RelativeName index value) f same h = with_value-more value _ _ f same h
-line_alike here there base other (PostBaseName index value) f same h = with_value-more value _ _ f same h
-line_alike here there base other (Literal name value) f same h = h
+line_alike here there base other (StaticName index value n) f same h = h
+line_alike here there base other (RelativeName index value n) f same h = with_value-more value n _ _ f same h
+line_alike here there base other (PostBaseName index value n) f same h = with_value-more value n _ _ f same h
+line_alike here there base other (Literal name value n) f same h = h
 
 pub lines_alike : (P : FieldLine → Type 0) (here there : ℕ → Option Field) (base other : ℕ) (lines : List FieldLine) (fields : List Field)
     → ((line : FieldLine) → P line → (g : Field) → here (entry_number base line) ≡ Some g → there (entry_number other line) ≡ Some g)
@@ -77,11 +77,11 @@ equal_at entries f i h =
     let p = position-Some (λ entry. field_eq entry f) entries i f h in
     slice_get-get_or entries i f p.0 ∙ ap Some (same_field (get_or entries i f) f p.1)
 
-pub name_at : (entries : List Field) (f : Field) (i : ℕ) → position (λ entry. bytes_eq entry.name f.name) entries ≡ Some i → with_value f.value (slice_get entries i) ≡ Some f
+pub name_at : (entries : List Field) (f : Field) (i : ℕ) → position (λ entry. bytes_eq entry.name f.name) entries ≡ Some i → with_value f.value f.never_indexed (slice_get entries i) ≡ Some f
 name_at entries f i h =
     let p = position-Some (λ entry. bytes_eq entry.name f.name) entries i f h in
     let n = same_bytes (get_or entries i f).name f.name p.1 in
-    ap (with_value f.value) (slice_get-get_or entries i f p.0) ∙ ap Some (λ i. record { name = n i; value = f.value })
+    ap (with_value f.value f.never_indexed) (slice_get-get_or entries i f p.0) ∙ ap Some (λ i. record { name = n i; value = f.value; never_indexed = f.never_indexed })
 
 -- the entry that a search found stands at its number
 pub insertion_found : (test : ℕ → Field → Bool) (fs : List Field) (number : ℕ) (h : newest test fs ≡ Some number)
@@ -139,22 +139,22 @@ found_line s d f number h =
     le_is : (a b : ℕ) → nat_le a b ≡ true → a ≤ b
     le_is a b e = grind (arith, common_steps)
 
-named_line : (inserted : List Field) (base number : ℕ) (f : Field) (b : Bool) → nat_le number base ≡ b → 0 < number → with_value f.value (insertion_at inserted number) ≡ Some f
-    → named_field inserted base (if b then RelativeName (base - number) f.value else PostBaseName (number - base - 1) f.value) ≡ Some f
+named_line : (inserted : List Field) (base number : ℕ) (f : Field) (b : Bool) → nat_le number base ≡ b → 0 < number → with_value f.value f.never_indexed (insertion_at inserted number) ≡ Some f
+    → named_field inserted base (if b then RelativeName (base - number) f.value f.never_indexed else PostBaseName (number - base - 1) f.value f.never_indexed) ≡ Some f
 named_line inserted base number f true e above h =
-    let back : base - (base - number) ≡ number = grind (arith, common_steps) in ap (λ n. with_value f.value (insertion_at inserted n)) back ∙ h
+    let back : base - (base - number) ≡ number = grind (arith, common_steps) in ap (λ n. with_value f.value f.never_indexed (insertion_at inserted n)) back ∙ h
 named_line inserted base number f false e above h =
-    let back : base + (number - base - 1) + 1 ≡ number = grind (arith, common_steps) in ap (λ n. with_value f.value (insertion_at inserted n)) back ∙ h
+    let back : base + (number - base - 1) + 1 ≡ number = grind (arith, common_steps) in ap (λ n. with_value f.value f.never_indexed (insertion_at inserted n)) back ∙ h
 
 found_name_line : (s : EncoderHistory) (d : Draft) (f : Field) (number : ℕ) → found_name s d f ≡ Some number
-    → named_field d.inserted (length s.inserted) (entry_name_line (length s.inserted) number f.value) ≡ Some f
+    → named_field d.inserted (length s.inserted) (entry_name_line (length s.inserted) number f.value f.never_indexed) ≡ Some f
 found_name_line s d f number h =
     let p = newest_from-passes _ 1 d.inserted number h in
     let a = and_parts _ (is_usable s number) p.test_is in
     let b = and_parts (bytes_eq p.entry.name f.name) _ a.0 in
     let n = same_bytes p.entry.name f.name b.0 in
     named_line d.inserted (length s.inserted) number f (nat_le number (length s.inserted)) refl p.above
-    (ap (with_value f.value) (insertion_found _ d.inserted number h) ∙ ap Some (λ i. record { name = n i; value = f.value }))
+    (ap (with_value f.value f.never_indexed) (insertion_found _ d.inserted number h) ∙ ap Some (λ i. record { name = n i; value = f.value; never_indexed = f.never_indexed }))
 
 literal_written : (s : EncoderHistory) (d : Draft) (fields : List Field) (f : Field) → IsWritten s d fields → IsWritten s (add_literal s d f) (fields ++ f ∷ [])
 unfolding static_table static_name
@@ -168,9 +168,10 @@ line_of_field_written : (s : EncoderHistory) (d : Draft) (fields : List Field) (
 unfolding static_table static_field
 line_of_field_written s d fields f h =
     let P : Draft → Type 0 = λ e. IsWritten s e (fields ++ f ∷ []) in
+    either_way P f.never_indexed _ _ (λ never. literal_written s d fields f h) (
     chosen P (static_field f) _ _ (λ index e. line_written s d _ [] fields f h (equal_at static_table f index e)) (λ none.
     chosen P (found s d f) _ _ (λ number e. line_written s d _ (number ∷ []) fields f h (found_line s d f number e)) (λ none.
-    either_way P (is_insertable s d f) _ _ (λ e. inserted_written s d fields f h) (literal_written s d fields f h)))
+    either_way P (is_insertable s d f) _ _ (λ e. inserted_written s d fields f h) (literal_written s d fields f h))))
 
 field_written : (s : EncoderHistory) (d : Draft) (fields : List Field) (f : Field) → IsWritten s d fields → IsWritten s (add_field s d f) (fields ++ f ∷ [])
 field_written s d fields f h = with_field (λ e. IsWritten s e (fields ++ f ∷ [])) s d f (line_of_field_written s d fields f h) (λ e test k. ahead_written s e (fields ++ f ∷ []) f k)

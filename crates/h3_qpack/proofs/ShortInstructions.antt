@@ -41,9 +41,10 @@ literal_short s d f h = chosen HasShort (static_name f.name) _ _ (λ index e. h)
 
 line_of_field_short : (s : EncoderHistory) (d : Draft) (f : Field) → field_size f < 2 ^ 56 → HasShort d → HasShort (write_field s d f)
 line_of_field_short s d f small h =
+    either_way HasShort f.never_indexed _ _ (λ never. literal_short s d f h) (
     chosen HasShort (static_field f) _ _ (λ index e. h) (λ none.
     chosen HasShort (found s d f) _ _ (λ number e. h) (λ none.
-    either_way HasShort (is_insertable s d f) _ _ (λ e. All-join IsShort d.instructions _ h (insertion_short s d f small, tt)) (literal_short s d f h)))
+    either_way HasShort (is_insertable s d f) _ _ (λ e. All-join IsShort d.instructions _ h (insertion_short s d f small, tt)) (literal_short s d f h))))
 
 field_short : (s : EncoderHistory) (d : Draft) (f : Field) → field_size f < 2 ^ 56 → HasShort d → HasShort (add_field s d f)
 field_short s d f small h = with_field HasShort s d f (line_of_field_short s d f small h) (λ e test k. All-join IsShort e.instructions _ k (insertion_short s e f small, tt))

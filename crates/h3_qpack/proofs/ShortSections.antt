@@ -5,7 +5,7 @@ use Rattle.std.proofs.lemmas.Grind.{flat_map-append}
 use Rattle.std.proofs.lemmas.List.Sums.{sum_by-cons}
 use Rattle.h3_field.specs.Field.{Field, field_size, section_size}
 use Rattle.h3_field.specs.Integer.{prefixed}
-use Rattle.h3_field.specs.Line.{FieldLine, line_bytes}
+use Rattle.h3_field.specs.Line.{FieldLine, bit_n, line_bytes}
 use Rattle.h3_field.specs.Line.FieldLine.{StaticField, RelativeField, PostBaseField, StaticName, RelativeName, PostBaseName, Literal}
 use Rattle.h3_field.specs.Prefix.{most_entries, prefix_bytes}
 use Rattle.h3_field.specs.StaticTable.{static_field, static_name}
@@ -43,27 +43,33 @@ index_and_string size flags index f =
 short_index : (size flags index : ℕ) (f : Field) → length (prefixed size flags index) ≤ share f
 short_index size flags index f = omega (arith, prefixed_short size flags index)
 
-entry_name_short : (base number : ℕ) (f : Field) → length (line_bytes (entry_name_line base number f.value)) ≤ share f
+entry_name_short : (base number : ℕ) (f : Field) → length (line_bytes (entry_name_line base number f.value f.never_indexed)) ≤ share f
 entry_name_short base number f =
-    either_way (λ line. length (line_bytes line) ≤ share f) (nat_le number base) (RelativeName (base - number) f.value) (PostBaseName (number - base - 1) f.value)
-    (λ e. index_and_string 4 4 (base - number) f) (index_and_string 3 0 (number - base - 1) f)
+    either_way (λ line. length (line_bytes line) ≤ share f) (nat_le number base) (RelativeName (base - number) f.value f.never_indexed) (PostBaseName (number - base - 1) f.value f.never_indexed)
+    (λ e. index_and_string 4 (4 + 2 * bit_n f.never_indexed) (base - number) f) (index_and_string 3 (bit_n f.never_indexed) (number - base - 1) f)
 
 literal_short : (most : ℕ) (s : EncoderHistory) (d : Draft) (f : Field) → LinesWithin most d → LinesWithin (most + share f) (add_literal s d f)
 literal_short most s d f h =
     chosen (LinesWithin (most + share f)) (static_name f.name) _ _
-    (λ index e. line_added most (share f) d (StaticName index f.value) h (index_and_string 4 5 index f)) (λ none.
+    (λ index e. line_added most (share f) d (StaticName index f.value f.never_indexed) h (index_and_string 4 (5 + 2 * bit_n f.never_indexed) index f)) (λ none.
     chosen (LinesWithin (most + share f)) (found_name s d f) _ _
-    (λ number e. line_added most (share f) d (entry_name_line (length s.inserted) number f.value) h (entry_name_short (length s.inserted) number f))
-    (λ none. line_added most (share f) d (Literal f.name f.value) h
-    (omega (arith, length-append (string_literal 4 2 f.name) (string_literal 8 0 f.value), string_short 4 2 f.name, string_short 8 0 f.value))))
+    (λ number e. line_added most (share f) d (entry_name_line (length s.inserted) number f.value f.never_indexed) h (entry_name_short (length s.inserted) number f))
+    (λ none. line_added most (share f) d (Literal f.name f.value f.never_indexed) h
+    (omega (
+      arith,
+      length-append (string_literal 4 (2 + bit_n f.never_indexed) f.name) (string_literal 8 0 f.value),
+      string_short 4 (2 + bit_n f.never_indexed) f.name,
+      string_short 8 0 f.value,
+    ))))
 
 line_of_field_short : (most : ℕ) (s : EncoderHistory) (d : Draft) (f : Field) → LinesWithin most d → LinesWithin (most + share f) (write_field s d f)
 line_of_field_short most s d f h =
+    either_way (LinesWithin (most + share f)) f.never_indexed _ _ (λ never. literal_short most s d f h) (
     chosen (LinesWithin (most + share f)) (static_field f) _ _ (λ index e. line_added most (share f) d (StaticField index) h (short_index 6 3 index f)) (λ none.
     chosen (LinesWithin (most + share f)) (found s d f) _ _
     (λ number e. line_added most (share f) d (RelativeField (length s.inserted - number)) h (short_index 6 2 (length s.inserted - number) f)) (λ none.
     either_way (LinesWithin (most + share f)) (is_insertable s d f) _ _
-    (λ e. line_added most (share f) d (PostBaseField (length d.inserted - length s.inserted)) h (short_index 4 1 (length d.inserted - length s.inserted) f)) (literal_short most s d f h)))
+    (λ e. line_added most (share f) d (PostBaseField (length d.inserted - length s.inserted)) h (short_index 4 1 (length d.inserted - length s.inserted) f)) (literal_short most s d f h))))
 
 field_short : (most : ℕ) (s : EncoderHistory) (d : Draft) (f : Field) → LinesWithin most d → LinesWithin (most + share f) (add_field s d f)
 field_short most s d f h = with_field (LinesWithin (most + share f)) s d f (line_of_field_short most s d f h) (λ e test k. k)

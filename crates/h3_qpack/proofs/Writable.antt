@@ -3,7 +3,7 @@ use Rattle.std.proofs.Common.{◌≡◌, ℕ, ◌-◌, ◌^◌, ◌<◌, Bool, t
 use Rattle.std.specs.List.{AllByRecursion}
 use Rattle.std.proofs.lemmas.List.Quantifiers.{position-Some}
 use Rattle.std.proofs.lemmas.List.Sums.{sum_by-cons}
-use Rattle.h3_field.specs.Field.{Field, field_eq, field_size, section_size}
+use Rattle.h3_field.specs.Field.{Field, plain_field, field_eq, field_size, section_size}
 use Rattle.h3_field.specs.ReadBack.{IsFieldOfBytes, IsLineOfBytes, IsInstructionOfBytes}
 use Rattle.h3_field.specs.StaticTable.{static_table, static_field, static_name}
 use Rattle.h3_field.specs.Line.{FieldLine, line_bytes}
@@ -42,15 +42,15 @@ field_below f index h = let p = position-Some (λ entry. field_eq entry f) stati
 
 name_below : (name : List ℕ) (index : ℕ) → static_name name ≡ Some index → index < 2 ^ 62
 unfolding static_name
-name_below name index h = let p = position-Some (λ entry. bytes_eq entry.name name) static_table index (record { name = name; value = [] }) h in omega (arith, p.0, table_length)
+name_below name index h = let p = position-Some (λ entry. bytes_eq entry.name name) static_table index (plain_field name []) h in omega (arith, p.0, table_length)
 
 more_lines : (s : EncoderHistory) (d : Draft) (l : FieldLine) (names : List ℕ) → IsSmallDraft s d → IsSmallLine l → IsSmallDraft s (add_line d l names)
 more_lines s d l names h k = record { few = h.few; base = h.base; lines = All-join IsSmallLine d.lines (l ∷ []) h.lines (k, tt); instructions = h.instructions }
 
-named_line : (base number : ℕ) (f : Field) → base < 2 ^ 62 → number < 2 ^ 62 → IsSmallField f → IsSmallLine (entry_name_line base number f.value)
+named_line : (base number : ℕ) (f : Field) → base < 2 ^ 62 → number < 2 ^ 62 → IsSmallField f → IsSmallLine (entry_name_line base number f.value f.never_indexed)
 named_line base number f low high k = by_order (nat_le number base)
   where
-    by_order : (b : Bool) → IsSmallLine (if b then line.RelativeName (base - number) f.value else line.PostBaseName (number - base - 1) f.value)
+    by_order : (b : Bool) → IsSmallLine (if b then line.RelativeName (base - number) f.value f.never_indexed else line.PostBaseName (number - base - 1) f.value f.never_indexed)
     by_order true = ((omega (arith, low), omega (arith, k.size)), k.bytes.1)
     by_order false = ((omega (arith, high), omega (arith, k.size)), k.bytes.1)
 
@@ -89,9 +89,10 @@ ahead_small s d f h k m =
 
 line_of_field_small : (s : EncoderHistory) (d : Draft) (f : Field) → IsSmallDraft s d → IsSmallField f → IsSmallDraft s (write_field s d f)
 line_of_field_small s d f h k =
+    either_way (IsSmallDraft s) f.never_indexed _ _ (λ never. literal_small s d f h k) (
     chosen (IsSmallDraft s) (static_field f) _ _ (λ index e. more_lines s d _ [] h (field_below f index e, tt)) (λ none.
     chosen (IsSmallDraft s) (found s d f) _ _ (λ number e. more_lines s d _ (number ∷ []) h (omega (arith, h.base), tt)) (λ none.
-    either_way (IsSmallDraft s) (is_insertable s d f) _ _ (λ e. inserted_small s d f h k (may_insert s d f e)) (literal_small s d f h k)))
+    either_way (IsSmallDraft s) (is_insertable s d f) _ _ (λ e. inserted_small s d f h k (may_insert s d f e)) (literal_small s d f h k))))
 
 field_small : (s : EncoderHistory) (d : Draft) (f : Field) → IsSmallDraft s d → IsSmallField f → IsSmallDraft s (add_field s d f)
 field_small s d f h k = with_field (IsSmallDraft s) s d f (line_of_field_small s d f h k) (λ e test small. ahead_small s e f small k (may_insert_ahead s (marks_after s d.lines) e f test))

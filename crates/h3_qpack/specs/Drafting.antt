@@ -1,5 +1,5 @@
 -- A field section under way, as an encoder keeps it: how each field is written, by what is kept (RFC 9204, section 2.1).
-use Rattle.std.specs.Prelude.{◌≡◌, ◌<◌, ◌≤◌, ℕ, ◌+◌, ◌-◌, ◌^◌, Bool, true, false, not, List, [], ◌∷◌, ◌++◌, length, min, max, fold, take, flat_map, nat_lt, if◌then◌else◌, Option, Some, None, is_none, option_map, unwrap_or, IfSome}
+use Rattle.std.specs.Prelude.{◌≡◌, ◌⊎◌, ◌<◌, ◌≤◌, ℕ, ◌+◌, ◌-◌, ◌^◌, Bool, true, false, not, ◌&&◌, List, [], ◌∷◌, ◌++◌, length, min, max, fold, take, flat_map, nat_lt, if◌then◌else◌, Option, Some, None, is_none, option_map, unwrap_or, IfSome}
 use Rattle.std.specs.List.{AllByRecursion}
 use Rattle.h3_field.specs.Field.{Field, section_size}
 use Rattle.h3_field.specs.ReadBack.{IsFieldOfBytes}
@@ -89,9 +89,13 @@ pub record MayInsertFor (t : EncoderState) (section : Section) (f : Field) : Typ
   pub may : MayInsertInto t f section.oldest
 
 -- There is none to be named, and the field is not inserted.
-pub record IsLiteral (t : EncoderState) (section : Section) (f : Field) : Type 0 where
+pub record IsNotHeld (t : EncoderState) (section : Section) (f : Field) : Type 0 where
   pub nowhere : IsUnnamed t section f
   pub no_room : MayInsertFor t section f → ⊥
+
+-- The field is a literal: since it is never indexed, or since it is not held.
+abbrev pub IsLiteral : EncoderState → Section → Field → Type 0
+IsLiteral t section f = (f.never_indexed ≡ true) ⊎ ((f.never_indexed ≡ false) × IsNotHeld t section f)
 
 -- the newest entry that equals the field
 abbrev pub equal_in : EncoderState → Field → Option ℕ
@@ -108,9 +112,9 @@ pub record MayInsertAhead (t : EncoderState) (section : Section) (f : Field) : T
 
 -- The field is to be written like this.
 abbrev pub IsChosen : EncoderState → Section → Field → Choice → Type 0
-IsChosen t section f (choice.Static index) = static_field f ≡ Some index
-IsChosen t section f (choice.Entry number) = (static_field f ≡ None) × (older t section f ≡ Some number) × (section.draining < number)
-IsChosen t section f (choice.Insertion after searched) = IsUnnamed t section f × MayInsertFor t section f
+IsChosen t section f (choice.Static index) = (f.never_indexed ≡ false) × (static_field f ≡ Some index)
+IsChosen t section f (choice.Entry number) = (f.never_indexed ≡ false) × (static_field f ≡ None) × (older t section f ≡ Some number) × (section.draining < number)
+IsChosen t section f (choice.Insertion after searched) = (f.never_indexed ≡ false) × IsUnnamed t section f × MayInsertFor t section f
 IsChosen t section f (choice.StaticName index) = IsLiteral t section f × (static_name f.name ≡ Some index)
 IsChosen t section f (choice.EntryName number) = IsLiteral t section f × (static_name f.name ≡ None) × (named_lasting t section f ≡ Some number)
 IsChosen t section f choice.Literal = IsLiteral t section f × (static_name f.name ≡ None) × (named_lasting t section f ≡ None)
@@ -138,9 +142,9 @@ abbrev pub line_for : EncoderState → Section → Field → Choice → FieldLin
 line_for t section f (choice.Static index) = line.StaticField index
 line_for t section f (choice.Entry number) = line.RelativeField (section.base - number)
 line_for t section f (choice.Insertion after searched) = line.PostBaseField (t.table.inserted - section.base)
-line_for t section f (choice.StaticName index) = line.StaticName index f.value
-line_for t section f (choice.EntryName number) = entry_name_line section.base number f.value
-line_for t section f choice.Literal = line.Literal f.name f.value
+line_for t section f (choice.StaticName index) = line.StaticName index f.value f.never_indexed
+line_for t section f (choice.EntryName number) = entry_name_line section.base number f.value f.never_indexed
+line_for t section f choice.Literal = line.Literal f.name f.value f.never_indexed
 
 -- the section with this line
 abbrev pub section_after : EncoderState → Section → Choice → Section
@@ -164,9 +168,9 @@ abbrev pub encoder_state_with : EncoderState → Field → Choice → EncoderSta
 encoder_state_with t f (choice.Insertion after searched) = record t { table = with_entry t.table f }
 encoder_state_with t f other = t
 
--- what is kept behind the field: a literal leaves its mark with an economical encoder
+-- what is kept behind the field: a literal that may be indexed leaves its mark with an economical encoder
 abbrev pub noted : EncoderState → Field → EncoderState
-noted t f = record t { marks = if t.economical then with_mark t.marks f.value else t.marks }
+noted t f = record t { marks = if t.economical && not f.never_indexed then with_mark t.marks f.value else t.marks }
 
 -- the instructions for it
 abbrev pub instructions_after : EncoderState → Field → Choice → List EncoderInstruction

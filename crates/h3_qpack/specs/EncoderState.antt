@@ -82,9 +82,10 @@ encoder_state_after s (Acknowledge stream) = record (raised_by s stream) { track
 encoder_state_after s (CancelStream stream) = record s { tracked = without_all_of stream s.tracked; canceled = with_canceled s.canceled stream }
 encoder_state_after s (Increment count) = raised s count
 
--- The field may be inserted: it fits, and the entries that it evicts are known to be received, named by no section that is
--- tracked, and below the oldest entry that is otherwise named.
+-- The field may be inserted: it may be indexed, it fits, and the entries that it evicts are known to be received, named by no section that
+-- is tracked, and below the oldest entry that is otherwise named.
 pub record MayInsertInto (s : EncoderState) (f : Field) (oldest : ℕ) : Type 0 where
+  pub plain : f.never_indexed ≡ false
   pub few : s.table.inserted + 1 < 2 ^ 62
   pub fits : field_size f ≤ s.table.capacity
   pub known : evicted (with_entry s.table f) ≤ max s.known_received (evicted s.table)

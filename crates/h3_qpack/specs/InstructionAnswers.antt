@@ -12,12 +12,13 @@ use Rattle.h3_qpack.specs.WholeInstructions.{is_insertion}
 use Rattle.h3_qpack.specs.Instructions.{BeginsBad}
 use Rattle.h3_qpack.specs.SectionAnswers.{IsReasonFor}
 
--- The bytes begin with an insertion of this field, and end with the rest.
+-- The bytes begin with an insertion of this field, which may be indexed, and end with the rest.
 pub record BeginsInsertion (h : TableState) (bytes : List ℕ) (f : Field) (rest : List ℕ) : Type 0 where
   pub i : EncoderInstruction
   pub here : HasInstruction bytes i rest
   pub inserts : is_insertion i ≡ true
   pub names : insertion_of h i ≡ Some f
+  pub plain : f.never_indexed ≡ false
   pub less : length rest < length bytes
 
 -- They begin with an integer out of range, or with what is no insertion of a field.

@@ -1,6 +1,7 @@
 pub mod Marks
 pub mod EncoderHistory
 pub mod SectionEncoding
+pub mod Secrets
 pub mod WholeInstructions
 pub mod NamedFields
 pub mod DecoderState
@@ -35,6 +36,7 @@ pub mod SectionSizes
 pub mod ShortLaws
 pub mod InstructionSizes
 pub mod ShortInstructionLaws
+pub mod SecretsLaws
 pub mod ReasonLaws
 pub mod InstructionLaws
 pub mod HearingLaws

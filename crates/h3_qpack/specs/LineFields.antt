@@ -6,4 +6,4 @@ use Rattle.h3_qpack.specs.declared.lines.Source.TheVariants.{Own, Entry, Named}
 abbrev pub field_from : Source → Field
 field_from (Own f) = f
 field_from (Entry f) = f
-field_from (Named f value) = record { name = f.name; value = value.items }
+field_from (Named f value n) = record { name = f.name; value = value.items; never_indexed = n }

@@ -1,6 +1,6 @@
 -- What the lines of a section name, and what an instruction inserts, by what is at the number of each entry.
-use Rattle.std.specs.Prelude.{◌≡◌, ℕ, zero, suc, ◌+◌, ◌-◌, List, [], ◌∷◌, slice_get, Option, Some, None}
-use Rattle.h3_field.specs.Field.{Field}
+use Rattle.std.specs.Prelude.{◌≡◌, ℕ, zero, suc, ◌+◌, ◌-◌, false, List, [], ◌∷◌, slice_get, Option, Some, None}
+use Rattle.h3_field.specs.Field.{Field, plain_field}
 use Rattle.h3_field.specs.Section.{with_value}
 use Rattle.h3_field.specs.StaticTable.{static_table}
 use Rattle.h3_field.specs.Line.{FieldLine}
@@ -13,20 +13,20 @@ abbrev pub entry_number : ℕ → FieldLine → ℕ
 entry_number base (StaticField index) = 0
 entry_number base (RelativeField index) = base - index
 entry_number base (PostBaseField index) = base + index + 1
-entry_number base (StaticName index value) = 0
-entry_number base (RelativeName index value) = base - index
-entry_number base (PostBaseName index value) = base + index + 1
-entry_number base (Literal name value) = 0
+entry_number base (StaticName index value n) = 0
+entry_number base (RelativeName index value n) = base - index
+entry_number base (PostBaseName index value n) = base + index + 1
+entry_number base (Literal name value n) = 0
 
 -- the field of a line, where what it names is there
 abbrev pub line_field_by : (ℕ → Option Field) → ℕ → FieldLine → Option Field
 line_field_by entry base (StaticField index) = slice_get static_table index
 line_field_by entry base (RelativeField index) = entry (base - index)
 line_field_by entry base (PostBaseField index) = entry (base + index + 1)
-line_field_by entry base (StaticName index value) = with_value value (slice_get static_table index)
-line_field_by entry base (RelativeName index value) = with_value value (entry (base - index))
-line_field_by entry base (PostBaseName index value) = with_value value (entry (base + index + 1))
-line_field_by entry base (Literal name value) = Some (record { name = name; value = value })
+line_field_by entry base (StaticName index value n) = with_value value n (slice_get static_table index)
+line_field_by entry base (RelativeName index value n) = with_value value n (entry (base - index))
+line_field_by entry base (PostBaseName index value n) = with_value value n (entry (base + index + 1))
+line_field_by entry base (Literal name value n) = Some (record { name = name; value = value; never_indexed = n })
 
 -- The lines are of these fields, one of each.
 abbrev pub AreOf : (FieldLine → Option Field) → List FieldLine → List Field → Type 0
@@ -38,9 +38,9 @@ AreOf field_of (line ∷ lines) [] = ⊥
 -- the field that an instruction inserts behind so many insertions, or none where it names none
 abbrev pub insertion_by : (ℕ → Option Field) → ℕ → EncoderInstruction → Option Field
 insertion_by entry inserted (SetCapacity capacity) = None
-insertion_by entry inserted (InsertWithStaticName index value) = with_value value (slice_get static_table index)
-insertion_by entry inserted (InsertWithEntryName index value) = with_value value (entry (inserted - index))
-insertion_by entry inserted (InsertLiteral name value) = Some (record { name = name; value = value })
+insertion_by entry inserted (InsertWithStaticName index value) = with_value value false (slice_get static_table index)
+insertion_by entry inserted (InsertWithEntryName index value) = with_value value false (entry (inserted - index))
+insertion_by entry inserted (InsertLiteral name value) = Some (plain_field name value)
 insertion_by entry inserted (Duplicate index) = entry (inserted - index)
 
 -- the insertion of that number, of the list of all

@@ -49,15 +49,18 @@ found s draft f = newest
     (λ number entry. field_eq entry f && nat_lt (unnamed s draft) number && nat_le number (length s.inserted) && is_usable s number)
     draft.inserted
 
--- the value of a line that is a literal
+abbrev pub unless_never : Bool → List ℕ → Option (List ℕ)
+unless_never never value = if never then None else Some value
+
+-- the value of a line that is a literal, but for a never-indexed one
 abbrev pub literal_value : FieldLine → Option (List ℕ)
 literal_value (StaticField index) = None
 literal_value (RelativeField index) = None
 literal_value (PostBaseField index) = None
-literal_value (StaticName index value) = Some value
-literal_value (RelativeName index value) = Some value
-literal_value (PostBaseName index value) = Some value
-literal_value (Literal name value) = Some value
+literal_value (StaticName index value n) = unless_never n value
+literal_value (RelativeName index value n) = unless_never n value
+literal_value (PostBaseName index value n) = unless_never n value
+literal_value (Literal name value n) = unless_never n value
 
 -- the marks behind a further line
 abbrev pub marked : Bool → List ℕ → FieldLine → List ℕ
@@ -86,11 +89,12 @@ is_worth_to s drains marks draft f =
 abbrev pub evictions_by : EncoderHistory → Draft → Field → ℕ
 evictions_by s draft f = evictions s.capacity (draft.inserted ++ f ∷ [])
 
--- It fits, and each entry to be evicted is known to be received and named by no section that counts. Numbers of entries stay below
--- 2 ^ 62.
+-- The field may be indexed, it fits, and each entry to be evicted is known to be received and named by no section that counts. Numbers of
+-- entries stay below 2 ^ 62.
 abbrev pub finds_room : EncoderHistory → Draft → Field → Bool
 finds_room s draft f =
-    nat_lt (length draft.inserted + 1) (2 ^ 62)
+    not f.never_indexed
+    && nat_lt (length draft.inserted + 1) (2 ^ 62)
     && nat_le (field_size f) s.capacity
     && nat_le (evictions_by s draft f) (max s.known_received (evictions s.capacity draft.inserted))
     && list_all (λ number. nat_lt (evictions_by s draft f) number) (referenced_entries s ++ draft.references)
@@ -137,15 +141,15 @@ abbrev pub add_line : Draft → FieldLine → List ℕ → Draft
 add_line draft line names = record draft { lines = draft.lines ++ line ∷ []; references = draft.references ++ names }
 
 -- the line that names an entry's name, counted from the base of the section
-abbrev pub entry_name_line : ℕ → ℕ → List ℕ → FieldLine
-entry_name_line base number value =
-    if nat_le number base then RelativeName (base - number) value else PostBaseName (number - base - 1) value
+abbrev pub entry_name_line : ℕ → ℕ → List ℕ → Bool → FieldLine
+entry_name_line base number value n =
+    if nat_le number base then RelativeName (base - number) value n else PostBaseName (number - base - 1) value n
 
 abbrev pub add_literal : EncoderHistory → Draft → Field → Draft
 add_literal s draft f =
-    unwrap_or (option_map (λ index. add_line draft (StaticName index f.value) []) (static_name f.name)) (
-    unwrap_or (option_map (λ number. add_line draft (entry_name_line (length s.inserted) number f.value) (number ∷ [])) (found_name s draft f))
-    (add_line draft (Literal f.name f.value) []))
+    unwrap_or (option_map (λ index. add_line draft (StaticName index f.value f.never_indexed) []) (static_name f.name)) (
+    unwrap_or (option_map (λ number. add_line draft (entry_name_line (length s.inserted) number f.value f.never_indexed) (number ∷ [])) (found_name s draft f))
+    (add_line draft (Literal f.name f.value f.never_indexed) []))
 
 -- the field goes into the table, and its line names the new entry
 abbrev pub add_inserted : EncoderHistory → Draft → Field → Draft
@@ -157,12 +161,16 @@ add_inserted s draft f =
       references = draft.references ++ (length draft.inserted + 1) ∷ [];
     }
 
--- its line: a static entry, else an older entry, else a new entry, else a literal
-abbrev pub write_field : EncoderHistory → Draft → Field → Draft
-write_field s draft f =
+-- the line of a field that may be indexed: a static entry, else an older entry, else a new entry, else a literal
+abbrev pub write_indexed : EncoderHistory → Draft → Field → Draft
+write_indexed s draft f =
     unwrap_or (option_map (λ index. add_line draft (StaticField index) []) (static_field f)) (
     unwrap_or (option_map (λ number. add_line draft (RelativeField (length s.inserted - number)) (number ∷ [])) (found s draft f))
     (if is_insertable s draft f then add_inserted s draft f else add_literal s draft f))
+
+-- A never-indexed field is a literal (RFC 9204, section 4.5.4).
+abbrev pub write_field : EncoderHistory → Draft → Field → Draft
+write_field s draft f = if f.never_indexed then add_literal s draft f else write_indexed s draft f
 
 -- the field goes into the table, and no line names the new entry
 abbrev pub add_ahead : EncoderHistory → Draft → Field → Draft

@@ -3,7 +3,7 @@ use Rattle.std.proofs.Common.{◌≡◌, ℕ, ◌+◌, ◌-◌, ◌^◌, ◌≤�
 use Rattle.std.specs.List.{AllByRecursion}
 use Rattle.std.specs.Prelude.{nat_lt, slice_get, unwrap_or}
 use Rattle.std.proofs.lemmas.Bool.{and_parts, leb-true}
-use Rattle.h3_field.specs.Field.{Field, field_size}
+use Rattle.h3_field.specs.Field.{Field, plain_field, field_size}
 use Rattle.h3_field.specs.Instruction.{DecoderInstruction, EncoderInstruction, decoder_bytes, encoder_bytes}
 use Rattle.h3_field.specs.Instruction.DecoderInstruction.{Acknowledge, CancelStream, Increment}
 use Rattle.h3_field.specs.Instruction.EncoderInstruction.{Duplicate, InsertLiteral, InsertWithEntryName, InsertWithStaticName, SetCapacity}
@@ -55,11 +55,11 @@ entry_taken announced r new f h e = by_room (has_room r.table f) refl e
         (omega (arith, fits, h.within), record { is = sym (ap (λ (d : DecoderState). d.announced) is) ∙ h.is; within = omega (arith, h.within, ap (λ (d : DecoderState). d.table.capacity) is) })
 
 -- an entry with that value, where what it is named by is there
-valued_taken : (announced : ℕ) (r new : DecoderState) (value : List ℕ) (o : Option Field) → HasAnnounced announced r → inserting r (with_value value o) ≡ Some new
+valued_taken : (announced : ℕ) (r new : DecoderState) (value : List ℕ) (o : Option Field) → HasAnnounced announced r → inserting r (with_value value false o) ≡ Some new
     → (length value + 32 ≤ announced) × HasAnnounced announced new
 valued_taken announced r new value None h e = absurd (none_some new e)
 valued_taken announced r new value (Some f) h e =
-    let fits = entry_taken announced r new (record { name = f.name; value = value }) h e in
+    let fits = entry_taken announced r new (plain_field f.name value) h e in
     (omega (arith, fits.0), fits.1)
 
 any_taken : (announced : ℕ) (r new : DecoderState) (o : Option Field) → HasAnnounced announced r → inserting r o ≡ Some new → HasAnnounced announced new
@@ -79,7 +79,7 @@ one_taken announced r new (InsertWithEntryName index value) h e =
     let taken = valued_taken announced r new value (entry_at r.table (r.table.inserted - index)) h e in
     (index_and_string announced 2 index value taken.0, taken.1)
 one_taken announced r new (InsertLiteral name value) h e =
-    let fits = entry_taken announced r new (record { name = name; value = value }) h e in
+    let fits = entry_taken announced r new (plain_field name value) h e in
     (omega (arith, fits.0, length-append (string_literal 6 1 name) (string_literal 8 0 value), string_short 6 1 name, string_short 8 0 value), fits.1)
 one_taken announced r new (Duplicate index) h e = (omega (arith, prefixed_short 5 0 index), any_taken announced r new (entry_at r.table (r.table.inserted - index)) h e)
 

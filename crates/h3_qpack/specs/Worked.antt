@@ -1,6 +1,6 @@
 -- The worked values that the definitions are tried at.
 use Rattle.std.specs.Prelude.{ℕ, Bool, true, List, [], ◌∷◌, replicate, codes}
-use Rattle.h3_field.specs.Field.{Field}
+use Rattle.h3_field.specs.Field.{Field, plain_field, flagged}
 use Rattle.h3_field.specs.Instruction.DecoderInstruction.{Acknowledge, CancelStream, Increment}
 use Rattle.h3_table.specs.Cancellations.{none_canceled}
 use Rattle.h3_qpack.specs.EncoderHistory.{EncoderHistory, no_table, using_table, encoder_after}
@@ -15,10 +15,10 @@ fresh capacity limit = record no_table { announced = capacity; capacity = capaci
 
 abbrev pub sample : List Field
 sample =
-    record { name = codes ":method"; value = codes "GET" } ∷
-    record { name = codes ":scheme"; value = codes "https" } ∷
-    record { name = codes ":authority"; value = codes "www.example.com" } ∷
-    record { name = codes ":path"; value = codes "/sample/path" } ∷ []
+    plain_field (codes ":method") (codes "GET") ∷
+    plain_field (codes ":scheme") (codes "https") ∷
+    plain_field (codes ":authority") (codes "www.example.com") ∷
+    plain_field (codes ":path") (codes "/sample/path") ∷ []
 
 abbrev pub host_text : List ℕ
 host_text = 140 ∷ 241 ∷ 227 ∷ 194 ∷ 229 ∷ 242 ∷ 58 ∷ 107 ∷ 160 ∷ 171 ∷ 144 ∷ 244 ∷ 255 ∷ []
@@ -27,17 +27,25 @@ abbrev pub path_text : List ℕ
 path_text = 137 ∷ 97 ∷ 3 ∷ 166 ∷ 186 ∷ 10 ∷ 197 ∷ 99 ∷ 76 ∷ 255 ∷ []
 
 abbrev pub x_a : Field
-x_a = record { name = codes "x-a"; value = codes "1" }
+x_a = plain_field (codes "x-a") (codes "1")
 
 abbrev pub x_b : Field
-x_b = record { name = codes "x-b"; value = codes "2" }
+x_b = plain_field (codes "x-b") (codes "2")
 
 -- a response 200 with one more field
 abbrev pub with_header : Field → List Field
-with_header f = record { name = codes ":status"; value = codes "200" } ∷ f ∷ []
+with_header f = plain_field (codes ":status") (codes "200") ∷ f ∷ []
 
 abbrev pub x_a_of : List ℕ → Field
-x_a_of value = record { name = codes "x-a"; value = value }
+x_a_of value = plain_field (codes "x-a") value
+
+-- the same field, never indexed
+abbrev pub secret_a : Field
+secret_a = flagged x_a true
+
+-- It was sent in a section of its own, where a field that may be indexed is inserted.
+abbrev pub secret_sent : EncoderHistory
+secret_sent = sent_section (fresh 4096 100) 0 (secret_a ∷ [])
 
 -- Two entries of one name, of which the older one alone is known, and no further section may be blocked.
 abbrev pub older_known : EncoderHistory
@@ -51,7 +59,7 @@ three = decoder_after_all (Some (announcing 100)) (SetCapacity 100 ∷ InsertLit
 -- known to be received, and the stream is canceled.
 abbrev pub three_canceled : EncoderHistory
 three_canceled =
-    let interim = record { name = codes ":status"; value = codes "103" } ∷ x_a ∷ [] in
+    let interim = plain_field (codes ":status") (codes "103") ∷ x_a ∷ [] in
     let sent = sent_section (sent_section (sent_section (fresh 64 10) 0 interim) 0 interim) 0 (with_header x_a) in
     encoder_after (encoder_after sent (Increment 1)) (CancelStream 0)
 
@@ -89,14 +97,14 @@ abbrev pub kept_field : EncoderHistory → ℕ → Field → EncoderHistory
 kept_field s stream f = encoder_after (encoder_after (sent_section s stream (f ∷ [])) (Increment 1)) (Acknowledge stream)
 
 abbrev pub empty_a : Field
-empty_a = record { name = codes "a"; value = [] }
+empty_a = plain_field (codes "a") []
 
 abbrev pub empty_b : Field
-empty_b = record { name = codes "b"; value = [] }
+empty_b = plain_field (codes "b") []
 
 -- of size 250
 abbrev pub x_long : Field
-x_long = record { name = codes "x"; value = replicate 217 97 }
+x_long = plain_field (codes "x") (replicate 217 97)
 
 -- An economical encoder has 316 bytes in a table of 320, of which seven eighths are 280: the two oldest of its three entries drain.
 abbrev pub two_drain : EncoderHistory
@@ -104,7 +112,7 @@ two_drain = kept_field (kept_field (kept_field (record (fresh 320 10) { economic
 
 -- another value of the oldest entry's name
 abbrev pub a_of_two : Field
-a_of_two = record { name = codes "a"; value = codes "2" }
+a_of_two = plain_field (codes "a") (codes "2")
 
 -- Its table has at most so much, and its decoder announced a capacity.
 abbrev pub capped : ℕ → ℕ → EncoderHistory

@@ -9,7 +9,7 @@ ghost use Rattle.h3_qpack.specs.DecodedSection.{fields_in};
 ghost use Rattle.h3_qpack.specs.SectionAnswers.{LinesAskMemory, IsReasonFor, HasPut, PutsLine};
 ghost use Rattle.h3_qpack.specs.Sizes.{IsBlockWithin, PassesLimit, told_size};
 
-use crate::lines::{Lines, post_base, relative};
+use crate::lines::{Lines, lent, post_base, relative};
 use crate::listing::SectionSummary;
 use crate::within::LargeSection;
 use h3_field::block::{
@@ -17,7 +17,7 @@ use h3_field::block::{
     NameRef,
 };
 use h3_field::static_::StaticTable;
-use h3_field::{DecoderError, FieldBlock, SliceCursor};
+use h3_field::{DecoderError, FieldBlock, FieldRef, SliceCursor};
 
 /// A field section that was decoded into a block, under a limit on the sum of its fields' sizes.
 #[derive(Drop)]
@@ -37,23 +37,28 @@ fn size_of_block(block: &FieldBlock) -> u64
     count.saturating_mul(32).saturating_add(bytes.len()) as u64
 }
 
-/// Adds copies of a name and a value.
-fn put(block: &mut FieldBlock, name: &[u8], value: &[u8]) -> Result<(), DecoderError>
-    ensures ok { OnOk result (block.new ≡ block.old ++ (record { name = name.now; value = value.now }) ∷ []) }
+/// Adds a copy of a field.
+fn put(block: &mut FieldBlock, field: &FieldRef<'_>) -> Result<(), DecoderError>
+    ensures ok { OnOk result (block.new ≡ block.old ++ field.now ∷ []) }
     ensures err { IfErr result (λ e. e ≡ OutOfMemory) }
 {
-    match block.push(name, value) {
+    match block.push_field(field) {
         Ok(()) => Ok(()),
         Err(_) => Err(DecoderError::OutOfMemory),
     }
 }
 
-/// Adds the field of a copied name and of the string at the front. False: nothing is added.
-fn has_put_value(block: &mut FieldBlock, name: &[u8], buf: &mut SliceCursor<'_>) -> bool
-    ensures yes { result ≡ true → AnswersField name.now (string 8 buf.old) buf.old buf.new block.old block.new (Ok tt) }
+/// Adds the field of a copied name, of the string at the front and of the flag. False: nothing is added.
+fn has_put_value(
+    block: &mut FieldBlock,
+    name: &[u8],
+    never_indexed: bool,
+    buf: &mut SliceCursor<'_>,
+) -> bool
+    ensures yes { result ≡ true → AnswersField name.now never_indexed (string 8 buf.old) buf.old buf.new block.old block.new (Ok tt) }
     ensures no { result ≡ false → block.new ≡ block.old }
 {
-    match block.push_value_read(name, buf) {
+    match block.push_value_read(name, never_indexed, buf) {
         Ok(()) => true,
         Err(_) => false,
     }
@@ -72,11 +77,11 @@ impl<'t> Lines<'t> {
     {
         match Indexed::decode(buf) {
             Ok(Indexed::Static(index)) => match StaticTable::get(index) {
-                Ok(field) => put(block, field.name(), field.value()),
+                Ok(field) => put(block, &FieldRef::of(&field)),
                 Err(e) => Err(DecoderError::InvalidStaticIndex(e)),
             },
             Ok(Indexed::Dynamic(index)) => match relative(self.entries(), self.base(), index) {
-                Ok(entry) => put(block, entry.name(), entry.value()),
+                Ok(entry) => put(block, &lent(&entry)),
                 Err(e) => Err(e),
             },
             Err(e) => Err(DecoderError::from(e)),
@@ -95,7 +100,7 @@ impl<'t> Lines<'t> {
     {
         match IndexedWithPostBase::decode(buf) {
             Ok(IndexedWithPostBase(index)) => match post_base(self.entries(), self.base(), index) {
-                Ok(entry) => put(block, entry.name(), entry.value()),
+                Ok(entry) => put(block, &lent(&entry)),
                 Err(e) => Err(e),
             },
             Err(e) => Err(DecoderError::from(e)),
@@ -111,13 +116,15 @@ impl<'t> Lines<'t> {
         ensures no { result ≡ false → block.new ≡ block.old }
     {
         match LiteralWithNameRef::decode_index(buf) {
-            Ok(NameRef::Static(index)) => match StaticTable::get_name(index) {
-                Ok(name) => has_put_value(block, name, buf),
-                Err(_) => false,
-            },
-            Ok(NameRef::Dynamic(index)) => match relative(self.entries(), self.base(), index) {
-                Ok(entry) => has_put_value(block, entry.name(), buf),
-                Err(_) => false,
+            Ok(head) => match head.0 {
+                NameRef::Static(index) => match StaticTable::get_name(index) {
+                    Ok(name) => has_put_value(block, name, head.1, buf),
+                    Err(_) => false,
+                },
+                NameRef::Dynamic(index) => match relative(self.entries(), self.base(), index) {
+                    Ok(entry) => has_put_value(block, entry.name(), head.1, buf),
+                    Err(_) => false,
+                },
             },
             Err(_) => false,
         }
@@ -131,8 +138,8 @@ impl<'t> Lines<'t> {
         ensures no { result ≡ false → block.new ≡ block.old }
     {
         match LiteralWithPostBaseNameRef::decode_index(buf) {
-            Ok(index) => match post_base(self.entries(), self.base(), index) {
-                Ok(entry) => has_put_value(block, entry.name(), buf),
+            Ok(head) => match post_base(self.entries(), self.base(), head.0) {
+                Ok(entry) => has_put_value(block, entry.name(), head.1, buf),
                 Err(_) => false,
             },
             Err(_) => false,
@@ -186,7 +193,7 @@ impl<'t> Lines<'t> {
         ensures { PutsLine self.now.table self.now.base buf.old buf.new block.old block.new result }
     {
         match self.take(buf) {
-            Ok(line) => put(block, line.name(), line.value()),
+            Ok(line) => put(block, &line.lent()),
             Err(e) => Err(e),
         }
     }

@@ -334,10 +334,14 @@ impl Decoder {
         match Duplicate::decode(buf) {
             Ok(Some(Duplicate(index))) => {
                 match relative(&self.entries, self.entries.inserted(), index) {
-                    Ok(entry) => match entry.copy(self.alloc) {
-                        Ok(field) => Ok(Some(field)),
-                        Err(_) => Err(DecoderError::OutOfMemory),
-                    },
+                    Ok(entry) => {
+                        // (for the proof: no entry has the flag)
+                        entry.is_plain();
+                        match entry.copy(self.alloc) {
+                            Ok(field) => Ok(Some(field)),
+                            Err(_) => Err(DecoderError::OutOfMemory),
+                        }
+                    }
                     Err(e) => Err(e),
                 }
             }

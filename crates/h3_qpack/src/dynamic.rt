@@ -304,13 +304,14 @@ impl DynamicTable {
         self.entries.size()
     }
 
-    /// How many entries are evicted once the field is inserted, if it may be inserted. For that they have to be known to be received, named
-    /// by no tracked section, and below `oldest`.
+    /// How many entries are evicted once the field is inserted, if it may be inserted. One that is never indexed may not. The entries have
+    /// to be known to be received, named by no tracked section, and below `oldest`.
     pub(crate) fn room_for(&self, field: &FieldRef<'_>, oldest: usize) -> Option<usize>
         ensures some { IfSome result (λ n. MayInsertInto self.now field.now oldest × (n ≡ evicted (with_entry self.now.table field.now)) × (evicted self.now.table ≤ n)) }
         ensures none { IfNone result (MayInsertInto self.now field.now oldest → ⊥) }
     {
-        if self.entries.inserted() + 1 >= MOST_INSERTIONS
+        if field.is_never_indexed()
+            || self.entries.inserted() + 1 >= MOST_INSERTIONS
             || size_of(field) > self.entries.capacity()
         {
             return None;
@@ -363,11 +364,11 @@ impl DynamicTable {
         }
     }
 
-    /// Keeps the mark of a field that was written as a literal, if the encoder is economical.
+    /// Keeps the mark of a field that was written as a literal, if the encoder is economical and the field may be indexed.
     pub(crate) fn note(&mut self, field: &FieldRef<'_>)
         ensures { self.new ≡ noted self.old field.now }
     {
-        if self.economical {
+        if self.economical && !field.is_never_indexed() {
             self.marks.add(field.value());
         }
     }
@@ -383,7 +384,10 @@ impl DynamicTable {
         ensures missed { IfSome result (λ p. IsMissed self.now.table p.1 field.now) }
         ensures none { IfNone result (MayInsertAhead self.now section.now field.now → ⊥) }
     {
-        if !self.economical || self.limit != 0 || size_of(field) > self.entries.capacity() {
+        if !self.economical || self.limit != 0 || field.is_never_indexed() {
+            return None;
+        }
+        if size_of(field) > self.entries.capacity() {
             return None;
         }
         let evicted = self.entries.evicted();
@@ -407,9 +411,11 @@ impl DynamicTable {
     }
 
     /// Inserts a field that may be inserted: the oldest entries, up to `after`, are evicted. If an allocation fails nothing changes.
+    #[tactic(auto, using(h3_field::specs::FieldLaws::plain_is))]
     pub(crate) fn insert(&mut self, field: &FieldRef<'_>, after: usize) -> Result<(), AllocError>
         requires after { after ≡ evicted (with_entry self.old.table field.now) }
         requires from { evicted self.old.table ≤ after }
+        requires plain { field.now.never_indexed ≡ false }
         requires few { self.old.table.inserted + 1 < 2 ^ 62 }
         requires fits { field_size field.now ≤ self.old.table.capacity }
         requires free { is_free_to (evicted (with_entry self.old.table field.now)) self.old.tracked ≡ true }

@@ -161,7 +161,7 @@ impl<'a> DynamicTableEncoder<'a> {
     }
 
     /// An equal entry: of the static table, else the newest one that is older than the section and may be named, which a
-    /// line then names (RFC 9204, section 2.1.2).
+    /// line then names (RFC 9204, section 2.1.2). No entry equals a field that is never indexed.
     pub fn lookup(&mut self, field: &HeaderField) -> DynamicLookupResult
         ensures found { AnswersField self.old.table.now self.old.section field.now result }
         ensures section { self.new.section ≡ section_found self.old.section result }
@@ -211,8 +211,8 @@ impl<'a> DynamicTableEncoder<'a> {
     }
 
     /// Inserts a field if it may be inserted (RFC 9204, sections 2.1.1 and 2.1.2), and a line then names the new entry. That needs a
-    /// section that may be blocked at its decoder, and entries to be evicted that are known to be received and named by no section. If an
-    /// allocation fails nothing changes.
+    /// section that may be blocked at its decoder, and entries to be evicted that are known to be received and named by no section. A field
+    /// that is never indexed is not inserted (section 7.1.3). If an allocation fails nothing changes.
     pub fn insert(&mut self, field: &HeaderField) -> Result<DynamicInsertionResult, Error>
         ensures ok { IfOk result (AnswersInsertion self.old.table.now self.old.section field.now self.new.table.now self.new.section) }
         ensures err { IfErr result (λ e. (e ≡ OutOfMemory) × (self.new.table.now ≡ self.old.table.now) × (self.new.section ≡ self.old.section)) }

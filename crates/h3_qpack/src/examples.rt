@@ -1,5 +1,6 @@
 //! What the definitions give at values worked out by hand. These functions do nothing: the check computes their contracts.
 ghost use Rattle.std.specs.Prelude.{◌≡◌, ◌∷◌, ◌++◌, [], replicate, codes, flat_map};
+ghost use Rattle.h3_field.specs.Field.{plain_field, flagged};
 ghost use Rattle.h3_field.specs.Instruction.{encoder_bytes};
 ghost use Rattle.h3_field.specs.Instruction.DecoderInstruction.{CancelStream, Increment};
 ghost use Rattle.h3_qpack.specs.EncoderHistory.{blocks_out, encoder_after, was_canceled, writing_on};
@@ -12,7 +13,7 @@ ghost use Rattle.h3_field.specs.Instruction.EncoderInstruction.{SetCapacity, Ins
 ghost use Rattle.h3_qpack.specs.EncoderHistory.{is_refused, encoder_after_front, withdrawn};
 ghost use Rattle.h3_table.specs.Table.{table};
 ghost use Rattle.h3_qpack.specs.DecoderState.{announcing, decoder_after_all};
-ghost use Rattle.h3_qpack.specs.Worked.{three, fresh, sample, host_text, path_text, with_header, x_a, x_b, x_a_of, older_known, three_canceled, canceled_first, one_kept, one_waits, one_acknowledged, two_on_a_stream, no_waiting, inserted_ahead, capped, twice_inserted, empty_b, x_long, two_drain, a_of_two};
+ghost use Rattle.h3_qpack.specs.Worked.{three, fresh, sample, host_text, path_text, with_header, x_a, x_b, x_a_of, secret_a, secret_sent, older_known, three_canceled, canceled_first, one_kept, one_waits, one_acknowledged, two_on_a_stream, no_waiting, inserted_ahead, capped, twice_inserted, empty_b, x_long, two_drain, a_of_two};
 
 /// Three requests for the same page: the first inserts two fields, the second names them, and the third may not.
 #[tactic(auto, unfolding(h3_field::specs::StaticTable::static_table, h3_field::specs::StaticTable::static_field, h3_field::specs::StaticTable::static_name, h3_huffman::specs::Huffman::huffman, h3_huffman::specs::Huffman::octets, h3_huffman::specs::Huffman::code_word, h3_huffman::specs::Huffman::bits))]
@@ -155,9 +156,25 @@ pub fn draining_tables()
     ensures new_entry { (draft_of two_drain (empty_b ∷ [])).lines ≡ PostBaseField 0 ∷ [] }
     ensures lasts { (draft_of two_drain (x_long ∷ [])).lines ≡ RelativeField 0 ∷ [] }
     ensures spared { instructions_for two_drain (a_of_two ∷ []) ≡ [] }
-    ensures literal { (draft_of two_drain (a_of_two ∷ [])).lines ≡ Literal (codes "a") (codes "2") ∷ [] }
+    ensures literal { (draft_of two_drain (a_of_two ∷ [])).lines ≡ Literal (codes "a") (codes "2") false ∷ [] }
     ensures second_time { instructions_for (sent_section two_drain 12 (a_of_two ∷ [])) (a_of_two ∷ []) ≡ InsertLiteral (codes "a") (codes "2") ∷ [] }
     ensures plain { (draft_of (record two_drain { economical = false }) (empty_b ∷ [])).lines ≡ RelativeField 1 ∷ [] }
+{}
+
+/// A never-indexed field is a literal with the bit N, whatever a table has, and leaves no trace. A second section with it is like the
+/// first, and the same field without the flag is then inserted as if it were new. Its name may be that of an entry.
+#[tactic(auto, unfolding(h3_field::specs::StaticTable::static_table, h3_field::specs::StaticTable::static_field, h3_field::specs::StaticTable::static_name, h3_huffman::specs::Huffman::huffman, h3_huffman::specs::Huffman::octets, h3_huffman::specs::Huffman::code_word, h3_huffman::specs::Huffman::bits))]
+pub fn never_indexed()
+    ensures first { encoded_section (fresh 4096 100) (secret_a ∷ []) ≡ 0 ∷ 0 ∷ 59 ∷ 242 ∷ 176 ∷ 255 ∷ 129 ∷ 15 ∷ [] }
+    ensures none { instructions_for (fresh 4096 100) (secret_a ∷ []) ≡ [] }
+    ensures second { encoded_section secret_sent (secret_a ∷ []) ≡ 0 ∷ 0 ∷ 59 ∷ 242 ∷ 176 ∷ 255 ∷ 129 ∷ 15 ∷ [] }
+    ensures still { instructions_for secret_sent (secret_a ∷ []) ≡ [] }
+    ensures new_entry { instructions_for secret_sent (x_a ∷ []) ≡ InsertLiteral (codes "x-a") (codes "1") ∷ [] }
+    ensures entry { encoded_section (sent_section (fresh 4096 100) 0 (x_a ∷ [])) (secret_a ∷ []) ≡ 2 ∷ 0 ∷ 96 ∷ 129 ∷ 15 ∷ [] }
+    ensures behind { encoded_section (fresh 4096 100) (x_a ∷ secret_a ∷ []) ≡ 2 ∷ 128 ∷ 16 ∷ 8 ∷ 129 ∷ 15 ∷ [] }
+    ensures static_entry { encoded_section (fresh 4096 100) (flagged (plain_field (codes ":path") (codes "/")) true ∷ []) ≡ 0 ∷ 0 ∷ 113 ∷ 129 ∷ 99 ∷ [] }
+    ensures ahead { instructions_for (no_waiting 64) (secret_a ∷ []) ≡ [] }
+    ensures marks { (sent_section (no_waiting 64) 0 (secret_a ∷ [])).marks ≡ (no_waiting 64).marks }
 {}
 
 /// The mark of a value goes by its length and its last 16 bytes.

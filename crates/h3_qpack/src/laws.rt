@@ -8,7 +8,7 @@ ghost use Rattle.h3_field.specs.Instruction.DecoderInstruction.{Acknowledge, Can
 ghost use Rattle.h3_table.specs.Table.{table};
 ghost use Rattle.std.specs.Prelude.{take, length, [], ◌++◌};
 ghost use Rattle.h3_qpack.specs.DecoderState.{DecoderState, announcing, decoder_after_all};
-ghost use Rattle.std.specs.Prelude.{flat_map};
+ghost use Rattle.std.specs.Prelude.{flat_map, map};
 ghost use Rattle.std.specs.List.{AllByRecursion};
 ghost use Rattle.h3_field.specs.Instruction.{EncoderInstruction, encoder_bytes, DecoderInstruction, decoder_bytes};
 ghost use Rattle.h3_field.specs.InstructionAnswer.{IsReply};
@@ -22,6 +22,7 @@ ghost use Rattle.h3_qpack.specs.DecodedSection.{DecodedSection, decode_section, 
 ghost use Rattle.h3_qpack.specs.Hearing.{Heard, heard, hear, heard_then, IsHeardAs, Listened, listened, listen, listened_then, IsListenedAs};
 ghost use Rattle.h3_qpack.specs.SectionEncoding.{Draft, draft_of, encoded_section, finds_room, found, having_inserted, held, instructions_for, is_insertable, is_insertable_ahead, marks_after, required_insert_count, sent_section};
 ghost use Rattle.h3_field.specs.Line.{FieldLine};
+ghost use Rattle.h3_qpack.specs.Secrets.{MayBeIndexed, has_bit_n, without_secret, line_without_secret};
 ghost use Rattle.h3_qpack.specs.SectionSizes.{most_encoded};
 ghost use Rattle.h3_qpack.specs.InstructionSizes.{most_instruction};
 ghost use Rattle.h3_qpack.specs.Encodings.{decoder_of, HasInsertions, IsDecoderAt, IsWritten, IsWrittenInstruction, tried};
@@ -41,6 +42,27 @@ ghost use Rattle.h3_qpack.specs.declared.session.SessionAnswer.{SessionAnswer};
 /// A table holds entries whose sizes sum to at most its capacity.
 pub fn no_table_passes_its_capacity()
     ensures { (capacity : ℕ) (inserted : List Field) → section_size (table capacity inserted) ≤ capacity }
+{}
+
+/// The bits N of a section's lines are the flags of its fields, one after the other, and a line of an entry has none. So each never-indexed
+/// field is a literal with that bit (RFC 9204, section 4.5.4). None is inserted (section 7.1.3).
+pub fn never_indexed_fields_are_literals()
+    ensures bits { (s : EncoderHistory) (fields : List Field) → map has_bit_n (draft_of s fields).lines ≡ map (λ f. f.never_indexed) fields }
+    ensures inserted { (s : EncoderHistory) (fields : List Field) → AllByRecursion MayBeIndexed s.inserted → AllByRecursion MayBeIndexed (draft_of s fields).inserted }
+{}
+
+/// Nothing that an encoder inserts, names or keeps rests on the value of a never-indexed field. If two lists of fields differ in such
+/// values alone, their instructions are equal, and so is the encoder after them, with all that it writes later. The two sections differ in
+/// the literal values of those fields alone. So no instruction and no later section tells of a secret (RFC 9204, section 7.1.3).
+pub fn secrets_leave_no_trace()
+    ensures instructions { (s : EncoderHistory) (fields others : List Field) → map without_secret fields ≡ map without_secret others → instructions_for s fields ≡ instructions_for s others }
+    ensures count { (s : EncoderHistory) (fields others : List Field) → map without_secret fields ≡ map without_secret others →
+        required_insert_count (draft_of s fields) ≡ required_insert_count (draft_of s others) }
+    ensures lines { (s : EncoderHistory) (fields others : List Field) → map without_secret fields ≡ map without_secret others →
+        map line_without_secret (draft_of s fields).lines ≡ map line_without_secret (draft_of s others).lines }
+    ensures sent { (s : EncoderHistory) (stream : ℕ) (fields others : List Field) → map without_secret fields ≡ map without_secret others → sent_section s stream fields ≡ sent_section s stream others }
+    ensures inserted { (s : EncoderHistory) (stream : ℕ) (fields others : List Field) → map without_secret fields ≡ map without_secret others →
+        having_inserted s stream fields ≡ having_inserted s stream others }
 {}
 
 /// A section on a stream whose cancellation was read names no entry, and nothing is inserted for it. Its bytes are those of static

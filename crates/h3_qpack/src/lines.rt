@@ -14,7 +14,7 @@ use h3_field::block::{
     LiteralWithPostBaseNameRef, NameRef,
 };
 use h3_field::static_::StaticTable;
-use h3_field::{DecoderError, HeaderField, ShortString, SliceCursor, prefix_int, vas};
+use h3_field::{DecoderError, FieldRef, HeaderField, ShortString, SliceCursor, prefix_int, vas};
 use h3_table::entries::{Entries, Entry, MOST_INSERTIONS};
 use std::alloc::{AllocError, Global};
 use std::borrow::CowSlice;
@@ -32,9 +32,19 @@ pub(crate) enum Source<'t> {
     Own(HeaderField),
     /// An entry.
     Entry(Entry<'t>),
-    /// A value under the name of an entry. Its block has room for the name, if that is not static, is not longer than `longest_name`, and
-    /// the value is not empty.
-    Named(Entry<'t>, Vec<u8>),
+    /// A value under the name of an entry, and the bit N. Its block has room for the name, if that is not static, is not longer than
+    /// `longest_name`, and the value is not empty.
+    Named(Entry<'t>, Vec<u8>, bool),
+}
+
+/// The name and the value of an entry, where they lie.
+#[tactic(auto, using(h3_field::specs::FieldLaws::plain_is))]
+pub(crate) fn lent<'a>(entry: &'a Entry<'_>) -> FieldRef<'a>
+    ensures { result ≡ entry.now }
+{
+    // (for the proof: no entry has the flag)
+    entry.is_plain();
+    FieldRef::new(entry.name(), entry.value())
 }
 
 impl<'t> Model for LineField<'t> {
@@ -63,11 +73,11 @@ impl<'t> LineField<'t> {
         }
     }
 
-    fn named(entry: Entry<'t>, value: Vec<u8>) -> LineField<'t>
-        ensures { result ≡ record { name = entry.entry.name; value = value.items } }
+    fn named(entry: Entry<'t>, value: Vec<u8>, never_indexed: bool) -> LineField<'t>
+        ensures { result ≡ record { name = entry.entry.name; value = value.items; never_indexed = never_indexed } }
     {
         LineField {
-            source: Source::Named(entry, value),
+            source: Source::Named(entry, value, never_indexed),
         }
     }
 
@@ -77,7 +87,7 @@ impl<'t> LineField<'t> {
         match &self.source {
             Source::Own(field) => field.name(),
             Source::Entry(entry) => entry.name(),
-            Source::Named(entry, _) => entry.name(),
+            Source::Named(entry, _, _) => entry.name(),
         }
     }
 
@@ -87,7 +97,20 @@ impl<'t> LineField<'t> {
         match &self.source {
             Source::Own(field) => field.value(),
             Source::Entry(entry) => entry.value(),
-            Source::Named(_, value) => value.as_slice(),
+            Source::Named(_, value, _) => value.as_slice(),
+        }
+    }
+
+    /// The name, the value and the flag, where they lie.
+    pub(crate) fn lent(&self) -> FieldRef<'_>
+        ensures { result ≡ self.now }
+    {
+        match &self.source {
+            Source::Own(field) => FieldRef::of(field),
+            Source::Entry(entry) => lent(entry),
+            Source::Named(entry, value, never_indexed) => {
+                FieldRef::new(entry.name(), value.as_slice()).with_never_indexed(*never_indexed)
+            }
         }
     }
 
@@ -114,7 +137,10 @@ impl<'t> LineField<'t> {
         match self.source {
             Source::Own(field) => Ok(field),
             Source::Entry(entry) => entry.copy(alloc),
-            Source::Named(entry, value) => entry.with_value(value),
+            Source::Named(entry, value, never_indexed) => {
+                let field = entry.with_value(value)?;
+                Ok(field.with_never_indexed(never_indexed))
+            }
         }
     }
 
@@ -305,27 +331,34 @@ impl<'t> Lines<'t> {
     {
         let mut ahead = SliceCursor::new(buf.chunk());
         let mut value = ShortString::new();
-        let Some(name) = LiteralWithNameRef::decode_short(&mut ahead, &mut value) else {
+        let Some(head) = LiteralWithNameRef::decode_short(&mut ahead, &mut value) else {
             return None;
         };
-        let Some(field) = self.short_field(name, value.as_slice()) else {
+        let Some(field) = self.short_field(head, value.as_slice()) else {
             return None;
         };
         *buf = ahead;
         Some(field)
     }
 
-    /// The field of the name of an entry and a value, if it takes no memory.
-    fn short_field(&self, name: NameRef, value: &[u8]) -> Option<HeaderField>
-        ensures { IfSome result (λ f. field_at self.now.table self.now.base (short_named_line value.now name) ≡ Some f) }
+    /// The field of the name of an entry, the bit N and a value, if it takes no memory.
+    fn short_field(&self, head: (NameRef, bool), value: &[u8]) -> Option<HeaderField>
+        ensures { IfSome result (λ f. field_at self.now.table self.now.base (short_named_line value.now head) ≡ Some f) }
     {
+        let (name, never_indexed) = head;
         match name {
             NameRef::Static(index) => match StaticTable::get_name(index) {
-                Ok(name) => HeaderField::short_with_static_name(name, value),
+                Ok(name) => {
+                    let field = HeaderField::short_with_static_name(name, value)?;
+                    Some(field.with_never_indexed(never_indexed))
+                }
                 Err(_) => None,
             },
             NameRef::Dynamic(index) => match relative(self.entries, self.base, index) {
-                Ok(entry) => entry.with_short_value(value),
+                Ok(entry) => {
+                    let field = entry.with_short_value(value)?;
+                    Some(field.with_never_indexed(never_indexed))
+                }
                 Err(_) => None,
             },
         }
@@ -352,16 +385,27 @@ impl<'t> Lines<'t> {
     {
         let spare = relative_name_room(self.entries, self.base, 4, self.longest_name, buf);
         match LiteralWithNameRef::decode_with_room(self.alloc, buf, spare) {
-            Ok(LiteralWithNameRef::Static { index, value }) => match StaticTable::get_name(index) {
-                Ok(name) => Ok(LineField::own(HeaderField::with_static_name(name, value))),
+            Ok(
+                LiteralWithNameRef::Static {
+                    index,
+                    value,
+                    never_indexed,
+                },
+            ) => match StaticTable::get_name(index) {
+                Ok(name) => {
+                    let field = HeaderField::with_static_name(name, value);
+                    Ok(LineField::own(field.with_never_indexed(never_indexed)))
+                }
                 Err(e) => Err(DecoderError::InvalidStaticIndex(e)),
             },
-            Ok(LiteralWithNameRef::Dynamic { index, value }) => match relative(
-                self.entries,
-                self.base,
-                index,
-            ) {
-                Ok(entry) => Ok(LineField::named(entry, value)),
+            Ok(
+                LiteralWithNameRef::Dynamic {
+                    index,
+                    value,
+                    never_indexed,
+                },
+            ) => match relative(self.entries, self.base, index) {
+                Ok(entry) => Ok(LineField::named(entry, value, never_indexed)),
                 Err(e) => Err(e),
             },
             Err(e) => Err(DecoderError::from(e)),
@@ -378,17 +422,17 @@ impl<'t> Lines<'t> {
     {
         let mut ahead = SliceCursor::new(buf.chunk());
         let mut value = ShortString::new();
-        let Some(index) = LiteralWithPostBaseNameRef::decode_short(&mut ahead, &mut value) else {
+        let Some(head) = LiteralWithPostBaseNameRef::decode_short(&mut ahead, &mut value) else {
             return None;
         };
-        let Ok(entry) = post_base(self.entries, self.base, index) else {
+        let Ok(entry) = post_base(self.entries, self.base, head.0) else {
             return None;
         };
         let Some(field) = entry.with_short_value(value.as_slice()) else {
             return None;
         };
         *buf = ahead;
-        Some(field)
+        Some(field.with_never_indexed(head.1))
     }
 
     /// The field of a line with a literal value and the name of an entry, by its distance from the base on.
@@ -415,12 +459,14 @@ impl<'t> Lines<'t> {
     {
         let spare = post_base_name_room(self.entries, self.base, self.longest_name, buf);
         match LiteralWithPostBaseNameRef::decode_with_room(self.alloc, buf, spare) {
-            Ok(LiteralWithPostBaseNameRef { index, value }) => match post_base(
-                self.entries,
-                self.base,
-                index,
-            ) {
-                Ok(entry) => Ok(LineField::named(entry, value)),
+            Ok(
+                LiteralWithPostBaseNameRef {
+                    index,
+                    value,
+                    never_indexed,
+                },
+            ) => match post_base(self.entries, self.base, index) {
+                Ok(entry) => Ok(LineField::named(entry, value, never_indexed)),
                 Err(e) => Err(e),
             },
             Err(e) => Err(DecoderError::from(e)),
@@ -447,10 +493,16 @@ impl<'t> Lines<'t> {
         ensures { AnswersLineAt self.now.table self.now.base buf.old buf.new result }
     {
         match Literal::decode(self.alloc, buf) {
-            Ok(Literal { name, value }) => Ok(LineField::own(HeaderField::new(
-                CowSlice::Owned(name),
-                CowSlice::Owned(value),
-            ))),
+            Ok(
+                Literal {
+                    name,
+                    value,
+                    never_indexed,
+                },
+            ) => {
+                let field = HeaderField::new(CowSlice::Owned(name), CowSlice::Owned(value));
+                Ok(LineField::own(field.with_never_indexed(never_indexed)))
+            }
             Err(e) => Err(DecoderError::from(e)),
         }
     }

@@ -18,9 +18,9 @@ pub struct SectionSummary {
     pub mem_size: u64,
 }
 
-/// How many fields get room at first: most sections have no more, and the list of their fields need not grow. Eighteen are the most
+/// How many fields get room at first: most sections have no more, and the list of their fields need not grow. Sixteen are the most
 /// that fit 1,032 bytes, up to which an allocator of the C library keeps blocks at hand.
-const FIRST_ROOM: usize = 18;
+const FIRST_ROOM: usize = 16;
 
 /// Adds a field after which so many bytes are left: each may be a field. A list that has the room is not given more.
 fn keep(fields: &mut Vec<HeaderField>, field: HeaderField, left: usize) -> Result<(), AllocError>

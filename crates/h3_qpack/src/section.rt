@@ -87,7 +87,7 @@ impl Section {
         number.min(table.known_received())
     }
 
-    /// How a field is written that is no entry and may not be inserted.
+    /// How a field is written that is never indexed, or is no entry and may not be inserted.
     fn choose_literal(&self, table: &DynamicTable, field: &FieldRef<'_>) -> Choice
         requires { IsLiteral table.now self.now field.now }
         ensures rule { IsChosen table.now self.now field.now result }
@@ -105,13 +105,17 @@ impl Section {
         Choice::Literal
     }
 
-    /// How a field is written: a static entry, else an older entry that does not drain, else a new one, else a literal.
+    /// How a field is written: a static entry, else an older entry that does not drain, else a new one, else a literal. One that is never
+    /// indexed is a literal (RFC 9204, section 4.5.4).
     pub(crate) fn choose(&self, table: &DynamicTable, field: &FieldRef<'_>) -> Choice
         requires { self.now.base ≤ table.now.table.inserted }
         ensures rule { IsChosen table.now self.now field.now result }
         ensures possible { IsPossible table.now self.now field.now result }
         ensures missed { IsMissedFor table.now.table field.now result }
     {
+        if field.is_never_indexed() {
+            return self.choose_literal(table, field);
+        }
         if let Some(index) = StaticTable::find_lent(field) {
             return Choice::Static(index);
         }

@@ -122,24 +122,25 @@ fn put_inserted(
     put_entry(table, searched, field, after, encoder_buf)
 }
 
-/// Appends the line of a literal value with the name of a dynamic entry.
+/// Appends the line of a literal value with the name of a dynamic entry, and that bit N.
 fn put_entry_name(
     base: usize,
     number: usize,
     value: &[u8],
+    never_indexed: bool,
     lines: &mut Vec<u8>,
 ) -> Result<(), EncoderError>
     requires base { base < 2 ^ 62 }
     requires number { number < 2 ^ 62 }
     requires value { length value.now < 2 ^ 62 }
     ensures memory { IsOkUnless result OutOfMemory }
-    ensures ok { OnOk result (lines.new.items ≡ lines.old.items ++ line_bytes (entry_name_line base number value.now)) }
+    ensures ok { OnOk result (lines.new.items ≡ lines.old.items ++ line_bytes (entry_name_line base number value.now never_indexed)) }
 {
     if number <= base {
-        LiteralWithNameRef::write_dynamic(base - number, value, lines)?;
+        LiteralWithNameRef::write_dynamic(base - number, value, never_indexed, lines)?;
         return Ok(());
     }
-    LiteralWithPostBaseNameRef::write(number - base - 1, value, lines)?;
+    LiteralWithPostBaseNameRef::write(number - base - 1, value, never_indexed, lines)?;
     Ok(())
 }
 
@@ -164,6 +165,7 @@ fn put_chosen(
     ensures err { OnErr result ((table.new ≡ table.old) × (encoder_buf.new.items ≡ encoder_buf.old.items)) }
 {
     let inserted = table.inserted();
+    let never_indexed = field.is_never_indexed();
     match choice {
         Choice::Static(index) => Indexed::Static(index).encode(lines)?,
         Choice::Entry(number) => {
@@ -183,13 +185,13 @@ fn put_chosen(
             section.name(inserted + 1);
         }
         Choice::StaticName(index) => {
-            LiteralWithNameRef::write_static(index, field.value(), lines)?
+            LiteralWithNameRef::write_static(index, field.value(), never_indexed, lines)?
         }
         Choice::EntryName(number) => {
-            put_entry_name(section.base, number, field.value(), lines)?;
+            put_entry_name(section.base, number, field.value(), never_indexed, lines)?;
             section.name(number);
         }
-        Choice::Literal => Literal::write(field.name(), field.value(), lines)?,
+        Choice::Literal => Literal::write(field.name(), field.value(), never_indexed, lines)?,
     }
     Ok(())
 }

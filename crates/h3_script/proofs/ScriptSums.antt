@@ -10,7 +10,7 @@ use Rattle.http_uri.specs.ByteClasses.{lowercase as lower_uri, index_of, hash_si
 use Rattle.http_uri.specs.Grammar.{IsForm, IsTail, without_fragment, normal_scheme, or_slash}
 use Rattle.http_uri.specs.Uri.{Spells, uri_scheme, uri_authority, uri_data, has_path}
 use Rattle.http_uri.specs.declared.uri.Uri.{Uri as Target}
-use Rattle.h3_field.specs.Field.{Field}
+use Rattle.h3_field.specs.Field.{Field, plain_field}
 use Rattle.h3_proto.specs.declared.stream.Side.{Side}
 use Rattle.h3_proto.specs.declared.stream.Side.TheVariants.{Client, Server}
 use Rattle.h3_header.specs.Head.{Head, head_fields, to_field, regular_fields, pseudo_fields, response_head, trailer_head}
@@ -108,7 +108,7 @@ fields_sum old new (word ∷ words) (mid, f, h) =
 
 response_sum : (code : ℕ) (m : Entries FieldValue) → head_sum (response_head code m) ≤ 138 + pairs_sum (pairs m)
 unfolding pairs_sum
-response_sum code m = omega (arith, sum_by-cons field_sum (record { name = codes ":status"; value = (48 + 0) ∷ 0 ∷ 0 ∷ [] }) (regular_fields m))
+response_sum code m = omega (arith, sum_by-cons field_sum (plain_field (codes ":status") ((48 + 0) ∷ 0 ∷ 0 ∷ [])) (regular_fields m))
 
 either_bytes : (b : Bool) (xs ys : List ℕ) (n : ℕ) → length xs ≤ n → length ys ≤ n → length (if b then xs else ys) ≤ n
 either_bytes true xs ys n p q = p
@@ -160,15 +160,15 @@ pseudo_sum : (method scheme path : List ℕ) (authority protocol : Option (List 
 unfolding pairs_sum
 pseudo_sum method scheme path authority (Some x) m h = cc
 pseudo_sum method scheme path None None m h =
-    let last : Field = record { name = codes ":path"; value = or_slash path } in
-    let second : Field = record { name = codes ":scheme"; value = scheme } in
-    let first : Field = record { name = codes ":method"; value = method } in
+    let last : Field = plain_field (codes ":path") (or_slash path) in
+    let second : Field = plain_field (codes ":scheme") scheme in
+    let first : Field = plain_field (codes ":method") method in
     omega (arith, sum_by-cons field_sum first (second ∷ last ∷ regular_fields m), sum_by-cons field_sum second (last ∷ regular_fields m), sum_by-cons field_sum last (regular_fields m))
 pseudo_sum method scheme path (Some a) None m h =
-    let last : Field = record { name = codes ":path"; value = or_slash path } in
-    let third : Field = record { name = codes ":authority"; value = a } in
-    let second : Field = record { name = codes ":scheme"; value = scheme } in
-    let first : Field = record { name = codes ":method"; value = method } in
+    let last : Field = plain_field (codes ":path") (or_slash path) in
+    let third : Field = plain_field (codes ":authority") a in
+    let second : Field = plain_field (codes ":scheme") scheme in
+    let first : Field = plain_field (codes ":method") method in
     omega (
       arith,
       sum_by-cons field_sum first (second ∷ third ∷ last ∷ regular_fields m),

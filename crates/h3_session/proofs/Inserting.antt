@@ -7,7 +7,7 @@ use Rattle.h3_field.specs.Field.{Field, field_size}
 use Rattle.h3_field.specs.Line.FieldLine.{StaticField, RelativeField, StaticName, Literal}
 use Rattle.h3_field.specs.StaticTable.{static_field, static_name}
 use Rattle.h3_qpack.specs.EncoderHistory.{EncoderHistory, blocks_out, referenced_entries, was_canceled, writing_on}
-use Rattle.h3_qpack.specs.SectionEncoding.{Draft, draft_of, add_ahead, add_field, add_line, add_inserted, add_literal, any_equal, entry_name_line, evictions_by, finds_room, found, found_name, having_inserted, held, is_insertable, is_insertable_ahead, is_new, is_worth_to, marks_after, write_field}
+use Rattle.h3_qpack.specs.SectionEncoding.{Draft, draft_of, add_ahead, add_field, add_line, add_inserted, add_literal, any_equal, entry_name_line, evictions_by, finds_room, found, found_name, having_inserted, held, is_insertable, is_insertable_ahead, is_new, is_worth_to, marks_after, write_field, write_indexed}
 use Rattle.h3_table.specs.Table.{evictions}
 
 -- a choice whose ways all keep what was inserted
@@ -17,8 +17,9 @@ either kept (Some n) x rest here there = here n
 
 literal_kept : (s : EncoderHistory) (d : Draft) (f : Field) → (add_literal s d f).inserted ≡ d.inserted
 literal_kept s d f =
-    either d.inserted (static_name f.name) (λ index. add_line d (StaticName index f.value) []) _ (λ n. refl)
-    (either d.inserted (found_name s d f) (λ number. add_line d (entry_name_line (length s.inserted) number f.value) (number ∷ [])) (add_line d (Literal f.name f.value) []) (λ n. refl) refl)
+    either d.inserted (static_name f.name) (λ index. add_line d (StaticName index f.value f.never_indexed) []) _ (λ n. refl)
+    (either d.inserted (found_name s d f) (λ number. add_line d (entry_name_line (length s.inserted) number f.value f.never_indexed) (number ∷ []))
+    (add_line d (Literal f.name f.value f.never_indexed) []) (λ n. refl) refl)
 
 too_small : (size capacity : ℕ) → capacity ≡ 0 → 32 ≤ size → nat_le size capacity ≡ false
 too_small size capacity none some = grind (arith, common_steps, none, some)
@@ -28,6 +29,10 @@ second a true c d h = absurd (cc)
 second false false c d h = refl
 second true false c d h = refl
 
+third : (n a b c d : Bool) → b ≡ false → (n && a && b && c && d) ≡ false
+third false a b c d h = refl
+third true a b c d h = second a b c d h
+
 last : (a b : Bool) → b ≡ false → (a && b) ≡ false
 last a true h = absurd (cc)
 last true false h = refl
@@ -35,7 +40,7 @@ last false false h = refl
 
 no_room : (s : EncoderHistory) (d : Draft) (f : Field) → s.capacity ≡ 0 → finds_room s d f ≡ false
 no_room s d f h =
-    second (nat_lt (length d.inserted + 1) (2 ^ 62)) (nat_le (field_size f) s.capacity)
+    third (not f.never_indexed) (nat_lt (length d.inserted + 1) (2 ^ 62)) (nat_le (field_size f) s.capacity)
     (nat_le (evictions_by s d f) (max s.known_received (evictions s.capacity d.inserted)))
     (list_all (λ number. nat_lt (evictions_by s d f) number) (referenced_entries s ++ d.references))
     (too_small (field_size f) s.capacity h (omega arith))
@@ -48,11 +53,18 @@ not_ahead : (s : EncoderHistory) (marks : List ℕ) (d : Draft) (f : Field) → 
 not_ahead s marks d f h =
     last (s.economical && (s.limit == 0) && is_new s d f && is_worth_to s (not (is_none (any_equal s d f))) marks d f) (finds_room s d f) (no_room s d f h)
 
-line_kept : (s : EncoderHistory) (d : Draft) (f : Field) → s.capacity ≡ 0 → (write_field s d f).inserted ≡ d.inserted
-line_kept s d f h =
+indexed_kept : (s : EncoderHistory) (d : Draft) (f : Field) → s.capacity ≡ 0 → (write_indexed s d f).inserted ≡ d.inserted
+indexed_kept s d f h =
     either d.inserted (static_field f) (λ index. add_line d (StaticField index) []) _ (λ n. refl)
     (either d.inserted (found s d f) (λ number. add_line d (RelativeField (length s.inserted - number)) (number ∷ [])) (if is_insertable s d f then add_inserted s d f else add_literal s d f) (λ n. refl)
     (ap (λ b. (if b then add_inserted s d f else add_literal s d f).inserted) (not_insertable s d f h) ∙ literal_kept s d f))
+
+either_kept : (kept : List Field) (b : Bool) (x y : Draft) → x.inserted ≡ kept → y.inserted ≡ kept → (if b then x else y).inserted ≡ kept
+either_kept kept true x y here there = here
+either_kept kept false x y here there = there
+
+line_kept : (s : EncoderHistory) (d : Draft) (f : Field) → s.capacity ≡ 0 → (write_field s d f).inserted ≡ d.inserted
+line_kept s d f h = either_kept d.inserted f.never_indexed (add_literal s d f) (write_indexed s d f) (literal_kept s d f) (indexed_kept s d f h)
 
 field_kept : (s : EncoderHistory) (d : Draft) (f : Field) → s.capacity ≡ 0 → (add_field s d f).inserted ≡ d.inserted
 field_kept s d f h =

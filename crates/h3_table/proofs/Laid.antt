@@ -3,7 +3,7 @@ use Rattle.std.proofs.Common.{◌≡◌, ◌≤◌, ℕ, zero, suc, ◌+◌, ◌
 use Rattle.std.specs.Prelude.{IfSome}
 use Rattle.std.proofs.lemmas.List.{take-append-le, drop-append-le}
 use Rattle.std.proofs.lemmas.List.Sums.{sum_by-cons}
-use Rattle.h3_field.specs.Field.{Field, field_size, section_size}
+use Rattle.h3_field.specs.Field.{Field, plain_field, field_size, section_size}
 use Rattle.h3_table.specs.FieldRow.{FieldRow}
 use Rattle.h3_table.specs.Records.{byte_count, first_field, fields_of, AreLaid}
 use Rattle.h3_table.specs.declared.field_queue.Record.{Record}
@@ -76,7 +76,7 @@ pub record IsNew (place : ℕ) (bytes name value : List ℕ) (r : Record) : Type
 front : (name value : List ℕ) (n : ℕ) → n ≡ length name → take n (name ++ value) ≡ name
 front name value n e = take_at name value n (sym e)
 
-new_field : (name value : List ℕ) (r : Record) → r.name_len ≡ length name → r.value_len ≡ length value → first_field (name ++ value) r ≡ record { name = name; value = value }
+new_field : (name value : List ℕ) (r : Record) → r.name_len ≡ length name → r.value_len ≡ length value → first_field (name ++ value) r ≡ plain_field name value
 new_field name value r n v =
     let back : drop r.name_len (name ++ value) ≡ value = drop_at name value r.name_len (sym n) in
     let whole : take r.value_len value ≡ value = ap (take r.value_len) (sym (append-nil value)) ∙ take_at value [] r.value_len (sym v) in
@@ -116,7 +116,7 @@ laid_push place bytes name value (s ∷ rs) r h new =
     )
 
 pub fields_push : (place : ℕ) (bytes name value : List ℕ) (rs : List Record) (r : Record) → AreLaid place bytes rs → IsNew place bytes name value r
-    → fields_of (bytes ++ (name ++ value)) (rs ++ r ∷ []) ≡ fields_of bytes rs ++ record { name = name; value = value } ∷ []
+    → fields_of (bytes ++ (name ++ value)) (rs ++ r ∷ []) ≡ fields_of bytes rs ++ plain_field name value ∷ []
 fields_push place bytes name value [] r h new =
     let empty : bytes ++ (name ++ value) ≡ name ++ value = ap (λ b. b ++ (name ++ value)) h in
     ap (λ b. first_field b r ∷ []) empty ∙ ap (λ (f : Field). f ∷ []) (new_field name value r new.name_len new.value_len)

@@ -1,4 +1,4 @@
--- What an entry has in common with a field.
+-- What an entry has in common with a field. An entry has no flag, so it equals no field that has it.
 use Rattle.std.specs.Prelude.{Bool, bytes_eq}
 use Rattle.h3_field.specs.Field.{Field, field_eq}
 use Rattle.h3_table.specs.declared.entries.Match.{Match}

@@ -1,6 +1,6 @@
 -- How the bytes of fields lie, and what records say of it.
 use Rattle.std.specs.Prelude.{◌≡◌, ◌≤◌, ℕ, ◌+◌, List, [], ◌∷◌, length, take, drop, IfSome}
-use Rattle.h3_field.specs.Field.{Field}
+use Rattle.h3_field.specs.Field.{Field, plain_field}
 use Rattle.h3_table.specs.declared.field_queue.Record.{Record}
 
 -- how many bytes a field has
@@ -9,7 +9,7 @@ byte_count r = r.name_len + r.value_len
 
 -- the field whose bytes these begin with
 abbrev pub first_field : List ℕ → Record → Field
-first_field bytes r = record { name = take r.name_len bytes; value = take r.value_len (drop r.name_len bytes) }
+first_field bytes r = plain_field (take r.name_len bytes) (take r.value_len (drop r.name_len bytes))
 
 -- the fields whose bytes lie end to end
 abbrev pub fields_of : List ℕ → List Record → List Field

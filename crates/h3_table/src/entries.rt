@@ -1,6 +1,6 @@
 //! The entries of a dynamic table (RFC 9204, section 3.2): present ones end to end in one buffer, each with its number.
 ghost use Rattle.std.specs.Prelude.{◌≡◌, ℕ, ◌+◌, ◌-◌, ◌*◌, ◌^◌, ◌<◌, ◌≤◌, length, map, min, Some, None, IfSome, IfNone, OnErr, OnOk};
-ghost use Rattle.h3_field.specs.Field.{Field, field_size, section_size};
+ghost use Rattle.h3_field.specs.Field.{Field, plain_field, field_size, section_size};
 ghost use Rattle.h3_table.specs.Table.{table};
 ghost use Rattle.h3_table.specs.TableState.{TableState, no_entries, evicted, entry_at, newest_in, with_entry, with_capacity};
 ghost use Rattle.h3_table.specs.Matches.{matches};
@@ -54,13 +54,16 @@ impl Match {
         }
     }
 
-    fn is_met(self, name: &[u8], value: &[u8], entry: &Entry<'_>) -> bool
-        ensures { result ≡ matches self (record { name = name.now; value = value.now }) entry.now }
+    /// Whether the entry has that in common with a field of these parts.
+    fn is_met(self, name: &[u8], value: &[u8], never_indexed: bool, entry: &Entry<'_>) -> bool
+        ensures { result ≡ matches self (record { name = name.now; value = value.now; never_indexed = never_indexed }) entry.now }
     {
+        // (for the proof: no entry has the flag)
+        entry.is_plain();
         match self {
             Match::Name => entry.name() == name,
             // entries of one slot mostly have one name
-            Match::Field => entry.value() == value && entry.name() == name,
+            Match::Field => !never_indexed && entry.value() == value && entry.name() == name,
         }
     }
 }
@@ -189,6 +192,7 @@ impl Entries {
         // read once, and not at each entry
         let name = field.name();
         let value = field.value();
+        let never_indexed = field.is_never_indexed();
         let fields = self.fields.slices();
         let links = index.links();
         let mut number = index.newest(what.slot(field));
@@ -197,7 +201,7 @@ impl Entries {
             let Some(entry) = fields.get(place) else {
                 return None;
             };
-            if number <= most && what.is_met(name, value, &entry) {
+            if number <= most && what.is_met(name, value, never_indexed, &entry) {
                 return Some(number);
             }
             number = older(&links, place);
@@ -248,11 +252,12 @@ impl Entries {
         self.capacity = capacity;
     }
 
-    /// Inserts a field for which there is room: the oldest entries are evicted. If an allocation fails, nothing changes.
+    /// Inserts a field for which there is room: the oldest entries are evicted. The entry is of its name and its value alone: an encoder
+    /// inserts no field that has the flag (RFC 9204, section 7.1.3). If an allocation fails, nothing changes.
     pub fn insert(&mut self, field: HeaderField) -> Result<(), AllocError>
         requires few { self.old.inserted + 1 < 2 ^ 62 }
         requires fits { field_size field ≤ self.old.capacity }
-        ensures ok { OnOk result (self.new ≡ with_entry self.old field) }
+        ensures ok { OnOk result (self.new ≡ with_entry self.old (plain_field field.name field.value)) }
         ensures err { OnErr result (self.new ≡ self.old) }
     {
         let static_name = match field.name_part() {
@@ -266,7 +271,7 @@ impl Entries {
     pub fn insert_copy(&mut self, field: &FieldRef<'_>) -> Result<(), AllocError>
         requires few { self.old.inserted + 1 < 2 ^ 62 }
         requires fits { field_size field.now ≤ self.old.capacity }
-        ensures ok { OnOk result (self.new ≡ with_entry self.old field.now) }
+        ensures ok { OnOk result (self.new ≡ with_entry self.old (plain_field field.now.name field.now.value)) }
         ensures err { OnErr result (self.new ≡ self.old) }
     {
         self.put(field.name(), field.value(), None)
@@ -296,7 +301,7 @@ impl Entries {
         requires same { IfSome static_name (λ given. given.now ≡ name.now) }
         requires few { self.old.inserted + 1 < 2 ^ 62 }
         requires fits { length name.now + length value.now + 32 ≤ self.old.capacity }
-        ensures ok { OnOk result (self.new ≡ with_entry self.old (record { name = name.now; value = value.now })) }
+        ensures ok { OnOk result (self.new ≡ with_entry self.old (plain_field name.now value.now)) }
         ensures err { OnErr result (self.new ≡ self.old) }
     {
         let count = name.len() + value.len();

@@ -1,8 +1,8 @@
 //! Fields in the order of their insertion, whose bytes lie end to end.
-ghost use Rattle.std.specs.Prelude.{◌≡◌, ◌+◌, ◌-◌, ◌*◌, ◌/◌, ◌^◌, ◌<◌, ◌≤◌, ◌++◌, ◌∷◌, [], List, length, take, drop, slice_get, slice_index_or, min, max, Some, None, IfSome, IfNone, IfOk, OnOk, OnErr};
+ghost use Rattle.std.specs.Prelude.{◌≡◌, ◌+◌, ◌-◌, ◌*◌, ◌/◌, ◌^◌, ◌<◌, ◌≤◌, ◌++◌, ◌∷◌, [], List, length, take, drop, slice_get, slice_index_or, min, max, Some, None, false, IfSome, IfNone, IfOk, OnOk, OnErr};
 ghost use Rattle.std.specs.Vec.{vec_len, vec_capacity};
 ghost use Rattle.std.specs.VecDeque.{deque_len, deque_capacity};
-ghost use Rattle.h3_field.specs.Field.{Field, field_size, section_size};
+ghost use Rattle.h3_field.specs.Field.{Field, plain_field, field_size, section_size};
 ghost use Rattle.h3_table.specs.Records.{byte_count, first_field};
 
 use crate::byte_queue::ByteQueue;
@@ -23,7 +23,8 @@ pub(crate) struct Record {
     static_name: Option<&'static [u8]>,
 }
 
-/// An entry of a table, whose bytes lie there.
+/// An entry of a table, whose bytes lie there. A contract sees the field, which has no flag: one with the bit N is in no table (RFC 9204,
+/// section 7.1.3).
 #[derive(Drop)]
 pub struct Entry<'t> {
     name: &'t [u8],
@@ -32,12 +33,12 @@ pub struct Entry<'t> {
 }
 
 impl<'t> Model for Entry<'t> {
-    ghost use Rattle.h3_field.specs.Field.{Field};
+    ghost use Rattle.h3_field.specs.Field.{Field, plain_field};
     ghost use Rattle.std.specs.Prelude.{◌≡◌, IfSome};
 
     ghost Value = { Field };
 
-    ghost view = { λ e. record { name = e.name.now; value = e.value.now } };
+    ghost view = { λ e. plain_field e.name.now e.value.now };
 
     ghost invariant = { λ e. IfSome e.static_name (λ name. name.now ≡ e.name.now) };
 }
@@ -55,6 +56,14 @@ impl<'t> Entry<'t> {
         ensures { result.now ≡ self.now.value }
     {
         self.value
+    }
+
+    /// An entry has no flag. It does nothing: a proof that needs the fact calls it.
+    pub fn is_plain(&self)
+        ensures { self.now.never_indexed ≡ false }
+    {
+        // (for the proof: what the entry is made of)
+        let _name = self.name;
     }
 
     /// The size of the entry, stopping at the greatest number (RFC 9204, section 3.2.1).
@@ -80,7 +89,7 @@ impl<'t> Entry<'t> {
     /// A field of the entry's name and another value. A static name is not copied, and any other is copied in front of the value, in the
     /// value's block. Memory is taken only if that block has no room for it (`owned_name_len`).
     pub fn with_value(&self, value: Vec<u8>) -> Result<HeaderField, AllocError>
-        ensures ok { IfOk result (λ f. f ≡ record { name = self.now.name; value = value.items }) }
+        ensures ok { IfOk result (λ f. f ≡ plain_field self.now.name value.items) }
         ensures err { OnErr result (vec_capacity value < vec_len value + length self.now.name) }
     {
         if let Some(name) = self.static_name {
@@ -91,7 +100,7 @@ impl<'t> Entry<'t> {
 
     /// A field of the entry's name and another value, which takes no memory. None: they are too long for that, or the value is empty.
     pub fn with_short_value(&self, value: &[u8]) -> Option<HeaderField>
-        ensures { IfSome result (λ f. f ≡ record { name = self.now.name; value = value.now }) }
+        ensures { IfSome result (λ f. f ≡ plain_field self.now.name value.now) }
     {
         if let Some(name) = self.static_name {
             return HeaderField::short_with_static_name(name, value);
@@ -288,7 +297,7 @@ impl FieldQueue {
         requires small { length name.now + length value.now < 2 ^ 32 }
         requires few { section_size self.old.fields < 2 ^ 32 }
         requires written { self.old.written + 2 ^ 32 < 2 ^ 128 }
-        ensures fields { self.new.fields ≡ self.old.fields ++ record { name = name.now; value = value.now } ∷ [] }
+        ensures fields { self.new.fields ≡ self.old.fields ++ plain_field name.now value.now ∷ [] }
         ensures written { self.new.written ≡ self.old.written + (length name.now + length value.now) }
     {
         let there = self.bytes.len();

@@ -9,7 +9,7 @@ use Rattle.h3_field.specs.Field.{Field}
 use Rattle.h3_field.specs.StaticTable.{static_field, static_name}
 use Rattle.h3_field.specs.Instruction.{EncoderInstruction, encoder_bytes}
 use Rattle.h3_qpack.specs.EncoderHistory.{EncoderHistory, writing_on}
-use Rattle.h3_qpack.specs.SectionEncoding.{Draft, add_ahead, add_field, add_literal, draft_of, found, found_name, insertion, remaining, marks_after, is_insertable, is_insertable_ahead, required_insert_count, instructions_for, sent_section, write_field}
+use Rattle.h3_qpack.specs.SectionEncoding.{Draft, add_ahead, add_field, add_literal, draft_of, found, found_name, insertion, remaining, marks_after, is_insertable, is_insertable_ahead, required_insert_count, instructions_for, sent_section, write_field, write_indexed}
 use Rattle.h3_qpack.specs.Session.{Session}
 use Rattle.h3_qpack.specs.Schedule.{SessionEvent, SessionStep, SessionRun, beginning}
 use Rattle.h3_qpack.specs.Schedule.SessionEvent.{UseTable, Economize, KeepCanceled, Encode, CutOff, InsertionsRead, Decode, Cancel, DecoderInstructionRead}
@@ -67,9 +67,10 @@ with_field P s d f h ahead = either_way P (is_insertable_ahead s (marks_after s 
 
 line_of_field_inserts : (s : EncoderHistory) (d : Draft) (f : Field) → InsertsOnly d → InsertsOnly (write_field s d f)
 line_of_field_inserts s d f h =
+    either_way InsertsOnly f.never_indexed (add_literal s d f) (write_indexed s d f) (literal_inserts s d f h) (
     chosen InsertsOnly (static_field f) _ _ (λ index e. h) (λ none.
     chosen InsertsOnly (found s d f) _ _ (λ number e. h) (λ none.
-    either_way InsertsOnly (is_insertable s d f) _ _ (joined d.instructions (insertion s d f ∷ []) h (one (insertion s d f) (inserts s d f))) (literal_inserts s d f h)))
+    either_way InsertsOnly (is_insertable s d f) _ _ (joined d.instructions (insertion s d f ∷ []) h (one (insertion s d f) (inserts s d f))) (literal_inserts s d f h))))
 
 field_inserts : (s : EncoderHistory) (d : Draft) (f : Field) → InsertsOnly d → InsertsOnly (add_field s d f)
 field_inserts s d f h = with_field InsertsOnly s d f (line_of_field_inserts s d f h) (λ e k. joined e.instructions (insertion s e f ∷ []) k (one (insertion s e f) (inserts s e f)))
@@ -133,11 +134,12 @@ literal_names s d f h =
 
 line_of_field_names : (s : EncoderHistory) (d : Draft) (f : Field) → NamesMade d → NamesMade (write_field s d f)
 line_of_field_names s d f h =
+    either_way NamesMade f.never_indexed (add_literal s d f) (write_indexed s d f) (literal_names s d f h) (
     chosen NamesMade (static_field f) _ _ (λ index e. names_joined d.inserted d.references [] h tt) (λ none.
     chosen NamesMade (found s d f) _ _ (λ number e. names_joined d.inserted d.references (number ∷ []) h (omega (arith, newest_below _ 1 d.inserted number e), tt)) (λ none.
     either_way NamesMade (is_insertable s d f) _ _
     (names_joined (d.inserted ++ f ∷ []) d.references ((length d.inserted + 1) ∷ []) (names_stay d.inserted f d.references h) (omega (arith, length-append d.inserted (f ∷ [])), tt))
-    (literal_names s d f h)))
+    (literal_names s d f h))))
 
 field_names : (s : EncoderHistory) (d : Draft) (f : Field) → NamesMade d → NamesMade (add_field s d f)
 field_names s d f h = with_field NamesMade s d f (line_of_field_names s d f h) (λ e k. names_stay e.inserted f e.references k)

@@ -3,11 +3,11 @@ ghost use Rattle.std.specs.Prelude.{List, Option};
 ghost use Rattle.h3_field.specs.Field.{Field};
 ghost use Rattle.h3_session.specs.SendingLists.{SendsFieldList, SendsTrailerList, order_refusal, place_refusal};
 ghost use Rattle.h3_c.specs.Exported.{OnStream, SendsCut};
-ghost use Rattle.h3_c.specs.Given.{fields_cut};
+ghost use Rattle.h3_c.specs.Given.{fields_given};
 ghost use Rattle.h3_c.specs.Giving.{RefusesFields};
 
 use super::Connection;
-use crate::fields::{FieldSize, cut_fields, let_go};
+use crate::fields::{FieldSize, given_fields, let_go};
 use crate::numbers::{ARGUMENT, Told, listed, refused};
 use h3_proto::stream::StreamId;
 use std::alloc::Global;
@@ -19,15 +19,16 @@ impl Connection {
         alloc: Global,
         id: u64,
         sizes: &[FieldSize],
+        flags: &[u8],
         bytes: &'static [u8],
     ) -> Told
         ensures { OnStream id result self.old self.new
-            (SendsCut (fields_cut sizes.now bytes.now) (λ e. place_refusal e id) result self.old self.new (λ fields call. SendsFieldList self.old.endpoint self.new.endpoint id fields call)) }
+            (SendsCut (fields_given sizes.now flags.now bytes.now) (λ e. place_refusal e id) result self.old self.new (λ fields call. SendsFieldList self.old.endpoint self.new.endpoint id fields call)) }
     {
         let Ok(stream) = StreamId::try_from(id) else {
             return ARGUMENT;
         };
-        match cut_fields(&mut self.spare, sizes, bytes) {
+        match given_fields(&mut self.spare, sizes, flags, bytes) {
             Ok(()) => {
                 let told = listed(&self.endpoint.send_fields(stream, self.spare.as_slice()));
                 let_go(alloc, &mut self.spare);
@@ -60,15 +61,16 @@ impl Connection {
         alloc: Global,
         id: u64,
         sizes: &[FieldSize],
+        flags: &[u8],
         bytes: &'static [u8],
     ) -> Told
         ensures { OnStream id result self.old self.new
-            (SendsCut (fields_cut sizes.now bytes.now) (λ e. order_refusal e id) result self.old self.new (λ fields call. SendsTrailerList self.old.endpoint self.new.endpoint id fields call)) }
+            (SendsCut (fields_given sizes.now flags.now bytes.now) (λ e. order_refusal e id) result self.old self.new (λ fields call. SendsTrailerList self.old.endpoint self.new.endpoint id fields call)) }
     {
         let Ok(stream) = StreamId::try_from(id) else {
             return ARGUMENT;
         };
-        match cut_fields(&mut self.spare, sizes, bytes) {
+        match given_fields(&mut self.spare, sizes, flags, bytes) {
             Ok(()) => {
                 let told = listed(
                     &self

@@ -29,11 +29,16 @@ impl Connection {
     }
 
     /// All fields of the header or trailer section that was pulled last.
-    pub(crate) fn item_fields(&self, sizes: &mut [FieldSize], bytes: &mut [u8]) -> Told
-        ensures { ReadsFields self.now result sizes.old sizes.new bytes.old bytes.new }
+    pub(crate) fn item_fields(
+        &self,
+        sizes: &mut [FieldSize],
+        flags: &mut [u8],
+        bytes: &mut [u8],
+    ) -> Told
+        ensures { ReadsFields self.now result sizes.old sizes.new flags.old flags.new bytes.old bytes.new }
     {
         match fields_of(&self.last) {
-            Some(fields) => fields_at_once(fields, sizes, bytes),
+            Some(fields) => fields_at_once(fields, sizes, flags, bytes),
             None => OK,
         }
     }

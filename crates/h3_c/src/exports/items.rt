@@ -34,15 +34,16 @@ pub extern "C" fn h3_raw_item_fields(
     alloc: Global,
     handle: Handle,
     sizes: &mut [FieldSize],
+    flags: &mut [u8],
     bytes: &mut [u8],
     out: &mut Handle,
 ) -> u32
     requires { IsSome handle.value }
     ensures there { IsSome out.new.value }
-    ensures goes { Steps handle.value out.new.value (λ v w. (w ≡ v) × ReadsFields v (number result 0) sizes.old sizes.new bytes.old bytes.new) }
+    ensures goes { Steps handle.value out.new.value (λ v w. (w ≡ v) × ReadsFields v (number result 0) sizes.old sizes.new flags.old flags.new bytes.old bytes.new) }
 {
     let connection = opened(alloc, handle);
-    let told = connection.item_fields(sizes, bytes);
+    let told = connection.item_fields(sizes, flags, bytes);
     *out = kept(connection);
     told.number
 }

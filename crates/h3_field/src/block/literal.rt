@@ -1,19 +1,18 @@
-//! Lines with a literal value (RFC 9204, sections 4.5.4 to 4.5.6). The bit N is written 0, and read either way: that a line
-//! with N stays a literal at a next hop is not enforced (docs/RFC.md).
+//! Lines with a literal value (RFC 9204, sections 4.5.4 to 4.5.6). Each has the bit N as a flag: a field whose line has it is written as a
+//! literal with it on every hop, and is never inserted (section 7.1.3).
 ghost use Rattle.std.specs.Prelude.{◌≡◌, ◌<◌, ◌^◌, ◌++◌, true, false, length, slice_index, IfSome, IfNone, IfOk, OnOk, OnErr, Ok, Err};
 ghost use Rattle.std.specs.Result.{IsOkUnless};
-ghost use Rattle.h3_field.specs.Line.{line_bytes};
+ghost use Rattle.h3_field.specs.Line.{bit_n, line_bytes};
 ghost use Rattle.h3_field.specs.Line.FieldLine.{StaticName, RelativeName, PostBaseName};
 ghost use Rattle.h3_field.specs.Line.{FieldLine as line};
 ghost use Rattle.h3_field.specs.Ends.{IsEndOf};
 ghost use Rattle.h3_field.specs.Room.{HasRoom, line_value};
-ghost use Rattle.h3_field.specs.Field.{Field};
 ghost use Rattle.h3_field.specs.ShapeAnswer.{AtInteger, AtString, behind};
 ghost use Rattle.h3_field.specs.IntegerReading.{integer};
 ghost use Rattle.h3_field.specs.Shapes.{begins};
-ghost use Rattle.h3_field.specs.OntoAnswer.{AnswersIndex, name_ref_of};
+ghost use Rattle.h3_field.specs.OntoAnswer.{AnswersIndex, named_head, post_base_head};
 ghost use Rattle.h3_field.specs.LineReading.{named, post_base_named, literal};
-ghost use Rattle.h3_field.specs.LineAnswer.{AnswersLine, IsWritable, named_line, short_named_line, post_base_named_line, literal_line};
+ghost use Rattle.h3_field.specs.LineAnswer.{AnswersLine, IsWritable, named_line, named_with, short_named_line, short_post_base_named_line, post_base_named_line, literal_line, field_line};
 ghost use Rattle.h3_field.specs.declared.parse_error.ParseError.TheVariants.{InvalidPrefix};
 ghost use Rattle.h3_field.specs.declared.prefix_string.Error.TheVariants.{OutOfMemory};
 ghost use Rattle.h3_field.specs.declared.block.literal.LiteralWithNameRef.TheVariants as named_ref;
@@ -29,6 +28,15 @@ use crate::shapes::{
 };
 use std::alloc::Global;
 
+/// The bit N.
+#[inline(always)]
+fn bit_n(never_indexed: bool) -> u8
+    ensures value { result ≡ bit_n never_indexed }
+    ensures below { result < 2 }
+{
+    if never_indexed { 1 } else { 0 }
+}
+
 /// The name of a static entry, or of a dynamic one by its distance below the base.
 #[derive(Clone, Copy)]
 pub enum NameRef {
@@ -40,25 +48,59 @@ pub enum NameRef {
 /// field line with name reference, `| 0 | 1 | N | T | name index (4+) | H | value length (7+) | value |`.
 #[derive(PartialEq, Debug, Drop)]
 pub enum LiteralWithNameRef {
-    Static { index: usize, value: Vec<u8> },
-    Dynamic { index: usize, value: Vec<u8> },
+    Static {
+        index: usize,
+        value: Vec<u8>,
+        never_indexed: bool,
+    },
+    Dynamic {
+        index: usize,
+        value: Vec<u8>,
+        never_indexed: bool,
+    },
 }
 
 impl LiteralWithNameRef {
-    /// The line with the name of that entry of the static table, counted from 0 (RFC 9204, appendix A), and the value. It takes any index:
-    /// `encode` asks for one below 2^62.
+    /// The line with the name of that entry of the static table, counted from 0 (RFC 9204, appendix A), and the value, without the bit N. It
+    /// takes any index: `encode` asks for one below 2^62.
     pub fn new_static(index: usize, value: Vec<u8>) -> LiteralWithNameRef
-        ensures { result ≡ named_ref.Static index value }
+        ensures { result ≡ named_ref.Static index value false }
     {
-        LiteralWithNameRef::Static { index, value }
+        LiteralWithNameRef::Static {
+            index,
+            value,
+            never_indexed: false,
+        }
     }
 
-    /// The line with the name of a dynamic entry, by its relative index, and the value. Index 0 is for the one right below the base (RFC
-    /// 9204, section 3.2.5).
+    /// The line with the name of a dynamic entry, by its relative index, and the value, without the bit N. Index 0 is for the one right
+    /// below the base (RFC 9204, section 3.2.5).
     pub fn new_dynamic(index: usize, value: Vec<u8>) -> LiteralWithNameRef
-        ensures { result ≡ named_ref.Dynamic index value }
+        ensures { result ≡ named_ref.Dynamic index value false }
     {
-        LiteralWithNameRef::Dynamic { index, value }
+        LiteralWithNameRef::Dynamic {
+            index,
+            value,
+            never_indexed: false,
+        }
+    }
+
+    /// The same with that bit N (RFC 9204, section 4.5.4).
+    pub fn with_never_indexed(self, never_indexed: bool) -> LiteralWithNameRef
+        ensures { result ≡ named_with self never_indexed }
+    {
+        match self {
+            LiteralWithNameRef::Static { index, value, .. } => LiteralWithNameRef::Static {
+                index,
+                value,
+                never_indexed,
+            },
+            LiteralWithNameRef::Dynamic { index, value, .. } => LiteralWithNameRef::Dynamic {
+                index,
+                value,
+                never_indexed,
+            },
+        }
     }
 
     /// Takes the line from the front. A refused read takes nothing.
@@ -93,46 +135,60 @@ impl LiteralWithNameRef {
             Ok(parts) => {
                 let index = parts.index as usize;
                 let value = parts.value;
+                let never_indexed = parts.flags / 2 % 2 == 1;
                 if parts.flags % 2 == 1 {
-                    Ok(LiteralWithNameRef::Static { index, value })
+                    Ok(LiteralWithNameRef::Static {
+                        index,
+                        value,
+                        never_indexed,
+                    })
                 } else {
-                    Ok(LiteralWithNameRef::Dynamic { index, value })
+                    Ok(LiteralWithNameRef::Dynamic {
+                        index,
+                        value,
+                        never_indexed,
+                    })
                 }
             }
             Err(e) => Err(e),
         }
     }
 
-    /// Takes the first part of the line from the front: the name that it refers to. The string of its value is left, for
+    /// Takes the first part of the line from the front: the name that it refers to, and the bit N. The string of its value is left, for
     /// `FieldBlock::push_value_read`. A refused read takes nothing.
-    pub fn decode_index(buf: &mut SliceCursor<'_>) -> Result<NameRef, ParseError>
-        ensures answer { AnswersIndex name_ref_of (integer 4 buf.old) buf.old buf.new result }
+    pub fn decode_index(buf: &mut SliceCursor<'_>) -> Result<(NameRef, bool), ParseError>
+        ensures answer { AnswersIndex named_head (integer 4 buf.old) buf.old buf.new result }
         ensures rest { IsEndOf buf.old buf.new }
     {
         let (flags, index) = match prefix_int::decode(4, buf) {
             Ok(found) => found,
             Err(e) => return Err(ParseError::Integer(e)),
         };
+        let never_indexed = flags / 2 % 2 == 1;
         if flags % 2 == 1 {
-            return Ok(NameRef::Static(index as usize));
+            return Ok((NameRef::Static(index as usize), never_indexed));
         }
-        Ok(NameRef::Dynamic(index as usize))
+        Ok((NameRef::Dynamic(index as usize), never_indexed))
     }
 
-    /// Takes the line from the front, and reads its value into `value`, with no memory. None: the value may be long, or the read is
-    /// refused. Then nothing is taken.
-    pub fn decode_short(buf: &mut SliceCursor<'_>, value: &mut ShortString) -> Option<NameRef>
-        ensures some { IfSome result (λ name. AnswersLine (short_named_line value.new) AtInteger (named buf.old) buf.old buf.new (Ok name)) }
+    /// Takes the line from the front, and reads its value into `value`, with no memory: the name that it refers to, and the bit N. None:
+    /// the value may be long, or the read is refused. Then nothing is taken.
+    pub fn decode_short(
+        buf: &mut SliceCursor<'_>,
+        value: &mut ShortString,
+    ) -> Option<(NameRef, bool)>
+        ensures some { IfSome result (λ head. AnswersLine (short_named_line value.new) AtInteger (named buf.old) buf.old buf.new (Ok head)) }
         ensures none { IfNone result (buf.new ≡ buf.old) }
     {
         let Some(head) = take_index_and_short(4, buf, value) else {
             return None;
         };
         let index = head.index as usize;
+        let never_indexed = head.flags / 2 % 2 == 1;
         if head.flags % 2 == 1 {
-            Some(NameRef::Static(index))
+            Some((NameRef::Static(index), never_indexed))
         } else {
-            Some(NameRef::Dynamic(index))
+            Some((NameRef::Dynamic(index), never_indexed))
         }
     }
 
@@ -144,43 +200,49 @@ impl LiteralWithNameRef {
         ensures err { OnErr result (buf.new.items ≡ buf.old.items) }
     {
         match self {
-            LiteralWithNameRef::Static { index, value } => {
-                LiteralWithNameRef::write_static(*index, value.as_slice(), buf)
-            }
-            LiteralWithNameRef::Dynamic { index, value } => {
-                LiteralWithNameRef::write_dynamic(*index, value.as_slice(), buf)
-            }
+            LiteralWithNameRef::Static {
+                index,
+                value,
+                never_indexed,
+            } => LiteralWithNameRef::write_static(*index, value.as_slice(), *never_indexed, buf),
+            LiteralWithNameRef::Dynamic {
+                index,
+                value,
+                never_indexed,
+            } => LiteralWithNameRef::write_dynamic(*index, value.as_slice(), *never_indexed, buf),
         }
     }
 
-    /// Appends the line with the name of a static entry.
+    /// Appends the line with the name of a static entry, and that bit N.
     pub fn write_static(
         index: usize,
         value: &[u8],
+        never_indexed: bool,
         buf: &mut Vec<u8>,
     ) -> Result<(), prefix_string::Error>
         requires index { index < 2 ^ 62 }
         requires value { length value.now < 2 ^ 62 }
         ensures memory { IsOkUnless result OutOfMemory }
-        ensures ok { OnOk result (buf.new.items ≡ buf.old.items ++ line_bytes (StaticName index value.now)) }
+        ensures ok { OnOk result (buf.new.items ≡ buf.old.items ++ line_bytes (StaticName index value.now never_indexed)) }
         ensures err { OnErr result (buf.new.items ≡ buf.old.items) }
     {
-        put_index_and_string(4, 5, index as u64, value, buf)
+        put_index_and_string(4, 5 + 2 * bit_n(never_indexed), index as u64, value, buf)
     }
 
-    /// Appends the line with the name of a dynamic entry.
+    /// Appends the line with the name of a dynamic entry, and that bit N.
     pub fn write_dynamic(
         index: usize,
         value: &[u8],
+        never_indexed: bool,
         buf: &mut Vec<u8>,
     ) -> Result<(), prefix_string::Error>
         requires index { index < 2 ^ 62 }
         requires value { length value.now < 2 ^ 62 }
         ensures memory { IsOkUnless result OutOfMemory }
-        ensures ok { OnOk result (buf.new.items ≡ buf.old.items ++ line_bytes (RelativeName index value.now)) }
+        ensures ok { OnOk result (buf.new.items ≡ buf.old.items ++ line_bytes (RelativeName index value.now never_indexed)) }
         ensures err { OnErr result (buf.new.items ≡ buf.old.items) }
     {
-        put_index_and_string(4, 4, index as u64, value, buf)
+        put_index_and_string(4, 4 + 2 * bit_n(never_indexed), index as u64, value, buf)
     }
 }
 
@@ -190,15 +252,28 @@ impl LiteralWithNameRef {
 pub struct LiteralWithPostBaseNameRef {
     pub index: usize,
     pub value: Vec<u8>,
+    pub never_indexed: bool,
 }
 
 impl LiteralWithPostBaseNameRef {
-    /// The line with the name of a dynamic entry, by its post-base index, and the value. Index 0 is for the one at the base (RFC 9204,
-    /// section 3.2.6).
+    /// The line with the name of a dynamic entry, by its post-base index, and the value, without the bit N. Index 0 is for the one at the
+    /// base (RFC 9204, section 3.2.6).
     pub fn new(index: usize, value: Vec<u8>) -> LiteralWithPostBaseNameRef
-        ensures { result ≡ record { index = index; value = value } }
+        ensures { result ≡ record { index = index; value = value; never_indexed = false } }
     {
-        LiteralWithPostBaseNameRef { index, value }
+        LiteralWithPostBaseNameRef {
+            index,
+            value,
+            never_indexed: false,
+        }
+    }
+
+    /// The same with that bit N (RFC 9204, section 4.5.5).
+    pub fn with_never_indexed(mut self, never_indexed: bool) -> LiteralWithPostBaseNameRef
+        ensures { result ≡ record { index = self.index; value = self.value; never_indexed = never_indexed } }
+    {
+        self.never_indexed = never_indexed;
+        self
     }
 
     /// Takes the line from the front. A refused read takes nothing.
@@ -233,33 +308,34 @@ impl LiteralWithPostBaseNameRef {
             Ok(parts) => Ok(LiteralWithPostBaseNameRef {
                 index: parts.index as usize,
                 value: parts.value,
+                never_indexed: parts.flags % 2 == 1,
             }),
             Err(e) => Err(e),
         }
     }
 
-    /// Takes the first part of the line from the front: the post-base index of its name. The string of its value is left, for
-    /// `FieldBlock::push_value_read`. A refused read takes nothing.
-    pub fn decode_index(buf: &mut SliceCursor<'_>) -> Result<usize, ParseError>
-        ensures answer { AnswersIndex (λ head. head.1) (integer 3 buf.old) buf.old buf.new result }
+    /// Takes the first part of the line from the front: the post-base index of its name, and the bit N. The string of its value is left,
+    /// for `FieldBlock::push_value_read`. A refused read takes nothing.
+    pub fn decode_index(buf: &mut SliceCursor<'_>) -> Result<(usize, bool), ParseError>
+        ensures answer { AnswersIndex post_base_head (integer 3 buf.old) buf.old buf.new result }
         ensures rest { IsEndOf buf.old buf.new }
     {
         match prefix_int::decode(3, buf) {
-            Ok((_, index)) => Ok(index as usize),
+            Ok((flags, index)) => Ok((index as usize, flags % 2 == 1)),
             Err(e) => Err(ParseError::Integer(e)),
         }
     }
 
-    /// Takes the line from the front, and reads its value into `value`, with no memory: the post-base index of its name. None: the value
-    /// may be long, or the read is refused. Then nothing is taken.
-    pub fn decode_short(buf: &mut SliceCursor<'_>, value: &mut ShortString) -> Option<usize>
-        ensures some { IfSome result (λ index. AnswersLine (λ i. PostBaseName i value.new) AtInteger (post_base_named buf.old) buf.old buf.new (Ok index)) }
+    /// Takes the line from the front, and reads its value into `value`, with no memory: the post-base index of its name, and the bit N.
+    /// None: the value may be long, or the read is refused. Then nothing is taken.
+    pub fn decode_short(buf: &mut SliceCursor<'_>, value: &mut ShortString) -> Option<(usize, bool)>
+        ensures some { IfSome result (λ head. AnswersLine (short_post_base_named_line value.new) AtInteger (post_base_named buf.old) buf.old buf.new (Ok head)) }
         ensures none { IfNone result (buf.new ≡ buf.old) }
     {
         let Some(head) = take_index_and_short(3, buf, value) else {
             return None;
         };
-        Some(head.index as usize)
+        Some((head.index as usize, head.flags % 2 == 1))
     }
 
     /// Appends the line. A refusal appends nothing.
@@ -269,18 +345,28 @@ impl LiteralWithPostBaseNameRef {
         ensures ok { OnOk result (buf.new.items ≡ buf.old.items ++ line_bytes (post_base_named_line self.now)) }
         ensures err { OnErr result (buf.new.items ≡ buf.old.items) }
     {
-        LiteralWithPostBaseNameRef::write(self.index, self.value.as_slice(), buf)
+        LiteralWithPostBaseNameRef::write(
+            self.index,
+            self.value.as_slice(),
+            self.never_indexed,
+            buf,
+        )
     }
 
-    /// Appends the line with that index and value.
-    pub fn write(index: usize, value: &[u8], buf: &mut Vec<u8>) -> Result<(), prefix_string::Error>
+    /// Appends the line with that index, value and bit N.
+    pub fn write(
+        index: usize,
+        value: &[u8],
+        never_indexed: bool,
+        buf: &mut Vec<u8>,
+    ) -> Result<(), prefix_string::Error>
         requires index { index < 2 ^ 62 }
         requires value { length value.now < 2 ^ 62 }
         ensures memory { IsOkUnless result OutOfMemory }
-        ensures ok { OnOk result (buf.new.items ≡ buf.old.items ++ line_bytes (PostBaseName index value.now)) }
+        ensures ok { OnOk result (buf.new.items ≡ buf.old.items ++ line_bytes (PostBaseName index value.now never_indexed)) }
         ensures err { OnErr result (buf.new.items ≡ buf.old.items) }
     {
-        put_index_and_string(3, 0, index as u64, value, buf)
+        put_index_and_string(3, bit_n(never_indexed), index as u64, value, buf)
     }
 }
 
@@ -290,14 +376,27 @@ impl LiteralWithPostBaseNameRef {
 pub struct Literal {
     pub name: Vec<u8>,
     pub value: Vec<u8>,
+    pub never_indexed: bool,
 }
 
 impl Literal {
-    /// The line with that name and value, which it owns.
+    /// The line with that name and value, which it owns, without the bit N.
     pub fn new(name: Vec<u8>, value: Vec<u8>) -> Literal
-        ensures { result ≡ record { name = name; value = value } }
+        ensures { result ≡ record { name = name; value = value; never_indexed = false } }
     {
-        Literal { name, value }
+        Literal {
+            name,
+            value,
+            never_indexed: false,
+        }
+    }
+
+    /// The same with that bit N (RFC 9204, section 4.5.6).
+    pub fn with_never_indexed(mut self, never_indexed: bool) -> Literal
+        ensures { result ≡ record { name = self.name; value = self.value; never_indexed = never_indexed } }
+    {
+        self.never_indexed = never_indexed;
+        self
     }
 
     /// Takes the line from the front. A refused read takes nothing.
@@ -314,15 +413,16 @@ impl Literal {
             Ok(parts) => Ok(Literal {
                 name: parts.name,
                 value: parts.value,
+                never_indexed: parts.flags % 2 == 1,
             }),
             Err(e) => Err(e),
         }
     }
 
-    /// Takes the line from the front as a field that takes no memory. None: the field may be long, or the read is refused. Then nothing is
+    /// Takes the line from the front as a field that takes no memory, with the bit N as its flag. None: the field may be long, or the read is refused. Then nothing is
     /// taken.
     pub fn decode_short(buf: &mut SliceCursor<'_>) -> Option<HeaderField>
-        ensures some { IfSome result (λ field. AnswersLine (λ (f : Field). line.Literal f.name f.value) AtString (literal buf.old) buf.old buf.new (Ok field)) }
+        ensures some { IfSome result (λ field. AnswersLine field_line AtString (literal buf.old) buf.old buf.new (Ok field)) }
         ensures none { IfNone result (buf.new ≡ buf.old) }
     {
         take_short_field(4, buf)
@@ -335,17 +435,27 @@ impl Literal {
         ensures ok { OnOk result (buf.new.items ≡ buf.old.items ++ line_bytes (literal_line self.now)) }
         ensures err { OnErr result (buf.new.items ≡ buf.old.items) }
     {
-        Literal::write(self.name.as_slice(), self.value.as_slice(), buf)
+        Literal::write(
+            self.name.as_slice(),
+            self.value.as_slice(),
+            self.never_indexed,
+            buf,
+        )
     }
 
-    /// Appends the line with that name and value.
-    pub fn write(name: &[u8], value: &[u8], buf: &mut Vec<u8>) -> Result<(), prefix_string::Error>
+    /// Appends the line with that name, value and bit N.
+    pub fn write(
+        name: &[u8],
+        value: &[u8],
+        never_indexed: bool,
+        buf: &mut Vec<u8>,
+    ) -> Result<(), prefix_string::Error>
         requires name { length name.now < 2 ^ 62 }
         requires value { length value.now < 2 ^ 62 }
         ensures memory { IsOkUnless result OutOfMemory }
-        ensures ok { OnOk result (buf.new.items ≡ buf.old.items ++ line_bytes (line.Literal name.now value.now)) }
+        ensures ok { OnOk result (buf.new.items ≡ buf.old.items ++ line_bytes (line.Literal name.now value.now never_indexed)) }
         ensures err { OnErr result (buf.new.items ≡ buf.old.items) }
     {
-        put_two_strings(4, 2, name, value, buf)
+        put_two_strings(4, 2 + bit_n(never_indexed), name, value, buf)
     }
 }

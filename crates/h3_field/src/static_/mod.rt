@@ -2,6 +2,7 @@
 //! find an entry by one look.
 ghost use Rattle.std.specs.Prelude.{◌≡◌, ◌<◌, ◌≤◌, length, Some, MatchResult, IfSome, slice_get};
 ghost use Rattle.h3_field.specs.ErrorTexts.{static_text};
+ghost use Rattle.h3_field.specs.Field.{plain_field};
 ghost use Rattle.h3_field.specs.StaticTable.{static_table, static_field, static_name, NamesEntry};
 ghost use Rattle.h3_field.specs.StaticHash.{name_hash, field_hash};
 ghost use Rattle.h3_field.specs.StaticSlots.{name_slot, name_of, name_start, name_part, field_slot, value_of, value_start, value_part};
@@ -160,7 +161,8 @@ impl StaticTable {
         Ok(name_at(index))
     }
 
-    /// The index of the entry with that name and value.
+    /// The index of the entry with that name and value. None for a field with the flag, which is always a literal (RFC 9204, section
+    /// 4.5.4).
     pub fn find(field: &HeaderField) -> Option<usize>
         ensures entry { result ≡ static_field field.now }
         ensures below { IfSome result (λ index. index < 99) }
@@ -169,12 +171,23 @@ impl StaticTable {
     }
 
     /// The same for a field that lies elsewhere.
+    #[tactic(auto, using(crate::proofs::StaticEntries::field_flagged, crate::proofs::StaticEntries::field_plain))]
     pub fn find_lent(field: &FieldRef<'_>) -> Option<usize>
         ensures entry { result ≡ static_field field.now }
         ensures below { IfSome result (λ index. index < 99) }
     {
-        let name = field.name();
-        let value = field.value();
+        if field.is_never_indexed() {
+            return None;
+        }
+        StaticTable::find_plain(field.name(), field.value())
+    }
+
+    /// The index of the entry with that name and value.
+    #[inline(always)]
+    fn find_plain(name: &[u8], value: &[u8]) -> Option<usize>
+        ensures entry { result ≡ static_field (plain_field name.now value.now) }
+        ensures below { IfSome result (λ index. index < 99) }
+    {
         if name.is_empty() {
             return None;
         }

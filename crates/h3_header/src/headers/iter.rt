@@ -1,6 +1,7 @@
 //! The fields of a header, one after the other.
 ghost use Rattle.std.specs.Prelude.{◌≡◌, [], unwrap_or, IfOk};
 ghost use Rattle.std.specs.Iterator.{item_count};
+ghost use Rattle.h3_field.specs.Field.{plain_field};
 ghost use Rattle.h3_header.specs.Left.{TakesField};
 ghost use Rattle.h3_header.specs.Parts.{fields_of_pseudo};
 
@@ -54,7 +55,7 @@ fn make_field(
     name: &Option<HeaderName>,
     value: &HeaderValue,
 ) -> Result<HeaderField, AllocError>
-    ensures { IfOk result (λ f. f ≡ record { name = unwrap_or name.now []; value = value.now.bytes }) }
+    ensures { IfOk result (λ f. f ≡ plain_field (unwrap_or name.now []) value.now.bytes) }
 {
     let name: &[u8] = match name {
         Some(name) => name.as_bytes(),

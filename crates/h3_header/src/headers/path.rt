@@ -5,6 +5,7 @@ ghost use Rattle.h3_field.specs.ReadBack.{AreBytes};
 ghost use Rattle.h3_header.specs.Head.{optional_field};
 ghost use Rattle.h3_header.specs.Request.{is_path_rooted};
 ghost use Rattle.h3_header.specs.RequestPath.{has_room, rooted, is_rooted};
+ghost use Rattle.h3_field.specs.Field.{plain_field};
 
 use super::authority::root;
 use super::error::HeaderError;
@@ -67,7 +68,7 @@ impl RequestPath {
 
     /// The field `:path`. An empty path is `/`.
     pub(crate) fn field(&self, alloc: Global) -> Result<HeaderField, AllocError>
-        ensures { IfOk result (λ f. f ≡ record { name = codes ":path"; value = or_slash self.now }) }
+        ensures { IfOk result (λ f. f ≡ plain_field (codes ":path") (or_slash self.now)) }
     {
         let text = self.text.as_str();
         if !self.behind_slash {

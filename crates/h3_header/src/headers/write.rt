@@ -4,6 +4,7 @@ ghost use Rattle.std.specs.List.{AllByRecursion};
 ghost use Rattle.h3_field.specs.ReadBack.{AreBytes, IsFieldOfBytes};
 ghost use Rattle.h3_header.specs.Head.{optional_field, regular_fields};
 ghost use Rattle.h3_header.specs.ReadsBack.{IsValidMap};
+ghost use Rattle.h3_field.specs.Field.{plain_field};
 
 use h3_field::HeaderField;
 use http_header::HeaderMap;
@@ -15,14 +16,14 @@ pub(crate) fn pseudo_field(
     name: &'static [u8],
     value: &str,
 ) -> Result<HeaderField, AllocError>
-    ensures { IfOk result (λ f. f ≡ record { name = name.now; value = value.now }) }
+    ensures { IfOk result (λ f. f ≡ plain_field name.now value.now) }
 {
     HeaderField::with_copied_value(alloc, name, value.as_bytes())
 }
 
 /// A pseudo-header field of static parts.
 pub(crate) fn static_field(name: &'static [u8], value: &'static str) -> HeaderField
-    ensures { result ≡ record { name = name.now; value = value.now } }
+    ensures { result ≡ plain_field name.now value.now }
 {
     HeaderField::from_static(name, value.as_bytes())
 }
@@ -33,7 +34,7 @@ pub(crate) fn regular_field(
     name: &[u8],
     value: &[u8],
 ) -> Result<HeaderField, AllocError>
-    ensures { IfOk result (λ f. f ≡ record { name = name.now; value = value.now }) }
+    ensures { IfOk result (λ f. f ≡ plain_field name.now value.now) }
 {
     HeaderField::copied(alloc, name, value)
 }

@@ -5,7 +5,7 @@ use Rattle.h3_c.proofs.fields.cut_fields.Given as goal
 
 abbrev pub invariant-loop-at : goal.invariant-loop-at
 invariant-loop-at l = record {
-  cut : option_map (λ more. l.fields.items ++ more) (fields_cut (drop l.at l.sizes) l.rest) ≡ fields_cut l.sizes l.bytes;
+  cut : option_map (λ more. l.fields.items ++ more) (fields_cut (drop l.at l.sizes) (drop l.at l.flags) l.rest) ≡ fields_cut l.sizes l.flags l.bytes;
   len : vec_len l.fields ≡ l.at;
   room : length l.sizes ≤ vec_capacity l.fields;
 }

@@ -10,7 +10,7 @@ use Rattle.h3_field.proofs.decoder.take_long_literal.Goals as goal
 
 pub returns-in-Ok : goal.returns-in-Ok
 returns-in-Ok c =
-    has_field AtString literal_line literal _ _ _ _ literal_less (line_literal _ c.requires.some c.requires.own) (c.in-Ok.ensures.own c.requires.own) (rw (c.in-Ok.field-0-is, c.new.ensures) refl)
+    has_field AtString literal_line literal _ _ _ _ literal_less (line_literal _ c.requires.some c.requires.own) (c.in-Ok.ensures.own c.requires.own) (rw (c.in-Ok.field-0-is, c.with_never_indexed.ensures, c.new-field.ensures) refl)
 
 pub returns-in-Err : goal.returns-in-Err
 returns-in-Err c =

@@ -12,11 +12,11 @@ use Rattle.h3_field.proofs.decoder.take_long_named.Goals as goal
 pub returns-in-Ok : goal.returns-in-Ok
 returns-in-Ok c =
     has_field (behind (integer 4 c.args.buf.now)) named_line named _ _ _ _ named_less (line_named _ c.requires.some c.requires.own) (c.in-Ok-Static.ensures.own c.requires.own)
-    (rw (c.in-Ok-Static.field-0-is, c.with_static_name.ensures) (named_entry _ _ _ c.in-Ok.ensures))
+    (rw (c.in-Ok-Static.field-0-is, c.with_never_indexed.ensures, c.with_static_name.ensures) (named_entry _ _ _ _ c.in-Ok.ensures))
 
 pub returns-in-Ok-Static : goal.returns-in-Ok-Static
 returns-in-Ok-Static c =
-    no_static_name (behind (integer 4 c.args.buf.now)) named_line _ _ _ _ (line_named _ c.requires.some c.requires.own) (c.in-Ok-Static.ensures.own c.requires.own) c.in-Ok-Static.index c.in-Ok-Static.value.items c.in-Err-get_name.ensures.1 (rw c.in-Ok-Static.field-0-is refl)
+    no_static_name (behind (integer 4 c.args.buf.now)) named_line _ _ _ _ (line_named _ c.requires.some c.requires.own) (c.in-Ok-Static.ensures.own c.requires.own) c.in-Ok-Static.index c.in-Ok-Static.value.items c.in-Ok-Static.never_indexed c.in-Err-get_name.ensures.1 (rw c.in-Ok-Static.field-0-is refl)
 
 pub returns : goal.returns
 returns c = refused_named (behind (integer 4 c.args.buf.now)) _ _ _ _ (line_named _ c.requires.some c.requires.own) (c.in-Err.ensures.own c.requires.own) c.refusal_of_named.ensures

@@ -1,6 +1,6 @@
 use Rattle.std.proofs.Common.{◌≡◌, ◌++◌, ◌∷◌, ◌+◌, ◌-◌, ◌≤◌, length, take, drop, ℕ, zero, suc, List, [], refl, sym, ◌∙◌, ap, arith, append-nil, length-append}
 use Rattle.std.specs.List.{copy_within}
-use Rattle.h3_field.specs.Field.{Field}
+use Rattle.h3_field.specs.Field.{Field, plain_field}
 use Rattle.h3_field.proofs.field.HeaderField.with_copied_name.Goals as goal
 
 behind : (xs ys : List ℕ) → drop (length xs) (xs ++ ys) ≡ ys
@@ -47,13 +47,13 @@ placed name value moved_in items rest len g is all =
     ap (λ (l : List ℕ). take len (l ++ rest)) whole ∙ ap (λ n. take n ((name ++ value) ++ rest)) count ∙ front (name ++ value) rest
 
 made : (name value moved_in items rest : List ℕ) (len : ℕ) (result : Field)
-    → result ≡ record { name = take (length name) (take len (moved_in ++ rest)); value = drop (length name) (take len (moved_in ++ rest)) }
-    → moved_in ≡ name ++ drop (length name) items → items ≡ copy_within (value ++ name) 0 (length value) (length name) → len ≡ length value + length name → result ≡ record { name = name; value = value }
+    → result ≡ plain_field (take (length name) (take len (moved_in ++ rest))) (drop (length name) (take len (moved_in ++ rest)))
+    → moved_in ≡ name ++ drop (length name) items → items ≡ copy_within (value ++ name) 0 (length value) (length name) → len ≡ length value + length name → result ≡ plain_field name value
 made name value moved_in items rest len result r g is all =
     let bytes = placed name value moved_in items rest len g is all in
     r
-    ∙ (λ i. record { name = take (length name) (bytes i); value = drop (length name) (bytes i) })
-    ∙ (λ i. record { name = front name value i; value = behind name value i })
+    ∙ (λ i. plain_field (take (length name) (bytes i)) (drop (length name) (bytes i)))
+    ∙ (λ i. plain_field (front name value i) (behind name value i))
 
 pub returns-clause-ok : goal.returns-clause-ok
 returns-clause-ok c =

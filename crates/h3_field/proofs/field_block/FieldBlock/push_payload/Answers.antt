@@ -14,13 +14,13 @@ returns-in-Err-put_place c =
 
 pub invariant_of-self-in_default : goal.invariant_of-self-in_default
 invariant_of-self-in_default c =
-    rw (c.in-Ok.ensures.2, c.in_default.ensures.ok) (block_next _ _ _ _ _ c.self.invariant c.in-Ok.ensures.3)
+    rw (c.in-Ok.ensures.2, c.in_default.ensures.ok) (block_next _ _ _ _ _ _ c.self.invariant c.in-Ok.ensures.3)
 
 pub returns : goal.returns
 returns c = (
   c.in-Ok.ensures.0,
   c.in-Ok.ensures.1,
   (λ i. fields_at (c.in-Ok.ensures.2 i) (c.in_default.ensures.ok i))
-      ∙ fields_next c.self.inside.bytes.items c.args.name.now c.in-Ok.ensures.0 c.self.inside.places.items c.in-Ok.place c.self.invariant c.in-Ok.ensures.3
-      ∙ ap (λ (l : List Field). l ++ (record { name = c.args.name.now; value = c.in-Ok.ensures.0 }) ∷ []) c.self.view_is,
+      ∙ fields_next c.self.inside.bytes.items c.args.name.now c.in-Ok.ensures.0 c.args.never_indexed c.self.inside.places.items c.in-Ok.place c.self.invariant c.in-Ok.ensures.3
+      ∙ ap (λ (l : List Field). l ++ (record { name = c.args.name.now; value = c.in-Ok.ensures.0; never_indexed = c.args.never_indexed }) ∷ []) c.self.view_is,
 )

@@ -13,7 +13,7 @@ returns-in-Ok-copy c =
     let there : entry_at c.self.inside.entries (c.self.inside.entries.inserted - c.in-Ok-Some.field-0-0.0) ≡ Some c.in-Ok.entry =
     ap (λ n. entry_at c.self.inside.entries (n - c.in-Ok-Some.field-0-0.0)) (sym c.inserted.ensures.value) ∙ c.in-Ok.ensures in
     rw (← c.self.view_is) (begins_insertion AtInteger c.self.inside.entries duplication repeat c.args.buf.now _ _ _ _ repeat_less (instruction_repeat _ c.requires.some c.requires.own) c.in-Ok-Some.field-0-is (c.in-Ok-Some.ensures.own c.requires.own)
-    refl (there ∙ ap Some (sym c.in-Ok-copy.ensures)))
+    refl (there ∙ ap Some (sym c.in-Ok-copy.ensures)) (rw c.in-Ok-copy.ensures c.is_plain.ensures))
 
 pub returns-in-Err : goal.returns-in-Err
 returns-in-Err c = rw c.from.ensures (refused AtInteger c.args.self.now.table duplication _ _ _ _ (instruction_repeat _ c.requires.some c.requires.own) (c.in-Err.ensures.own c.requires.own))

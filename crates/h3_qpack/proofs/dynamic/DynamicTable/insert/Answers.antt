@@ -1,4 +1,5 @@
 use Rattle.std.proofs.Common.{◌≡◌, ◌+◌, ◌≤◌, arith, ap, ◌∙◌}
+use Rattle.h3_field.specs.FieldLaws.{plain_is}
 use Rattle.h3_table.specs.TableState.{TableState, evicted, with_entry}
 use Rattle.h3_table.specs.Tracking.{TrackingState}
 use Rattle.h3_table.specs.declared.entries.Match.TheVariants as what
@@ -36,7 +37,7 @@ invariant_of-self-2 c =
     let i = c.self.invariant in
     let g = c.evicted-evicted.ensures in
     let h = c.self.inside.entries in
-    let table_is = c.in-Ok.ensures.ok in
+    let table_is = c.in-Ok.ensures.ok ∙ ap (with_entry h) (plain_is c.args.field.now c.requires.plain) in
     let number_is : c.inserted-number.result ≡ h.inserted + 1 = c.inserted-number.ensures.value ∙ ap (λ (k : TableState). k.inserted) table_is in
     let after_is : c.args.after ≡ evicted (with_entry h c.args.field.now) = rw (← c.self.view_is) at c.requires.after in
     let low : evicted h ≤ c.args.after = rw (← c.self.view_is) at c.requires.from in

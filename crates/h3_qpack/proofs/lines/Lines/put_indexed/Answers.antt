@@ -12,7 +12,7 @@ returns-in-Ok c =
     puts _ _ _ _ _ _ c.in-Ok.field c.put.result
     (begins_with AtInteger c.args.self.now.table c.args.self.now.base indexed_line indexed _ _ _ _ indexed_less (line_indexed _ c.requires.some c.requires.own) (c.in-Ok-Static.ensures.own c.requires.own)
     (rw c.in-Ok-Static.field-0-is c.in-Ok.ensures))
-    (rw (c.name.ensures, c.value.ensures) at c.put.ensures.ok) c.put.ensures.err
+    (rw c.of.ensures at c.put.ensures.ok) c.put.ensures.err
 
 pub returns-in-Err-get : goal.returns-in-Err-get
 returns-in-Err-get c =
@@ -24,7 +24,7 @@ returns-in-Ok-relative c =
     puts _ _ _ _ _ _ c.in-Ok-relative.entry c.put-in-Ok-relative.result
     (begins_with AtInteger c.args.self.now.table c.args.self.now.base indexed_line indexed _ _ _ _ indexed_less (line_indexed _ c.requires.some c.requires.own) (c.in-Ok-Dynamic.ensures.own c.requires.own)
     (rw c.in-Ok-Dynamic.field-0-is (rw (c.entries.ensures, c.base.ensures) at c.in-Ok-relative.ensures)))
-    (rw (c.name-in-Ok-relative.ensures, c.value-in-Ok-relative.ensures) at c.put-in-Ok-relative.ensures.ok) c.put-in-Ok-relative.ensures.err
+    (rw c.lent.ensures at c.put-in-Ok-relative.ensures.ok) c.put-in-Ok-relative.ensures.err
 
 pub returns-in-Err-relative : goal.returns-in-Err-relative
 returns-in-Err-relative c =

@@ -11,7 +11,7 @@ returns-in-Ok-post_base c =
     puts _ _ _ _ _ _ c.in-Ok-post_base.entry c.put.result
     (begins_with AtInteger c.args.self.now.table c.args.self.now.base post_base_line post_base _ _ _ _ post_base_less (line_post_base _ c.requires.some c.requires.own) (c.in-Ok.ensures.own c.requires.own)
     (rw c.in-Ok.field-0-is (rw (c.entries.ensures, c.base.ensures) at c.in-Ok-post_base.ensures)))
-    (rw (c.name.ensures, c.value.ensures) at c.put.ensures.ok) c.put.ensures.err
+    (rw c.lent.ensures at c.put.ensures.ok) c.put.ensures.err
 
 pub returns-in-Err-post_base : goal.returns-in-Err-post_base
 returns-in-Err-post_base c =

@@ -12,7 +12,7 @@ use Rattle.h3_qpack.proofs.lines.Lines.take_long_named.Goals as goal
 pub returns-in-Ok : goal.returns-in-Ok
 returns-in-Ok c =
     begins_with (behind (integer 4 c.args.buf.now)) c.args.self.now.table c.args.self.now.base named_line named _ _ _ _ named_less (line_named _ c.requires.some c.requires.own) (c.in-Ok-Static.ensures.own c.requires.own)
-    (rw (c.in-Ok-Static.field-0-is, c.own.ensures, c.with_static_name.ensures) (named_entry _ _ _ c.in-Ok.ensures))
+    (rw (c.in-Ok-Static.field-0-is, c.own.ensures, c.with_never_indexed.ensures, c.with_static_name-field.ensures) (named_entry _ _ _ _ c.in-Ok.ensures))
 
 pub returns-in-Err-get_name : goal.returns-in-Err-get_name
 returns-in-Err-get_name c =

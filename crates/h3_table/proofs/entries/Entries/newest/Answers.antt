@@ -32,10 +32,10 @@ outside test above most number e far = grind (arith, common_steps, far)
 unmet : (test : Field → Bool) (above most number : ℕ) (e : Field) → test e ≡ false → in_range test above most number e ≡ false
 unmet test above most number e fails = grind (arith, common_steps, fails)
 
--- what was told of a name and a value, of the field that they are of
-told_of : (what : Match) (f e : Field) (name value : List ℕ) (told is_met : Bool) → name ≡ f.name → value ≡ f.value → told ≡ matches what (record { name = name; value = value }) e → told ≡ is_met → matches what f e ≡ is_met
-told_of what f e name value told is_met name_is value_is told_is known =
-    let field_is : f ≡ record { name = name; value = value } = λ i. record { name = sym name_is i; value = sym value_is i } in
+-- what was told of a name, a value and a flag, of the field that they are of
+told_of : (what : Match) (f e : Field) (name value : List ℕ) (flag told is_met : Bool) → name ≡ f.name → value ≡ f.value → flag ≡ f.never_indexed → told ≡ matches what (record { name = name; value = value; never_indexed = flag }) e → told ≡ is_met → matches what f e ≡ is_met
+told_of what f e name value flag told is_met name_is value_is flag_is told_is known =
+    let field_is : f ≡ record { name = name; value = value; never_indexed = flag } = λ i. record { name = sym name_is i; value = sym value_is i; never_indexed = sym flag_is i } in
     ap (λ g. matches what g e) field_is ∙ sym told_is ∙ known
 
 pub loop-number-init : goal.loop-number-init
@@ -48,7 +48,7 @@ returns-then-is_met-clause-value c =
     let i = c.loop-number.invariant in
     let p = place_is c.args.self.now c.self.inside.capacity c.self.inside.inserted c.len.result c.args.above c.loop-number.number c.self.inside.fields.fields c.self.view_is c.len.ensures c.requires.above c.loop-number-test.true i.below in
     let e = entry_is c.args.self.now c.self.inside.capacity c.self.inside.inserted _ c.self.inside.fields.fields _ c.in-Some.entry c.self.view_is c.slices-fields.ensures p.inside c.in-Some.ensures.lookup in
-    sym (is_found c.args.self.now c.args.what c.args.field.now c.args.above c.args.most c.loop-number.number _ c.in-Some.entry i p.at e c.loop-number-test.true c.if-number-most.true (told_of c.args.what c.args.field.now c.in-Some.entry _ _ _ _ c.name-name.ensures c.value-value.ensures c.is_met.ensures c.if-is_met.true))
+    sym (is_found c.args.self.now c.args.what c.args.field.now c.args.above c.args.most c.loop-number.number _ c.in-Some.entry i p.at e c.loop-number-test.true c.if-number-most.true (told_of c.args.what c.args.field.now c.in-Some.entry _ _ _ _ _ c.name-name.ensures c.value-value.ensures c.is_never_indexed-never_indexed.ensures c.is_met.ensures c.if-is_met.true))
 
 pub loop-number-smaller : goal.loop-number-smaller
 loop-number-smaller c =
@@ -66,7 +66,7 @@ loop-number-preserved c =
     let test = matches c.args.what c.args.field.now in
     let fails : in_range test c.args.above c.args.most c.loop-number.number c.in-Some.entry ≡ false =
     elim c.else-number-most.branch [
-      | else-number-most-via-then-number-most+else-is_met w ↦ unmet test c.args.above c.args.most c.loop-number.number c.in-Some.entry (told_of c.args.what c.args.field.now c.in-Some.entry _ _ _ _ c.name-name.ensures c.value-value.ensures w.is_met.ensures w.if-is_met.false)
+      | else-number-most-via-then-number-most+else-is_met w ↦ unmet test c.args.above c.args.most c.loop-number.number c.in-Some.entry (told_of c.args.what c.args.field.now c.in-Some.entry _ _ _ _ _ c.name-name.ensures c.value-value.ensures c.is_never_indexed-never_indexed.ensures w.is_met.ensures w.if-is_met.false)
       | else-number-most-via-else-number-most w ↦ outside test c.args.above c.args.most c.loop-number.number c.in-Some.entry w.if-number-most.false
     ] in
     rw (c.older-number.ensures, c.links-links.ensures) (stands_next c.args.self.now c.args.index.now c.args.what c.args.field.now c.args.above c.args.most c.loop-number.number _ c.in-Some.entry c.requires.indexed i p.at e fails)

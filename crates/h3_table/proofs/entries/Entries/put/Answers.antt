@@ -1,7 +1,7 @@
 use Rattle.std.proofs.Common.{◌≡◌, ◌≤◌, ◌+◌, ◌-◌, ◌*◌, ◌/◌, ℕ, List, [], ◌∷◌, ◌++◌, length, Option, Some, None, sym, ◌∙◌, ap, arith}
 use Rattle.std.specs.Prelude.{IfSome}
 use Rattle.std.specs.Vec.{vec_capacity}
-use Rattle.h3_field.specs.Field.{Field, field_size, section_size}
+use Rattle.h3_field.specs.Field.{Field, plain_field, field_size, section_size}
 use Rattle.h3_table.specs.FieldRow.{FieldRow}
 use Rattle.h3_table.specs.Table.{table}
 use Rattle.h3_table.specs.TableState.{TableState, with_entry}
@@ -29,4 +29,4 @@ push-requires-clause-fits c =
 pub returns-clause-ok : goal.returns-clause-ok
 returns-clause-ok c =
     let left = ap (λ (k : FieldRow). k.fields) c.evict_oldest-size.ensures.fields ∙ ap (table _) c.in_ok-block.ensures.fields in
-    inserted_is c.args.self.now c.self.inside.capacity c.self.inside.inserted c.self.inside.fields.fields _ _ (record { name = c.args.name.now; value = c.args.value.now }) c.self.view_is (rw (← c.self.view_is) at c.requires.fits) left c.push.ensures.fields
+    inserted_is c.args.self.now c.self.inside.capacity c.self.inside.inserted c.self.inside.fields.fields _ _ (plain_field c.args.name.now c.args.value.now) c.self.view_is (rw (← c.self.view_is) at c.requires.fits) left c.push.ensures.fields
