@@ -2,8 +2,8 @@
 use Rattle.std.proofs.Common.{◌≡◌, ℕ, ◌+◌, Bool, List, [], ◌∷◌, length, if◌then◌else◌, Option, None, refl, sym, ap, ◌∙◌}
 use Rattle.std.specs.Prelude.{option_map}
 use Rattle.std.proofs.lemmas.List.Sums.{sum_by-cons}
-use Rattle.h3_field.specs.Field.{Field, flagged, field_size, section_size}
-use Rattle.h3_messages.specs.FlagLaws.{with_flags, own_requests_alike, own_responses_alike, own_trailers_alike}
+use Rattle.h3_field.specs.Field.{Field, flagged, with_flags, field_size, section_size}
+use Rattle.h3_messages.specs.FlagLaws.{own_requests_alike, own_responses_alike, own_trailers_alike}
 use Rattle.h3_proto.specs.declared.stream.Side.{Side}
 use Rattle.h3_proto.specs.declared.stream.Side.TheVariants.{Client, Server}
 use Rattle.h3_connection.specs.Sending.{fields_cost}

@@ -291,8 +291,7 @@ pub fn a_limit_takes_what_is_announced()
 {}
 
 ghost use Rattle.std.specs.Prelude.{Option};
-ghost use Rattle.h3_field.specs.Field.{section_size};
-ghost use Rattle.h3_messages.specs.FlagLaws.{with_flags};
+ghost use Rattle.h3_field.specs.Field.{section_size, with_flags};
 ghost use Rattle.h3_connection.specs.Sending.{fields_cost};
 ghost use Rattle.h3_connection.specs.StrictSending.{broken_head, broken_trailer};
 

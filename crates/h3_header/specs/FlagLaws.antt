@@ -5,16 +5,12 @@ use Rattle.http_header.specs.FieldValue.{FieldValue}
 use Rattle.http_header.specs.HeaderMap.{pairs}
 use Rattle.http.specs.StatusCode.{code_digits}
 use Rattle.http_uri.specs.Grammar.{or_slash}
-use Rattle.h3_field.specs.Field.{Field, flagged}
+use Rattle.h3_field.specs.Field.{Field, flagged, unflagged, with_flags}
 use Rattle.h3_header.specs.Head.{Head, trailer_head, optional_field, to_field, regular_fields, pseudo_fields, head_fields}
 use Rattle.h3_header.specs.HeadRead.{unless_refused, refusal_at, read_from, head_of, head_of_any, head_by}
 use Rattle.h3_header.specs.Reads.{kind_of, with_kind, with_field}
 use Rattle.h3_header.specs.declared.headers.kind.FieldKind.{FieldKind}
 use Rattle.h3_header.specs.declared.headers.kind.FieldKind.TheVariants.{Method, Scheme, Authority, Path, Status, Protocol, Regular}
-
--- the field without its flag
-abbrev pub unflagged : Field → Field
-unflagged f = flagged f false
 
 refusal_unflagged : (any : Bool) (at : FieldKind) (h : Head) (f : Field) (b : Bool) → refusal_at any at h (flagged f b) ≡ refusal_at any at h f
 refusal_unflagged any Method h f b = refl
@@ -35,16 +31,16 @@ kind_unflagged Protocol h f b = refl
 kind_unflagged Regular h f b = refl
 
 module _ (any : Bool) (flag : Field → Bool) where
-  read_unflagged : (h : Head) (fields : List Field) → read_from any h (map (λ f. flagged f (flag f)) fields) ≡ read_from any h fields
+  read_unflagged : (h : Head) (fields : List Field) → read_from any h (with_flags flag fields) ≡ read_from any h fields
   read_unflagged h [] = refl
   read_unflagged h (f ∷ fields) =
-      let rest = map (λ f. flagged f (flag f)) fields in
+      let rest = with_flags flag fields in
       ap (λ o. unless_refused o (read_from any (with_field h (flagged f (flag f))) rest)) (refusal_unflagged any (kind_of f.name) h f (flag f))
       ∙ ap (λ k. unless_refused (refusal_at any (kind_of f.name) h f) (read_from any k rest)) (kind_unflagged (kind_of f.name) h f (flag f))
       ∙ ap (unless_refused (refusal_at any (kind_of f.name) h f)) (read_unflagged (with_field h f) fields)
 
 -- whichever flag each field gets, the list reads alike
-pub flags_are_not_read : (any : Bool) (flag : Field → Bool) (fields : List Field) → head_by any (map (λ f. flagged f (flag f)) fields) ≡ head_by any fields
+pub flags_are_not_read : (any : Bool) (flag : Field → Bool) (fields : List Field) → head_by any (with_flags flag fields) ≡ head_by any fields
 unfolding head_of head_of_any
 flags_are_not_read true flag fields = read_unflagged true flag (trailer_head []) fields
 flags_are_not_read false flag fields = read_unflagged false flag (trailer_head []) fields
@@ -54,21 +50,18 @@ pub texts_read_alike : (any : Bool) (fields others : List Field) → map unflagg
 texts_read_alike any fields others same =
     sym (flags_are_not_read any (λ f. false) fields) ∙ ap (head_by any) same ∙ flags_are_not_read any (λ f. false) others
 
-abbrev ArePlain : List Field → Type 0
-ArePlain fields = map unflagged fields ≡ fields
-
-plain_optional : (name : List ℕ) (o : Option (List ℕ)) → ArePlain (optional_field name o)
+plain_optional : (name : List ℕ) (o : Option (List ℕ)) → map unflagged (optional_field name o) ≡ optional_field name o
 plain_optional name None = refl
 plain_optional name (Some value) = refl
 
-plain_joined : (front back : List Field) → ArePlain front → ArePlain back → ArePlain (front ++ back)
+plain_joined : (front back : List Field) → map unflagged front ≡ front → map unflagged back ≡ back → map unflagged (front ++ back) ≡ front ++ back
 plain_joined front back h k = map-append unflagged front back ∙ ap (λ fields. fields ++ map unflagged back) h ∙ ap (λ fields. front ++ fields) k
 
-plain_pairs : (ps : List (List ℕ × FieldValue)) → ArePlain (map to_field ps)
+plain_pairs : (ps : List (List ℕ × FieldValue)) → map unflagged (map to_field ps) ≡ map to_field ps
 plain_pairs [] = refl
 plain_pairs (p ∷ ps) = ap (λ fields. to_field p ∷ fields) (plain_pairs ps)
 
-plain_pseudo : (method scheme authority path : Option (List ℕ)) (status : Option ℕ) (protocol : Option (List ℕ)) → ArePlain (pseudo_fields method scheme authority path status protocol)
+plain_pseudo : (method scheme authority path : Option (List ℕ)) (status : Option ℕ) (protocol : Option (List ℕ)) → map unflagged (pseudo_fields method scheme authority path status protocol) ≡ pseudo_fields method scheme authority path status protocol
 plain_pseudo method scheme authority path status protocol =
     let first = optional_field (codes ":method") method in
     let second = optional_field (codes ":scheme") scheme in

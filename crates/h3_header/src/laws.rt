@@ -1,7 +1,7 @@
 //! Laws on headers and their field lists, each the contract of a function.
 ghost use Rattle.std.specs.Prelude.{◌≡◌, ◌<◌, ◌≤◌, ℕ, Bool, true, false, codes, ◌∷◌, IfOk, IfErr, List, [], All, length, map, take, get_or, Some, None};
 ghost use Rattle.std.specs.List.{AllByRecursion};
-ghost use Rattle.h3_field.specs.Field.{Field, flagged, plain_field};
+ghost use Rattle.h3_field.specs.Field.{Field, plain_field, unflagged, with_flags};
 ghost use Rattle.h3_field.specs.ReadBack.{IsFieldOfBytes};
 ghost use Rattle.h3_header.specs.BadPart.{bad_part, refusal_of, IsHeadUnlessMany};
 ghost use Rattle.h3_header.specs.declared.headers.judge.BadPart.{BadPart};
@@ -9,7 +9,6 @@ ghost use Rattle.http_header.specs.FieldValue.{FieldValue};
 ghost use Rattle.http_header.specs.HeaderMap.{Entries};
 ghost use Rattle.h3_header.specs.AnyProtocol.{asked, asking};
 ghost use Rattle.h3_header.specs.Connect.{connect_head};
-ghost use Rattle.h3_header.specs.FlagLaws.{unflagged};
 ghost use Rattle.h3_header.specs.Head.{Head, head_fields, regular_fields, trailer_head};
 ghost use Rattle.h3_header.specs.HeadRead.{HeadRefusal, IsHead, IsNone, Value, head_by, head_of, told};
 ghost use Rattle.h3_header.specs.Parts.{head_of_parts};
@@ -69,7 +68,7 @@ pub fn lists_are_their_value()
 /// A list is read by names and values alone: it reads alike whichever flag each of its fields gets (RFC 9204, 4.5.4), and so do any two
 /// lists of the same names and values. What a header is written as has no flag.
 pub fn heads_have_no_flags()
-    ensures flags { (any : Bool) (flag : Field → Bool) (fields : List Field) → head_by any (map (λ f. flagged f (flag f)) fields) ≡ head_by any fields }
+    ensures flags { (any : Bool) (flag : Field → Bool) (fields : List Field) → head_by any (with_flags flag fields) ≡ head_by any fields }
     ensures texts { (any : Bool) (fields others : List Field) → map unflagged fields ≡ map unflagged others → head_by any fields ≡ head_by any others }
     ensures written { (h : Head) → map unflagged (head_fields h) ≡ head_fields h }
 {}

@@ -2,7 +2,7 @@
 use Rattle.std.proofs.Common.{◌≡◌, ℕ, ◌+◌, Bool, not, ◌&&◌, ◌||◌, List, [], ◌∷◌, map, codes, cond, bytes_eq, slice_index, refl, sym, ap, ap₂, ◌∙◌, nat_lt, ◌==◌, if◌then◌else◌}
 use Rattle.std.specs.List.{list_all, list_any, count_by}
 use Rattle.std.proofs.lemmas.List.Sums.{sum_by-cons}
-use Rattle.h3_field.specs.Field.{Field, flagged}
+use Rattle.h3_field.specs.Field.{Field, flagged, with_flags}
 use Rattle.h3_header.specs.Connect.{is_plain_host}
 use Rattle.h3_messages.specs.Content.{asked_by, awaited, awaited_by, said}
 use Rattle.h3_messages.specs.Messages.{has_name, holds, repeats, value_of, values_pass, is_one_of, is_word, is_pseudo, pseudo_first, request_names, response_names, only_pseudo_of, connection_names, has_connection_field, is_te_wrong, is_length, is_length_wrong, number_of, has_space_around, first_broken, is_connect, is_plain_connect, needs_authority, misses_pseudo, repeats_pseudo, is_protocol_wrong, names_port, is_connect_wrong, is_scheme, is_scheme_wrong, is_host, are_alike, misses_authority, is_host_wrong, is_target_wrong, is_authority_wrong, is_path_right, is_path_wrong, violation_of_request, is_length_misplaced, violation_of_response, violation_of_trailer}
@@ -11,23 +11,15 @@ use Rattle.h3_messages.specs.declared.content.Content.{Content}
 use Rattle.h3_messages.specs.declared.content.Content.TheVariants.{Tunnel}
 use Rattle.h3_messages.specs.declared.violation.Violation.TheVariants.{PseudoOrder, RepeatedPseudo, WrongPseudo, MissingPseudo, ConnectionField, Protocol, Connect, Scheme, Authority, Path, Status, ContentLength, TrailerField, Value}
 
--- the list with these flags
-abbrev pub with_flags : (Field → Bool) → List Field → List Field
-with_flags flag fields = map (λ f. flagged f (flag f)) fields
-
--- a test of names and values
-abbrev IsOfText : (Field → Bool) → Type 0
-IsOfText p = (f : Field) (b : Bool) → p (flagged f b) ≡ p f
-
-any_alike : (flag p : Field → Bool) → IsOfText p → (fields : List Field) → list_any p (with_flags flag fields) ≡ list_any p fields
+any_alike : (flag p : Field → Bool) → ((f : Field) (b : Bool) → p (flagged f b) ≡ p f) → (fields : List Field) → list_any p (with_flags flag fields) ≡ list_any p fields
 any_alike flag p same [] = refl
 any_alike flag p same (f ∷ fields) = ap₂ (λ a b. a || b) (same f (flag f)) (any_alike flag p same fields)
 
-all_alike : (flag p : Field → Bool) → IsOfText p → (fields : List Field) → list_all p (with_flags flag fields) ≡ list_all p fields
+all_alike : (flag p : Field → Bool) → ((f : Field) (b : Bool) → p (flagged f b) ≡ p f) → (fields : List Field) → list_all p (with_flags flag fields) ≡ list_all p fields
 all_alike flag p same [] = refl
 all_alike flag p same (f ∷ fields) = ap₂ (λ a b. a && b) (same f (flag f)) (all_alike flag p same fields)
 
-count_alike : (flag p : Field → Bool) → IsOfText p → (fields : List Field) → count_by p (with_flags flag fields) ≡ count_by p fields
+count_alike : (flag p : Field → Bool) → ((f : Field) (b : Bool) → p (flagged f b) ≡ p f) → (fields : List Field) → count_by p (with_flags flag fields) ≡ count_by p fields
 count_alike flag p same [] = refl
 count_alike flag p same (f ∷ fields) =
     sum_by-cons (λ g. cond (p g) 1 0) (flagged f (flag f)) (with_flags flag fields)

@@ -1,8 +1,7 @@
 //! Laws on the rules of messages, each the contract of a function.
 ghost use Rattle.std.specs.Prelude.{◌≡◌, Bool, List};
-ghost use Rattle.h3_field.specs.Field.{Field};
+ghost use Rattle.h3_field.specs.Field.{Field, with_flags};
 ghost use Rattle.h3_messages.specs.Content.{awaited_by};
-ghost use Rattle.h3_messages.specs.FlagLaws.{with_flags};
 ghost use Rattle.h3_messages.specs.Messages.{violation_of_request, violation_of_response, violation_of_trailer};
 ghost use Rattle.h3_messages.specs.OwnMessages.{content_of_own_request, content_of_own_response, violation_of_own_request, violation_of_own_response, violation_of_own_trailer};
 ghost use Rattle.h3_messages.specs.declared.content.Content.{Content};
