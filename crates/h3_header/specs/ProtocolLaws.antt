@@ -1,7 +1,7 @@
 -- What holds of a protocol as it is kept.
-use Rattle.std.specs.Prelude.{◌≡◌, ℕ, Bool, true, false, ◌||◌, List, take, length, codes, bytes_eq, if◌then◌else◌, refl}
+use Rattle.std.specs.Prelude.{◌≡◌, Bool, true, false, ◌||◌, take, length, codes, bytes_eq, if◌then◌else◌, refl}
 use Rattle.std.proofs.Common.{ap, ap₂, ◌∙◌}
-use Rattle.h3_header.specs.Protocol.{protocol_text, protocol_of, padded, IsKeptToken, IsKept}
+use Rattle.h3_header.specs.Protocol.{protocol_text, protocol_of, padded, IsKept}
 use Rattle.h3_header.specs.declared.ext.Protocol.TheInside.{Inside}
 use Rattle.h3_header.specs.declared.ext.ProtocolInner.{ProtocolInner}
 use Rattle.h3_header.specs.declared.ext.ProtocolInner.TheVariants.{WebTransport, ConnectUdp, Token}

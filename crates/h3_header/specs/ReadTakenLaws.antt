@@ -3,7 +3,7 @@ use Rattle.std.specs.Prelude.{◌≡◌, Bool, true, false, not, List, [], ◌�
 use Rattle.std.proofs.Common.{subst}
 use Rattle.h3_field.specs.Field.{Field}
 use Rattle.h3_header.specs.Head.{Head, trailer_head}
-use Rattle.h3_header.specs.HeadRead.{HeadRead, HeadRefusal, IsHead, IsNone, Value, refusal_at, unless_refused, read_from, head_of, head_of_any, head_by}
+use Rattle.h3_header.specs.HeadRead.{HeadRead, HeadRefusal, IsHead, Value, refusal_at, unless_refused, read_from, head_of, head_of_any, head_by}
 use Rattle.h3_header.specs.HeadTests.{is_protocol_by, takes_protocol}
 use Rattle.h3_header.specs.Reads.{kind_of, with_field, with_kind}
 use Rattle.h3_header.specs.declared.headers.kind.FieldKind.{FieldKind}
