@@ -1,6 +1,6 @@
 -- Content is handed out as long as its head says.
 use Rattle.std.proofs.Common.{arith, ◌≡◌, ℕ, ◌+◌, ◌-◌, ◌≤◌, Bool, true, false, List, [], ◌∷◌, length, take, drop, refl, sym, ◌∙◌, ap, subst}
-use Rattle.std.specs.Prelude.{Option, Some, None, is_some, codes, if◌then◌else◌, ◌==◌, nat_lt, nat_le, not, ◌&&◌}
+use Rattle.std.specs.Prelude.{Option, Some, None, is_some, codes, if◌then◌else◌, ◌==◌, nat_lt, nat_le, ◌&&◌}
 use Rattle.std.specs.List.{concat}
 use Rattle.std.proofs.lemmas.Grind.{common_steps}
 use Rattle.std.proofs.lemmas.List.{length-take}

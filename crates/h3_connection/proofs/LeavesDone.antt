@@ -1,5 +1,5 @@
 -- What is done with stays so, whatever is sent.
-use Rattle.std.proofs.Common.{arith, ◌≡◌, ◌≤◌, ℕ, ◌+◌, ◌-◌, Bool, true, false, List, [], ◌∷◌, length, refl, sym, ◌∙◌, ap, subst}
+use Rattle.std.proofs.Common.{arith, ◌≡◌, ◌≤◌, ℕ, ◌+◌, Bool, true, false, List, [], ◌∷◌, length, refl, sym, ◌∙◌, ap, subst}
 use Rattle.std.specs.Prelude.{Option, Some, None, if◌then◌else◌, ◌==◌, nat_lt, not, ◌&&◌, ◌||◌, is_some}
 use Rattle.std.proofs.lemmas.Bool.{ltb-false}
 use Rattle.h3_proto.specs.StreamIds.{is_request_stream}

@@ -1,6 +1,6 @@
 -- Of a response to HEAD no content is handed out.
-use Rattle.std.proofs.Common.{arith, ◌≡◌, ℕ, ◌-◌, ◌≤◌, Bool, true, false, List, [], ◌∷◌, length, take, drop, refl, sym, ◌∙◌, ap, subst}
-use Rattle.std.specs.Prelude.{Option, Some, None, is_some, codes, if◌then◌else◌, ◌==◌, nat_lt, nat_le, not, ◌&&◌, ◌||◌}
+use Rattle.std.proofs.Common.{arith, ◌≡◌, ℕ, ◌-◌, Bool, true, false, List, [], ◌∷◌, length, take, drop, refl, sym, ◌∙◌, ap, subst}
+use Rattle.std.specs.Prelude.{Option, Some, None, codes, if◌then◌else◌, ◌==◌, nat_lt, nat_le, not, ◌&&◌}
 use Rattle.std.specs.List.{concat}
 use Rattle.std.proofs.lemmas.Grind.{common_steps}
 use Rattle.h3_field.specs.Field.{Field}
@@ -10,28 +10,27 @@ use Rattle.h3_qpack.specs.DecodedSection.{DecodedSection, Fields, Missing, BadSe
 use Rattle.h3_qpack.specs.Sizes.{last_value}
 use Rattle.h3_header.specs.Head.{Head, head_fields, has_pseudo}
 use Rattle.h3_header.specs.HeadRead.{HeadRead, IsHead, IsNone, head_by}
-use Rattle.h3_messages.specs.Content.{awaited_by, content_expected, is_exceeded, is_interim_status, left_behind, may_end, takes_trailer}
+use Rattle.h3_messages.specs.Content.{awaited_by, is_exceeded, is_interim_status, left_behind, may_end, takes_trailer}
 use Rattle.h3_messages.specs.Messages.{value_of}
 use Rattle.h3_messages.specs.declared.content.Asked.TheVariants as asked_variant
 use Rattle.h3_messages.specs.declared.content.Content.{Content}
 use Rattle.h3_messages.specs.declared.content.Content.TheVariants.{NoContent, Exceeded}
-use Rattle.h3_proto.specs.declared.stream.Side.{Side}
 use Rattle.h3_proto.specs.declared.stream.Side.TheVariants.{Client}
 use Rattle.h3_wire.specs.ExcessiveFrames.{begins_section, is_excessive}
 use Rattle.h3_wire.specs.Frames.{Front, Whole, Unknown, Refused, Unfinished, frame_at}
-use Rattle.h3_wire.specs.Pieces.{chunk_of, ending}
+use Rattle.h3_wire.specs.Pieces.{chunk_of}
 use Rattle.h3_wire.specs.declared.proto.frame.PayloadLen.{PayloadLen}
 use Rattle.h3_wire.specs.declared.proto.frame.Frame.{Frame}
 use Rattle.h3_wire.specs.declared.proto.frame.Frame.TheVariants as frame
 use Rattle.h3_connection.specs.Announcing.{section_of}
 use Rattle.h3_connection.specs.Endpoint.{EndpointHistory}
-use Rattle.h3_connection.specs.Incoming.{Incoming, awaiting, awaits_head, is_before_head, is_body}
-use Rattle.h3_connection.specs.NoContent.{AwaitsNoContent, Awaited, Begins, Comes, Ends, Pulls, HasNoBytes, HandsOutNoContent, RemembersHead}
+use Rattle.h3_connection.specs.Incoming.{Incoming, awaiting, is_body}
+use Rattle.h3_connection.specs.NoContent.{Awaited, Begins, Comes, Ends, Pulls, HasNoBytes, HandsOutNoContent, RemembersHead}
 use Rattle.h3_connection.specs.Skipping.{skipped}
 use Rattle.h3_connection.specs.StrictMessages.{broken_rule, content_at, content_behind, content_behind_large, if_whole, large_content_at}
-use Rattle.h3_connection.specs.Pulling.{Pulled, just, connection_fault, malformed, unless_broken, whole_head, whole_trailer, head_or_trailer, next_place, judged, with_content, past_large, read_section, decoded, at_section, new_section, at_end, at_trailer, at_frame, framed, next_frame, in_message, next_item, pull_stream, in_payload, at_payload, body_of, begun_section, begun_payload, past_section, left_with, is_for, is_client, is_interim, told_size, between_frames, excess}
+use Rattle.h3_connection.specs.Pulling.{Pulled, just, connection_fault, malformed, unless_broken, whole_head, whole_trailer, head_or_trailer, next_place, judged, with_content, past_large, read_section, decoded, at_section, new_section, at_end, at_frame, framed, next_frame, in_message, next_item, pull_stream, in_payload, at_payload, body_of, begun_section, begun_payload, past_section, left_with, is_for, is_client, is_interim, told_size, between_frames, excess}
 use Rattle.h3_connection.specs.Sections.{written_section}
-use Rattle.h3_connection.specs.Sending.{appended, asked, awaiting_at, counted, does, encoded, fields_cost, head_part, head_refusal, remembers, send_head}
+use Rattle.h3_connection.specs.Sending.{appended, asked, awaiting_at, counted, does, encoded, fields_cost, head_part, head_refusal, remembers}
 use Rattle.h3_connection.specs.StreamSets.{stream_at}
 use Rattle.h3_connection.specs.declared.setup.Announced.{Announced}
 use Rattle.h3_connection.specs.declared.event.Malformation.{Malformation}

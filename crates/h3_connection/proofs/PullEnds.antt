@@ -1,5 +1,5 @@
 -- A pull of a request stream answers its end only where the end came, and then, and only then, the stream is over.
-use Rattle.std.proofs.Common.{◌≡◌, ℕ, Bool, true, false, List, [], ◌∷◌, length, refl, sym, ◌∙◌, ap}
+use Rattle.std.proofs.Common.{◌≡◌, ℕ, Bool, true, false, List, [], ◌∷◌, length, refl, sym, ◌∙◌}
 use Rattle.std.specs.Prelude.{Option, Some, None, if◌then◌else◌, ◌==◌, nat_lt, not, ◌&&◌}
 use Rattle.std.specs.List.{concat}
 use Rattle.h3_field.specs.Field.{Field}
@@ -22,7 +22,7 @@ use Rattle.h3_connection.specs.Incoming.{Incoming, is_body}
 use Rattle.h3_connection.specs.Skipping.{skipped}
 use Rattle.h3_connection.specs.StrictMessages.{broken_rule, if_whole}
 use Rattle.h3_messages.specs.Content.{is_exceeded, may_end, takes_trailer}
-use Rattle.h3_connection.specs.Pulling.{Pulled, just, connection_fault, malformed, unless_broken, whole_head, whole_trailer, head_or_trailer, judged, read_section, decoded, at_section, new_section, at_trailer, at_end, at_frame, framed, next_frame, in_message, next_item, pull_stream, in_payload, at_payload, body_of, raw_of, tried, begun_section, begun_payload, with_content, left_with, is_for, is_client, is_interim, told_size, between_frames, excess}
+use Rattle.h3_connection.specs.Pulling.{Pulled, just, connection_fault, malformed, unless_broken, whole_head, whole_trailer, head_or_trailer, judged, read_section, decoded, at_section, at_trailer, at_end, at_frame, framed, next_frame, in_message, next_item, pull_stream, in_payload, at_payload, body_of, raw_of, begun_section, begun_payload, with_content, left_with, is_for, is_client, is_interim, told_size, between_frames, excess}
 use Rattle.h3_connection.specs.declared.setup.Announced.{Announced}
 use Rattle.h3_connection.specs.declared.event.Malformation.{Malformation}
 use Rattle.h3_connection.specs.declared.event.Malformation.TheVariants as malformation

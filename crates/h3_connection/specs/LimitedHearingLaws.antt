@@ -1,5 +1,5 @@
 -- The peer's encoder stream, where instructions are taken up to a limit.
-use Rattle.std.proofs.Common.{◌≡◌, ℕ, zero, suc, ◌≤◌, ◌<◌, Bool, true, false, if◌then◌else◌, List, [], ◌∷◌, ◌++◌, length, Option, Some, None, refl, ap, sym, ◌∙◌, arith, inl, inr, ◌⊎◌}
+use Rattle.std.proofs.Common.{◌≡◌, ℕ, zero, suc, ◌≤◌, ◌<◌, Bool, true, false, if◌then◌else◌, List, [], ◌∷◌, ◌++◌, length, Option, Some, None, refl, ap, sym, ◌∙◌, arith, inl, inr}
 use Rattle.h3_field.specs.InstructionLaws.{instruction_stable}
 use Rattle.h3_field.specs.InstructionReading.{InstructionForm, instruction}
 use Rattle.h3_field.specs.Reading.{Reading, Whole, Unfinished, Bad}
