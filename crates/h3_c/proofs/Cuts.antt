@@ -1,8 +1,8 @@
 -- Fields are cut one by one.
-use Rattle.std.proofs.Common.{◌≡◌, ◌<◌, ◌≤◌, ℕ, ◌+◌, Bool, true, false, ◌&&◌, if◌then◌else◌, List, [], ◌∷◌, ◌++◌, length, take, drop, append-nil, append_assoc, Option, Some, None, refl, sym, ap, ◌∙◌, subst, arith}
-use Rattle.std.specs.Prelude.{◌≢◌, ◌==◌, is_some, nat_le, nat_lt, slice_index_or, option_map}
+use Rattle.std.proofs.Common.{◌≡◌, ◌<◌, ◌≤◌, ℕ, ◌+◌, Bool, true, false, if◌then◌else◌, List, [], ◌∷◌, ◌++◌, length, drop, append-nil, append_assoc, Option, Some, None, refl, sym, ap, ◌∙◌, subst, arith}
+use Rattle.std.specs.Prelude.{◌≢◌, ◌==◌, is_some, nat_lt, slice_index_or, option_map}
 use Rattle.std.specs.List.{list_all}
-use Rattle.std.proofs.lemmas.Bool.{lt-ltb, le-ltb, le-leb, lt-leb}
+use Rattle.std.proofs.lemmas.Bool.{lt-ltb, le-ltb}
 use Rattle.std.proofs.lemmas.List.{drop_all, drop-drop, drop_more}
 use Rattle.h3_field.specs.Field.{Field}
 use Rattle.h3_c.specs.declared.fields.FieldSize.{FieldSize}
@@ -174,15 +174,3 @@ all_known sizes flags bytes known = sym (ap (λ b. if b then fields_cut sizes fl
 
 pub not_known : (sizes : List FieldSize) (flags bytes : List ℕ) → list_all is_flags flags ≡ false → RefusesFields (fields_given sizes flags bytes) argument
 not_known sizes flags bytes unknown = subst (λ b. RefusesFields (if b then fields_cut sizes flags bytes else None) argument) (sym unknown) refl
-
--- The flags from one on are known, as all are, where those before it are.
-pub flags_next : (flags : List ℕ) (at : ℕ) (all : Bool) → at < length flags → slice_index_or flags at 0 ≤ 1 → list_all is_flags (drop at flags) ≡ all → list_all is_flags (drop (at + 1) flags) ≡ all
-flags_next flags at all inside small before =
-    sym (ap (λ b. b && list_all is_flags (drop (at + 1) flags)) (le-leb (slice_index_or flags at 0) 1 small)) ∙ sym (ap (list_all is_flags) (drop_more flags at 0 inside)) ∙ before
-
-pub flags_fail : (flags : List ℕ) (at : ℕ) (all : Bool) → at < length flags → 1 < slice_index_or flags at 0 → list_all is_flags (drop at flags) ≡ all → false ≡ all
-flags_fail flags at all inside large before =
-    sym (ap (λ b. b && list_all is_flags (drop (at + 1) flags)) (lt-leb (slice_index_or flags at 0) 1 large)) ∙ sym (ap (list_all is_flags) (drop_more flags at 0 inside)) ∙ before
-
-pub flags_whole : (flags : List ℕ) (at : ℕ) (all : Bool) → length flags ≤ at → list_all is_flags (drop at flags) ≡ all → true ≡ all
-flags_whole flags at all past before = sym (ap (list_all is_flags) (drop_all at flags past)) ∙ before

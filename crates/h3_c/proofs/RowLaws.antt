@@ -1,16 +1,16 @@
 -- Fields that are written one behind another.
-use Rattle.std.proofs.Common.{◌≡◌, ℕ, ◌+◌, ◌-◌, ◌^◌, ◌<◌, ◌≤◌, Bool, true, false, ◌&&◌, List, [], ◌∷◌, ◌++◌, length, take, drop, refl, ap, sym, ◌∙◌, arith, append-nil, length-append}
+use Rattle.std.proofs.Common.{◌≡◌, ℕ, ◌+◌, ◌-◌, ◌^◌, ◌<◌, ◌≤◌, Bool, true, false, ◌&&◌, List, [], ◌∷◌, ◌++◌, length, take, drop, refl, ap, sym, ◌∙◌, arith, length-append}
 use Rattle.std.specs.Prelude.{min, slice_get, Some}
 use Rattle.std.specs.List.{list_all}
 use Rattle.std.proofs.Math.ListN.{set}
 use Rattle.std.proofs.lemmas.Bool.{lt-ltb}
-use Rattle.std.proofs.lemmas.List.{append_assoc, drop_all, drop_more, drop-set-lt, length-set, take-append-drop, take_more_set}
+use Rattle.std.proofs.lemmas.List.{append_assoc, drop_all, drop_more, drop-set-lt, length-set, take_more_set}
 use Rattle.std.proofs.lemmas.Option.{get_or_from_slice_get}
 use Rattle.std.proofs.lemmas.Grind.{drop_more_same}
 use Rattle.h3_field.specs.Field.{Field}
 use Rattle.h3_field.specs.FieldBlock.{end_to_end}
 use Rattle.h3_c.specs.Rows.{flags_of, is_short, row_len, row_of, size_of, sizes_of}
-use Rattle.h3_c.specs.Showing.{bit}
+use Rattle.h3_c.specs.Bits.{bit}
 use Rattle.h3_c.specs.declared.fields.FieldSize.{FieldSize}
 
 -- the fields from one on
@@ -36,9 +36,6 @@ pub record SizesAt (fields : List Field) (i : ℕ) (sizes before : List FieldSiz
   pub rest : drop i sizes ≡ drop i before
   pub len : length sizes ≡ length before
 
-pub sizes_start : (fields : List Field) (sizes : List FieldSize) → SizesAt fields 0 sizes sizes
-sizes_start fields sizes = record { front = refl; rest = refl; len = refl }
-
 pub sizes_next : (fields : List Field) (i : ℕ) (f : Field) (sizes before : List FieldSize) → i < length fields → slice_get fields i ≡ Some f → length fields ≤ length before
     → SizesAt fields i sizes before → SizesAt fields (i + 1) (set sizes i (size_of f)) before
 sizes_next fields i f sizes before inside is few at =
@@ -52,20 +49,11 @@ sizes_next fields i f sizes before inside is few at =
       len = length-set sizes i (size_of f) ∙ at.len;
     }
 
-pub sizes_last : (fields : List Field) (i : ℕ) (sizes before : List FieldSize) → i ≡ length fields → SizesAt fields i sizes before → sizes ≡ sizes_of fields ++ drop (length fields) before
-sizes_last fields i sizes before past at =
-    let front : take i sizes ≡ sizes_of fields =
-    sym (append-nil (take i sizes)) ∙ sym (ap (λ l. take i sizes ++ sizes_of l) (drop_all i fields (omega (arith, past)))) ∙ at.front in
-    sym (take-append-drop i sizes) ∙ ap (λ l. l ++ drop i sizes) front ∙ ap (λ l. sizes_of fields ++ l) at.rest ∙ ap (λ n. sizes_of fields ++ drop n before) past
-
 -- The flags of the fields before one are written.
 pub record FlagsAt (fields : List Field) (i : ℕ) (flags before : List ℕ) : Type 0 where
   pub front : take i flags ++ flags_of (drop i fields) ≡ flags_of fields
   pub rest : drop i flags ≡ drop i before
   pub len : length flags ≡ length before
-
-pub flags_start : (fields : List Field) (flags : List ℕ) → FlagsAt fields 0 flags flags
-flags_start fields flags = record { front = refl; rest = refl; len = refl }
 
 pub flags_next : (fields : List Field) (i : ℕ) (f : Field) (flags before : List ℕ) → i < length fields → slice_get fields i ≡ Some f → i < length flags
     → FlagsAt fields i flags before → FlagsAt fields (i + 1) (set flags i (bit f.never_indexed)) before

@@ -6,7 +6,7 @@ use Rattle.h3_session.specs.declared.endpoint.closing.ClosedStream.{ClosedStream
 use Rattle.h3_c.specs.Exported.{Calls}
 use Rattle.h3_c.specs.Numbers.{call_told}
 use Rattle.h3_c.specs.Seen.{Seen}
-use Rattle.h3_c.specs.Showing.{bit}
+use Rattle.h3_c.specs.Bits.{bit}
 use Rattle.h3_c.specs.declared.numbers.Told.{Told}
 
 -- 1 or 0 for each frame; a refusal writes neither

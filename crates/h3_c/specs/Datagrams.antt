@@ -15,7 +15,7 @@ use Rattle.h3_c.specs.declared.capsules.CapsuleTold.{CapsuleTold}
 use Rattle.h3_c.specs.declared.numbers.Told.{Told}
 use Rattle.h3_c.specs.Numbers.{argument, datagram_told, no_datagrams, number, ok, room}
 use Rattle.h3_c.specs.Seen.{Seen}
-use Rattle.h3_c.specs.Showing.{bit}
+use Rattle.h3_c.specs.Bits.{bit}
 
 -- A number, C's buffer, and how many bytes of it were written. What stands in front of a payload or a value is written at the front of the buffer,
 -- whose rest stays; or nothing is, since the buffer is too small.

@@ -21,7 +21,7 @@ use Rattle.h3_c.specs.Rows.{fits, flags_of, row_of, sizes_of}
 use Rattle.h3_c.specs.declared.fields.FieldSize.{FieldSize}
 use Rattle.h3_c.specs.Numbers.{ok, none, room, argument, memory, rejected, call_told, list_told, refusal_told}
 use Rattle.h3_c.specs.Seen.{Seen}
-use Rattle.h3_c.specs.Showing.{bit}
+use Rattle.h3_c.specs.Bits.{bit}
 
 -- From what the handle owned to what the handle for the next call owns.
 abbrev pub Steps : Option Seen → Option Seen → (Seen → Seen → Type 0) → Type 0

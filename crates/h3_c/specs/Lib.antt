@@ -1,3 +1,4 @@
+pub mod Bits
 pub mod Closing
 pub mod Configs
 pub mod Datagrams

@@ -2,7 +2,7 @@
 use Rattle.std.specs.Prelude.{ℕ, ◌^◌, Bool, ◌&&◌, nat_le, nat_lt, List, [], ◌∷◌, ◌++◌, length, min, ◌-◌}
 use Rattle.std.specs.List.{list_all}
 use Rattle.h3_field.specs.Field.{Field}
-use Rattle.h3_c.specs.Showing.{bit}
+use Rattle.h3_c.specs.Bits.{bit}
 use Rattle.h3_c.specs.declared.fields.FieldSize.{FieldSize}
 
 abbrev pub size_of : Field → FieldSize

@@ -1,5 +1,5 @@
 -- What C reads of an endpoint.
-use Rattle.std.specs.Prelude.{◌≡◌, ℕ, Bool, true, false, List, length, Option, Some, None}
+use Rattle.std.specs.Prelude.{◌≡◌, ℕ, List, length, Option, Some, None}
 use Rattle.h3_proto.specs.Settings.{value_of}
 use Rattle.h3_connection.specs.Endpoint.{EndpointHistory, bytes_waiting}
 use Rattle.h3_connection.specs.Lasts.{last_id}
@@ -10,12 +10,9 @@ use Rattle.h3_connection.specs.declared.event.PeerLimits.{PeerLimits}
 use Rattle.h3_c.specs.declared.numbers.Told.{Told}
 use Rattle.h3_c.specs.declared.state.ConnectionState.{ConnectionState}
 use Rattle.h3_c.specs.declared.state.StreamState.{StreamState}
+use Rattle.h3_c.specs.Bits.{bit}
 use Rattle.h3_c.specs.Numbers.{ok, none}
 use Rattle.h3_c.specs.Seen.{Seen}
-
-abbrev pub bit : Bool → ℕ
-bit true = 1
-bit false = 0
 
 -- `h3_stream_state`
 pub record IsStream (e : EndpointHistory) (id : ℕ) (s : StreamState) : Type 0 where

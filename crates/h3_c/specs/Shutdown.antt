@@ -5,7 +5,7 @@ use Rattle.h3_connection.specs.Shutdown.{ShowsFirstUnseen, is_drained}
 use Rattle.h3_c.specs.declared.numbers.Told.{Told}
 use Rattle.h3_c.specs.Numbers.{ok}
 use Rattle.h3_c.specs.Seen.{Seen}
-use Rattle.h3_c.specs.Showing.{bit}
+use Rattle.h3_c.specs.Bits.{bit}
 
 -- `h3_first_unseen`
 abbrev pub ShowsUnseen : Seen → Told → ℕ → Type 0

@@ -3,7 +3,7 @@ ghost use Rattle.std.specs.Prelude.{◌≡◌, ◌≤◌, ◌++◌, true, length
 ghost use Rattle.std.specs.List.{list_all};
 ghost use Rattle.h3_c.specs.Exported.{GivesFields};
 ghost use Rattle.h3_c.specs.Rows.{flags_of, is_short, row_len, size_of, sizes_of};
-ghost use Rattle.h3_c.specs.Showing.{bit};
+ghost use Rattle.h3_c.specs.Bits.{bit};
 
 use crate::fields::FieldSize;
 use crate::numbers::{OK, ROOM, Told};
@@ -95,7 +95,6 @@ fn size_of(field: &FieldRef<'_>) -> FieldSize
 }
 
 // Writes the flags of the fields, as many as have room.
-#[tactic(auto, using(crate::proofs::RowLaws::flags_start))]
 fn put_flags(fields: &Fields<'_>, flags: &mut [u8])
     ensures { flags.new ≡ take (length flags.old) (flags_of fields.now) ++ drop (length fields.now) flags.old }
 {
