@@ -167,7 +167,7 @@ static int too_much(long after) {
   make();
   IS(h3_deliver(&end, 0, get, sizeof get, NULL), H3_OK);
   pulls(0, H3_HEAD);
-  IS(h3_send_head(&end, 0, sizes, 2, ":status200content-length0", 25, NULL), H3_OK);
+  IS(h3_send_head(&end, 0, sizes, NULL, 2, ":status200content-length0", 25, NULL), H3_OK);
   refuse(after, 1);
   uint32_t answer = h3_send_body(&end, 0, "a", 1, &rule);
   int was = was_refused();
