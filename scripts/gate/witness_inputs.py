@@ -23,7 +23,8 @@ IN_C = {
     "tests/c/limits.c": ([], []), "tests/c/priority.c": ([], []), "tests/c/given.c": ([], []), "tests/c/read.c": ([], ["0", "300"]),
     "tests/c/past.c": ([], ["1", "200"]), "tests/c/details.c": ([], []), "tests/c/defaults.c": ([], []), "tests/c/excess.c": (FREES, []),
     "tests/c/cancellations.c": (FREES, []), "tests/c/shutdown.c": ([], []), "tests/c/datagrams.c": ([], []),
-    "tests/c/lists.c": ([], []), "tests/c/never_indexed.c": ([], []), "tests/c/streams.c": (REFUSES, []), "tests/witness/far.c": ([], []), "tests/witness/lacking.c": (REFUSES, []),
+    "tests/c/lists.c": ([], []), "tests/c/never_indexed.c": ([], []), "tests/c/streams.c": (REFUSES, []),
+    "tests/witness/far.c": ([], []), "tests/witness/over.c": ([], []), "tests/witness/lacking.c": (REFUSES, []),
 }
 CALLS, PRINTED, REFUSED, LAYERS = "tests/c/calls.c", "tests/c/in_memory.c", "tests/witness/refused.c", "tests/witness/layers.rattle"
 
