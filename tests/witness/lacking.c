@@ -192,8 +192,27 @@ static int faulty(long after) {
   return was;
 }
 
+/* What is kept of a stream, since there was no memory to read what came before it, is held on that stream and on no other. */
+static int others(long after) {
+  uint32_t answer = H3_MEMORY;
+  int was = 0;
+  for (long first = 0; answer == H3_MEMORY; first++) {
+    h3_free(&end), make();
+    refuse(first, 1);
+    answer = h3_deliver(&end, 2, "\x00\x04", 2, NULL);
+    if (answer != H3_KEPT) continue;
+    refuse(after, 1);
+    answer = h3_deliver(&end, 0, get, sizeof get, NULL);
+    was = was_refused();
+    if (answer == H3_KEPT) HOLDS(unread(0) == sizeof get && unread(2) <= 2);
+    answer = H3_OK;
+  }
+  h3_free(&end);
+  return was;
+}
+
 int main(void) {
-  static int (*const each[])(long) = {codes, kept_reset, unseen, settings, early, too_much, faulty};
+  static int (*const each[])(long) = {codes, kept_reset, unseen, settings, early, too_much, faulty, others};
   long count = 0;
   for (size_t which = 0; which < sizeof each / sizeof *each; which++)
     for (long after = 0; each[which](after); after++) count++;
