@@ -211,8 +211,24 @@ static int others(long after) {
   return was;
 }
 
+/* A cancellation by the peer for which there was no memory is read once there is some (RFC 9204, section 4.4.2). */
+static int replies(long after) {
+  make();
+  IS(h3_deliver(&end, 2, "\x00\x04\x00", 3, NULL), H3_OK);
+  IS(h3_deliver(&end, 10, "\x03", 1, NULL), H3_OK);
+  refuse(after, 1);
+  uint32_t answer = h3_deliver(&end, 10, "\x40", 1, NULL);
+  int was = was_refused();
+  if (answer == H3_MEMORY) answer = h3_deliver(&end, 10, "\x40", 1, NULL);
+  if (answer == H3_KEPT) answer = h3_deliver(&end, 10, "", 0, NULL);
+  IS(answer, H3_OK);
+  HOLDS(unread(10) == 0);
+  h3_free(&end);
+  return was;
+}
+
 int main(void) {
-  static int (*const each[])(long) = {codes, kept_reset, unseen, settings, early, too_much, faulty, others};
+  static int (*const each[])(long) = {codes, kept_reset, unseen, settings, early, too_much, faulty, others, replies};
   long count = 0;
   for (size_t which = 0; which < sizeof each / sizeof *each; which++)
     for (long after = 0; each[which](after); after++) count++;
