@@ -2,7 +2,7 @@
 use Rattle.std.proofs.Common.{◌≡◌, ◌==◌, ◌/◌, ◌%◌, ℕ, ◌≤◌, Bool, true, false, List, Option, Some, None, is_some, Err, refl, sym, ◌∙◌}
 use Rattle.h3_field.specs.Reading.{Reading, Whole, Unfinished, Bad, then_read}
 use Rattle.h3_field.specs.IntegerReading.{integer}
-use Rattle.h3_field.specs.StringReading.{Payload, string}
+use Rattle.h3_field.specs.StringReading.{Payload, string, text_of}
 use Rattle.h3_field.specs.Shapes.{IndexAndString, TwoStrings, two_strings}
 use Rattle.h3_field.specs.Line.FieldLine.{StaticName, Literal}
 use Rattle.h3_field.specs.LineReading.{LineForm, Named, LiteralField, SaysLine, HasString, line, named, literal}
@@ -44,7 +44,7 @@ literal_asks old own form rest e string memory = from (two_strings 4 old) e
           tt,
           memory,
           record {
-            line = Literal name.0 value.0 n;
+            line = Literal (text_of p name.0) (text_of q value.0) n;
             here = record { form = LiteralField p q n; whole = here; says = (name.0, value.0, string_is p name.0 name.1, string_is q value.0 value.1, refl) };
             names = refl;
             less = literal_less old rest (LiteralField p q n) is;
@@ -83,7 +83,7 @@ named_asks old after true index p n name own here coded entry memory =
       tt,
       memory,
       record {
-        line = StaticName index value.0 n;
+        line = StaticName index (text_of p value.0) n;
         here = record { form = Named true index p n; whole = here; says = (value.0, string_is p value.0 value.1, refl) };
         names = named_entry index name value.0 n entry;
         less = named_less old after (Named true index p n) (sym own ∙ here);

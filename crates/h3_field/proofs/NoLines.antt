@@ -1,8 +1,9 @@
 -- Lines that are not read, and those that name no static entry.
-use Rattle.std.proofs.Common.{◌≡◌, ℕ, Bool, ◌<◌, ◌≤◌, List, length, Some, None, Ok, Err, refl, sym, ◌∙◌}
+use Rattle.std.proofs.Common.{◌≡◌, ℕ, Bool, ◌<◌, ◌≤◌, List, length, Some, None, Ok, Err, refl, ap, sym, ◌∙◌}
 use Rattle.h3_field.specs.Field.{Field}
 use Rattle.h3_field.specs.Reading.{Reading, Whole, Unfinished, Bad}
-use Rattle.h3_field.specs.Line.{FieldLine}
+use Rattle.h3_field.specs.StringLiteral.{Text}
+use Rattle.h3_field.specs.Line.{FieldLine, huffman_line}
 use Rattle.h3_field.specs.Line.FieldLine.{StaticField, StaticName}
 use Rattle.h3_field.specs.StaticTableLaws.{static_none}
 use Rattle.h3_field.specs.LineReading.{LineForm, SaysLine, HasString, line}
@@ -17,18 +18,24 @@ use Rattle.h3_field.specs.declared.prefix_string.Error as string
 use Rattle.h3_field.specs.declared.parse_error.ParseError.{ParseError}
 use Rattle.h3_field.specs.declared.parse_error.ParseError.TheVariants.{Integer, String, InvalidPrefix, InvalidBase, OutOfMemory}
 use Rattle.h3_field.specs.SectionLaws.{whole_same, line_one, has_line}
+use Rattle.h3_field.specs.CodingLaws.{huffman_field}
+
+-- however its strings are coded
+same_field : (k l : FieldLine) → huffman_line k ≡ l → line_field k ≡ line_field l
+same_field k l e = sym (huffman_field k) ∙ ap (λ x. line_field x) e
 
 -- the field of a line that was read
 pub has_field : {L : Type 0} (place : Place) (line_of : L → FieldLine) (read : List ℕ → Reading LineForm) (old new : List ℕ) (l : L) (f : Field) → ((bytes rest : List ℕ) (form : LineForm) → read bytes ≡ Whole form rest → length rest < length bytes) → line old ≡ read old → AnswersLine line_of place (read old) old new (Ok l) → line_field (line_of l) ≡ Some f → HasField old f new
 has_field place line_of read old new l f shorter e h names =
     let here = has_line place line_of (read old) old new l e h in
-    record { line = line_of l; here = here; names = names; less = shorter old new here.form (sym e ∙ here.whole) }
+    record { line = here.0; here = here.1; names = same_field here.0 (line_of l) here.2 ∙ names; less = shorter old new here.1.form (sym e ∙ here.1.whole) }
 
 -- a line that was read and names no field
 pub no_field : {L : Type 0} (place : Place) (line_of : L → FieldLine) (r : Reading LineForm) (old new : List ℕ) (l : L) → line old ≡ r → AnswersLine line_of place r old new (Ok l) → line_field (line_of l) ≡ None → HasNoField old
 no_field place line_of r old new l e h none rest k f here names =
-    let one = line_one old new rest (line_of l) k (has_line place line_of r old new l e h) here in
-    let same : line_field (line_of l) ≡ Some f = rw (← one.0) at names in
+    let read = has_line place line_of r old new l e h in
+    let one = line_one old new rest read.0 k read.1 here in
+    let same : line_field (line_of l) ≡ Some f = sym (same_field read.0 (line_of l) read.2) ∙ ap (λ x. line_field x) one.0 ∙ names in
     absurd (cc)
 
 -- a line that was refused
@@ -71,5 +78,5 @@ refused_line memory place line_of Bad old new e asks is h =
 pub no_static : {L : Type 0} (place : Place) (line_of : L → FieldLine) (r : Reading LineForm) (old new : List ℕ) (l : L) → line old ≡ r → AnswersLine line_of place r old new (Ok l) → (index : ℕ) → 99 ≤ index → line_of l ≡ StaticField index → HasNoField old
 no_static place line_of r old new l e h index le is = no_field place line_of r old new l e h (rw is (static_none index le))
 
-pub no_static_name : {L : Type 0} (place : Place) (line_of : L → FieldLine) (r : Reading LineForm) (old new : List ℕ) (l : L) → line old ≡ r → AnswersLine line_of place r old new (Ok l) → (index : ℕ) (value : List ℕ) (n : Bool) → 99 ≤ index → line_of l ≡ StaticName index value n → HasNoField old
+pub no_static_name : {L : Type 0} (place : Place) (line_of : L → FieldLine) (r : Reading LineForm) (old new : List ℕ) (l : L) → line old ≡ r → AnswersLine line_of place r old new (Ok l) → (index : ℕ) (value : Text) (n : Bool) → 99 ≤ index → line_of l ≡ StaticName index value n → HasNoField old
 no_static_name place line_of r old new l e h index value n le is = no_field place line_of r old new l e h (rw (is, static_none index le) refl)

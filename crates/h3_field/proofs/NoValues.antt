@@ -1,6 +1,6 @@
 -- What stands for no line and no instruction has no value.
 use Rattle.std.proofs.Common.{◌≡◌, ℕ, true, false, List, Option, Some, None, is_some, option_map, refl, sym, ◌∙◌}
-use Rattle.h3_field.specs.StringReading.{Payload, StandsFor, StandsForNone}
+use Rattle.h3_field.specs.StringReading.{Payload, StandsFor, StandsForNone, text_of}
 use Rattle.h3_field.specs.Line.{FieldLine}
 use Rattle.h3_field.specs.Line.FieldLine.{StaticName, RelativeName, PostBaseName, Literal}
 use Rattle.h3_field.specs.LineReading.{LineForm, Indexed, PostBase, Named, PostBaseNamed, LiteralField, SaysLine}
@@ -48,10 +48,10 @@ some_of_both build (Some name) (Some value) e h = refl
 pub line_of_memory : (form : LineForm) → LineTakesMemory form → is_some (line_of form) ≡ true
 line_of_memory (Indexed is_static index) h = absurd h
 line_of_memory (PostBase index) h = absurd h
-line_of_memory (Named true index p n) h = some_mapped (λ value. StaticName index value n) (string_of p) h.0
-line_of_memory (Named false index p n) h = some_mapped (λ value. RelativeName index value n) (string_of p) h.0
-line_of_memory (PostBaseNamed index p n) h = some_mapped (λ value. PostBaseName index value n) (string_of p) h.0
-line_of_memory (LiteralField p q n) h = some_of_both (λ name value. Literal name value n) (string_of p) (string_of q) h.0 h.1
+line_of_memory (Named true index p n) h = some_mapped (λ value. StaticName index (text_of p value) n) (string_of p) h.0
+line_of_memory (Named false index p n) h = some_mapped (λ value. RelativeName index (text_of p value) n) (string_of p) h.0
+line_of_memory (PostBaseNamed index p n) h = some_mapped (λ value. PostBaseName index (text_of p value) n) (string_of p) h.0
+line_of_memory (LiteralField p q n) h = some_of_both (λ name value. Literal (text_of p name) (text_of q value) n) (string_of p) (string_of q) h.0 h.1
 
 pub instruction_none : (form : InstructionForm) → ((i : EncoderInstruction) → Says form i → ⊥) → instruction_of form ≡ None
 instruction_none form h = none_left (instruction_of form) (λ i e. h i (instruction_is form i e))
@@ -62,7 +62,7 @@ no_instruction form none i h = some_of_none (instruction_of form) i none (instru
 -- a form whose strings take memory says an instruction
 pub instruction_of_memory : (form : InstructionForm) → InstructionTakesMemory form → is_some (instruction_of form) ≡ true
 instruction_of_memory (Capacity n) h = absurd h
-instruction_of_memory (NameReference true index p) h = some_mapped (λ value. InsertWithStaticName index value) (string_of p) h.0
-instruction_of_memory (NameReference false index p) h = some_mapped (λ value. InsertWithEntryName index value) (string_of p) h.0
-instruction_of_memory (LiteralName p q) h = some_of_both InsertLiteral (string_of p) (string_of q) h.0 h.1
+instruction_of_memory (NameReference true index p) h = some_mapped (λ value. InsertWithStaticName index (text_of p value)) (string_of p) h.0
+instruction_of_memory (NameReference false index p) h = some_mapped (λ value. InsertWithEntryName index (text_of p value)) (string_of p) h.0
+instruction_of_memory (LiteralName p q) h = some_of_both (λ name value. InsertLiteral (text_of p name) (text_of q value)) (string_of p) (string_of q) h.0 h.1
 instruction_of_memory (Repeat index) h = absurd h

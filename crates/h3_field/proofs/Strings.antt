@@ -1,11 +1,12 @@
 -- The steps of reading and writing a string.
-use Rattle.std.proofs.Common.{◌≡◌, ◌⊎◌, inr, ℕ, ◌+◌, ◌*◌, ◌-◌, ◌^◌, ◌<◌, ◌≤◌, ◌==◌, Bool, true, false, if◌then◌else◌, List, [], ◌∷◌, length, Option, Some, None, is_some, refl, sym, ◌∙◌, arith, append-nil}
+use Rattle.std.proofs.Common.{◌≡◌, ◌⊎◌, inr, ℕ, ◌+◌, ◌*◌, ◌-◌, ◌^◌, ◌<◌, ◌≤◌, ◌==◌, Bool, true, false, if◌then◌else◌, List, [], ◌∷◌, ◌++◌, length, Option, Some, None, is_some, refl, subst, sym, ◌∙◌, arith, append-nil}
+use Rattle.std.specs.Prelude.{Result, OnOk}
 use Rattle.std.specs.List.{AllByRecursion}
 use Rattle.std.proofs.lemmas.Grind.{pow_more}
 use Rattle.h3_huffman.specs.Huffman.{huffman, octets}
 use Rattle.h3_huffman.specs.Payload.{IsByte}
 use Rattle.h3_field.specs.Integer.{prefixed}
-use Rattle.h3_field.specs.StringLiteral.{string_literal}
+use Rattle.h3_field.specs.StringLiteral.{string_literal, huffman_text, plain_text, coded}
 use Rattle.h3_field.specs.StringReading.{Payload, StandsFor, StandsForNone}
 use Rattle.h3_field.specs.Values.{string_of}
 use Rattle.h3_field.specs.StringAnswer.{TakesMemory}
@@ -38,7 +39,7 @@ pub empty_stands : (p : Payload) (items : List ℕ) → length p.bytes ≡ 0 →
 empty_stands p items none empty = rw empty (record { each = tt; form = no_bytes p.bytes none ∙ empty_form p.is_huffman })
 
 -- an empty string, as it is written
-pub empty_literal : (size flags : ℕ) (value : List ℕ) → length value ≡ 0 → string_literal size flags value ≡ prefixed (size - 1) (2 * flags + 1) 0
+pub empty_literal : (size flags : ℕ) (value : List ℕ) → length value ≡ 0 → string_literal size flags (huffman_text value) ≡ prefixed (size - 1) (2 * flags + 1) 0
 empty_literal size flags value none =
     let empty : huffman [] ≡ [] = sym (empty_form true) in
     rw (no_bytes value none, empty) (append-nil (prefixed (size - 1) (2 * flags + 1) 0))
@@ -74,3 +75,15 @@ string_flags size flags h k few =
     let e : 8 - (size - 1) ≡ (8 - size) + 1 = omega arith in
     let power : 2 ^ ((8 - size) + 1) ≡ 2 ^ (8 - size) * 2 = pow_more 2 (8 - size) in
     rw (e, power) (omega arith)
+
+pub plain_flags : (size flags : ℕ) → 2 ≤ size → size ≤ 8 → flags < 2 ^ (8 - size) → 2 * flags < 2 ^ (8 - (size - 1))
+plain_flags size flags h k few = omega (arith, string_flags size flags h k few)
+
+-- what was appended is the string in the one way, or in the other
+pub coded_ok : {A E : Type 0} (size flags : ℕ) (shortest : Bool) (value : List ℕ) (is : Bool) (r : Result A E) (old new : List ℕ) → is ≡ (coded shortest value).is_huffman → is ≡ true
+    → OnOk r (new ≡ old ++ string_literal size flags (huffman_text value)) → OnOk r (new ≡ old ++ string_literal size flags (coded shortest value))
+coded_ok size flags shortest value is r old new same e h = subst (λ b. OnOk r (new ≡ old ++ string_literal size flags (record { bytes = value; is_huffman = b }))) (sym e ∙ same) h
+
+pub plain_ok : {A E : Type 0} (size flags : ℕ) (shortest : Bool) (value : List ℕ) (is : Bool) (r : Result A E) (old new : List ℕ) → is ≡ (coded shortest value).is_huffman → is ≡ false
+    → OnOk r (new ≡ old ++ string_literal size flags (plain_text value)) → OnOk r (new ≡ old ++ string_literal size flags (coded shortest value))
+plain_ok size flags shortest value is r old new same e h = subst (λ b. OnOk r (new ≡ old ++ string_literal size flags (record { bytes = value; is_huffman = b }))) (sym e ∙ same) h

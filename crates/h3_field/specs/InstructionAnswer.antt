@@ -1,9 +1,10 @@
 -- What the calls of instructions read and write.
 use Rattle.std.specs.Prelude.{◌≡◌, ◌<◌, ◌≤◌, ◌^◌, ℕ, List, length, Option, Some, None, Result, Ok, Err}
 use Rattle.h3_field.specs.Reading.{Reading, Whole, Unfinished, Bad}
+use Rattle.h3_field.specs.StringLiteral.{huffman_text}
 use Rattle.h3_field.specs.Instruction.{EncoderInstruction, DecoderInstruction}
 use Rattle.h3_field.specs.Instruction.{EncoderInstruction as to_decoder, DecoderInstruction as to_encoder}
-use Rattle.h3_field.specs.InstructionReading.{InstructionForm, Capacity, NameReference, LiteralName, Repeat, Says, HasString}
+use Rattle.h3_field.specs.InstructionReading.{InstructionForm, Capacity, NameReference, LiteralName, Repeat, Says, Tells, HasString}
 use Rattle.h3_field.specs.StringAnswer.{TakesMemory}
 use Rattle.h3_field.specs.ShapeAnswer.{Place, error_at, TakeMemory, IsRefused}
 use Rattle.h3_field.specs.declared.prefix_int.Error.TheVariants.{Overflow}
@@ -19,13 +20,13 @@ use Rattle.h3_field.specs.declared.stream.reply.InsertCountIncrement.{InsertCoun
 use Rattle.h3_field.specs.declared.stream.reply.HeaderAck.{HeaderAck}
 use Rattle.h3_field.specs.declared.stream.reply.StreamCancel.{StreamCancel}
 
--- the instruction that each value is
+-- the instruction that each value is: it is written Huffman coded
 abbrev pub named_insertion : named.InsertWithNameRef → EncoderInstruction
-named_insertion (named.TheVariants.Static index value) = to_decoder.InsertWithStaticName index value.items
-named_insertion (named.TheVariants.Dynamic index value) = to_decoder.InsertWithEntryName index value.items
+named_insertion (named.TheVariants.Static index value) = to_decoder.InsertWithStaticName index (huffman_text value.items)
+named_insertion (named.TheVariants.Dynamic index value) = to_decoder.InsertWithEntryName index (huffman_text value.items)
 
 abbrev pub literal_insertion : InsertWithoutNameRef → EncoderInstruction
-literal_insertion i = to_decoder.InsertLiteral i.name.items i.value.items
+literal_insertion i = to_decoder.InsertLiteral (huffman_text i.name.items) (huffman_text i.value.items)
 
 abbrev pub duplication : Duplicate → EncoderInstruction
 duplication i = to_decoder.Duplicate i.0
@@ -45,9 +46,9 @@ stream_cancellation i = to_encoder.CancelStream i.0
 -- indexes, capacities, streams, counts and lengths that a writer takes
 abbrev pub IsSendable : EncoderInstruction → Type 0
 IsSendable (to_decoder.SetCapacity capacity) = capacity < 2 ^ 62
-IsSendable (to_decoder.InsertWithStaticName index value) = (index < 2 ^ 62) × (length value < 2 ^ 62)
-IsSendable (to_decoder.InsertWithEntryName index value) = (index < 2 ^ 62) × (length value < 2 ^ 62)
-IsSendable (to_decoder.InsertLiteral name value) = (length name < 2 ^ 62) × (length value < 2 ^ 62)
+IsSendable (to_decoder.InsertWithStaticName index value) = (index < 2 ^ 62) × (length value.bytes < 2 ^ 62)
+IsSendable (to_decoder.InsertWithEntryName index value) = (index < 2 ^ 62) × (length value.bytes < 2 ^ 62)
+IsSendable (to_decoder.InsertLiteral name value) = (length name.bytes < 2 ^ 62) × (length value.bytes < 2 ^ 62)
 IsSendable (to_decoder.Duplicate index) = index < 2 ^ 62
 
 abbrev pub IsReply : DecoderInstruction → Type 0
@@ -62,11 +63,11 @@ InstructionTakesMemory (NameReference is_static index value) = TakesMemory value
 InstructionTakesMemory (LiteralName name value) = TakeMemory name value
 InstructionTakesMemory (Repeat index) = ⊥
 
--- The instruction, and what stands behind it is left. One that is not whole, or is refused, is left unread. Memory is
+-- The instruction but for how its strings are coded, and what stands behind it is left. One that is not whole, or is refused, is left unread. Memory is
 -- asked for by strings alone; only a string of a whole instruction is refused, and as want of memory only where the
 -- instruction is one.
 abbrev pub AnswersInstruction : {I : Type 0} → (I → EncoderInstruction) → Place → Reading InstructionForm → List ℕ → List ℕ → Result (Option I) ParseError → Type 0
-AnswersInstruction says place (Whole form rest) old new (Ok (Some i)) = Says form (says i) × (new ≡ rest)
+AnswersInstruction says place (Whole form rest) old new (Ok (Some i)) = Tells form (says i) × (new ≡ rest)
 AnswersInstruction says place (Whole form rest) old new (Ok None) = ⊥
 AnswersInstruction says place (Whole form rest) old new (Err e) = HasString form × IsRefused (InstructionTakesMemory form) ((i : EncoderInstruction) → Says form i → ⊥) e × (new ≡ old)
 AnswersInstruction says place Unfinished old new result = (result ≡ Ok None) × (new ≡ old)

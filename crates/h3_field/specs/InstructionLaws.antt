@@ -1,12 +1,12 @@
 -- What holds of the reading of instructions.
-use Rattle.std.proofs.Common.{◌≡◌, ℕ, ◌%◌, ◌==◌, ◌<◌, nat_le, true, List, [], ◌∷◌, ◌++◌, length, refl}
-use Rattle.h3_huffman.specs.Huffman.{huffman}
+use Rattle.std.proofs.Common.{◌≡◌, ℕ, ◌%◌, ◌==◌, ◌<◌, nat_le, List, [], ◌∷◌, ◌++◌, length, refl}
 use Rattle.h3_field.specs.Integer.{prefixed}
-use Rattle.h3_field.specs.StringLiteral.{string_literal}
+use Rattle.h3_field.specs.StringLiteral.{Text, text_bytes, string_literal}
 use Rattle.h3_field.specs.Reading.{Whole, IsStable}
 use Rattle.h3_field.specs.ReadingLaws.{then_stable, stays_if}
 use Rattle.h3_field.specs.IntegerReading.{integer, integer_limit}
 use Rattle.h3_field.specs.IntegerLaws.{integer_stable, prefixed_read}
+use Rattle.h3_field.specs.StringReading.{payload_of}
 use Rattle.h3_field.specs.Shapes.{index_and_string, two_strings}
 use Rattle.h3_field.specs.ShapeLaws.{index_and_string_stable, two_strings_stable, index_and_string_read, two_strings_read}
 use Rattle.h3_field.specs.Instruction.DecoderInstruction.{Acknowledge, CancelStream, Increment}
@@ -48,12 +48,12 @@ decoder_instruction_stable (first ∷ rest) more =
     (stays_if more (nat_le 64 first) _ _ _ _ (cancellation_stable (first ∷ rest) more) (increment_stable (first ∷ rest) more))
 
 -- what is written is read, whatever follows
-pub name_reference_read : (flags index : ℕ) (value rest : List ℕ) → index < integer_limit 6 → length (huffman value) < integer_limit 7 →
-    name_reference ((prefixed 6 flags index ++ string_literal 8 0 value) ++ rest) ≡ Whole (NameReference (flags % 2 == 1) index (record { is_huffman = true; bytes = huffman value })) rest
+pub name_reference_read : (flags index : ℕ) (value : Text) (rest : List ℕ) → index < integer_limit 6 → length (text_bytes value) < integer_limit 7 →
+    name_reference ((prefixed 6 flags index ++ string_literal 8 0 value) ++ rest) ≡ Whole (NameReference (flags % 2 == 1) index (payload_of value)) rest
 name_reference_read flags index value rest h k = rw (index_and_string_read 6 flags index value rest h k) refl
 
-pub literal_name_read : (flags : ℕ) (name value rest : List ℕ) → length (huffman name) < integer_limit 5 → length (huffman value) < integer_limit 7 →
-    literal_name ((string_literal 6 flags name ++ string_literal 8 0 value) ++ rest) ≡ Whole (LiteralName (record { is_huffman = true; bytes = huffman name }) (record { is_huffman = true; bytes = huffman value })) rest
+pub literal_name_read : (flags : ℕ) (name value : Text) (rest : List ℕ) → length (text_bytes name) < integer_limit 5 → length (text_bytes value) < integer_limit 7 →
+    literal_name ((string_literal 6 flags name ++ string_literal 8 0 value) ++ rest) ≡ Whole (LiteralName (payload_of name) (payload_of value)) rest
 literal_name_read flags name value rest h k = rw (two_strings_read 6 flags name value rest h k) refl
 
 pub capacity_read : (flags n : ℕ) (rest : List ℕ) → n < integer_limit 5 → capacity (prefixed 5 flags n ++ rest) ≡ Whole (Capacity n) rest

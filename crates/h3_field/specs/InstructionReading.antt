@@ -2,7 +2,8 @@
 use Rattle.std.specs.Prelude.{◌≡◌, ◌==◌, ℕ, ◌%◌, Bool, true, false, List, [], ◌∷◌, if◌then◌else◌, nat_le}
 use Rattle.h3_field.specs.Reading.{Reading, Whole, Unfinished, then_read}
 use Rattle.h3_field.specs.IntegerReading.{integer}
-use Rattle.h3_field.specs.StringReading.{Payload, StandsFor}
+use Rattle.h3_field.specs.StringLiteral.{Text, huffman_text}
+use Rattle.h3_field.specs.StringReading.{Payload, StandsFor, text_of}
 use Rattle.h3_field.specs.Shapes.{index_and_string, two_strings}
 use Rattle.h3_field.specs.Instruction.{EncoderInstruction, DecoderInstruction}
 use Rattle.h3_field.specs.Instruction.EncoderInstruction.{SetCapacity, InsertWithStaticName, InsertWithEntryName, InsertLiteral, Duplicate}
@@ -46,13 +47,23 @@ instruction (first ∷ rest) =
     if nat_le 64 first then literal_name (first ∷ rest) else (
     if nat_le 32 first then capacity (first ∷ rest) else repeat (first ∷ rest)))
 
--- The form says this instruction. One with a payload that is no string says none.
+-- The form says this instruction, where each text is made of a payload and the bytes that it stands for. One with a payload that is no
+-- string says none.
+abbrev pub SaysBy : (Payload → List ℕ → Text) → InstructionForm → EncoderInstruction → Type 0
+SaysBy text (Capacity n) i = i ≡ SetCapacity n
+SaysBy text (NameReference true index payload) i = (value : List ℕ) × StandsFor payload value × (i ≡ InsertWithStaticName index (text payload value))
+SaysBy text (NameReference false index payload) i = (value : List ℕ) × StandsFor payload value × (i ≡ InsertWithEntryName index (text payload value))
+SaysBy text (LiteralName first second) i =
+    (name value : List ℕ) × StandsFor first name × StandsFor second value × (i ≡ InsertLiteral (text first name) (text second value))
+SaysBy text (Repeat index) i = i ≡ Duplicate index
+
+-- The form says this instruction: each string is coded as its payload is.
 abbrev pub Says : InstructionForm → EncoderInstruction → Type 0
-Says (Capacity n) i = i ≡ SetCapacity n
-Says (NameReference true index payload) i = (value : List ℕ) × StandsFor payload value × (i ≡ InsertWithStaticName index value)
-Says (NameReference false index payload) i = (value : List ℕ) × StandsFor payload value × (i ≡ InsertWithEntryName index value)
-Says (LiteralName first second) i = (name value : List ℕ) × StandsFor first name × StandsFor second value × (i ≡ InsertLiteral name value)
-Says (Repeat index) i = i ≡ Duplicate index
+Says form i = SaysBy text_of form i
+
+-- The same but for how the strings are coded, of which a reader's values keep nothing: here each is Huffman coded.
+abbrev pub Tells : InstructionForm → EncoderInstruction → Type 0
+Tells form i = SaysBy (λ payload bytes. huffman_text bytes) form i
 
 -- Section Acknowledgment
 abbrev pub acknowledgment : List ℕ → Reading DecoderInstruction

@@ -1,4 +1,5 @@
 pub mod Field
+pub mod Secret
 pub mod Integer
 pub mod Reading
 pub mod ReadingLaws
@@ -41,6 +42,9 @@ pub mod Ends
 pub mod EndLaws
 pub mod PrefixLaws
 pub mod SectionLaws
+pub mod CodingLaws
+pub mod LengthLaws
+pub mod SecretLaws
 pub mod ReadBackLaws
 pub mod StaticTableLaws
 pub mod IntegerWritingLaws

@@ -2,7 +2,8 @@
 use Rattle.std.specs.Prelude.{◌≡◌, ◌==◌, ℕ, ◌/◌, ◌%◌, Bool, true, false, List, [], ◌∷◌, if◌then◌else◌, nat_le}
 use Rattle.h3_field.specs.Reading.{Reading, Whole, Unfinished, then_read}
 use Rattle.h3_field.specs.IntegerReading.{integer}
-use Rattle.h3_field.specs.StringReading.{Payload, StandsFor}
+use Rattle.h3_field.specs.StringLiteral.{Text, huffman_text}
+use Rattle.h3_field.specs.StringReading.{Payload, StandsFor, text_of}
 use Rattle.h3_field.specs.Shapes.{index_and_string, two_strings}
 use Rattle.h3_field.specs.Line.{FieldLine}
 use Rattle.h3_field.specs.Line.FieldLine.{StaticField, RelativeField, PostBaseField, StaticName, RelativeName, PostBaseName, Literal}
@@ -48,12 +49,22 @@ line (first ∷ rest) =
     if nat_le 32 first then literal (first ∷ rest) else (
     if nat_le 16 first then post_base (first ∷ rest) else post_base_named (first ∷ rest))))
 
--- The form says this line. One with a payload that is no string says none.
+-- The form says this line, where each text is made of a payload and the bytes that it stands for. One with a payload that is no string says
+-- none.
+abbrev pub SaysBy : (Payload → List ℕ → Text) → LineForm → FieldLine → Type 0
+SaysBy text (Indexed true index) l = l ≡ StaticField index
+SaysBy text (Indexed false index) l = l ≡ RelativeField index
+SaysBy text (PostBase index) l = l ≡ PostBaseField index
+SaysBy text (Named true index payload n) l = (value : List ℕ) × StandsFor payload value × (l ≡ StaticName index (text payload value) n)
+SaysBy text (Named false index payload n) l = (value : List ℕ) × StandsFor payload value × (l ≡ RelativeName index (text payload value) n)
+SaysBy text (PostBaseNamed index payload n) l = (value : List ℕ) × StandsFor payload value × (l ≡ PostBaseName index (text payload value) n)
+SaysBy text (LiteralField first second n) l =
+    (name value : List ℕ) × StandsFor first name × StandsFor second value × (l ≡ Literal (text first name) (text second value) n)
+
+-- The form says this line: each string is coded as its payload is.
 abbrev pub SaysLine : LineForm → FieldLine → Type 0
-SaysLine (Indexed true index) l = l ≡ StaticField index
-SaysLine (Indexed false index) l = l ≡ RelativeField index
-SaysLine (PostBase index) l = l ≡ PostBaseField index
-SaysLine (Named true index payload n) l = (value : List ℕ) × StandsFor payload value × (l ≡ StaticName index value n)
-SaysLine (Named false index payload n) l = (value : List ℕ) × StandsFor payload value × (l ≡ RelativeName index value n)
-SaysLine (PostBaseNamed index payload n) l = (value : List ℕ) × StandsFor payload value × (l ≡ PostBaseName index value n)
-SaysLine (LiteralField first second n) l = (name value : List ℕ) × StandsFor first name × StandsFor second value × (l ≡ Literal name value n)
+SaysLine form l = SaysBy text_of form l
+
+-- The same but for how the strings are coded, of which a reader's values keep nothing: here each is Huffman coded.
+abbrev pub TellsLine : LineForm → FieldLine → Type 0
+TellsLine form l = SaysBy (λ payload bytes. huffman_text bytes) form l

@@ -4,15 +4,14 @@ use Rattle.h3_field.specs.Field.{Field}
 use Rattle.h3_field.specs.Reading.{Reading, Whole, Unfinished, Bad, then_read}
 use Rattle.h3_field.specs.IntegerReading.{integer}
 use Rattle.h3_field.specs.StringReading.{Payload, StandsFor, string}
-use Rattle.h3_field.specs.Shapes.{IndexAndString}
-use Rattle.h3_field.specs.LineReading.{LineForm, Named, PostBaseNamed, SaysLine, named, post_base_named}
+use Rattle.h3_field.specs.LineReading.{Named, TellsLine, named, post_base_named}
 use Rattle.h3_field.specs.LineAnswer.{AnswersLine, line_of_name, short_named_line, short_post_base_named_line}
 use Rattle.h3_field.specs.ShapeAnswer.{AtInteger}
 use Rattle.h3_field.specs.OntoAnswer.{AnswersField, AnswersIndex, named_head, post_base_head, parts_of, named_of, post_base_of}
 use Rattle.h3_field.specs.declared.block.literal.NameRef as name_ref
 
 says_named : (is_static n : Bool) (index : ℕ) (p : Payload) (value : List ℕ) → StandsFor p value
-    → SaysLine (Named is_static index p n) (line_of_name value n (if is_static then name_ref.TheVariants.Static index else name_ref.TheVariants.Dynamic index))
+    → TellsLine (Named is_static index p n) (line_of_name value n (if is_static then name_ref.TheVariants.Static index else name_ref.TheVariants.Dynamic index))
 says_named true n index p value s = (value, s, refl)
 says_named false n index p value s = (value, s, refl)
 

@@ -22,16 +22,16 @@ abbrev pub IsLineOfBytes : FieldLine → Type 0
 IsLineOfBytes (StaticField index) = Unit {0}
 IsLineOfBytes (RelativeField index) = Unit {0}
 IsLineOfBytes (PostBaseField index) = Unit {0}
-IsLineOfBytes (StaticName index value n) = AreBytes value
-IsLineOfBytes (RelativeName index value n) = AreBytes value
-IsLineOfBytes (PostBaseName index value n) = AreBytes value
-IsLineOfBytes (Literal name value n) = AreBytes name × AreBytes value
+IsLineOfBytes (StaticName index value n) = AreBytes value.bytes
+IsLineOfBytes (RelativeName index value n) = AreBytes value.bytes
+IsLineOfBytes (PostBaseName index value n) = AreBytes value.bytes
+IsLineOfBytes (Literal name value n) = AreBytes name.bytes × AreBytes value.bytes
 
 abbrev pub IsInstructionOfBytes : EncoderInstruction → Type 0
 IsInstructionOfBytes (SetCapacity capacity) = Unit {0}
-IsInstructionOfBytes (InsertWithStaticName index value) = AreBytes value
-IsInstructionOfBytes (InsertWithEntryName index value) = AreBytes value
-IsInstructionOfBytes (InsertLiteral name value) = AreBytes name × AreBytes value
+IsInstructionOfBytes (InsertWithStaticName index value) = AreBytes value.bytes
+IsInstructionOfBytes (InsertWithEntryName index value) = AreBytes value.bytes
+IsInstructionOfBytes (InsertLiteral name value) = AreBytes name.bytes × AreBytes value.bytes
 IsInstructionOfBytes (Duplicate index) = Unit {0}
 
 -- The bytes begin with this instruction, and end with the rest.

@@ -2,11 +2,10 @@
 use Rattle.std.proofs.Common.{◌≡◌, ℕ, ◌+◌, ◌-◌, ◌*◌, ◌/◌, ◌%◌, ◌^◌, ◌==◌, ◌<◌, ◌≤◌, nat_le, Bool, true, false, List, [], ◌∷◌, ◌++◌, length, refl, sym, ◌∙◌, arith, inl, inr, append_assoc, length-append}
 use Rattle.std.proofs.lemmas.Bool.{le-leb, lt-leb, lt-ltb, le-ltb, cases_lt, and_parts, leb-true}
 use Rattle.std.proofs.lemmas.Nat.{pow_pos}
-use Rattle.h3_huffman.specs.Huffman.{huffman}
 use Rattle.h3_field.specs.Integer.{prefixed, ones, groups}
 use Rattle.h3_field.specs.IntegerReading.{integer_limit}
-use Rattle.h3_field.specs.StringLiteral.{string_literal}
-use Rattle.h3_field.specs.StringReading.{Payload, StandsFor}
+use Rattle.h3_field.specs.StringLiteral.{Text, bit_h, text_bytes, string_literal}
+use Rattle.h3_field.specs.StringReading.{Payload, StandsFor, payload_of}
 use Rattle.h3_field.specs.Reading.{Whole}
 use Rattle.h3_field.specs.Shapes.{begins}
 use Rattle.h3_field.specs.Line.{FieldLine, bit_n, line_bytes}
@@ -35,8 +34,9 @@ begins_prefixed size flags n low high rest a b =
       | inr large ↦ rw (le-ltb n (ones size) large) (first_in low high (flags * 2 ^ size + ones size) (groups 9 (n - ones size) ++ rest) (omega (arith, a)) b, omega arith)
     ]
 
-pub coded : (bytes : List ℕ) → AreBytes bytes → StandsFor (record { is_huffman = true; bytes = huffman bytes }) bytes
-coded bytes each = record { each = each; form = refl }
+-- the payload of a string that is written stands for it
+pub written_stands : (text : Text) → AreBytes text.bytes → StandsFor (payload_of text) text.bytes
+written_stands text each = record { each = each; form = refl }
 
 -- a string's encoding is within what it is part of
 behind : (front bytes : List ℕ) → length (front ++ bytes) < 2 ^ 63 → length bytes < 2 ^ 63
@@ -45,8 +45,8 @@ behind front bytes h = omega (arith, h, length-append front bytes)
 before : (front bytes : List ℕ) → length (front ++ bytes) < 2 ^ 63 → length front < 2 ^ 63
 before front bytes h = omega (arith, h, length-append front bytes)
 
-string_fits : (size flags : ℕ) (bytes : List ℕ) → length (string_literal size flags bytes) < 2 ^ 63 → length (huffman bytes) < 2 ^ 63
-string_fits size flags bytes h = behind (prefixed (size - 1) (2 * flags + 1) (length (huffman bytes))) (huffman bytes) h
+string_fits : (size flags : ℕ) (text : Text) → length (string_literal size flags text) < 2 ^ 63 → length (text_bytes text) < 2 ^ 63
+string_fits size flags text h = behind (prefixed (size - 1) (2 * flags + bit_h text.is_huffman) (length (text_bytes text))) (text_bytes text) h
 
 in_range : (size n : ℕ) → n < 2 ^ 63 → n < integer_limit size
 in_range size n h = omega (arith, h, pow_pos size)
@@ -55,14 +55,20 @@ in_range size n h = omega (arith, h, pow_pos size)
 begins_pair : (size flags n low high : ℕ) (more rest : List ℕ) → low ≤ flags * 2 ^ size → flags * 2 ^ size + ones size ≤ high → (begins low high ((prefixed size flags n ++ more) ++ rest) ≡ true) × (0 < length ((prefixed size flags n ++ more) ++ rest))
 begins_pair size flags n low high more rest a b = rw (append_assoc (prefixed size flags n) more rest) (begins_prefixed size flags n low high (more ++ rest) a b)
 
-begins_string : (size flags low high : ℕ) (bytes more rest : List ℕ) → low ≤ (2 * flags + 1) * 2 ^ (size - 1) → (2 * flags + 1) * 2 ^ (size - 1) + ones (size - 1) ≤ high → (begins low high ((string_literal size flags bytes ++ more) ++ rest) ≡ true) × (0 < length ((string_literal size flags bytes ++ more) ++ rest))
-begins_string size flags low high bytes more rest a b =
-    let p = prefixed (size - 1) (2 * flags + 1) (length (huffman bytes)) in
-    rw (append_assoc p (huffman bytes) more) (begins_pair (size - 1) (2 * flags + 1) (length (huffman bytes)) low high (huffman bytes ++ more) rest a b)
+begins_string : (size flags low high : ℕ) (text : Text) (more rest : List ℕ) → low ≤ (2 * flags + bit_h text.is_huffman) * 2 ^ (size - 1) → (2 * flags + bit_h text.is_huffman) * 2 ^ (size - 1) + ones (size - 1) ≤ high
+    → (begins low high ((string_literal size flags text ++ more) ++ rest) ≡ true) × (0 < length ((string_literal size flags text ++ more) ++ rest))
+begins_string size flags low high text more rest a b =
+    let bytes = text_bytes text in
+    let head = 2 * flags + bit_h text.is_huffman in
+    rw (append_assoc (prefixed (size - 1) head (length bytes)) bytes more) (begins_pair (size - 1) head (length bytes) low high (bytes ++ more) rest a b)
 
 below : (n : Bool) → bit_n n < 2
 below true = omega arith
 below false = omega arith
+
+below_h : (h : Bool) → bit_h h < 2
+below_h true = omega arith
+below_h false = omega arith
 
 -- the bits N and T of what is written are read
 static_flags : (n : Bool) (index : ℕ) (value : Payload) (rest : List ℕ) → Whole (Named ((5 + 2 * bit_n n) % 2 == 1) index value ((5 + 2 * bit_n n) / 2 % 2 == 1)) rest ≡ Whole (Named true index value n) rest
@@ -95,23 +101,23 @@ line_reads_back (StaticName index value n) rest w b fits =
     let begin = begins_pair 4 (5 + 2 * bit_n n) index 64 127 (string_literal 8 0 value) rest (omega (arith, below n)) (omega (arith, below n)) in
     let len = string_fits 8 0 value (behind (prefixed 4 (5 + 2 * bit_n n) index) (string_literal 8 0 value) fits) in
     let whole = line_named _ begin.1 begin.0 ∙ named_read (5 + 2 * bit_n n) index value rest (omega (arith, w.0)) (in_range 7 _ len) in
-    record { form = Named true index _ n; whole = whole ∙ static_flags n index _ rest; says = (value, coded value b, refl) }
+    record { form = Named true index _ n; whole = whole ∙ static_flags n index _ rest; says = (value.bytes, written_stands value b, refl) }
 line_reads_back (RelativeName index value n) rest w b fits =
     let begin = begins_pair 4 (4 + 2 * bit_n n) index 64 127 (string_literal 8 0 value) rest (omega (arith, below n)) (omega (arith, below n)) in
     let len = string_fits 8 0 value (behind (prefixed 4 (4 + 2 * bit_n n) index) (string_literal 8 0 value) fits) in
     let whole = line_named _ begin.1 begin.0 ∙ named_read (4 + 2 * bit_n n) index value rest (omega (arith, w.0)) (in_range 7 _ len) in
-    record { form = Named false index _ n; whole = whole ∙ relative_flags n index _ rest; says = (value, coded value b, refl) }
+    record { form = Named false index _ n; whole = whole ∙ relative_flags n index _ rest; says = (value.bytes, written_stands value b, refl) }
 line_reads_back (PostBaseName index value n) rest w b fits =
     let begin = begins_pair 3 (bit_n n) index 0 15 (string_literal 8 0 value) rest (omega arith) (omega (arith, below n)) in
     let len = string_fits 8 0 value (behind (prefixed 3 (bit_n n) index) (string_literal 8 0 value) fits) in
     let whole = line_post_base_named _ begin.1 begin.0 ∙ post_base_named_read (bit_n n) index value rest (omega (arith, w.0)) (in_range 7 _ len) in
-    record { form = PostBaseNamed index _ n; whole = whole ∙ post_base_flags n index _ rest; says = (value, coded value b, refl) }
+    record { form = PostBaseNamed index _ n; whole = whole ∙ post_base_flags n index _ rest; says = (value.bytes, written_stands value b, refl) }
 line_reads_back (Literal name value n) rest w b fits =
-    let begin = begins_string 4 (2 + bit_n n) 32 63 name (string_literal 8 0 value) rest (omega (arith, below n)) (omega (arith, below n)) in
+    let begin = begins_string 4 (2 + bit_n n) 32 63 name (string_literal 8 0 value) rest (omega (arith, below n, below_h name.is_huffman)) (omega (arith, below n, below_h name.is_huffman)) in
     let first = string_fits 4 (2 + bit_n n) name (before (string_literal 4 (2 + bit_n n) name) (string_literal 8 0 value) fits) in
     let second = string_fits 8 0 value (behind (string_literal 4 (2 + bit_n n) name) (string_literal 8 0 value) fits) in
     let whole = line_literal _ begin.1 begin.0 ∙ literal_read (2 + bit_n n) name value rest (in_range 3 _ first) (in_range 7 _ second) in
-    record { form = LiteralField _ _ n; whole = whole ∙ literal_flags n _ _ rest; says = (name, value, coded name b.0, coded value b.1, refl) }
+    record { form = LiteralField _ _ n; whole = whole ∙ literal_flags n _ _ rest; says = (name.bytes, value.bytes, written_stands name b.0, written_stands value b.1, refl) }
 
 -- which instruction the first byte begins
 pub instruction_named : (bytes : List ℕ) → 0 < length bytes → begins 128 255 bytes ≡ true → instruction bytes ≡ name_reference bytes
@@ -146,16 +152,16 @@ instruction_reads_back (to_decoder.SetCapacity n) rest w b fits =
 instruction_reads_back (to_decoder.InsertWithStaticName index value) rest w b fits =
     let begin = begins_pair 6 3 index 128 255 (string_literal 8 0 value) rest (omega arith) (omega arith) in
     let len = string_fits 8 0 value (behind (prefixed 6 3 index) (string_literal 8 0 value) fits) in
-    record { form = NameReference true index _; whole = instruction_named _ begin.1 begin.0 ∙ name_reference_read 3 index value rest (omega (arith, w.0)) (in_range 7 _ len); says = (value, coded value b, refl) }
+    record { form = NameReference true index _; whole = instruction_named _ begin.1 begin.0 ∙ name_reference_read 3 index value rest (omega (arith, w.0)) (in_range 7 _ len); says = (value.bytes, written_stands value b, refl) }
 instruction_reads_back (to_decoder.InsertWithEntryName index value) rest w b fits =
     let begin = begins_pair 6 2 index 128 255 (string_literal 8 0 value) rest (omega arith) (omega arith) in
     let len = string_fits 8 0 value (behind (prefixed 6 2 index) (string_literal 8 0 value) fits) in
-    record { form = NameReference false index _; whole = instruction_named _ begin.1 begin.0 ∙ name_reference_read 2 index value rest (omega (arith, w.0)) (in_range 7 _ len); says = (value, coded value b, refl) }
+    record { form = NameReference false index _; whole = instruction_named _ begin.1 begin.0 ∙ name_reference_read 2 index value rest (omega (arith, w.0)) (in_range 7 _ len); says = (value.bytes, written_stands value b, refl) }
 instruction_reads_back (to_decoder.InsertLiteral name value) rest w b fits =
-    let begin = begins_string 6 1 64 127 name (string_literal 8 0 value) rest (omega arith) (omega arith) in
+    let begin = begins_string 6 1 64 127 name (string_literal 8 0 value) rest (omega (arith, below_h name.is_huffman)) (omega (arith, below_h name.is_huffman)) in
     let first = string_fits 6 1 name (before (string_literal 6 1 name) (string_literal 8 0 value) fits) in
     let second = string_fits 8 0 value (behind (string_literal 6 1 name) (string_literal 8 0 value) fits) in
-    record { form = LiteralName _ _; whole = instruction_literal _ begin.1 begin.0 ∙ literal_name_read 1 name value rest (in_range 5 _ first) (in_range 7 _ second); says = (name, value, coded name b.0, coded value b.1, refl) }
+    record { form = LiteralName _ _; whole = instruction_literal _ begin.1 begin.0 ∙ literal_name_read 1 name value rest (in_range 5 _ first) (in_range 7 _ second); says = (name.bytes, value.bytes, written_stands name b.0, written_stands value b.1, refl) }
 instruction_reads_back (to_decoder.Duplicate index) rest w b fits =
     let begin = begins_prefixed 5 0 index 0 31 rest (omega arith) (omega arith) in
     record { form = Repeat index; whole = instruction_repeat _ begin.1 begin.0 ∙ repeat_read 0 index rest (omega (arith, w)); says = refl }

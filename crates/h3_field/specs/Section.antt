@@ -2,6 +2,7 @@
 use Rattle.std.specs.Prelude.{◌≡◌, ◌+◌, ◌<◌, ◌≤◌, ◌^◌, ◌-◌, ℕ, Bool, List, [], ◌∷◌, ◌++◌, min, flat_map, slice_get, Option, Some, None, option_map}
 use Rattle.h3_field.specs.Field.{Field, field_size}
 use Rattle.h3_field.specs.StaticTable.{static_table, static_field, static_name}
+use Rattle.h3_field.specs.StringLiteral.{huffman_text}
 use Rattle.h3_field.specs.Line.{FieldLine, line_bytes}
 use Rattle.h3_field.specs.Line.FieldLine.{StaticField, RelativeField, PostBaseField, StaticName, RelativeName, PostBaseName, Literal}
 use Rattle.h3_field.specs.Reading.{Whole}
@@ -26,16 +27,16 @@ with_value value n entry = option_map (λ e. record { name = e.name; value = val
 -- the field of a line that names no dynamic entry
 abbrev pub line_field : FieldLine → Option Field
 line_field (StaticField index) = slice_get static_table index
-line_field (StaticName index value n) = with_value value n (slice_get static_table index)
-line_field (Literal name value n) = Some (record { name = name; value = value; never_indexed = n })
+line_field (StaticName index value n) = with_value value.bytes n (slice_get static_table index)
+line_field (Literal name value n) = Some (record { name = name.bytes; value = value.bytes; never_indexed = n })
 line_field (RelativeField index) = None
 line_field (PostBaseField index) = None
 line_field (RelativeName index value n) = None
 line_field (PostBaseName index value n) = None
 
 abbrev pub literal_line : Option ℕ → Field → FieldLine
-literal_line (Some index) f = StaticName index f.value f.never_indexed
-literal_line None f = Literal f.name f.value f.never_indexed
+literal_line (Some index) f = StaticName index (huffman_text f.value) f.never_indexed
+literal_line None f = Literal (huffman_text f.name) (huffman_text f.value) f.never_indexed
 
 abbrev pub line_or_literal : Option ℕ → Field → FieldLine
 line_or_literal (Some index) f = StaticField index

@@ -4,13 +4,14 @@ use Rattle.std.specs.List.{slice_get}
 use Rattle.std.proofs.lemmas.Bool.{and_parts, leb-true, lt-leb}
 use Rattle.h3_field.specs.Reading.{Reading, Whole, Unfinished, Bad}
 use Rattle.h3_field.specs.Shapes.{begins}
-use Rattle.h3_field.specs.Line.{FieldLine}
+use Rattle.h3_field.specs.Line.{FieldLine, huffman_line}
 use Rattle.h3_field.specs.StaticTable.{static_table, NamesEntry}
 use Rattle.h3_field.specs.LineReading.{LineForm, SaysLine, line, indexed, named, literal, post_base, post_base_named}
 use Rattle.h3_field.specs.LineAnswer.{AnswersLine}
 use Rattle.h3_field.specs.ShapeAnswer.{Place}
 use Rattle.h3_field.specs.Section.{HasLine, with_value}
 use Rattle.h3_field.specs.ValueLaws.{one_line_said}
+use Rattle.h3_field.specs.CodingLaws.{told_line}
 
 pub whole_same : {A : Type 0} (v w : A) (r s : List ℕ) → Whole v r ≡ Whole w s → (v ≡ w) × (r ≡ s)
 whole_same v w r s e = (cc, cc)
@@ -56,9 +57,12 @@ line_post_base_named (first ∷ rest) some h =
     let most = leb-true first 15 parts.1 in
     rw (lt-leb 128 first (omega (arith, most)), lt-leb 64 first (omega (arith, most)), lt-leb 32 first (omega (arith, most)), lt-leb 16 first (omega (arith, most))) refl
 
--- a line that was read
-pub has_line : {L : Type 0} (place : Place) (line_of : L → FieldLine) (r : Reading LineForm) (old new : List ℕ) (l : L) → line old ≡ r → AnswersLine line_of place r old new (Ok l) → HasLine old (line_of l) new
-has_line place line_of (Whole form rest) old new l e h = record { form = form; whole = rw h.1 e; says = h.0 }
+-- a line that was read, and how its strings are coded
+pub has_line : {L : Type 0} (place : Place) (line_of : L → FieldLine) (r : Reading LineForm) (old new : List ℕ) (l : L) → line old ≡ r → AnswersLine line_of place r old new (Ok l)
+    → (k : FieldLine) × HasLine old k new × (huffman_line k ≡ line_of l)
+has_line place line_of (Whole form rest) old new l e h =
+    let told = told_line form (line_of l) h.0 in
+    (told.0, record { form = form; whole = rw h.1 e; says = told.1 }, told.2)
 has_line place line_of Unfinished old new l e h = absurd (cc)
 has_line place line_of Bad old new l e h = absurd (cc)
 

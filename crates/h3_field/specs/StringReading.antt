@@ -3,6 +3,7 @@ use Rattle.std.specs.Prelude.{◌≡◌, ◌==◌, ℕ, ◌-◌, ◌/◌, ◌%�
 use Rattle.std.specs.List.{AllByRecursion}
 use Rattle.h3_huffman.specs.Huffman.{huffman}
 use Rattle.h3_huffman.specs.Payload.{IsByte}
+use Rattle.h3_field.specs.StringLiteral.{Text, text_bytes}
 use Rattle.h3_field.specs.Reading.{Reading, Whole, Unfinished, then_read}
 use Rattle.h3_field.specs.IntegerReading.{integer}
 
@@ -15,6 +16,14 @@ pub record Payload : Type 0 where
 pub record StandsFor (p : Payload) (bytes : List ℕ) : Type 0 where
   pub each : AllByRecursion IsByte bytes
   pub form : p.bytes ≡ (if p.is_huffman then huffman bytes else bytes)
+
+-- the payload of a string as it is written
+abbrev pub payload_of : Text → Payload
+payload_of text = record { is_huffman = text.is_huffman; bytes = text_bytes text }
+
+-- the string of these bytes, coded as the payload is
+abbrev pub text_of : Payload → List ℕ → Text
+text_of p bytes = record { bytes = bytes; is_huffman = p.is_huffman }
 
 -- It is no string: its Huffman form is refused.
 abbrev pub StandsForNone : Payload → Type 0

@@ -5,7 +5,7 @@ use Rattle.h3_huffman.specs.Huffman.{huffman}
 use Rattle.h3_huffman.specs.Payload.{IsByte}
 use Rattle.h3_huffman.specs.Unhuffman.{unhuffman}
 use Rattle.h3_huffman.specs.UnhuffmanLaws.{unhuffman_some, unhuffman_is, all_bytes, each_byte, encoded_is}
-use Rattle.h3_field.specs.StringReading.{Payload, StandsFor}
+use Rattle.h3_field.specs.StringReading.{Payload, StandsFor, text_of}
 use Rattle.h3_field.specs.Line.{FieldLine}
 use Rattle.h3_field.specs.Line.FieldLine.{StaticField, RelativeField, PostBaseField, StaticName, RelativeName, PostBaseName, Literal}
 use Rattle.h3_field.specs.LineReading.{LineForm, Indexed, PostBase, Named, PostBaseNamed, LiteralField, SaysLine}
@@ -52,19 +52,19 @@ pub line_some : (form : LineForm) (l : FieldLine) → SaysLine form l → line_o
 line_some (Indexed true index) l h = rw h refl
 line_some (Indexed false index) l h = rw h refl
 line_some (PostBase index) l h = rw h refl
-line_some (Named true index p n) l h = mapped (λ value. StaticName index value n) p h.0 l h.1 h.2
-line_some (Named false index p n) l h = mapped (λ value. RelativeName index value n) p h.0 l h.1 h.2
-line_some (PostBaseNamed index p n) l h = mapped (λ value. PostBaseName index value n) p h.0 l h.1 h.2
-line_some (LiteralField p q n) l h = both_mapped (λ name value. Literal name value n) p q h.0 h.1 l h.2 h.3 h.4
+line_some (Named true index p n) l h = mapped (λ value. StaticName index (text_of p value) n) p h.0 l h.1 h.2
+line_some (Named false index p n) l h = mapped (λ value. RelativeName index (text_of p value) n) p h.0 l h.1 h.2
+line_some (PostBaseNamed index p n) l h = mapped (λ value. PostBaseName index (text_of p value) n) p h.0 l h.1 h.2
+line_some (LiteralField p q n) l h = both_mapped (λ name value. Literal (text_of p name) (text_of q value) n) p q h.0 h.1 l h.2 h.3 h.4
 
 pub line_is : (form : LineForm) (l : FieldLine) → line_of form ≡ Some l → SaysLine form l
 line_is (Indexed true index) l e = sym (some_same (StaticField index) l e)
 line_is (Indexed false index) l e = sym (some_same (RelativeField index) l e)
 line_is (PostBase index) l e = sym (some_same (PostBaseField index) l e)
-line_is (Named true index p n) l e = let u = unmapped (λ value. StaticName index value n) (string_of p) l e in (u.0, string_is p u.0 u.1, u.2)
-line_is (Named false index p n) l e = let u = unmapped (λ value. RelativeName index value n) (string_of p) l e in (u.0, string_is p u.0 u.1, u.2)
-line_is (PostBaseNamed index p n) l e = let u = unmapped (λ value. PostBaseName index value n) (string_of p) l e in (u.0, string_is p u.0 u.1, u.2)
-line_is (LiteralField p q n) l e = let u = both_unmapped (λ name value. Literal name value n) (string_of p) (string_of q) l e in (u.0, u.1, string_is p u.0 u.2, string_is q u.1 u.3, u.4)
+line_is (Named true index p n) l e = let u = unmapped (λ value. StaticName index (text_of p value) n) (string_of p) l e in (u.0, string_is p u.0 u.1, u.2)
+line_is (Named false index p n) l e = let u = unmapped (λ value. RelativeName index (text_of p value) n) (string_of p) l e in (u.0, string_is p u.0 u.1, u.2)
+line_is (PostBaseNamed index p n) l e = let u = unmapped (λ value. PostBaseName index (text_of p value) n) (string_of p) l e in (u.0, string_is p u.0 u.1, u.2)
+line_is (LiteralField p q n) l e = let u = both_unmapped (λ name value. Literal (text_of p name) (text_of q value) n) (string_of p) (string_of q) l e in (u.0, u.1, string_is p u.0 u.2, string_is q u.1 u.3, u.4)
 
 -- a form says one line
 pub one_line_said : (form : LineForm) (l k : FieldLine) → SaysLine form l → SaysLine form k → l ≡ k
@@ -72,16 +72,16 @@ one_line_said form l k a b = some_same l k (sym (line_some form l a) ∙ line_so
 
 pub instruction_some : (form : InstructionForm) (i : EncoderInstruction) → Says form i → instruction_of form ≡ Some i
 instruction_some (Capacity n) i h = rw h refl
-instruction_some (NameReference true index p) i h = mapped (λ value. InsertWithStaticName index value) p h.0 i h.1 h.2
-instruction_some (NameReference false index p) i h = mapped (λ value. InsertWithEntryName index value) p h.0 i h.1 h.2
-instruction_some (LiteralName p q) i h = both_mapped InsertLiteral p q h.0 h.1 i h.2 h.3 h.4
+instruction_some (NameReference true index p) i h = mapped (λ value. InsertWithStaticName index (text_of p value)) p h.0 i h.1 h.2
+instruction_some (NameReference false index p) i h = mapped (λ value. InsertWithEntryName index (text_of p value)) p h.0 i h.1 h.2
+instruction_some (LiteralName p q) i h = both_mapped (λ name value. InsertLiteral (text_of p name) (text_of q value)) p q h.0 h.1 i h.2 h.3 h.4
 instruction_some (Repeat index) i h = rw h refl
 
 pub instruction_is : (form : InstructionForm) (i : EncoderInstruction) → instruction_of form ≡ Some i → Says form i
 instruction_is (Capacity n) i e = sym (some_same (SetCapacity n) i e)
-instruction_is (NameReference true index p) i e = let u = unmapped (λ value. InsertWithStaticName index value) (string_of p) i e in (u.0, string_is p u.0 u.1, u.2)
-instruction_is (NameReference false index p) i e = let u = unmapped (λ value. InsertWithEntryName index value) (string_of p) i e in (u.0, string_is p u.0 u.1, u.2)
-instruction_is (LiteralName p q) i e = let u = both_unmapped InsertLiteral (string_of p) (string_of q) i e in (u.0, u.1, string_is p u.0 u.2, string_is q u.1 u.3, u.4)
+instruction_is (NameReference true index p) i e = let u = unmapped (λ value. InsertWithStaticName index (text_of p value)) (string_of p) i e in (u.0, string_is p u.0 u.1, u.2)
+instruction_is (NameReference false index p) i e = let u = unmapped (λ value. InsertWithEntryName index (text_of p value)) (string_of p) i e in (u.0, string_is p u.0 u.1, u.2)
+instruction_is (LiteralName p q) i e = let u = both_unmapped (λ name value. InsertLiteral (text_of p name) (text_of q value)) (string_of p) (string_of q) i e in (u.0, u.1, string_is p u.0 u.2, string_is q u.1 u.3, u.4)
 instruction_is (Repeat index) i e = sym (some_same (Duplicate index) i e)
 
 -- a form says one instruction

@@ -2,7 +2,7 @@
 use Rattle.std.specs.Prelude.{ℕ, true, false, List, if◌then◌else◌, Option, Some, None, option_map}
 use Rattle.std.specs.List.{list_all}
 use Rattle.h3_huffman.specs.Unhuffman.{is_byte, unhuffman}
-use Rattle.h3_field.specs.StringReading.{Payload}
+use Rattle.h3_field.specs.StringReading.{Payload, text_of}
 use Rattle.h3_field.specs.Line.{FieldLine}
 use Rattle.h3_field.specs.Line.FieldLine.{StaticField, RelativeField, PostBaseField, StaticName, RelativeName, PostBaseName, Literal}
 use Rattle.h3_field.specs.LineReading.{LineForm, Indexed, PostBase, Named, PostBaseNamed, LiteralField}
@@ -27,14 +27,14 @@ abbrev pub line_of : LineForm → Option FieldLine
 line_of (Indexed true index) = Some (StaticField index)
 line_of (Indexed false index) = Some (RelativeField index)
 line_of (PostBase index) = Some (PostBaseField index)
-line_of (Named true index value n) = option_map (λ v. StaticName index v n) (string_of value)
-line_of (Named false index value n) = option_map (λ v. RelativeName index v n) (string_of value)
-line_of (PostBaseNamed index value n) = option_map (λ v. PostBaseName index v n) (string_of value)
-line_of (LiteralField name value n) = of_both (λ first second. Literal first second n) (string_of name) (string_of value)
+line_of (Named true index value n) = option_map (λ v. StaticName index (text_of value v) n) (string_of value)
+line_of (Named false index value n) = option_map (λ v. RelativeName index (text_of value v) n) (string_of value)
+line_of (PostBaseNamed index value n) = option_map (λ v. PostBaseName index (text_of value v) n) (string_of value)
+line_of (LiteralField name value n) = of_both (λ first second. Literal (text_of name first) (text_of value second) n) (string_of name) (string_of value)
 
 abbrev pub instruction_of : InstructionForm → Option EncoderInstruction
 instruction_of (Capacity n) = Some (SetCapacity n)
-instruction_of (NameReference true index value) = option_map (λ v. InsertWithStaticName index v) (string_of value)
-instruction_of (NameReference false index value) = option_map (λ v. InsertWithEntryName index v) (string_of value)
-instruction_of (LiteralName name value) = of_both InsertLiteral (string_of name) (string_of value)
+instruction_of (NameReference true index value) = option_map (λ v. InsertWithStaticName index (text_of value v)) (string_of value)
+instruction_of (NameReference false index value) = option_map (λ v. InsertWithEntryName index (text_of value v)) (string_of value)
+instruction_of (LiteralName name value) = of_both (λ first second. InsertLiteral (text_of name first) (text_of value second)) (string_of name) (string_of value)
 instruction_of (Repeat index) = Some (Duplicate index)

@@ -27,10 +27,22 @@ fn put_field(field: &FieldRef<'_>, block: &mut Vec<u8>) -> Result<(), EncoderErr
         return Ok(());
     }
     if let Some(index) = StaticTable::find_name(field.name()) {
-        LiteralWithNameRef::write_static(index, field.value(), field.is_never_indexed(), block)?;
+        LiteralWithNameRef::write_static(
+            index,
+            field.value(),
+            field.is_never_indexed(),
+            false,
+            block,
+        )?;
         return Ok(());
     }
-    Literal::write(field.name(), field.value(), field.is_never_indexed(), block)?;
+    Literal::write(
+        field.name(),
+        field.value(),
+        field.is_never_indexed(),
+        false,
+        block,
+    )?;
     Ok(())
 }
 

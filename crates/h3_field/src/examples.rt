@@ -8,12 +8,15 @@ ghost use Rattle.h3_field.specs.Prefix.{prefix_bytes};
 ghost use Rattle.h3_field.specs.PrefixReading.{prefix};
 ghost use Rattle.h3_field.specs.StaticTable.{static_table, static_field, static_name};
 ghost use Rattle.h3_field.specs.Instruction.{encoder_bytes, decoder_bytes};
-ghost use Rattle.h3_field.specs.Instruction.EncoderInstruction.{SetCapacity};
+ghost use Rattle.h3_field.specs.Instruction.EncoderInstruction.{SetCapacity, InsertWithStaticName, InsertLiteral};
 ghost use Rattle.h3_field.specs.Instruction.DecoderInstruction.{Increment};
 ghost use Rattle.h3_field.specs.InstructionReading.{instruction, Repeat};
 ghost use Rattle.h3_field.specs.Field.{flagged, plain_field};
+ghost use Rattle.h3_field.specs.Secret.{is_secret, guarded};
+ghost use Rattle.h3_field.specs.StringLiteral.{huffman_text, plain_text, coded};
+ghost use Rattle.h3_field.specs.StringReading.{payload_of};
 ghost use Rattle.h3_field.specs.Line.{line_bytes};
-ghost use Rattle.h3_field.specs.Line.FieldLine.{PostBaseName};
+ghost use Rattle.h3_field.specs.Line.FieldLine.{StaticName, PostBaseName, Literal};
 ghost use Rattle.h3_field.specs.LineReading.{line, Indexed, Named, PostBaseNamed, LiteralField};
 ghost use Rattle.h3_field.specs.Section.{static_line};
 ghost use Rattle.h3_field.specs.Waiting.{behind, encoder_wait, decoder_wait};
@@ -73,10 +76,35 @@ pub fn never_indexed()
     ensures literal { line_bytes (static_line (flagged (plain_field (codes "x-a") (codes "1")) true)) ≡ 59 ∷ 242 ∷ 176 ∷ 255 ∷ 129 ∷ 15 ∷ [] }
     ensures entry_plain { line_bytes (static_line (plain_field (codes ":path") (codes "/"))) ≡ 193 ∷ [] }
     ensures entry { line_bytes (static_line (flagged (plain_field (codes ":path") (codes "/")) true)) ≡ 113 ∷ 129 ∷ 99 ∷ [] }
-    ensures post_base { line_bytes (PostBaseName 0 (codes "1") true) ≡ 8 ∷ 129 ∷ 15 ∷ [] }
+    ensures post_base { line_bytes (PostBaseName 0 (huffman_text (codes "1")) true) ≡ 8 ∷ 129 ∷ 15 ∷ [] }
     ensures named_read { line (113 ∷ 1 ∷ 47 ∷ []) ≡ Whole (Named true 1 (record { is_huffman = false; bytes = 47 ∷ [] }) true) [] }
     ensures literal_read { line (49 ∷ 97 ∷ 1 ∷ 98 ∷ []) ≡ Whole (LiteralField (record { is_huffman = false; bytes = 97 ∷ [] }) (record { is_huffman = false; bytes = 98 ∷ [] }) true) [] }
     ensures post_base_read { line (8 ∷ 1 ∷ 97 ∷ []) ≡ Whole (PostBaseNamed 0 (record { is_huffman = false; bytes = 97 ∷ [] }) true) [] }
+{}
+
+/// Strings with the choice on, where they are written as they stand if their Huffman code is not shorter: a code as long as the name and as
+/// the value, a longer one, a shorter one, and the empty string. With the choice off they are Huffman coded.
+pub fn shortest_strings()
+    ensures as_long { line_bytes (Literal (coded true (codes "x-a")) (coded true (codes "1")) false) ≡ 35 ∷ 120 ∷ 45 ∷ 97 ∷ 1 ∷ 49 ∷ [] }
+    ensures longer { line_bytes (StaticName 84 (coded true (249 ∷ 249 ∷ [])) true) ≡ 127 ∷ 69 ∷ 2 ∷ 249 ∷ 249 ∷ [] }
+    ensures shorter { line_bytes (StaticName 84 (coded true (codes "aaaa")) false) ≡ 95 ∷ 69 ∷ 131 ∷ 24 ∷ 198 ∷ 63 ∷ [] }
+    ensures empty { encoder_bytes (InsertLiteral (coded true (codes "x-a")) (coded true [])) ≡ 67 ∷ 120 ∷ 45 ∷ 97 ∷ 0 ∷ [] }
+    ensures off { line_bytes (StaticName 84 (coded false (codes "1")) false) ≡ 95 ∷ 69 ∷ 129 ∷ 15 ∷ [] }
+    ensures off_longer { encoder_bytes (InsertWithStaticName 84 (coded false (249 ∷ []))) ≡ 255 ∷ 21 ∷ 132 ∷ 255 ∷ 255 ∷ 255 ∷ 239 ∷ [] }
+    ensures read { line (35 ∷ 120 ∷ 45 ∷ 97 ∷ 1 ∷ 49 ∷ []) ≡ Whole (LiteralField (payload_of (plain_text (codes "x-a"))) (payload_of (plain_text (codes "1"))) false) [] }
+{}
+
+/// Fields that name a secret: credentials, and cookies of fewer than 20 bytes. Names are compared whole.
+pub fn secrets()
+    ensures credentials { is_secret (plain_field (codes "authorization") (codes "Basic YWxhZGRpbjpvcGVuc2VzYW1l")) ≡ true }
+    ensures of_a_proxy { is_secret (plain_field (codes "proxy-authorization") []) ≡ true }
+    ensures short_cookie { is_secret (plain_field (codes "cookie") (codes "id=1234567890123456")) ≡ true }
+    ensures set_cookie { is_secret (plain_field (codes "set-cookie") (codes "id=1")) ≡ true }
+    ensures long_cookie { is_secret (plain_field (codes "cookie") (codes "id=12345678901234567")) ≡ false }
+    ensures other_name { is_secret (plain_field (codes "x-authorization") (codes "a")) ≡ false }
+    ensures upper_case { is_secret (plain_field (codes "Cookie") (codes "a")) ≡ false }
+    ensures guarded_cookie { guarded true (plain_field (codes "cookie") (codes "a")) ≡ flagged (plain_field (codes "cookie") (codes "a")) true }
+    ensures not_guarded { guarded false (plain_field (codes "cookie") (codes "a")) ≡ plain_field (codes "cookie") (codes "a") }
 {}
 
 /// What an unfinished instruction waits for: a group of a capacity or of an acknowledgment, a byte of a name, the length of a value, four

@@ -1,12 +1,14 @@
 //! Fields that are read by their places, in a list or in a block.
 ghost use Rattle.std.specs.Prelude.{◌≡◌, ◌<◌, ◌^◌, ◌-◌, ◌+◌, min, length, slice_get, Some, IfOk, OnErr};
 ghost use Rattle.h3_field.specs.Field.{plain_field, field_size};
+ghost use Rattle.h3_field.specs.Secret.{is_credential, is_cookie, is_secret};
 ghost use Rattle.h3_field.specs.ReadBack.{IsFieldOfBytes};
 ghost use Rattle.h3_field.specs.FieldBlock.{fields_at, IsBlock};
 
 use crate::field::{ESTIMATED_OVERHEAD_BYTES, HeaderField};
 use crate::field_block::FieldPlace;
 use crate::octets::are_bytes;
+use crate::same::is_same;
 use std::alloc::{AllocError, Global};
 use std::marker::Model;
 
@@ -80,6 +82,14 @@ impl<'a> FieldRef<'a> {
         self.value
     }
 
+    /// Whether it names a secret: an `authorization` or `proxy-authorization`, or a `cookie` or `set-cookie` with a value of fewer than 20
+    /// bytes, which may be guessed. Names are compared whole.
+    pub fn is_secret(&self) -> bool
+        ensures { result ≡ is_secret self.now }
+    {
+        is_credential(self.name) || (is_cookie(self.name) && self.value.len() < 20)
+    }
+
     /// The field with copies of both, and with the flag, as `HeaderField::copied` makes it.
     pub fn copied(&self, alloc: Global) -> Result<HeaderField, AllocError>
         ensures ok { IfOk result (λ f. f ≡ self.now) }
@@ -106,6 +116,20 @@ impl<'a> FieldRef<'a> {
             .saturating_add(self.value.len())
             .saturating_add(ESTIMATED_OVERHEAD_BYTES)
     }
+}
+
+// Whether the values of that name are credentials.
+fn is_credential(name: &[u8]) -> bool
+    ensures { result ≡ is_credential name.now }
+{
+    is_same(name, b"authorization") || is_same(name, b"proxy-authorization")
+}
+
+// Whether the values of that name are cookies.
+fn is_cookie(name: &[u8]) -> bool
+    ensures { result ≡ is_cookie name.now }
+{
+    is_same(name, b"cookie") || is_same(name, b"set-cookie")
 }
 
 /// Fields that lie in a list or in a block. A contract sees the list.

@@ -1,21 +1,22 @@
 //! What holds of the encodings. These functions do nothing: their contracts are the laws.
-ghost use Rattle.std.specs.Prelude.{◌≡◌, ◌+◌, ◌<◌, ◌≤◌, ◌-◌, ◌^◌, ℕ, true, List, [], ◌++◌, length, is_some, None, Some};
+ghost use Rattle.std.specs.Prelude.{◌≡◌, ◌+◌, ◌<◌, ◌≤◌, ◌-◌, ◌^◌, ℕ, Bool, true, false, ◌&&◌, ◌||◌, List, [], ◌++◌, length, map, is_some, None, Some};
 ghost use Rattle.h3_field.specs.Line.{FieldLine, line_bytes};
 ghost use Rattle.h3_field.specs.LineAnswer.{IsWritable, LineTakesMemory};
 ghost use Rattle.std.specs.List.{AllByRecursion};
-ghost use Rattle.h3_huffman.specs.Huffman.{huffman};
+ghost use Rattle.h3_huffman.specs.Payload.{IsByte};
 ghost use Rattle.h3_field.specs.Integer.{prefixed};
 ghost use Rattle.h3_field.specs.IntegerReading.{integer, integer_limit, IsInteger};
 ghost use Rattle.h3_field.specs.IntegerSteps.{Encoded};
 ghost use Rattle.h3_field.specs.Prefix.{most_entries, prefix_bytes};
 ghost use Rattle.h3_field.specs.PrefixReading.{EncodedPrefix, prefix, IsPrefix};
 ghost use Rattle.h3_field.specs.PrefixWriting.{written_prefix, encoded_bytes};
-ghost use Rattle.h3_field.specs.StringLiteral.{string_literal};
-ghost use Rattle.h3_field.specs.StringReading.{Payload, StandsFor, StandsForNone, string};
+ghost use Rattle.h3_field.specs.StringLiteral.{Text, huffman_text, coded, text_bytes, string_literal};
+ghost use Rattle.h3_field.specs.StringReading.{Payload, StandsFor, StandsForNone, payload_of, string};
 ghost use Rattle.h3_field.specs.LineReading.{LineForm, SaysLine, line};
 ghost use Rattle.h3_field.specs.Values.{string_of, line_of, instruction_of};
 ghost use Rattle.h3_field.specs.Ends.{LeavesEnds};
 ghost use Rattle.h3_field.specs.Field.{Field, text_eq, section_size};
+ghost use Rattle.h3_field.specs.Secret.{is_secret, guarded};
 ghost use Rattle.h3_field.specs.Section.{HasLine, Answer, Fields, AnswersSection, section_bytes};
 ghost use Rattle.h3_field.specs.Reading.{Whole};
 ghost use Rattle.h3_field.specs.ReadBack.{IsFieldOfBytes, IsLineOfBytes, IsInstructionOfBytes, HasInstruction, answer_from};
@@ -81,9 +82,10 @@ pub fn prefix_reads_back()
     ensures taken { (capacity inserted count base : ℕ) → 0 < capacity → (count ≡ 0 → base ≡ 0) → inserted < count + most_entries capacity → count ≤ inserted + most_entries capacity → IsPrefix capacity inserted (written_prefix capacity count base) count base }
 {}
 
-/// A written string is read back, whatever follows, and a payload is one string.
+/// A written string is read back as it was coded, whatever follows, and a payload is one string. What was written is its payload's.
 pub fn string_reads_back()
-    ensures written { (size flags : ℕ) (s rest : List ℕ) → length (huffman s) < integer_limit (size - 1) → string size (string_literal size flags s ++ rest) ≡ Whole (flags, record { is_huffman = true; bytes = huffman s }) rest }
+    ensures written { (size flags : ℕ) (text : Text) (rest : List ℕ) → length (text_bytes text) < integer_limit (size - 1) → string size (string_literal size flags text ++ rest) ≡ Whole (flags, payload_of text) rest }
+    ensures stands { (text : Text) → AllByRecursion IsByte text.bytes → StandsFor (payload_of text) text.bytes }
     ensures one { (p : Payload) (s t : List ℕ) → StandsFor p s → StandsFor p t → s ≡ t }
 {}
 
@@ -128,4 +130,20 @@ pub fn readings_leave_ends()
     ensures instruction { LeavesEnds 1 instruction }
     ensures decoder_instruction { LeavesEnds 1 decoder_instruction }
     ensures prefix { LeavesEnds 1 prefix }
+{}
+
+/// With the choice on, a string is written in no more bytes than in any other way, and in at most ten more than it has. With the choice off
+/// it is Huffman coded.
+pub fn strings_are_shortest()
+    ensures off { (bytes : List ℕ) → coded false bytes ≡ huffman_text bytes }
+    ensures shortest { (size flags : ℕ) (text : Text) → length (string_literal size flags (coded true text.bytes)) ≤ length (string_literal size flags text) }
+    ensures within { (size flags : ℕ) (bytes : List ℕ) → length (string_literal size flags (coded true bytes)) ≤ length bytes + 10 }
+{}
+
+/// Who guards secrets sets the flag of each, and changes nothing else.
+pub fn secrets_are_flagged()
+    ensures name { (guards : Bool) (f : Field) → (guarded guards f).name ≡ f.name }
+    ensures value { (guards : Bool) (f : Field) → (guarded guards f).value ≡ f.value }
+    ensures flag { (guards : Bool) (f : Field) → (guarded guards f).never_indexed ≡ (f.never_indexed || (guards && is_secret f)) }
+    ensures off { (fields : List Field) → map (guarded false) fields ≡ fields }
 {}

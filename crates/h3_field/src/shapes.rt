@@ -5,7 +5,7 @@ ghost use Rattle.h3_field.specs.Ends.{IsEndOf};
 ghost use Rattle.h3_field.specs.Integer.{prefixed};
 ghost use Rattle.h3_field.specs.IntegerReading.{integer};
 ghost use Rattle.h3_field.specs.Room.{HasRoom};
-ghost use Rattle.h3_field.specs.StringLiteral.{string_literal};
+ghost use Rattle.h3_field.specs.StringLiteral.{string_literal, coded};
 ghost use Rattle.h3_field.specs.declared.prefix_string.Error.TheVariants as string_error;
 ghost use Rattle.h3_field.specs.Shapes.{begins, index_and_string, two_strings};
 ghost use Rattle.h3_field.specs.Values.{string_of};
@@ -212,12 +212,13 @@ pub(crate) fn take_two_strings(
     }
 }
 
-/// Appends an integer and a string after it. A refusal appends nothing.
+/// Appends an integer and a string after it, which is written as `prefix_string::write` does. A refusal appends nothing.
 pub(crate) fn put_index_and_string(
     size: u8,
     flags: u8,
     index: u64,
     value: &[u8],
+    shortest: bool,
     buf: &mut Vec<u8>,
 ) -> Result<(), prefix_string::Error>
     requires least { 1 ≤ size }
@@ -226,24 +227,25 @@ pub(crate) fn put_index_and_string(
     requires index { index < 2 ^ 62 }
     requires value { length value.now < 2 ^ 62 }
     ensures memory { IsOkUnless result string_error.OutOfMemory }
-    ensures ok { OnOk result (buf.new.items ≡ buf.old.items ++ (prefixed size flags index ++ string_literal 8 0 value.now)) }
+    ensures ok { OnOk result (buf.new.items ≡ buf.old.items ++ (prefixed size flags index ++ string_literal 8 0 (coded shortest value.now))) }
     ensures err { OnErr result (buf.new.items ≡ buf.old.items) }
 {
     let start = buf.len();
     prefix_int::encode(size, flags, index, buf)?;
-    if prefix_string::encode(8, 0, value, buf).is_err() {
+    if prefix_string::write(8, 0, value, shortest, buf).is_err() {
         buf.truncate(start);
         return Err(prefix_string::Error::OutOfMemory);
     }
     Ok(())
 }
 
-/// Appends two strings. A refusal appends nothing.
+/// Appends two strings, written as `prefix_string::write` does. A refusal appends nothing.
 pub(crate) fn put_two_strings(
     size: u8,
     flags: u8,
     name: &[u8],
     value: &[u8],
+    shortest: bool,
     buf: &mut Vec<u8>,
 ) -> Result<(), prefix_string::Error>
     requires least { 2 ≤ size }
@@ -252,12 +254,12 @@ pub(crate) fn put_two_strings(
     requires name { length name.now < 2 ^ 62 }
     requires value { length value.now < 2 ^ 62 }
     ensures memory { IsOkUnless result string_error.OutOfMemory }
-    ensures ok { OnOk result (buf.new.items ≡ buf.old.items ++ (string_literal size flags name.now ++ string_literal 8 0 value.now)) }
+    ensures ok { OnOk result (buf.new.items ≡ buf.old.items ++ (string_literal size flags (coded shortest name.now) ++ string_literal 8 0 (coded shortest value.now))) }
     ensures err { OnErr result (buf.new.items ≡ buf.old.items) }
 {
     let start = buf.len();
-    prefix_string::encode(size, flags, name, buf)?;
-    if prefix_string::encode(8, 0, value, buf).is_err() {
+    prefix_string::write(size, flags, name, shortest, buf)?;
+    if prefix_string::write(8, 0, value, shortest, buf).is_err() {
         buf.truncate(start);
         return Err(prefix_string::Error::OutOfMemory);
     }

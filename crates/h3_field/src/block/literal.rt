@@ -2,6 +2,7 @@
 //! literal with it on every hop, and is never inserted (section 7.1.3).
 ghost use Rattle.std.specs.Prelude.{◌≡◌, ◌<◌, ◌^◌, ◌++◌, true, false, length, slice_index, IfSome, IfNone, IfOk, OnOk, OnErr, Ok, Err};
 ghost use Rattle.std.specs.Result.{IsOkUnless};
+ghost use Rattle.h3_field.specs.StringLiteral.{coded};
 ghost use Rattle.h3_field.specs.Line.{bit_n, line_bytes};
 ghost use Rattle.h3_field.specs.Line.FieldLine.{StaticName, RelativeName, PostBaseName};
 ghost use Rattle.h3_field.specs.Line.{FieldLine as line};
@@ -204,45 +205,74 @@ impl LiteralWithNameRef {
                 index,
                 value,
                 never_indexed,
-            } => LiteralWithNameRef::write_static(*index, value.as_slice(), *never_indexed, buf),
+            } => LiteralWithNameRef::write_static(
+                *index,
+                value.as_slice(),
+                *never_indexed,
+                false,
+                buf,
+            ),
             LiteralWithNameRef::Dynamic {
                 index,
                 value,
                 never_indexed,
-            } => LiteralWithNameRef::write_dynamic(*index, value.as_slice(), *never_indexed, buf),
+            } => LiteralWithNameRef::write_dynamic(
+                *index,
+                value.as_slice(),
+                *never_indexed,
+                false,
+                buf,
+            ),
         }
     }
 
-    /// Appends the line with the name of a static entry, and that bit N.
+    /// Appends the line with the name of a static entry, and that bit N. If `shortest` and its Huffman code is not shorter, the value is
+    /// written as it stands; else it is Huffman coded.
     pub fn write_static(
         index: usize,
         value: &[u8],
         never_indexed: bool,
+        shortest: bool,
         buf: &mut Vec<u8>,
     ) -> Result<(), prefix_string::Error>
         requires index { index < 2 ^ 62 }
         requires value { length value.now < 2 ^ 62 }
         ensures memory { IsOkUnless result OutOfMemory }
-        ensures ok { OnOk result (buf.new.items ≡ buf.old.items ++ line_bytes (StaticName index value.now never_indexed)) }
+        ensures ok { OnOk result (buf.new.items ≡ buf.old.items ++ line_bytes (StaticName index (coded shortest value.now) never_indexed)) }
         ensures err { OnErr result (buf.new.items ≡ buf.old.items) }
     {
-        put_index_and_string(4, 5 + 2 * bit_n(never_indexed), index as u64, value, buf)
+        put_index_and_string(
+            4,
+            5 + 2 * bit_n(never_indexed),
+            index as u64,
+            value,
+            shortest,
+            buf,
+        )
     }
 
-    /// Appends the line with the name of a dynamic entry, and that bit N.
+    /// Appends the line with the name of a dynamic entry, and that bit N. `shortest` is as in `write_static`.
     pub fn write_dynamic(
         index: usize,
         value: &[u8],
         never_indexed: bool,
+        shortest: bool,
         buf: &mut Vec<u8>,
     ) -> Result<(), prefix_string::Error>
         requires index { index < 2 ^ 62 }
         requires value { length value.now < 2 ^ 62 }
         ensures memory { IsOkUnless result OutOfMemory }
-        ensures ok { OnOk result (buf.new.items ≡ buf.old.items ++ line_bytes (RelativeName index value.now never_indexed)) }
+        ensures ok { OnOk result (buf.new.items ≡ buf.old.items ++ line_bytes (RelativeName index (coded shortest value.now) never_indexed)) }
         ensures err { OnErr result (buf.new.items ≡ buf.old.items) }
     {
-        put_index_and_string(4, 4 + 2 * bit_n(never_indexed), index as u64, value, buf)
+        put_index_and_string(
+            4,
+            4 + 2 * bit_n(never_indexed),
+            index as u64,
+            value,
+            shortest,
+            buf,
+        )
     }
 }
 
@@ -349,24 +379,26 @@ impl LiteralWithPostBaseNameRef {
             self.index,
             self.value.as_slice(),
             self.never_indexed,
+            false,
             buf,
         )
     }
 
-    /// Appends the line with that index, value and bit N.
+    /// Appends the line with that index, value and bit N. `shortest` is as in `LiteralWithNameRef::write_static`.
     pub fn write(
         index: usize,
         value: &[u8],
         never_indexed: bool,
+        shortest: bool,
         buf: &mut Vec<u8>,
     ) -> Result<(), prefix_string::Error>
         requires index { index < 2 ^ 62 }
         requires value { length value.now < 2 ^ 62 }
         ensures memory { IsOkUnless result OutOfMemory }
-        ensures ok { OnOk result (buf.new.items ≡ buf.old.items ++ line_bytes (PostBaseName index value.now never_indexed)) }
+        ensures ok { OnOk result (buf.new.items ≡ buf.old.items ++ line_bytes (PostBaseName index (coded shortest value.now) never_indexed)) }
         ensures err { OnErr result (buf.new.items ≡ buf.old.items) }
     {
-        put_index_and_string(3, bit_n(never_indexed), index as u64, value, buf)
+        put_index_and_string(3, bit_n(never_indexed), index as u64, value, shortest, buf)
     }
 }
 
@@ -439,23 +471,26 @@ impl Literal {
             self.name.as_slice(),
             self.value.as_slice(),
             self.never_indexed,
+            false,
             buf,
         )
     }
 
-    /// Appends the line with that name, value and bit N.
+    /// Appends the line with that name, value and bit N. If `shortest`, each is written as it stands if its Huffman code is not shorter;
+    /// else both are Huffman coded.
     pub fn write(
         name: &[u8],
         value: &[u8],
         never_indexed: bool,
+        shortest: bool,
         buf: &mut Vec<u8>,
     ) -> Result<(), prefix_string::Error>
         requires name { length name.now < 2 ^ 62 }
         requires value { length value.now < 2 ^ 62 }
         ensures memory { IsOkUnless result OutOfMemory }
-        ensures ok { OnOk result (buf.new.items ≡ buf.old.items ++ line_bytes (line.Literal name.now value.now never_indexed)) }
+        ensures ok { OnOk result (buf.new.items ≡ buf.old.items ++ line_bytes (line.Literal (coded shortest name.now) (coded shortest value.now) never_indexed)) }
         ensures err { OnErr result (buf.new.items ≡ buf.old.items) }
     {
-        put_two_strings(4, 2 + bit_n(never_indexed), name, value, buf)
+        put_two_strings(4, 2 + bit_n(never_indexed), name, value, shortest, buf)
     }
 }

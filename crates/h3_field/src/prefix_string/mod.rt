@@ -3,7 +3,7 @@ ghost use Rattle.std.specs.Prelude.{◌≡◌, ◌+◌, ◌*◌, ◌-◌, ◌^�
 ghost use Rattle.h3_field.specs.Ends.{IsEndOf};
 ghost use Rattle.h3_field.specs.ErrorTexts.{string_text};
 ghost use Rattle.std.specs.Result.{IsOkUnless};
-ghost use Rattle.h3_field.specs.StringLiteral.{string_literal};
+ghost use Rattle.h3_field.specs.StringLiteral.{string_literal, huffman_text, plain_text, coded};
 ghost use Rattle.h3_field.specs.StringReading.{string};
 ghost use Rattle.h3_field.specs.StringAnswer.{AnswersString, of_integer};
 ghost use Rattle.h3_field.specs.declared.prefix_string.Error.TheVariants as error;
@@ -143,7 +143,7 @@ fn put_by_way_of(
     requires flags { flags < 2 ^ (8 - size) }
     requires short { length value.now ≤ 63 }
     requires room { 4 * length value.now + 4 ≤ length room.old }
-    ensures ok { OnOk result (buf.new.items ≡ buf.old.items ++ string_literal size flags value.now) }
+    ensures ok { OnOk result (buf.new.items ≡ buf.old.items ++ string_literal size flags (huffman_text value.now)) }
     ensures err { OnErr result (take (length buf.old.items) buf.new.items ≡ buf.old.items) }
 {
     let len = h3_huffman::encode::encode_front(value, room);
@@ -157,7 +157,7 @@ fn put_empty(size: u8, flags: u8, value: &[u8], buf: &mut Vec<u8>) -> Result<(),
     requires most { size ≤ 8 }
     requires flags { flags < 2 ^ (8 - size) }
     requires empty { length value.now ≡ 0 }
-    ensures ok { OnOk result (buf.new.items ≡ buf.old.items ++ string_literal size flags value.now) }
+    ensures ok { OnOk result (buf.new.items ≡ buf.old.items ++ string_literal size flags (huffman_text value.now)) }
     ensures err { OnErr result (take (length buf.old.items) buf.new.items ≡ buf.old.items) }
 {
     prefix_int::encode(size - 1, 2 * flags + 1, value.len() as u64, buf)
@@ -169,7 +169,7 @@ fn put_empty(size: u8, flags: u8, value: &[u8], buf: &mut Vec<u8>) -> Result<(),
 fn write_value(value: &[u8], out: &mut [u8]) -> Option<usize>
     requires short { length value.now ≤ 63 }
     requires room { 4 * length value.now + 5 ≤ length out.old }
-    ensures { IfSome result (λ count. (count ≤ length out.new) × (take count out.new ≡ string_literal 8 0 value.now)) }
+    ensures { IfSome result (λ count. (count ≤ length out.new) × (take count out.new ≡ string_literal 8 0 (huffman_text value.now))) }
 {
     let len = h3_huffman::encode::encode_front(value, &mut out[1..]);
     if len >= 127 {
@@ -182,7 +182,7 @@ fn write_value(value: &[u8], out: &mut [u8]) -> Option<usize>
 /// Appends a short string with no flags. It is encoded in its final place. A refusal may leave a part of it.
 fn put_value(value: &[u8], buf: &mut Vec<u8>) -> Result<(), AllocError>
     requires short { length value.now ≤ 63 }
-    ensures ok { OnOk result (buf.new.items ≡ buf.old.items ++ string_literal 8 0 value.now) }
+    ensures ok { OnOk result (buf.new.items ≡ buf.old.items ++ string_literal 8 0 (huffman_text value.now)) }
     ensures err { OnErr result (take (length buf.old.items) buf.new.items ≡ buf.old.items) }
 {
     let start = buf.len();
@@ -206,7 +206,7 @@ fn write_name(size: u8, flags: u8, value: &[u8], out: &mut [u8]) -> Option<usize
     requires short { length value.now ≤ 63 }
     requires room { 4 * length value.now + 6 ≤ length out.old }
     ensures within { IfSome result (λ count. count ≤ length out.new) }
-    ensures literal { IfSome result (λ count. take count out.new ≡ string_literal size flags value.now) }
+    ensures literal { IfSome result (λ count. take count out.new ≡ string_literal size flags (huffman_text value.now)) }
 {
     let len = h3_huffman::encode::encode_front(value, &mut out[2..]);
     let Some((first, second)) = prefix_int::two_bytes(size - 1, 2 * flags + 1, len as u64) else {
@@ -224,7 +224,7 @@ fn put_name(size: u8, flags: u8, value: &[u8], buf: &mut Vec<u8>) -> Result<(), 
     requires most { size ≤ 8 }
     requires flags { flags < 2 ^ (8 - size) }
     requires short { length value.now ≤ 63 }
-    ensures ok { OnOk result (buf.new.items ≡ buf.old.items ++ string_literal size flags value.now) }
+    ensures ok { OnOk result (buf.new.items ≡ buf.old.items ++ string_literal size flags (huffman_text value.now)) }
     ensures err { OnErr result (take (length buf.old.items) buf.new.items ≡ buf.old.items) }
 {
     let start = buf.len();
@@ -244,7 +244,7 @@ fn put_short(size: u8, flags: u8, value: &[u8], buf: &mut Vec<u8>) -> Result<(),
     requires most { size ≤ 8 }
     requires flags { flags < 2 ^ (8 - size) }
     requires short { length value.now ≤ 63 }
-    ensures ok { OnOk result (buf.new.items ≡ buf.old.items ++ string_literal size flags value.now) }
+    ensures ok { OnOk result (buf.new.items ≡ buf.old.items ++ string_literal size flags (huffman_text value.now)) }
     ensures err { OnErr result (take (length buf.old.items) buf.new.items ≡ buf.old.items) }
 {
     if size == 8 {
@@ -263,7 +263,7 @@ fn put_long(size: u8, flags: u8, value: &[u8], buf: &mut Vec<u8>) -> Result<(), 
     requires most { size ≤ 8 }
     requires flags { flags < 2 ^ (8 - size) }
     requires value { length value.now < 2 ^ 62 }
-    ensures ok { OnOk result (buf.new.items ≡ buf.old.items ++ string_literal size flags value.now) }
+    ensures ok { OnOk result (buf.new.items ≡ buf.old.items ++ string_literal size flags (huffman_text value.now)) }
     ensures err { OnErr result (take (length buf.old.items) buf.new.items ≡ buf.old.items) }
 {
     let len = h3_huffman::encode::payload_len(value);
@@ -282,7 +282,7 @@ pub fn encode(size: u8, flags: u8, value: &[u8], buf: &mut Vec<u8>) -> Result<()
     requires flags { flags < 2 ^ (8 - size) }
     requires value { length value.now < 2 ^ 62 }
     ensures memory { IsOkUnless result error.OutOfMemory }
-    ensures ok { OnOk result (buf.new.items ≡ buf.old.items ++ string_literal size flags value.now) }
+    ensures ok { OnOk result (buf.new.items ≡ buf.old.items ++ string_literal size flags (huffman_text value.now)) }
     ensures err { OnErr result (buf.new.items ≡ buf.old.items) }
 {
     let start = buf.len();
@@ -298,4 +298,68 @@ pub fn encode(size: u8, flags: u8, value: &[u8], buf: &mut Vec<u8>) -> Result<()
         return Err(Error::OutOfMemory);
     }
     Ok(())
+}
+
+/// Whether a string is written Huffman coded: if `shortest`, only if its Huffman code is shorter; else always.
+#[inline(always)]
+fn is_coded(value: &[u8], shortest: bool) -> bool
+    requires { length value.now < 2 ^ 62 }
+    ensures { result ≡ (coded shortest value.now).is_huffman }
+{
+    !shortest || h3_huffman::encode::payload_len(value) < value.len()
+}
+
+/// Appends the length of a string, and the string as it stands. A refusal may leave a part of them.
+fn put_plain(size: u8, flags: u8, value: &[u8], buf: &mut Vec<u8>) -> Result<(), AllocError>
+    requires least { 2 ≤ size }
+    requires most { size ≤ 8 }
+    requires flags { flags < 2 ^ (8 - size) }
+    requires value { length value.now < 2 ^ 62 }
+    ensures ok { OnOk result (buf.new.items ≡ buf.old.items ++ string_literal size flags (plain_text value.now)) }
+    ensures err { OnErr result (take (length buf.old.items) buf.new.items ≡ buf.old.items) }
+{
+    prefix_int::encode(size - 1, 2 * flags, value.len() as u64, buf)?;
+    buf.extend_from_slice(value)
+}
+
+/// Appends a string as it stands, in the low `size` bits of a byte below `flags`. A refusal appends nothing.
+fn encode_plain(size: u8, flags: u8, value: &[u8], buf: &mut Vec<u8>) -> Result<(), Error>
+    requires least { 2 ≤ size }
+    requires most { size ≤ 8 }
+    requires flags { flags < 2 ^ (8 - size) }
+    requires value { length value.now < 2 ^ 62 }
+    ensures memory { IsOkUnless result error.OutOfMemory }
+    ensures ok { OnOk result (buf.new.items ≡ buf.old.items ++ string_literal size flags (plain_text value.now)) }
+    ensures err { OnErr result (buf.new.items ≡ buf.old.items) }
+{
+    let start = buf.len();
+    if put_plain(size, flags, value, buf).is_err() {
+        buf.truncate(start);
+        return Err(Error::OutOfMemory);
+    }
+    Ok(())
+}
+
+/// Appends a string in the low `size` bits of a byte below `flags`: Huffman coded, or as it stands if `shortest` and its Huffman code is
+/// not shorter. A refusal appends nothing.
+#[inline(always)]
+pub fn write(
+    size: u8,
+    flags: u8,
+    value: &[u8],
+    shortest: bool,
+    buf: &mut Vec<u8>,
+) -> Result<(), Error>
+    requires least { 2 ≤ size }
+    requires most { size ≤ 8 }
+    requires flags { flags < 2 ^ (8 - size) }
+    requires value { length value.now < 2 ^ 62 }
+    ensures memory { IsOkUnless result error.OutOfMemory }
+    ensures ok { OnOk result (buf.new.items ≡ buf.old.items ++ string_literal size flags (coded shortest value.now)) }
+    ensures err { OnErr result (buf.new.items ≡ buf.old.items) }
+{
+    if is_coded(value, shortest) {
+        return encode(size, flags, value, buf);
+    }
+    encode_plain(size, flags, value, buf)
 }

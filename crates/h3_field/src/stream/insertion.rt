@@ -1,6 +1,7 @@
 //! Instructions of an encoder, on its stream to a decoder (RFC 9204, section 4.3).
 ghost use Rattle.std.specs.Prelude.{◌≡◌, ◌<◌, ◌^◌, ◌++◌, true, false, length, slice_index, IfOk, IfSome, OnOk, OnErr, Err};
 ghost use Rattle.std.specs.Result.{IsOkUnless};
+ghost use Rattle.h3_field.specs.StringLiteral.{coded};
 ghost use Rattle.h3_field.specs.Instruction.{encoder_bytes};
 ghost use Rattle.h3_field.specs.Instruction.{EncoderInstruction as instruction};
 ghost use Rattle.h3_field.specs.Ends.{IsEndOf};
@@ -99,42 +100,45 @@ impl InsertWithNameRef {
     {
         match self {
             InsertWithNameRef::Static { index, value } => {
-                InsertWithNameRef::write_static(*index, value.as_slice(), buf)
+                InsertWithNameRef::write_static(*index, value.as_slice(), false, buf)
             }
             InsertWithNameRef::Dynamic { index, value } => {
-                InsertWithNameRef::write_dynamic(*index, value.as_slice(), buf)
+                InsertWithNameRef::write_dynamic(*index, value.as_slice(), false, buf)
             }
         }
     }
 
-    /// Appends the instruction with the name of a static entry.
+    /// Appends the instruction with the name of a static entry. If `shortest` and its Huffman code is not shorter, the value is written as
+    /// it stands; else it is Huffman coded.
     pub fn write_static(
         index: usize,
         value: &[u8],
+        shortest: bool,
         buf: &mut Vec<u8>,
     ) -> Result<(), prefix_string::Error>
         requires index { index < 2 ^ 62 }
         requires value { length value.now < 2 ^ 62 }
         ensures memory { IsOkUnless result OutOfMemory }
-        ensures ok { OnOk result (buf.new.items ≡ buf.old.items ++ encoder_bytes (instruction.InsertWithStaticName index value.now)) }
+        ensures ok { OnOk result (buf.new.items ≡ buf.old.items ++ encoder_bytes (instruction.InsertWithStaticName index (coded shortest value.now))) }
         ensures err { OnErr result (buf.new.items ≡ buf.old.items) }
     {
-        put_index_and_string(6, 3, index as u64, value, buf)
+        put_index_and_string(6, 3, index as u64, value, shortest, buf)
     }
 
-    /// Appends the instruction with the name of a dynamic entry.
+    /// Appends the instruction with the name of a dynamic entry. `shortest` is as in `write_static`.
     pub fn write_dynamic(
         index: usize,
         value: &[u8],
+        shortest: bool,
         buf: &mut Vec<u8>,
     ) -> Result<(), prefix_string::Error>
         requires index { index < 2 ^ 62 }
         requires value { length value.now < 2 ^ 62 }
         ensures memory { IsOkUnless result OutOfMemory }
-        ensures ok { OnOk result (buf.new.items ≡ buf.old.items ++ encoder_bytes (instruction.InsertWithEntryName index value.now)) }
+        ensures ok { OnOk result (buf.new.items ≡ buf.old.items ++ encoder_bytes (instruction.InsertWithEntryName index (coded shortest value.now))) }
         ensures err { OnErr result (buf.new.items ≡ buf.old.items) }
     {
-        put_index_and_string(6, 2, index as u64, value, buf)
+        put_index_and_string(6, 2, index as u64, value, shortest, buf)
     }
 }
 
@@ -184,17 +188,23 @@ impl InsertWithoutNameRef {
         ensures ok { OnOk result (buf.new.items ≡ buf.old.items ++ encoder_bytes (literal_insertion self.now)) }
         ensures err { OnErr result (buf.new.items ≡ buf.old.items) }
     {
-        InsertWithoutNameRef::write(self.name.as_slice(), self.value.as_slice(), buf)
+        InsertWithoutNameRef::write(self.name.as_slice(), self.value.as_slice(), false, buf)
     }
 
-    /// Appends the instruction with that name and value.
-    pub fn write(name: &[u8], value: &[u8], buf: &mut Vec<u8>) -> Result<(), prefix_string::Error>
+    /// Appends the instruction with that name and value. If `shortest`, each is written as it stands if its Huffman code is not shorter;
+    /// else both are Huffman coded.
+    pub fn write(
+        name: &[u8],
+        value: &[u8],
+        shortest: bool,
+        buf: &mut Vec<u8>,
+    ) -> Result<(), prefix_string::Error>
         requires name { length name.now < 2 ^ 62 }
         requires value { length value.now < 2 ^ 62 }
         ensures memory { IsOkUnless result OutOfMemory }
-        ensures ok { OnOk result (buf.new.items ≡ buf.old.items ++ encoder_bytes (instruction.InsertLiteral name.now value.now)) }
+        ensures ok { OnOk result (buf.new.items ≡ buf.old.items ++ encoder_bytes (instruction.InsertLiteral (coded shortest name.now) (coded shortest value.now))) }
         ensures err { OnErr result (buf.new.items ≡ buf.old.items) }
     {
-        put_two_strings(6, 1, name, value, buf)
+        put_two_strings(6, 1, name, value, shortest, buf)
     }
 }

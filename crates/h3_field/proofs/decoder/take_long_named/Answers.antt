@@ -1,4 +1,5 @@
 use Rattle.std.proofs.Common.{refl}
+use Rattle.h3_field.specs.StringLiteral.{huffman_text}
 use Rattle.h3_field.specs.LineReading.{named}
 use Rattle.h3_field.specs.LineAnswer.{named_line}
 use Rattle.h3_field.specs.ShapeAnswer.{behind}
@@ -16,7 +17,7 @@ returns-in-Ok c =
 
 pub returns-in-Ok-Static : goal.returns-in-Ok-Static
 returns-in-Ok-Static c =
-    no_static_name (behind (integer 4 c.args.buf.now)) named_line _ _ _ _ (line_named _ c.requires.some c.requires.own) (c.in-Ok-Static.ensures.own c.requires.own) c.in-Ok-Static.index c.in-Ok-Static.value.items c.in-Ok-Static.never_indexed c.in-Err-get_name.ensures.1 (rw c.in-Ok-Static.field-0-is refl)
+    no_static_name (behind (integer 4 c.args.buf.now)) named_line _ _ _ _ (line_named _ c.requires.some c.requires.own) (c.in-Ok-Static.ensures.own c.requires.own) c.in-Ok-Static.index (huffman_text c.in-Ok-Static.value.items) c.in-Ok-Static.never_indexed c.in-Err-get_name.ensures.1 (rw c.in-Ok-Static.field-0-is refl)
 
 pub returns : goal.returns
 returns c = refused_named (behind (integer 4 c.args.buf.now)) _ _ _ _ (line_named _ c.requires.some c.requires.own) (c.in-Err.ensures.own c.requires.own) c.refusal_of_named.ensures
