@@ -6,6 +6,7 @@ use Rattle.std.proofs.lemmas.List.{flat_map_more}
 use Rattle.std.proofs.lemmas.List.Sums.{fold_push}
 use Rattle.h3_field.specs.Field.{Field, field_eq, field_size}
 use Rattle.h3_field.specs.StaticTable.{static_field}
+use Rattle.h3_field.specs.StringLiteral.{coded}
 use Rattle.h3_field.specs.Line.{FieldLine, line_bytes}
 use Rattle.h3_field.specs.Line.{FieldLine as line}
 use Rattle.h3_field.specs.Instruction.{encoder_bytes}
@@ -88,15 +89,15 @@ not_behind : (s : EncoderHistory) (d : Draft) (t : EncoderState) (section : Sect
     → is_insertable_ahead s marks (drafted s d f c) f ≡ false
 not_behind s d t section f (choice.Static index) marks k h plain =
     let e = drafted s d f (choice.Static index) in
-    third_fails s.economical (s.limit == 0) (is_new s e f) (is_worth_to s (not (is_none (any_equal s e f))) marks e f) (finds_room s e f) (rw h.1 refl)
+    third_fails s.choices.economical (s.limit == 0) (is_new s e f) (is_worth_to s (not (is_none (any_equal s e f))) marks e f) (finds_room s e f) (rw h.1 refl)
 not_behind s d t section f (choice.Entry number) marks k h plain =
     let entry : held s d f ≡ Some number = sym (older_kept s d marks t section f k) ∙ h.2 in
     let e = drafted s d f (choice.Entry number) in
-    third_fails s.economical (s.limit == 0) (is_new s e f) (is_worth_to s (not (is_none (any_equal s e f))) marks e f) (finds_room s e f)
+    third_fails s.choices.economical (s.limit == 0) (is_new s e f) (is_worth_to s (not (is_none (any_equal s e f))) marks e f) (finds_room s e f)
     (and_fails (is_none (static_field f)) (nat_le (unwrap_or (any_equal s d f) 0) (draining s)) (held_least s d f number (draining s) entry (subst (λ n. n < number) k.draining h.3)))
 not_behind s d t section f (choice.Insertion after searched) marks k h plain =
     let e = drafted s d f (choice.Insertion after searched) in
-    second_fails s.economical (s.limit == 0) (is_new s e f) (is_worth_to s (not (is_none (any_equal s e f))) marks e f) (finds_room s e f)
+    second_fails s.choices.economical (s.limit == 0) (is_new s e f) (is_worth_to s (not (is_none (any_equal s e f))) marks e f) (finds_room s e f)
     (some_limit (blocks_out s) s.limit (sym k.may_block ∙ h.2.may_block))
   where
     some_limit : (n limit : ℕ) → nat_lt n limit ≡ true → (limit == 0) ≡ false
@@ -109,8 +110,8 @@ few_of : (s : EncoderHistory) (d : Draft) (marks : List ℕ) (t : EncoderState) 
 few_of s d marks t section k small = subst (λ n. n < 2 ^ 62) (ap (λ (u : EncoderState). u.table.inserted) k.stores) small.few
 
 -- a line more
-marks_more : (s : EncoderHistory) (lines : List FieldLine) (l : FieldLine) → marks_after s (lines ++ l ∷ []) ≡ marked s.economical (marks_after s lines) l
-marks_more s lines l = fold_push (marked s.economical) s.marks lines l
+marks_more : (s : EncoderHistory) (lines : List FieldLine) (l : FieldLine) → marks_after s (lines ++ l ∷ []) ≡ marked s.choices.economical (marks_after s lines) l
+marks_more s lines l = fold_push (marked s.choices.economical) s.marks lines l
 
 -- A line that is no literal leaves no mark.
 plain_marks : (s : EncoderHistory) (d : Draft) (f : Field) (c : Choice) → is_literal c ≡ false → marks_after s (drafted s d f c).lines ≡ marks_after s d.lines
@@ -123,7 +124,7 @@ plain_marks s d f choice.Literal e = absurd (cc)
 
 -- the marks behind a literal
 abbrev with_literal : EncoderHistory → List ℕ → Field → List ℕ
-with_literal s marks f = if s.economical && not f.never_indexed then with_mark marks f.value else marks
+with_literal s marks f = if s.choices.economical && not f.never_indexed then with_mark marks f.value else marks
 
 marked_literal : (economical n : Bool) (marks value : List ℕ)
     → unwrap_or (option_map (λ v. if economical then with_mark marks v else marks) (unless_never n value)) marks ≡ (if economical && not n then with_mark marks value else marks)
@@ -136,14 +137,14 @@ literal_marks : (s : EncoderHistory) (d : Draft) (f : Field) (c : Choice) → is
 literal_marks s d f (choice.Static index) e = absurd (cc)
 literal_marks s d f (choice.Entry number) e = absurd (cc)
 literal_marks s d f (choice.Insertion after searched) e = absurd (cc)
-literal_marks s d f (choice.StaticName index) e = marks_more s d.lines (line.StaticName index f.value f.never_indexed) ∙ marked_literal s.economical f.never_indexed (marks_after s d.lines) f.value
-literal_marks s d f (choice.EntryName number) e = marks_more s d.lines (entry_name_line (length s.inserted) number f.value f.never_indexed) ∙ either_line (nat_le number (length s.inserted))
+literal_marks s d f (choice.StaticName index) e = marks_more s d.lines (line.StaticName index (coded s.choices.shortest_strings f.value) f.never_indexed) ∙ marked_literal s.choices.economical f.never_indexed (marks_after s d.lines) f.value
+literal_marks s d f (choice.EntryName number) e = marks_more s d.lines (entry_name_line (length s.inserted) number (coded s.choices.shortest_strings f.value) f.never_indexed) ∙ either_line (nat_le number (length s.inserted))
   where
-    either_line : (b : Bool) → marked s.economical (marks_after s d.lines) (if b then line.RelativeName (length s.inserted - number) f.value f.never_indexed else line.PostBaseName (number - length s.inserted - 1) f.value f.never_indexed)
+    either_line : (b : Bool) → marked s.choices.economical (marks_after s d.lines) (if b then line.RelativeName (length s.inserted - number) (coded s.choices.shortest_strings f.value) f.never_indexed else line.PostBaseName (number - length s.inserted - 1) (coded s.choices.shortest_strings f.value) f.never_indexed)
         ≡ with_literal s (marks_after s d.lines) f
-    either_line true = marked_literal s.economical f.never_indexed (marks_after s d.lines) f.value
-    either_line false = marked_literal s.economical f.never_indexed (marks_after s d.lines) f.value
-literal_marks s d f choice.Literal e = marks_more s d.lines (line.Literal f.name f.value f.never_indexed) ∙ marked_literal s.economical f.never_indexed (marks_after s d.lines) f.value
+    either_line true = marked_literal s.choices.economical f.never_indexed (marks_after s d.lines) f.value
+    either_line false = marked_literal s.choices.economical f.never_indexed (marks_after s d.lines) f.value
+literal_marks s d f choice.Literal e = marks_more s d.lines (line.Literal (coded s.choices.shortest_strings f.name) (coded s.choices.shortest_strings f.value) f.never_indexed) ∙ marked_literal s.choices.economical f.never_indexed (marks_after s d.lines) f.value
 
 -- The line is all of the field.
 line_alone : (s : EncoderHistory) (d : Draft) (t : EncoderState) (section : Section) (f : Field) (c : Choice) (lines start instruction_bytes : List ℕ) → IsDrafted s d t section lines start instruction_bytes
@@ -190,14 +191,14 @@ after_kept s d marks t section f k small =
 ahead_kept : (s : EncoderHistory) (d : Draft) (marks : List ℕ) (t : EncoderState) (section : Section) (f : Field) → IsDraftState s d marks t section → NameEntries s → length d.inserted < 2 ^ 62 → (f.never_indexed ≡ false → static_field f ≡ None)
     → MayInsertAhead t section f → is_insertable_ahead s marks d f ≡ true
 ahead_kept s d marks t section f k names few static m =
-    let economical : s.economical ≡ true = sym (ap (λ (u : EncoderState). u.economical) k.stores) ∙ m.economical in
+    let economical : s.choices.economical ≡ true = sym (ap (λ (u : EncoderState). u.choices.economical) k.stores) ∙ m.economical in
     let limit : s.limit ≡ 0 = sym (ap (λ (u : EncoderState). u.limit) k.stores) ∙ m.no_limit in
     let equal : equal_in t f ≡ any_equal s d f = equal_kept s d marks t section f k in
     let drains : nat_le (unwrap_or (any_equal s d f) 0) (draining s) ≡ true = le_true _ _ (subst (λ o. unwrap_or o 0 ≤ draining s) equal (subst (λ n. unwrap_or (equal_in t f) 0 ≤ n) k.draining m.no_entry)) in
     let worth : is_worth_to s (not (is_none (any_equal s d f))) marks d f ≡ true =
     sym (worth_kept s d marks t section (not (is_none (any_equal s d f))) f k) ∙ ap (λ o. is_worth_in t (not (is_none o)) f) (sym equal) ∙ m.worth in
     let new : is_new s d f ≡ true = both (is_none (static_field f)) (nat_le (unwrap_or (any_equal s d f) 0) (draining s)) (rw (static m.may.plain) refl) drains in
-    five (s.economical) (s.limit == 0) (is_new s d f) (is_worth_to s (not (is_none (any_equal s d f))) marks d f) (finds_room s d f)
+    five (s.choices.economical) (s.limit == 0) (is_new s d f) (is_worth_to s (not (is_none (any_equal s d f))) marks d f) (finds_room s d f)
     economical (rw limit refl) new worth (room_kept s d marks t section f k names few m.may)
   where
     le_true : (a b : ℕ) → a ≤ b → nat_le a b ≡ true
@@ -212,11 +213,11 @@ ahead_kept s d marks t section f k names few static m =
 kept_ahead : (s : EncoderHistory) (d : Draft) (marks : List ℕ) (t : EncoderState) (section : Section) (f : Field) → IsDraftState s d marks t section → NameEntries s → length d.inserted < 2 ^ 62
     → is_insertable_ahead s marks d f ≡ true → MayInsertAhead t section f
 kept_ahead s d marks t section f k names few e =
-    let a = all_five s.economical (s.limit == 0) (is_new s d f) (is_worth_to s (not (is_none (any_equal s d f))) marks d f) (finds_room s d f) e in
+    let a = all_five s.choices.economical (s.limit == 0) (is_new s d f) (is_worth_to s (not (is_none (any_equal s d f))) marks d f) (finds_room s d f) e in
     let new = and_parts (is_none (static_field f)) (nat_le (unwrap_or (any_equal s d f) 0) (draining s)) a.2 in
     let equal : equal_in t f ≡ any_equal s d f = equal_kept s d marks t section f k in
     record {
-      economical = ap (λ (u : EncoderState). u.economical) k.stores ∙ a.0;
+      economical = ap (λ (u : EncoderState). u.choices.economical) k.stores ∙ a.0;
       no_limit = ap (λ (u : EncoderState). u.limit) k.stores ∙ no_limit s.limit a.1;
       no_entry = subst (λ n. unwrap_or (equal_in t f) 0 ≤ n) (sym k.draining) (subst (λ o. unwrap_or o 0 ≤ draining s) (sym equal) (le_is _ _ new.1));
       worth = ap (λ o. is_worth_in t (not (is_none o)) f) equal ∙ worth_kept s d marks t section (not (is_none (any_equal s d f))) f k ∙ a.3;
@@ -232,7 +233,7 @@ kept_ahead s d marks t section f k names few e =
 -- a new entry that no line names
 ahead_drafted : (s : EncoderHistory) (d : Draft) (marks : List ℕ) (t : EncoderState) (section : Section) (f : Field) (lines start instruction_bytes : List ℕ) → IsDraftedWith s d marks t section lines start instruction_bytes
     → field_size f ≤ t.table.capacity
-    → IsDraftedWith s (add_ahead s d f) marks (record t { table = with_entry t.table f }) section lines start (instruction_bytes ++ encoder_bytes (insertion_for t.table (evicted (with_entry t.table f)) f))
+    → IsDraftedWith s (add_ahead s d f) marks (record t { table = with_entry t.table f }) section lines start (instruction_bytes ++ encoder_bytes (insertion_for t.choices.shortest_strings t.table (evicted (with_entry t.table f)) f))
 ahead_drafted s d marks t section f lines start instruction_bytes h small =
     let fits = subst (λ k. field_size f ≤ k) (ap (λ (u : EncoderState). u.table.capacity) h.state.stores) small in
     let entry = with_entry-held s.capacity d.inserted f fits in

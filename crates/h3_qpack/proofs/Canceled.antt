@@ -15,13 +15,16 @@ use Rattle.h3_field.specs.Line.{FieldLine, line_bytes}
 use Rattle.h3_field.specs.Line.FieldLine.{StaticField, RelativeField, StaticName, Literal}
 use Rattle.h3_field.specs.Instruction.{encoder_bytes}
 use Rattle.h3_field.specs.Prefix.{prefix_bytes}
-use Rattle.h3_field.specs.Section.{literal_line, line_or_literal, static_line, static_lines, section_bytes}
+use Rattle.h3_field.specs.Secret.{guarded}
+use Rattle.h3_field.specs.StringLiteral.{coded}
 use Rattle.h3_table.specs.Table.{table, evictions}
 use Rattle.h3_qpack.specs.EncoderHistory.{EncoderHistory, blocks_out, referenced_entries, was_canceled, writing_on}
 use Rattle.h3_table.specs.Cancellations.{counts_as_canceled}
 use Rattle.h3_qpack.specs.EncoderState.{EncoderState, encoder_state, was_canceled_in}
 use Rattle.h3_qpack.proofs.EncoderStates.{tracked_state}
-use Rattle.h3_qpack.specs.SectionEncoding.{Draft, add_line, add_literal, add_ahead, write_indexed, write_field, add_field, unnamed, held, found, found_name, any_equal, is_usable, is_worth_to, literal_value, marked, marks_after, entry_name_line, evictions_by, finds_room, is_insertable, is_new, is_insertable_ahead, draft_of, required_insert_count, encoded_section, instructions_for, having_inserted, sent_section}
+use Rattle.h3_qpack.specs.SectionEncoding.{Draft, add_line, add_literal, add_ahead, write_indexed, write_field, add_field, unnamed, held, found, found_name, any_equal, is_usable, is_worth_to, literal_value, marked, marks_after, entry_name_line, evictions_by, finds_room, is_insertable, is_new, is_insertable_ahead, guarded_fields, draft_of, required_insert_count, encoded_section, instructions_for, having_inserted, sent_section}
+use Rattle.h3_qpack.specs.StaticSections.{literal_line_by, line_or_literal_by, static_line_by, chosen_line, static_section}
+use Rattle.h3_qpack.specs.declared.encoder_choices.EncoderChoices.{EncoderChoices}
 use Rattle.h3_qpack.specs.Drafting.{IsSent, IsCutOff}
 use Rattle.h3_qpack.proofs.Newest.{newest_from-none}
 
@@ -55,7 +58,7 @@ id_found stream (id ∷ ids) = grind (arith, common_steps, id_found stream ids)
 -- No section may be blocked, no entry is there, and none is inserted for later sections: the encoder is not economical, or none fits.
 pub record NamesNone (s : EncoderHistory) : Type 0 where
   pub limit : s.limit ≡ 0
-  pub unsaved : (s.economical ≡ false) ⊎ (s.capacity ≡ 0)
+  pub unsaved : (s.choices.economical ≡ false) ⊎ (s.capacity ≡ 0)
   pub evicted : evictions s.capacity s.inserted ≡ length s.inserted
 
 -- a draft of such an encoder
@@ -93,10 +96,10 @@ no_room s d f none =
     third true false false c d h = refl
     third true true false c d h = refl
 
-pub not_ahead : (s : EncoderHistory) (marks : List ℕ) (d : Draft) (f : Field) → (s.economical ≡ false) ⊎ (s.capacity ≡ 0) → is_insertable_ahead s marks d f ≡ false
+pub not_ahead : (s : EncoderHistory) (marks : List ℕ) (d : Draft) (f : Field) → (s.choices.economical ≡ false) ⊎ (s.capacity ≡ 0) → is_insertable_ahead s marks d f ≡ false
 not_ahead s marks d f (inl plain) = rw plain refl
 not_ahead s marks d f (inr none) =
-    last (s.economical && (s.limit == 0) && is_new s d f && is_worth_to s (not (is_none (any_equal s d f))) marks d f) (finds_room s d f) (no_room s d f none)
+    last (s.choices.economical && (s.limit == 0) && is_new s d f && is_worth_to s (not (is_none (any_equal s d f))) marks d f) (finds_room s d f) (no_room s d f none)
   where
     last : (a b : Bool) → b ≡ false → (a && b) ≡ false
     last a true h = absurd (cc)
@@ -120,20 +123,20 @@ no_name s lines f h =
     fails false b c h = refl
 
 literal_added : (s : EncoderHistory) (lines : List FieldLine) (f : Field) (o n : Option ℕ) → n ≡ None
-    → unwrap_or (option_map (λ index. add_line (with_lines s lines) (StaticName index f.value f.never_indexed) []) o) (
-    unwrap_or (option_map (λ number. add_line (with_lines s lines) (entry_name_line (length s.inserted) number f.value f.never_indexed) (number ∷ [])) n)
-    (add_line (with_lines s lines) (Literal f.name f.value f.never_indexed) []))
-    ≡ with_lines s (lines ++ literal_line o f ∷ [])
+    → unwrap_or (option_map (λ index. add_line (with_lines s lines) (StaticName index (coded s.choices.shortest_strings f.value) f.never_indexed) []) o) (
+    unwrap_or (option_map (λ number. add_line (with_lines s lines) (entry_name_line (length s.inserted) number (coded s.choices.shortest_strings f.value) f.never_indexed) (number ∷ [])) n)
+    (add_line (with_lines s lines) (Literal (coded s.choices.shortest_strings f.name) (coded s.choices.shortest_strings f.value) f.never_indexed) []))
+    ≡ with_lines s (lines ++ literal_line_by s.choices.shortest_strings o f ∷ [])
 literal_added s lines f None None e = refl
 literal_added s lines f (Some i) None e = refl
 literal_added s lines f o (Some i) e = absurd (grind (arith, common_steps, e))
 
 line_added : (s : EncoderHistory) (lines : List FieldLine) (f : Field) (o n : Option ℕ) (b : Bool) (inserted literal : Draft) → n ≡ None → b ≡ false
-    → literal ≡ with_lines s (lines ++ literal_line (static_name f.name) f ∷ [])
+    → literal ≡ with_lines s (lines ++ literal_line_by s.choices.shortest_strings (static_name f.name) f ∷ [])
     → unwrap_or (option_map (λ index. add_line (with_lines s lines) (StaticField index) []) o) (
     unwrap_or (option_map (λ number. add_line (with_lines s lines) (RelativeField (length s.inserted - number)) (number ∷ [])) n)
     (if b then inserted else literal))
-    ≡ with_lines s (lines ++ line_or_literal o f ∷ [])
+    ≡ with_lines s (lines ++ line_or_literal_by s.choices.shortest_strings o f ∷ [])
 line_added s lines f (Some i) None false inserted literal e d l = refl
 line_added s lines f None None false inserted literal e d l = l
 line_added s lines f o (Some i) b inserted literal e d l = absurd (grind (arith, common_steps, e))
@@ -144,43 +147,44 @@ never_static : (f : Field) → f.never_indexed ≡ true → static_field f ≡ N
 unfolding static_table static_field
 never_static f never = rw never refl
 
-line_of_field : (s : EncoderHistory) (lines : List FieldLine) (f : Field) → NamesNone s → write_field s (with_lines s lines) f ≡ with_lines s (lines ++ static_line f ∷ [])
+line_of_field : (s : EncoderHistory) (lines : List FieldLine) (f : Field) → NamesNone s → write_field s (with_lines s lines) f ≡ with_lines s (lines ++ static_line_by s.choices.shortest_strings f ∷ [])
 line_of_field s lines f h = by_flag f.never_indexed refl
   where
-    literal : add_literal s (with_lines s lines) f ≡ with_lines s (lines ++ literal_line (static_name f.name) f ∷ [])
+    literal : add_literal s (with_lines s lines) f ≡ with_lines s (lines ++ literal_line_by s.choices.shortest_strings (static_name f.name) f ∷ [])
     literal = literal_added s lines f (static_name f.name) (found_name s (with_lines s lines) f) (no_name s lines f h)
 
-    by_flag : (b : Bool) → f.never_indexed ≡ b → (if b then add_literal s (with_lines s lines) f else write_indexed s (with_lines s lines) f) ≡ with_lines s (lines ++ static_line f ∷ [])
-    by_flag true never = literal ∙ ap (λ o. with_lines s (lines ++ line_or_literal o f ∷ [])) (sym (never_static f never))
+    by_flag : (b : Bool) → f.never_indexed ≡ b → (if b then add_literal s (with_lines s lines) f else write_indexed s (with_lines s lines) f) ≡ with_lines s (lines ++ static_line_by s.choices.shortest_strings f ∷ [])
+    by_flag true never = literal ∙ ap (λ o. with_lines s (lines ++ line_or_literal_by s.choices.shortest_strings o f ∷ [])) (sym (never_static f never))
     by_flag false plain =
         line_added s lines f (static_field f) (found s (with_lines s lines) f) (is_insertable s (with_lines s lines) f) _ (add_literal s (with_lines s lines) f)
         (none_found s lines f h) (not_insertable s lines f h) literal
 
-field_added : (s : EncoderHistory) (lines : List FieldLine) (f : Field) → NamesNone s → add_field s (with_lines s lines) f ≡ with_lines s (lines ++ static_line f ∷ [])
+field_added : (s : EncoderHistory) (lines : List FieldLine) (f : Field) → NamesNone s → add_field s (with_lines s lines) f ≡ with_lines s (lines ++ static_line_by s.choices.shortest_strings f ∷ [])
 field_added s lines f h =
     let d = write_field s (with_lines s lines) f in
     ap (λ b. if b then add_ahead s d f else d) (not_ahead s (marks_after s lines) d f h.unsaved) ∙ line_of_field s lines f h
 
 fields_added : (s : EncoderHistory) (lines : List FieldLine) (fields : List Field) → NamesNone s
-    → fold (add_field s) (with_lines s lines) fields ≡ with_lines s (lines ++ map static_line fields)
+    → fold (add_field s) (with_lines s lines) fields ≡ with_lines s (lines ++ map (static_line_by s.choices.shortest_strings) fields)
 fields_added s lines [] h = ap (λ l. with_lines s l) (sym (append-nil lines))
 fields_added s lines (f ∷ fs) h =
-    ap (λ d. fold (add_field s) d fs) (field_added s lines f h) ∙ fields_added s (lines ++ static_line f ∷ []) fs h
-    ∙ ap (λ l. with_lines s l) (append_assoc lines (static_line f ∷ []) (map static_line fs))
+    ap (λ d. fold (add_field s) d fs) (field_added s lines f h) ∙ fields_added s (lines ++ static_line_by s.choices.shortest_strings f ∷ []) fs h
+    ∙ ap (λ l. with_lines s l) (append_assoc lines (static_line_by s.choices.shortest_strings f ∷ []) (map (static_line_by s.choices.shortest_strings) fs))
 
-lines_of : (fields : List Field) → flat_map line_bytes (map static_line fields) ≡ static_lines fields
-lines_of [] = refl
-lines_of (f ∷ fs) = ap (λ bytes. line_bytes (static_line f) ++ bytes) (lines_of fs)
+lines_of : (choices : EncoderChoices) (fields : List Field)
+    → flat_map line_bytes (map (static_line_by choices.shortest_strings) (map (guarded choices.guards_secrets) fields)) ≡ flat_map (λ f. line_bytes (chosen_line choices f)) fields
+lines_of choices [] = refl
+lines_of choices (f ∷ fs) = ap (λ bytes. line_bytes (chosen_line choices f) ++ bytes) (lines_of choices fs)
 
 -- The draft has static lines alone, and names nothing.
-pub draft_is_static : (s : EncoderHistory) (fields : List Field) → NamesNone s → draft_of s fields ≡ with_lines s (map static_line fields)
-draft_is_static s fields h = fields_added s [] fields h
+pub draft_is_static : (s : EncoderHistory) (fields : List Field) → NamesNone s → draft_of s fields ≡ with_lines s (map (static_line_by s.choices.shortest_strings) (guarded_fields s fields))
+draft_is_static s fields h = fields_added s [] (guarded_fields s fields) h
 
 -- Its bytes are those of a section that names no dynamic entry.
-pub section_is_static : (s : EncoderHistory) (fields : List Field) → NamesNone s → encoded_section s fields ≡ section_bytes fields
+pub section_is_static : (s : EncoderHistory) (fields : List Field) → NamesNone s → encoded_section s fields ≡ static_section s.choices fields
 section_is_static s fields h =
     ap (λ d. prefix_bytes s.announced (required_insert_count d) (length s.inserted) ++ flat_map line_bytes d.lines) (draft_is_static s fields h)
-    ∙ ap (λ bytes. 0 ∷ 0 ∷ bytes) (lines_of fields)
+    ∙ ap (λ bytes. 0 ∷ 0 ∷ bytes) (lines_of s.choices fields)
 
 -- a table of capacity 0 holds nothing
 nothing_fits : (fs : List Field) → table 0 fs ≡ []
@@ -194,7 +198,7 @@ nothing_fits (f ∷ fs) =
 
 -- what a section on a canceled stream is written by
 abbrev pub without_table : EncoderHistory → EncoderHistory
-without_table s = record s { announced = 0; capacity = 0; limit = 0; economical = false }
+without_table s = record s { announced = 0; capacity = 0; limit = 0; choices = record s.choices { economical = false } }
 
 minus_none : (n : ℕ) → n - 0 ≡ n
 minus_none n = omega arith
@@ -208,11 +212,19 @@ on_canceled s stream e = rw e refl
 pub on_other : (s : EncoderHistory) (stream : ℕ) → was_canceled s stream ≡ false → writing_on s stream ≡ s
 on_other s stream e = rw e refl
 
-pub on_static : (s : EncoderHistory) (stream : ℕ) (fields : List Field) → was_canceled s stream ≡ true → draft_of (writing_on s stream) fields ≡ with_lines s (map static_line fields)
+pub on_static : (s : EncoderHistory) (stream : ℕ) (fields : List Field) → was_canceled s stream ≡ true → draft_of (writing_on s stream) fields ≡ with_lines s (map (static_line_by s.choices.shortest_strings) (guarded_fields s fields))
 on_static s stream fields e = ap (λ by. draft_of by fields) (on_canceled s stream e) ∙ draft_is_static (without_table s) fields (names_none s)
 
-pub on_bytes : (s : EncoderHistory) (stream : ℕ) (fields : List Field) → was_canceled s stream ≡ true → encoded_section (writing_on s stream) fields ≡ section_bytes fields
+pub on_bytes : (s : EncoderHistory) (stream : ℕ) (fields : List Field) → was_canceled s stream ≡ true → encoded_section (writing_on s stream) fields ≡ static_section s.choices fields
 on_bytes s stream fields e = ap (λ by. encoded_section by fields) (on_canceled s stream e) ∙ section_is_static (without_table s) fields (names_none s)
+
+-- and so are its choices, but for the economy
+chosen_on : (s : EncoderHistory) (stream : ℕ) (fields : List Field) → static_section (writing_on s stream).choices fields ≡ static_section s.choices fields
+chosen_on s stream fields = by_test (was_canceled s stream)
+  where
+    by_test : (b : Bool) → static_section (if b then without_table s else s).choices fields ≡ static_section s.choices fields
+    by_test true = refl
+    by_test false = refl
 
 -- the insertions are the encoder's
 pub on_inserted : (s : EncoderHistory) (stream : ℕ) → (writing_on s stream).inserted ≡ s.inserted
@@ -274,17 +286,17 @@ none_inserted s stream =
 pub canceled_kept : (s : EncoderHistory) (stream : ℕ) (fields : List Field) → was_canceled s stream ≡ true → encoder_state s ≡ encoder_state (sent_section s stream fields)
 canceled_kept s stream fields e =
     sym (ap (λ d. encoder_state (sent_draft s (writing_on s stream) stream d)) (on_static s stream fields e)
-    ∙ rw (none_waits s.known_received s.required_insert_counts, append-nil s.tracked, on_marks s stream (map static_line fields) e) refl)
+    ∙ rw (none_waits s.known_received s.required_insert_counts, append-nil s.tracked, on_marks s stream (map (static_line_by s.choices.shortest_strings) (guarded_fields s fields)) e) refl)
 
 pub canceled_sent : (s : EncoderHistory) (stream : ℕ) (fields : List Field) (t : EncoderState) (before block start : List ℕ) → was_canceled s stream ≡ true → t ≡ encoder_state s
-    → block ≡ before ++ section_bytes fields → AllByRecursion IsFieldOfBytes fields → IsSent s stream fields 0 t before block start start
+    → block ≡ before ++ static_section t.choices fields → AllByRecursion IsFieldOfBytes fields → IsSent s stream fields 0 t before block start start
 canceled_sent s stream fields t before block start e same is are_bytes =
     let static = on_static s stream fields e in
     record {
       stores = same ∙ canceled_kept s stream fields e;
       count_is = ap required_insert_count (sym static);
       are_bytes = are_bytes;
-      encoded_is = is ∙ ap (λ bytes. before ++ bytes) (sym (on_bytes s stream fields e));
+      encoded_is = is ∙ ap (λ (u : EncoderState). before ++ static_section u.choices fields) same ∙ ap (λ bytes. before ++ bytes) (sym (on_bytes s stream fields e));
       instructions_are = sym (append-nil start) ∙ ap (λ (d : Draft). start ++ flat_map encoder_bytes d.instructions) (sym static);
     }
 
@@ -300,7 +312,7 @@ nothing_written s stream fields t start same =
 
 -- An encoder that inserts nothing for later sections, and has inserted nothing, names none.
 abbrev pub InsertsNothing : EncoderHistory → Type 0
-InsertsNothing s = (s.limit ≡ 0) × ((s.economical ≡ false) ⊎ (s.capacity ≡ 0))
+InsertsNothing s = (s.limit ≡ 0) × ((s.choices.economical ≡ false) ⊎ (s.capacity ≡ 0))
 
 early_names_none : (s : EncoderHistory) → InsertsNothing s → s.inserted ≡ [] → NamesNone s
 early_names_none s none empty = record { limit = none.0; unsaved = none.1; evicted = ap (λ fs. evictions s.capacity fs) empty ∙ ap (λ fs. length fs) (sym empty) }
@@ -312,8 +324,8 @@ on_none s stream none empty = by_test (was_canceled s stream)
     by_test true = names_none s
     by_test false = early_names_none s none empty
 
-pub early_bytes : (s : EncoderHistory) (stream : ℕ) (fields : List Field) → InsertsNothing s → s.inserted ≡ [] → encoded_section (writing_on s stream) fields ≡ section_bytes fields
-early_bytes s stream fields none empty = section_is_static (writing_on s stream) fields (on_none s stream none empty)
+pub early_bytes : (s : EncoderHistory) (stream : ℕ) (fields : List Field) → InsertsNothing s → s.inserted ≡ [] → encoded_section (writing_on s stream) fields ≡ static_section s.choices fields
+early_bytes s stream fields none empty = section_is_static (writing_on s stream) fields (on_none s stream none empty) ∙ chosen_on s stream fields
 
 pub early_inserts : (s : EncoderHistory) (stream : ℕ) (fields : List Field) → InsertsNothing s → s.inserted ≡ [] → instructions_for (writing_on s stream) fields ≡ []
 early_inserts s stream fields none empty = ap (λ (d : Draft). d.instructions) (draft_is_static (writing_on s stream) fields (on_none s stream none empty))

@@ -139,7 +139,7 @@ present_held s d test = search_held s.capacity d.inserted test (evictions s.capa
 -- A field is worth an entry by what is kept where it is by the rule.
 pub worth_held : (s : EncoderHistory) (d : Draft) (marks : List ℕ) (drains : Bool) (f : Field) → is_worth_in (encoder_state (record s { inserted = d.inserted; marks = marks })) drains f ≡ is_worth_to s drains marks d f
 worth_held s d marks drains f =
-    ap (λ name. is_worth s.economical drains (section_size (table s.capacity d.inserted)) s.capacity name marks f) (present_held s d (λ e. bytes_eq e.name f.name))
+    ap (λ name. is_worth s.choices.economical drains (section_size (table s.capacity d.inserted)) s.capacity name marks f) (present_held s d (λ e. bytes_eq e.name f.name))
 
 -- what the section so far names at least, and no entry has a number as great where it names none
 abbrev pub oldest_of : List ℕ → ℕ

@@ -4,6 +4,7 @@ use Rattle.std.specs.Prelude.{IfSome}
 use Rattle.std.proofs.lemmas.Grind.{common_steps}
 use Rattle.std.proofs.lemmas.Bool.{and_parts}
 use Rattle.h3_field.specs.Field.{Field}
+use Rattle.h3_field.specs.StringLiteral.{coded}
 use Rattle.h3_field.specs.Line.{FieldLine as line}
 use Rattle.h3_table.specs.TableState.{evicted, newest_in}
 use Rattle.h3_table.specs.Matches.{matches}
@@ -24,9 +25,9 @@ abbrev pub drafted : EncoderHistory → Draft → Field → Choice → Draft
 drafted s d f (choice.Static index) = add_line d (line.StaticField index) []
 drafted s d f (choice.Entry number) = add_line d (line.RelativeField (length s.inserted - number)) (number ∷ [])
 drafted s d f (choice.Insertion after searched) = add_inserted s d f
-drafted s d f (choice.StaticName index) = add_line d (line.StaticName index f.value f.never_indexed) []
-drafted s d f (choice.EntryName number) = add_line d (entry_name_line (length s.inserted) number f.value f.never_indexed) (number ∷ [])
-drafted s d f choice.Literal = add_line d (line.Literal f.name f.value f.never_indexed) []
+drafted s d f (choice.StaticName index) = add_line d (line.StaticName index (coded s.choices.shortest_strings f.value) f.never_indexed) []
+drafted s d f (choice.EntryName number) = add_line d (entry_name_line (length s.inserted) number (coded s.choices.shortest_strings f.value) f.never_indexed) (number ∷ [])
+drafted s d f choice.Literal = add_line d (line.Literal (coded s.choices.shortest_strings f.name) (coded s.choices.shortest_strings f.value) f.never_indexed) []
 
 usable_kept : (s : EncoderHistory) (d : Draft) (marks : List ℕ) (t : EncoderState) (section : Section) (n m : ℕ) → IsDraftState s d marks t section → n ≡ m → most_usable t section n ≡ usable_to s m
 usable_kept s d marks t section n m k e =
@@ -83,10 +84,10 @@ worth_for s d marks t section f k =
 
 -- how a field is inserted
 pub insertion_kept : (s : EncoderHistory) (d : Draft) (marks : List ℕ) (t : EncoderState) (section : Section) (f : Field) (after : ℕ) → IsDraftState s d marks t section → after ≡ evictions_by s d f
-    → insertion_for t.table after f ≡ insertion s d f
+    → insertion_for t.choices.shortest_strings t.table after f ≡ insertion s d f
 insertion_kept s d marks t section f after k e =
-    ap (λ (u : EncoderState). insertion_for u.table after f) k.stores
-    ∙ ap (λ n. insertion_for (table_state_of s.capacity d.inserted) n f) e
+    ap (λ (u : EncoderState). insertion_for u.choices.shortest_strings u.table after f) k.stores
+    ∙ ap (λ n. insertion_for s.choices.shortest_strings (table_state_of s.capacity d.inserted) n f) e
     ∙ rw (remaining_held s d f (matches what.Field f), remaining_held s d f (matches what.Name f)) refl
 
 -- There is room for a field exactly where what is kept has it.

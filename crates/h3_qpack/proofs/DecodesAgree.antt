@@ -7,7 +7,7 @@ use Rattle.h3_qpack.specs.TableHistory.{table_state, table_of}
 use Rattle.h3_qpack.specs.DecoderState.{DecoderState, announcing, count_capacity}
 use Rattle.h3_qpack.specs.Meaning.{MeansFields, IsMissing, IsBadSection}
 use Rattle.h3_qpack.specs.DecodedSection.{Fields, Missing, decode_section}
-use Rattle.h3_qpack.specs.SectionEncoding.{draft_of, encoded_section}
+use Rattle.h3_qpack.specs.SectionEncoding.{guarded_fields, draft_of, encoded_section}
 use Rattle.h3_qpack.specs.Encodings.{decoder_of, IsWritten, IsDecoderAt, tried}
 use Rattle.h3_qpack.specs.Session.{Session, UndecodedSection, oldest, is_canceled, count_of, IsSound, IsWrittenOver}
 use Rattle.h3_qpack.proofs.Decoding.{section_counted, count_holds, oldest_holds}
@@ -73,10 +73,10 @@ pub section_value : (s : Session) (b : UndecodedSection) (r : DecoderState) → 
     → decode_section r (encoded_section b.encoder b.fields) ≡ tried s b
 section_value s b r h of is alive w = by_order (nat_le (count_of b) s.received) refl
   where
-    by_order : (t : Bool) → nat_le (count_of b) s.received ≡ t → decode_section r (encoded_section b.encoder b.fields) ≡ (if t then Fields b.fields (count_of b) else Missing (count_of b))
+    by_order : (t : Bool) → nat_le (count_of b) s.received ≡ t → decode_section r (encoded_section b.encoder b.fields) ≡ (if t then Fields (guarded_fields b.encoder b.fields) (count_of b) else Missing (count_of b))
     by_order true e =
         let came : count_of b ≤ s.received = grind (arith, common_steps) in
-        section_fields r (encoded_section b.encoder b.fields) (count_of b) b.fields (section_means s b r h of is alive came w)
+        section_fields r (encoded_section b.encoder b.fields) (count_of b) (guarded_fields b.encoder b.fields) (section_means s b r h of is alive came w)
     by_order false e =
         let far : s.received < count_of b = grind (arith, common_steps) in
         section_missing r (encoded_section b.encoder b.fields) (count_of b) (is_missing s b r h of is alive w far)
@@ -84,7 +84,7 @@ section_value s b r h of is alive w = by_order (nat_le (count_of b) s.received) 
 pub record DecodesRight (s : Session) (b : UndecodedSection) (count : ℕ) (fields : List Field) : Type 0 where
   pub came : count_of b ≤ s.received
   pub count_is : count ≡ count_of b
-  pub fields_are : fields ≡ b.fields
+  pub fields_are : fields ≡ guarded_fields b.encoder b.fields
 
 -- What is decoded is what was encoded.
 pub decodes_right : (s : Session) (b : UndecodedSection) (r : DecoderState) (count : ℕ) (fields : List Field) → IsSound s → IsDecoderOf s r → oldest b.stream s.sections ≡ Some b → is_canceled s b.stream ≡ false → IsWritten s b
@@ -94,7 +94,7 @@ decodes_right s b r count fields h of is alive w m = by_order (nat_le (count_of 
     by_order : (t : Bool) → nat_le (count_of b) s.received ≡ t → DecodesRight s b count fields
     by_order true e =
         let came : count_of b ≤ s.received = grind (arith, common_steps) in
-        let one = one_meaning r (encoded_section b.encoder b.fields) count (count_of b) fields b.fields m (section_means s b r h (has_read_of s b r h of) is alive came w) in
+        let one = one_meaning r (encoded_section b.encoder b.fields) count (count_of b) fields (guarded_fields b.encoder b.fields) m (section_means s b r h (has_read_of s b r h of) is alive came w) in
         record { came = came; count_is = one.0; fields_are = one.1 }
     by_order false e =
         let far : s.received < count_of b = grind (arith, common_steps) in
@@ -108,7 +108,7 @@ misses_right s b r count h of is alive w m = by_order (nat_le (count_of b) s.rec
     by_order : (t : Bool) → nat_le (count_of b) s.received ≡ t → (count ≡ count_of b) × (s.received < count)
     by_order true e =
         let came : count_of b ≤ s.received = grind (arith, common_steps) in
-        absurd (not_both r (encoded_section b.encoder b.fields) (count_of b) count b.fields (section_means s b r h (has_read_of s b r h of) is alive came w) m)
+        absurd (not_both r (encoded_section b.encoder b.fields) (count_of b) count (guarded_fields b.encoder b.fields) (section_means s b r h (has_read_of s b r h of) is alive came w) m)
     by_order false e =
         let far : s.received < count_of b = grind (arith, common_steps) in
         let one = one_missing r (encoded_section b.encoder b.fields) count (count_of b) m (is_missing s b r h (has_read_of s b r h of) is alive w far) in
@@ -122,7 +122,7 @@ none_bad s b r h of is alive w bad = by_order (nat_le (count_of b) s.received) r
     by_order : (t : Bool) → nat_le (count_of b) s.received ≡ t → ⊥
     by_order true e =
         let came : count_of b ≤ s.received = grind (arith, common_steps) in
-        bad.no_fields (count_of b) b.fields (section_means s b r h (has_read_of s b r h of) is alive came w)
+        bad.no_fields (count_of b) (guarded_fields b.encoder b.fields) (section_means s b r h (has_read_of s b r h of) is alive came w)
     by_order false e =
         let far : s.received < count_of b = grind (arith, common_steps) in
         bad.none_missing (count_of b) (is_missing s b r h (has_read_of s b r h of) is alive w far)

@@ -6,6 +6,7 @@ use Rattle.std.proofs.lemmas.Grind.{common_steps}
 use Rattle.std.proofs.lemmas.List.{take-append-drop}
 use Rattle.std.proofs.lemmas.Bool.{and_parts}
 use Rattle.h3_field.specs.Field.{Field}
+use Rattle.h3_field.specs.StringLiteral.{Text, coded}
 use Rattle.h3_field.specs.Line.{FieldLine}
 use Rattle.h3_field.specs.Line.FieldLine.{RelativeName, PostBaseName}
 use Rattle.h3_field.specs.StaticTable.{static_field, static_name}
@@ -14,7 +15,7 @@ use Rattle.h3_qpack.proofs.Counts.{few_entries}
 use Rattle.h3_table.specs.Table.{table, evictions}
 use Rattle.h3_qpack.specs.EncoderHistory.{EncoderHistory, UnacknowledgedSection}
 use Rattle.h3_qpack.specs.NamedFields.{insertion_at, StandFor, entry_number}
-use Rattle.h3_qpack.specs.SectionEncoding.{Draft, found, found_name, is_insertable, add_line, add_literal, add_inserted, add_ahead, write_field, add_field, draft_of, required_insert_count}
+use Rattle.h3_qpack.specs.SectionEncoding.{Draft, found, found_name, is_insertable, add_line, add_literal, add_inserted, add_ahead, write_field, add_field, first_draft, guarded_fields, draft_of, required_insert_count}
 use Rattle.h3_qpack.specs.Session.{Session, UndecodedSection, oldest, without_oldest, count_of, references_of, undecoded_references, tracked_references, acknowledgments, is_canceled, IsWrittenOver, IsSound, DecodesTo}
 use Rattle.h3_table.specs.TableLaws.{evictions-append}
 use Rattle.h3_qpack.proofs.Newest.{chosen, newest_from-passes}
@@ -89,7 +90,7 @@ found_back s d f number h =
     let le = le_is number (length s.inserted) b.1 in
     (omega (arith, le), omega (arith, p.above), omega (arith, p.below))
 
-pub name_back : (base number : ℕ) (value : List ℕ) (n b : Bool) → nat_le number base ≡ b → 0 < number
+pub name_back : (base number : ℕ) (value : Text) (n b : Bool) → nat_le number base ≡ b → 0 < number
     → entry_number base (if b then RelativeName (base - number) value n else PostBaseName (number - base - 1) value n) ≡ number
 name_back base number value n true e above = grind (arith, common_steps)
 name_back base number value n false e above = grind (arith, common_steps)
@@ -104,7 +105,7 @@ literal_both s d f h =
     chosen (Both s) (found_name s d f) _ _ (λ number e.
     let p = newest_from-passes _ 1 d.inserted number e in
     let above : 0 < number = omega (arith, p.above) in
-    record { longer = h.longer; counted = named_counted s d _ number (name_back (length s.inserted) number f.value f.never_indexed _ refl above) above (omega (arith, p.below)) h.counted }) (λ none.
+    record { longer = h.longer; counted = named_counted s d _ number (name_back (length s.inserted) number (coded s.choices.shortest_strings f.value) f.never_indexed _ refl above) above (omega (arith, p.below)) h.counted }) (λ none.
     record { longer = h.longer; counted = plain_counted s d _ refl h.counted }))
 
 ahead_both : (s : EncoderHistory) (d : Draft) (f : Field) → Both s d → Both s (add_ahead s d f)
@@ -132,7 +133,7 @@ fields_both s d [] h = h
 fields_both s d (f ∷ fields) h = fields_both s (add_field s d f) fields (field_both s d f h)
 
 pub section_counted : (s : EncoderHistory) (fields : List Field) → IsCounted s (draft_of s fields)
-section_counted s fields = (fields_both s (record { inserted = s.inserted; instructions = []; lines = []; references = [] }) fields (record { longer = omega arith; counted = record { lines = tt; positive = tt; made = tt } })).counted
+section_counted s fields = (fields_both s (first_draft s) (guarded_fields s fields) (record { longer = omega arith; counted = record { lines = tt; positive = tt; made = tt } })).counted
 
 slice_get-take : {X : Type 0} (xs : List X) (n i : ℕ) (x : X) → i < n → slice_get xs i ≡ Some x → slice_get (take n xs) i ≡ Some x
 slice_get-take [] n i x lt h = cc
@@ -206,15 +207,16 @@ section_decodes s b h is alive came =
     let w = oldest_holds (IsWrittenOver s.encoder.inserted) b.stream s.sections b h.written is in
     let base = length b.encoder.inserted in
     let lines = (draft_of b.encoder b.fields).lines in
-    let all : StandFor s.encoder.inserted base lines b.fields =
-    subst (λ fs. StandFor fs base lines b.fields) (sym w.begins)
-    (StandFor-append (draft_of b.encoder b.fields).inserted w.more base lines b.fields (section_stands b.encoder b.fields)) in
+    let fields = guarded_fields b.encoder b.fields in
+    let all : StandFor s.encoder.inserted base lines fields =
+    subst (λ fs. StandFor fs base lines fields) (sym w.begins)
+    (StandFor-append (draft_of b.encoder b.fields).inserted w.more base lines fields (section_stands b.encoder b.fields)) in
     let counted = section_counted b.encoder b.fields in
     let fewer : evictions s.encoder.capacity (take s.received s.encoder.inserted) ≤ evictions s.encoder.capacity s.encoder.inserted =
     subst (λ fs. evictions s.encoder.capacity (take s.received s.encoder.inserted) ≤ evictions s.encoder.capacity fs) (take-append-drop s.received s.encoder.inserted)
     (evictions-append s.encoder.capacity (take s.received s.encoder.inserted) (drop s.received s.encoder.inserted)) in
     record {
-      lines = StandFor-take s.encoder.inserted s.received base lines b.fields (no_less base (count_of b) s.received lines came counted.lines) all;
+      lines = StandFor-take s.encoder.inserted s.received base lines fields (no_less base (count_of b) s.received lines came counted.lines) all;
       present = All-weaker _ _ (references_of b) fewer (names_held s b h is alive);
     }
 

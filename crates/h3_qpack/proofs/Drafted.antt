@@ -4,6 +4,7 @@ use Rattle.std.specs.List.{AllByRecursion}
 use Rattle.std.proofs.lemmas.List.{flat_map_more}
 use Rattle.std.proofs.lemmas.List.Sums.{fold_push}
 use Rattle.h3_field.specs.Field.{Field, field_size}
+use Rattle.h3_field.specs.StringLiteral.{coded}
 use Rattle.h3_field.specs.Line.{FieldLine, line_bytes}
 use Rattle.h3_field.specs.Line.{FieldLine as line}
 use Rattle.h3_field.specs.Instruction.{encoder_bytes}
@@ -31,9 +32,9 @@ lines_more : (ls : List FieldLine) (l m : FieldLine) (lines : List ℕ) → line
 lines_more ls l m lines e same = ap (λ bytes. bytes ++ line_bytes l) e ∙ ap (λ k. flat_map line_bytes ls ++ line_bytes k) same ∙ flat_map_more line_bytes [] ls m
 
 -- a line that names nothing
-plain_drafted : (s : EncoderHistory) (d : Draft) (marks : List ℕ) (t : EncoderState) (section : Section) (lines start instruction_bytes : List ℕ) (l : FieldLine) → IsDraftedWith s d marks t section lines start instruction_bytes
-    → IsDraftedWith s (add_line d l []) marks t section (lines ++ line_bytes l) start (instruction_bytes ++ [])
-plain_drafted s d marks t section lines start instruction_bytes l h =
+plain_drafted : (s : EncoderHistory) (d : Draft) (marks : List ℕ) (t : EncoderState) (section : Section) (lines start instruction_bytes : List ℕ) (l m : FieldLine) → IsDraftedWith s d marks t section lines start instruction_bytes → l ≡ m
+    → IsDraftedWith s (add_line d m []) marks t section (lines ++ line_bytes l) start (instruction_bytes ++ [])
+plain_drafted s d marks t section lines start instruction_bytes l m h same =
     record {
       state = record {
         stores = h.state.stores;
@@ -43,7 +44,7 @@ plain_drafted s d marks t section lines start instruction_bytes l h =
         oldest = h.state.oldest ∙ ap oldest_of (sym (append-nil d.references));
         newest = h.state.newest ∙ ap (λ ns. fold max 0 ns) (sym (append-nil d.references));
       };
-      lines_are = lines_more d.lines l l lines h.lines_are refl;
+      lines_are = lines_more d.lines l m lines h.lines_are same;
       instructions_are = append-nil instruction_bytes ∙ h.instructions_are;
     }
 
@@ -96,14 +97,18 @@ insertion_drafted s d marks t section f after searched lines start instruction_b
 chosen_drafted : (s : EncoderHistory) (d : Draft) (marks : List ℕ) (t : EncoderState) (section : Section) (f : Field) (c : Choice) (lines start instruction_bytes : List ℕ) → IsDraftedWith s d marks t section lines start instruction_bytes
     → IsPossible t section f c
     → IsDraftedWith s (drafted s d f c) marks (encoder_state_with t f c) (section_after t section c) (lines ++ line_bytes (line_for t section f c)) start (instruction_bytes ++ flat_map encoder_bytes (instructions_after t f c))
-chosen_drafted s d marks t section f (choice.Static index) lines start instruction_bytes h p = plain_drafted s d marks t section lines start instruction_bytes (line.StaticField index) h
+chosen_drafted s d marks t section f (choice.Static index) lines start instruction_bytes h p = plain_drafted s d marks t section lines start instruction_bytes _ _ h refl
 chosen_drafted s d marks t section f (choice.Entry number) lines start instruction_bytes h p =
     entry_drafted s d marks t section lines start instruction_bytes _ _ number h (ap (λ n. line.RelativeField (n - number)) h.state.base)
 chosen_drafted s d marks t section f (choice.Insertion after searched) lines start instruction_bytes h p = insertion_drafted s d marks t section f after searched lines start instruction_bytes h p
-chosen_drafted s d marks t section f (choice.StaticName index) lines start instruction_bytes h p = plain_drafted s d marks t section lines start instruction_bytes (line.StaticName index f.value f.never_indexed) h
+chosen_drafted s d marks t section f (choice.StaticName index) lines start instruction_bytes h p =
+    plain_drafted s d marks t section lines start instruction_bytes _ _ h (ap (λ (u : EncoderState). line.StaticName index (coded u.choices.shortest_strings f.value) f.never_indexed) h.state.stores)
 chosen_drafted s d marks t section f (choice.EntryName number) lines start instruction_bytes h p =
-    entry_drafted s d marks t section lines start instruction_bytes _ _ number h (ap (λ n. entry_name_line n number f.value f.never_indexed) h.state.base)
-chosen_drafted s d marks t section f choice.Literal lines start instruction_bytes h p = plain_drafted s d marks t section lines start instruction_bytes (line.Literal f.name f.value f.never_indexed) h
+    entry_drafted s d marks t section lines start instruction_bytes _ _ number h
+    (ap (λ (u : EncoderState). entry_name_line section.base number (coded u.choices.shortest_strings f.value) f.never_indexed) h.state.stores
+    ∙ ap (λ n. entry_name_line n number (coded s.choices.shortest_strings f.value) f.never_indexed) h.state.base)
+chosen_drafted s d marks t section f choice.Literal lines start instruction_bytes h p =
+    plain_drafted s d marks t section lines start instruction_bytes _ _ h (ap (λ (u : EncoderState). line.Literal (coded u.choices.shortest_strings f.name) (coded u.choices.shortest_strings f.value) f.never_indexed) h.state.stores)
 
 -- what sections that are tracked name is there
 pub names_kept : (s : EncoderHistory) (d : Draft) (marks : List ℕ) (t : EncoderState) (section : Section) → IsDraftState s d marks t section → AllByRecursion (λ u. 0 < u.oldest) t.tracked → NameEntries s

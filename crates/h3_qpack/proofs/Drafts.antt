@@ -7,7 +7,7 @@ use Rattle.h3_field.specs.Field.{Field, field_eq, field_size}
 use Rattle.h3_field.specs.Line.{FieldLine}
 use Rattle.h3_table.specs.Table.{evictions}
 use Rattle.h3_qpack.specs.EncoderHistory.{EncoderHistory, blocks_out, referenced_entries}
-use Rattle.h3_qpack.specs.SectionEncoding.{Draft, is_usable, unnamed, held, found, any_equal, is_worth_to, marks_after, evictions_by, finds_room, is_insertable, is_new, is_insertable_ahead, found_name, add_line, add_literal, add_inserted, add_ahead, write_field, add_field, draft_of}
+use Rattle.h3_qpack.specs.SectionEncoding.{Draft, is_usable, unnamed, held, found, any_equal, is_worth_to, marks_after, evictions_by, finds_room, is_insertable, is_new, is_insertable_ahead, found_name, add_line, add_literal, add_inserted, add_ahead, write_field, add_field, first_draft, guarded_fields, draft_of}
 use Rattle.h3_field.specs.StaticTable.{static_field, static_name}
 use Rattle.h3_table.specs.ReleasingLaws.{All-join}
 use Rattle.h3_table.specs.TableLaws.{length-table}
@@ -103,7 +103,7 @@ may_block s d f h =
 -- There is room for what is inserted for later sections.
 pub may_insert_ahead : (s : EncoderHistory) (marks : List ℕ) (d : Draft) (f : Field) → is_insertable_ahead s marks d f ≡ true → MayInsert s d f
 may_insert_ahead s marks d f h =
-    room_found s d f (and_parts (s.economical && (s.limit == 0) && is_new s d f && is_worth_to s (not (is_none (any_equal s d f))) marks d f) (finds_room s d f) h).1
+    room_found s d f (and_parts (s.choices.economical && (s.limit == 0) && is_new s d f && is_worth_to s (not (is_none (any_equal s d f))) marks d f) (finds_room s d f) h).1
 
 -- an entry that is named stays named where nothing that is named is evicted
 kept_names : (s : EncoderHistory) (fs gs : List Field) (names : List ℕ) → AllByRecursion (IsNamed s fs) names → AllByRecursion (λ number. evictions s.capacity (fs ++ gs) < number) names → AllByRecursion (IsNamed s (fs ++ gs)) names
@@ -200,5 +200,5 @@ fields_are_draft s d (f ∷ fields) h = fields_are_draft s (add_field s d f) fie
 -- Each section under way names entries that are there, and evicts none that a tracked section names or that isn't known.
 pub draft_is_draft : (s : EncoderHistory) (fields : List Field) → AllByRecursion (λ number. evictions s.capacity s.inserted < number) (referenced_entries s) → IsDraft s (draft_of s fields)
 draft_is_draft s fields held =
-    fields_are_draft s (record { inserted = s.inserted; instructions = []; lines = []; references = [] }) fields
+    fields_are_draft s (first_draft s) (guarded_fields s fields)
     (record { more = []; begins = sym (append-nil s.inserted); references = tt; present = held; evictions_known = omega arith; small = λ k. k })

@@ -3,6 +3,7 @@ use Rattle.std.proofs.Common.{◌≡◌, ◌⊎◌, inl, inr, ℕ, zero, suc, �
 use Rattle.std.specs.List.{AllByRecursion, flat_map}
 use Rattle.std.proofs.lemmas.Grind.{common_steps}
 use Rattle.h3_field.specs.Field.{Field}
+use Rattle.h3_field.specs.StringLiteral.{coded}
 use Rattle.h3_field.specs.Line.{FieldLine, line_bytes}
 use Rattle.h3_field.specs.Line.FieldLine.{StaticField, RelativeField, PostBaseField, StaticName, RelativeName, PostBaseName, Literal}
 use Rattle.h3_field.specs.Section.{AreLines, NoLine, NextLine}
@@ -14,7 +15,7 @@ use Rattle.h3_table.specs.TableState.{TableState, entry_at}
 use Rattle.h3_qpack.specs.TableHistory.{table_state, table_of}
 use Rattle.h3_qpack.specs.NamedFields.{insertion_at, StandFor, entry_number}
 use Rattle.h3_qpack.specs.Meaning.{field_at, HaveFields}
-use Rattle.h3_qpack.specs.SectionEncoding.{Draft, found, found_name, is_insertable, add_line, add_literal, add_inserted, write_field, add_field, draft_of}
+use Rattle.h3_qpack.specs.SectionEncoding.{Draft, found, found_name, is_insertable, add_line, add_literal, add_inserted, write_field, add_field, first_draft, guarded_fields, draft_of}
 use Rattle.h3_qpack.specs.Encodings.{IsWrittenLine}
 use Rattle.h3_qpack.proofs.Newest.{chosen, newest_from-passes}
 use Rattle.h3_qpack.proofs.Drafts.{either_way, with_field}
@@ -81,7 +82,7 @@ literal_named P s d f h =
     chosen (Naming P s) (static_name f.name) _ _ (λ index e. plain_named P s d _ refl h) (λ none.
     chosen (Naming P s) (found_name s d f) _ _ (λ number e.
     let p = newest_from-passes _ 1 d.inserted number e in
-    entry_named P s d _ number (name_back (length s.inserted) number f.value f.never_indexed _ refl (omega (arith, p.above))) h) (λ none.
+    entry_named P s d _ number (name_back (length s.inserted) number (coded s.choices.shortest_strings f.value) f.never_indexed _ refl (omega (arith, p.above))) h) (λ none.
     plain_named P s d _ refl h))
 
 line_of_field_named : (P : ℕ → Type 0) (s : EncoderHistory) (d : Draft) (f : Field) → Naming P s d → Naming P s (write_field s d f)
@@ -103,12 +104,12 @@ fields_named P s d (f ∷ fields) h = fields_named P s (add_field s d f) fields 
 pub lines_name : (P : ℕ → Type 0) (s : EncoderHistory) (fields : List Field) → AllByRecursion P (draft_of s fields).references
     → AllByRecursion (Names P (length s.inserted)) (draft_of s fields).lines
 lines_name P s fields all =
-    (fields_named P s (record { inserted = s.inserted; instructions = []; lines = []; references = [] }) fields (record { longer = omega arith; each = λ none. tt })).each all
+    (fields_named P s (first_draft s) (guarded_fields s fields) (record { longer = omega arith; each = λ none. tt })).each all
 
 -- a section takes no insertion away
 pub section_longer : (s : EncoderHistory) (fields : List Field) → length s.inserted ≤ length (draft_of s fields).inserted
 section_longer s fields =
-    (fields_named (λ n. Unit {0}) s (record { inserted = s.inserted; instructions = []; lines = []; references = [] }) fields (record { longer = omega arith; each = λ none. tt })).longer
+    (fields_named (λ n. Unit {0}) s (first_draft s) (guarded_fields s fields) (record { longer = omega arith; each = λ none. tt })).longer
 
 -- an entry that is not evicted is found where it is held
 pub still_held : (fs : List Field) (evicted number : ℕ) (f : Field) → evicted < number → evicted ≤ length fs → insertion_at fs number ≡ Some f
@@ -232,8 +233,8 @@ line_same h k base (StaticField index) e f = refl
 line_same h k base (RelativeField index) e f = entry_same h k (base - index) e f
 line_same h k base (PostBaseField index) e f = entry_same h k (base + index + 1) e f
 line_same h k base (StaticName index value n) e f = refl
-line_same h k base (RelativeName index value n) e f = ap (with_value value n) (entry_same h k (base - index) e f)
-line_same h k base (PostBaseName index value n) e f = ap (with_value value n) (entry_same h k (base + index + 1) e f)
+line_same h k base (RelativeName index value n) e f = ap (with_value value.bytes n) (entry_same h k (base - index) e f)
+line_same h k base (PostBaseName index value n) e f = ap (with_value value.bytes n) (entry_same h k (base + index + 1) e f)
 line_same h k base (Literal name value n) e f = refl
 
 lines_same : (h k : TableState) (base : ℕ) (ls : List FieldLine) (fs : List Field) → h.entries ≡ k.entries → h.inserted ≡ k.inserted → HaveFields h base ls fs → HaveFields k base ls fs
@@ -244,7 +245,7 @@ lines_same h k base (l ∷ ls) [] e f a = a
 
 -- A section whose insertions came means its fields to a decoder that has read them.
 pub section_means : (s : Session) (b : UndecodedSection) (r : DecoderState) → IsSound s → HasReadFor s b r → oldest b.stream s.sections ≡ Some b → is_canceled s b.stream ≡ false → count_of b ≤ s.received → IsWritten s b
-    → MeansFields r (encoded_section b.encoder b.fields) (count_of b) b.fields
+    → MeansFields r (encoded_section b.encoder b.fields) (count_of b) (guarded_fields b.encoder b.fields)
 section_means s b r h of is alive came w =
     record {
       rest = flat_map line_bytes lines;
@@ -268,15 +269,15 @@ section_means s b r h of is alive came w =
     few : count_of b < 2 ^ 62
     few = omega (arith, came, h.received, h.small)
 
-    by_count : (t : Bool) → nat_lt 0 (count_of b) ≡ t → HaveFields r.table (base_of b t) lines b.fields
+    by_count : (t : Bool) → nat_lt 0 (count_of b) ≡ t → HaveFields r.table (base_of b t) lines (guarded_fields b.encoder b.fields)
     by_count true e =
-        lines_same (decoder_of s).table r.table (length b.encoder.inserted) lines b.fields (sym of.entries) (received_is ∙ sym of.inserted)
-        (lines_held s.encoder.capacity (take s.received s.encoder.inserted) (length b.encoder.inserted) lines b.fields
+        lines_same (decoder_of s).table r.table (length b.encoder.inserted) lines (guarded_fields b.encoder b.fields) (sym of.entries) (received_is ∙ sym of.inserted)
+        (lines_held s.encoder.capacity (take s.received s.encoder.inserted) (length b.encoder.inserted) lines (guarded_fields b.encoder b.fields)
         (lines_name (λ n. evictions s.encoder.capacity (take s.received s.encoder.inserted) < n) b.encoder b.fields d.present) d.lines)
     by_count false e =
         let none : count_of b ≡ 0 = grind (arith, common_steps) in
         let counted : AllByRecursion (λ line. entry_number (length b.encoder.inserted) line ≤ count_of b) lines = (section_counted b.encoder b.fields).lines in
-        lines_plain r.table (take s.received s.encoder.inserted) (length b.encoder.inserted) lines b.fields (rw none at counted) d.lines
+        lines_plain r.table (take s.received s.encoder.inserted) (length b.encoder.inserted) lines (guarded_fields b.encoder b.fields) (rw none at counted) d.lines
 
 -- the session's own decoder has read so
 pub own_read : (s : Session) (b : UndecodedSection) → IsSound s → HasReadFor s b (decoder_of s)

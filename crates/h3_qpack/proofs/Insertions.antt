@@ -12,7 +12,7 @@ use Rattle.h3_field.specs.StaticTable.{static_table, static_field, static_name}
 use Rattle.h3_field.specs.Instruction.{EncoderInstruction}
 use Rattle.h3_table.specs.Table.{evictions}
 use Rattle.h3_qpack.specs.EncoderHistory.{EncoderHistory}
-use Rattle.h3_qpack.specs.SectionEncoding.{Draft, found, marks_after, evictions_by, is_insertable, remaining, insertion, add_line, add_literal, write_field, add_field, draft_of, found_name, instructions_for}
+use Rattle.h3_qpack.specs.SectionEncoding.{Draft, found, marks_after, evictions_by, is_insertable, remaining, insertion, add_line, add_literal, write_field, add_field, first_draft, guarded_fields, draft_of, found_name, instructions_for}
 use Rattle.h3_qpack.specs.TableHistory.{TableHistory, entry_still_at, field_inserted, table_after_insertion, table_after, table_after_all, table_of, IsReadAs}
 use Rattle.h3_table.specs.TableLaws.{evictions-append}
 use Rattle.h3_qpack.proofs.Newest.{chosen, newest_from-passes}
@@ -159,4 +159,4 @@ fields_read_as greatest s before d (f ∷ fields) h = fields_read_as greatest s 
 pub section_read_as : (greatest : ℕ) (s : EncoderHistory) (before : List EncoderInstruction) (fields : List Field)
     → IsReadAs greatest s.capacity before s.inserted → IsReadAs greatest s.capacity (before ++ instructions_for s fields) (draft_of s fields).inserted
 section_read_as greatest s before fields h =
-    fields_read_as greatest s before (record { inserted = s.inserted; instructions = []; lines = []; references = [] }) fields (rw append-nil h)
+    fields_read_as greatest s before (first_draft s) (guarded_fields s fields) (rw append-nil h)

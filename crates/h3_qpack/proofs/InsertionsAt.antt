@@ -2,7 +2,8 @@
 use Rattle.std.proofs.Common.{◌≡◌, inl, inr, ℕ, ◌<◌, ◌≤◌, nat_le, true, false, List, length, Option, Some, None, Ok, Err, refl, ap, sym, ◌∙◌, subst, arith}
 use Rattle.h3_field.specs.Field.{Field}
 use Rattle.h3_field.specs.Reading.{Reading, Whole, Unfinished, Bad}
-use Rattle.h3_field.specs.Instruction.{EncoderInstruction}
+use Rattle.h3_field.specs.Instruction.{EncoderInstruction, huffman_instruction}
+use Rattle.h3_field.specs.CodingLaws.{told_instruction}
 use Rattle.h3_field.specs.ReadBack.{HasInstruction}
 use Rattle.h3_field.specs.InstructionReading.{InstructionForm, Says, instruction}
 use Rattle.h3_field.specs.InstructionAnswer.{AnswersInstruction}
@@ -23,12 +24,40 @@ use Rattle.h3_qpack.specs.Instructions.{BeginsBad}
 use Rattle.h3_qpack.specs.SectionAnswers.{IsReasonFor}
 use Rattle.h3_qpack.specs.InstructionAnswers.{BeginsInsertion, BeginsNoInsertion, HasReadOne}
 
+-- how the strings of an instruction are coded plays no part in what it inserts
+inserts_alike : (i : EncoderInstruction) → is_insertion (huffman_instruction i) ≡ is_insertion i
+inserts_alike (SetCapacity n) = refl
+inserts_alike (InsertWithStaticName index value) = refl
+inserts_alike (InsertWithEntryName index value) = refl
+inserts_alike (InsertLiteral name value) = refl
+inserts_alike (Duplicate index) = refl
+
+coding_plays_no_part : (h : TableState) (i : EncoderInstruction) → insertion_of h (huffman_instruction i) ≡ insertion_of h i
+coding_plays_no_part h (SetCapacity n) = refl
+coding_plays_no_part h (InsertWithStaticName index value) = refl
+coding_plays_no_part h (InsertWithEntryName index value) = refl
+coding_plays_no_part h (InsertLiteral name value) = refl
+coding_plays_no_part h (Duplicate index) = refl
+
+-- an instruction without strings is that one
+capacity_alike : (i : EncoderInstruction) (n : ℕ) → huffman_instruction i ≡ SetCapacity n → i ≡ SetCapacity n
+capacity_alike (SetCapacity m) n e = e
+capacity_alike (InsertWithStaticName index value) n e = absurd (cc)
+capacity_alike (InsertWithEntryName index value) n e = absurd (cc)
+capacity_alike (InsertLiteral name value) n e = absurd (cc)
+capacity_alike (Duplicate index) n e = absurd (cc)
+
+pub capacity_told : (old new : List ℕ) (n : ℕ) → (j : EncoderInstruction) × HasInstruction old j new × (huffman_instruction j ≡ SetCapacity n) → HasInstruction old (SetCapacity n) new
+capacity_told old new n told = subst (λ i. HasInstruction old i new) (capacity_alike told.0 n told.2) told.1
+
 pub has_instruction : {I : Type 0} (place : Place) (says : I → EncoderInstruction) (r : Reading InstructionForm) (old new : List ℕ) (o : Option I) (i : I) → instruction old ≡ r → o ≡ Some i
-    → AnswersInstruction says place r old new (Ok o) → HasInstruction old (says i) new
+    → AnswersInstruction says place r old new (Ok o) → (j : EncoderInstruction) × HasInstruction old j new × (huffman_instruction j ≡ says i)
 has_instruction {I} place says r old new o i e is answer = from r e (subst (λ (x : Option I). AnswersInstruction says place r old new (Ok x)) is answer)
   where
-    from : (r : Reading InstructionForm) → instruction old ≡ r → AnswersInstruction says place r old new (Ok (Some i)) → HasInstruction old (says i) new
-    from (Whole form rest) e h = record { form = form; whole = rw h.1 e; says = h.0 }
+    from : (r : Reading InstructionForm) → instruction old ≡ r → AnswersInstruction says place r old new (Ok (Some i)) → (j : EncoderInstruction) × HasInstruction old j new × (huffman_instruction j ≡ says i)
+    from (Whole form rest) e h =
+        let told = told_instruction form (says i) h.0 in
+        (told.0, record { form = form; whole = rw h.1 e; says = told.1 }, told.2)
     from Unfinished e h = absurd (cc)
     from Bad e h = absurd (cc)
 
@@ -37,15 +66,24 @@ pub begins_insertion : {I : Type 0} (place : Place) (h : TableState) (says : I �
     → ((bytes rest : List ℕ) (form : InstructionForm) → read bytes ≡ Whole form rest → length rest < length bytes) → instruction old ≡ read old
     → o ≡ Some i → AnswersInstruction says place (read old) old new (Ok o) → is_insertion (says i) ≡ true → insertion_of h (says i) ≡ Some f → f.never_indexed ≡ false → BeginsInsertion h old f new
 begins_insertion place h says read old new o i f shorter e is answer inserts names plain =
-    let here = has_instruction place says (read old) old new o i e is answer in
-    record { i = says i; here = here; inserts = inserts; names = names; plain = plain; less = shorter old new here.form (sym e ∙ here.whole) }
+    let told = has_instruction place says (read old) old new o i e is answer in
+    record {
+      i = told.0;
+      here = told.1;
+      inserts = sym (inserts_alike told.0) ∙ ap is_insertion told.2 ∙ inserts;
+      names = sym (coding_plays_no_part h told.0) ∙ ap (insertion_of h) told.2 ∙ names;
+      plain = plain;
+      less = shorter old new told.1.form (sym e ∙ told.1.whole);
+    }
 
 -- an insertion that was read and names no field
 pub begins_no_insertion : {I : Type 0} (place : Place) (h : TableState) (says : I → EncoderInstruction) (read : Reading InstructionForm) (old new : List ℕ) (o : Option I) (i : I) → instruction old ≡ read
     → o ≡ Some i → AnswersInstruction says place read old new (Ok o) → is_insertion (says i) ≡ true → insertion_of h (says i) ≡ None → BeginsNoInsertion h old
 begins_no_insertion place h says read old new o i e is answer inserts none =
-    let here = has_instruction place says read old new o i e is answer in
-    inr (here.form, new, here.whole, λ j s. let same = one_instruction_said here.form (says i) j here.says s in (rw (← same) inserts, rw (← same) none))
+    let told = has_instruction place says read old new o i e is answer in
+    let own : is_insertion told.0 ≡ true = sym (inserts_alike told.0) ∙ ap is_insertion told.2 ∙ inserts in
+    let no_field : insertion_of h told.0 ≡ None = sym (coding_plays_no_part h told.0) ∙ ap (insertion_of h) told.2 ∙ none in
+    inr (told.1.form, new, told.1.whole, λ j s. let same = one_instruction_said told.1.form told.0 j told.1.says s in (sym (ap is_insertion same) ∙ own, sym (ap (insertion_of h) same) ∙ no_field))
 
 pub not_whole : {I : Type 0} (place : Place) (says : I → EncoderInstruction) (r : Reading InstructionForm) (old new : List ℕ) → instruction old ≡ r → AnswersInstruction says place r old new (Ok None) → instruction old ≡ Unfinished
 not_whole place says (Whole form rest) old new e h = absurd h

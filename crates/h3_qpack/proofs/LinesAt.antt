@@ -1,9 +1,10 @@
 -- A line at the front of some bytes, and the field that it is of.
-use Rattle.std.proofs.Common.{◌≡◌, ℕ, ◌<◌, Bool, List, [], ◌∷◌, ◌++◌, length, Some, None, Result, Ok, Err, inl, inr, sym, ◌∙◌}
+use Rattle.std.proofs.Common.{◌≡◌, ℕ, ◌<◌, Bool, List, [], ◌∷◌, ◌++◌, length, Some, None, Result, Ok, Err, inl, inr, refl, sym, ap, ◌∙◌}
 use Rattle.std.specs.Prelude.{OnOk, IfErr}
 use Rattle.h3_field.specs.Field.{Field}
 use Rattle.h3_field.specs.Reading.{Reading, Whole, Unfinished, Bad}
-use Rattle.h3_field.specs.Line.{FieldLine}
+use Rattle.h3_field.specs.Line.{FieldLine, huffman_line}
+use Rattle.h3_field.specs.Line.FieldLine.{StaticField, RelativeField, PostBaseField, StaticName, RelativeName, PostBaseName, Literal}
 use Rattle.h3_field.specs.LineReading.{LineForm, SaysLine, line, named}
 use Rattle.h3_field.specs.LineAnswer.{AnswersLine, short_named_line}
 use Rattle.h3_field.specs.IntegerReading.{integer}
@@ -28,20 +29,31 @@ use Rattle.h3_field.specs.declared.decoder_error.DecoderError.TheVariants as err
 use Rattle.h3_qpack.specs.ReasonLaws.{reason_with_map}
 use Rattle.h3_qpack.specs.SectionAnswers.{BeginsWith, BeginsWithNone, LinesAskMemory, IsReasonWith, HasPut, PutsLine}
 
+-- how the strings of a line are coded plays no part in its field
+coding_plays_no_part : (h : TableState) (base : ℕ) (l : FieldLine) → field_at h base (huffman_line l) ≡ field_at h base l
+coding_plays_no_part h base (StaticField index) = refl
+coding_plays_no_part h base (RelativeField index) = refl
+coding_plays_no_part h base (PostBaseField index) = refl
+coding_plays_no_part h base (StaticName index value n) = refl
+coding_plays_no_part h base (RelativeName index value n) = refl
+coding_plays_no_part h base (PostBaseName index value n) = refl
+coding_plays_no_part h base (Literal name value n) = refl
+
 -- the field of a line that was read
 pub begins_with : {L : Type 0} (place : Place) (h : TableState) (base : ℕ) (line_of : L → FieldLine) (read : List ℕ → Reading LineForm) (old new : List ℕ) (l : L) (f : Field)
     → ((bytes rest : List ℕ) (form : LineForm) → read bytes ≡ Whole form rest → length rest < length bytes) → line old ≡ read old
     → AnswersLine line_of place (read old) old new (Ok l) → field_at h base (line_of l) ≡ Some f → BeginsWith h base old f new
 begins_with place h base line_of read old new l f shorter e answer names =
-    let here = has_line place line_of (read old) old new l e answer in
-    record { line = line_of l; here = here; names = names; less = shorter old new here.form (sym e ∙ here.whole) }
+    let told = has_line place line_of (read old) old new l e answer in
+    record { line = told.0; here = told.1; names = sym (coding_plays_no_part h base told.0) ∙ ap (field_at h base) told.2 ∙ names; less = shorter old new told.1.form (sym e ∙ told.1.whole) }
 
 -- a line that was read and is of no field
 pub begins_with_none : {L : Type 0} (place : Place) (h : TableState) (base : ℕ) (line_of : L → FieldLine) (r : Reading LineForm) (old new : List ℕ) (l : L) → line old ≡ r
     → AnswersLine line_of place r old new (Ok l) → field_at h base (line_of l) ≡ None → BeginsWithNone h base old
 begins_with_none place h base line_of r old new l e answer none rest k f here names =
-    let one = line_one old new rest (line_of l) k (has_line place line_of r old new l e answer) here in
-    let same : field_at h base (line_of l) ≡ Some f = rw (← one.0) at names in
+    let told = has_line place line_of r old new l e answer in
+    let one = line_one old new rest told.0 k told.1 here in
+    let same : field_at h base (line_of l) ≡ Some f = ap (field_at h base) (sym told.2) ∙ coding_plays_no_part h base told.0 ∙ ap (field_at h base) one.0 ∙ names in
     absurd (cc)
 
 not_read : (h : TableState) (base : ℕ) (old : List ℕ) (r : Reading LineForm) → line old ≡ r → ((form : LineForm) (rest : List ℕ) → r ≡ Whole form rest → ⊥) → BeginsWithNone h base old

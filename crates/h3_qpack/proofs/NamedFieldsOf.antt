@@ -9,12 +9,13 @@ use Rattle.std.proofs.lemmas.Bool.{and_parts}
 use Rattle.h3_field.specs.FieldLaws.{same_bytes, same_field}
 use Rattle.h3_field.specs.Field.{Field, field_eq}
 use Rattle.h3_field.specs.Section.{with_value}
+use Rattle.h3_field.specs.StringLiteral.{coded}
 use Rattle.h3_field.specs.Line.{FieldLine}
 use Rattle.h3_field.specs.Line.FieldLine.{StaticField, RelativeField, PostBaseField, StaticName, RelativeName, PostBaseName, Literal}
 use Rattle.h3_field.specs.StaticTable.{static_table, static_field, static_name}
 use Rattle.h3_table.specs.Table.{newest}
 use Rattle.h3_qpack.specs.EncoderHistory.{EncoderHistory}
-use Rattle.h3_qpack.specs.SectionEncoding.{Draft, is_usable, found, found_name, is_insertable, add_line, add_literal, add_inserted, add_ahead, write_field, add_field, draft_of, entry_name_line}
+use Rattle.h3_qpack.specs.SectionEncoding.{Draft, is_usable, found, found_name, is_insertable, add_line, add_literal, add_inserted, add_ahead, write_field, add_field, first_draft, guarded_fields, draft_of, entry_name_line}
 use Rattle.h3_qpack.specs.NamedFields.{entry_number, line_field_by, AreOf, insertion_at, named_field, StandFor}
 use Rattle.h3_qpack.proofs.Newest.{chosen, newest_from-passes}
 use Rattle.h3_qpack.proofs.Drafts.{either_way, with_field}
@@ -39,8 +40,8 @@ line_alike here there base other (StaticField index) f same h = h
 line_alike here there base other (RelativeField index) f same h = same f h
 line_alike here there base other (PostBaseField index) f same h = same f h
 line_alike here there base other (StaticName index value n) f same h = h
-line_alike here there base other (RelativeName index value n) f same h = with_value-more value n _ _ f same h
-line_alike here there base other (PostBaseName index value n) f same h = with_value-more value n _ _ f same h
+line_alike here there base other (RelativeName index value n) f same h = with_value-more value.bytes n _ _ f same h
+line_alike here there base other (PostBaseName index value n) f same h = with_value-more value.bytes n _ _ f same h
 line_alike here there base other (Literal name value n) f same h = h
 
 pub lines_alike : (P : FieldLine → Type 0) (here there : ℕ → Option Field) (base other : ℕ) (lines : List FieldLine) (fields : List Field)
@@ -139,21 +140,21 @@ found_line s d f number h =
     le_is : (a b : ℕ) → nat_le a b ≡ true → a ≤ b
     le_is a b e = grind (arith, common_steps)
 
-named_line : (inserted : List Field) (base number : ℕ) (f : Field) (b : Bool) → nat_le number base ≡ b → 0 < number → with_value f.value f.never_indexed (insertion_at inserted number) ≡ Some f
-    → named_field inserted base (if b then RelativeName (base - number) f.value f.never_indexed else PostBaseName (number - base - 1) f.value f.never_indexed) ≡ Some f
-named_line inserted base number f true e above h =
+named_line : (inserted : List Field) (base number : ℕ) (shortest : Bool) (f : Field) (b : Bool) → nat_le number base ≡ b → 0 < number → with_value f.value f.never_indexed (insertion_at inserted number) ≡ Some f
+    → named_field inserted base (if b then RelativeName (base - number) (coded shortest f.value) f.never_indexed else PostBaseName (number - base - 1) (coded shortest f.value) f.never_indexed) ≡ Some f
+named_line inserted base number shortest f true e above h =
     let back : base - (base - number) ≡ number = grind (arith, common_steps) in ap (λ n. with_value f.value f.never_indexed (insertion_at inserted n)) back ∙ h
-named_line inserted base number f false e above h =
+named_line inserted base number shortest f false e above h =
     let back : base + (number - base - 1) + 1 ≡ number = grind (arith, common_steps) in ap (λ n. with_value f.value f.never_indexed (insertion_at inserted n)) back ∙ h
 
 found_name_line : (s : EncoderHistory) (d : Draft) (f : Field) (number : ℕ) → found_name s d f ≡ Some number
-    → named_field d.inserted (length s.inserted) (entry_name_line (length s.inserted) number f.value f.never_indexed) ≡ Some f
+    → named_field d.inserted (length s.inserted) (entry_name_line (length s.inserted) number (coded s.choices.shortest_strings f.value) f.never_indexed) ≡ Some f
 found_name_line s d f number h =
     let p = newest_from-passes _ 1 d.inserted number h in
     let a = and_parts _ (is_usable s number) p.test_is in
     let b = and_parts (bytes_eq p.entry.name f.name) _ a.0 in
     let n = same_bytes p.entry.name f.name b.0 in
-    named_line d.inserted (length s.inserted) number f (nat_le number (length s.inserted)) refl p.above
+    named_line d.inserted (length s.inserted) number s.choices.shortest_strings f (nat_le number (length s.inserted)) refl p.above
     (ap (with_value f.value f.never_indexed) (insertion_found _ d.inserted number h) ∙ ap Some (λ i. record { name = n i; value = f.value; never_indexed = f.never_indexed }))
 
 literal_written : (s : EncoderHistory) (d : Draft) (fields : List Field) (f : Field) → IsWritten s d fields → IsWritten s (add_literal s d f) (fields ++ f ∷ [])
@@ -181,5 +182,5 @@ all_written s d before [] h = rw append-nil h
 all_written s d before (f ∷ fields) h = rw (← append_assoc before (f ∷ []) fields) (all_written s (add_field s d f) (before ++ f ∷ []) fields (field_written s d before f h))
 
 -- The lines of a section stand for its fields over the insertions that it was written to need.
-pub section_stands : (s : EncoderHistory) (fields : List Field) → StandFor (draft_of s fields).inserted (length s.inserted) (draft_of s fields).lines fields
-section_stands s fields = (all_written s (record { inserted = s.inserted; instructions = []; lines = []; references = [] }) [] fields (record { longer = omega arith; lines = tt })).lines
+pub section_stands : (s : EncoderHistory) (fields : List Field) → StandFor (draft_of s fields).inserted (length s.inserted) (draft_of s fields).lines (guarded_fields s fields)
+section_stands s fields = (all_written s (first_draft s) [] (guarded_fields s fields) (record { longer = omega arith; lines = tt })).lines

@@ -18,14 +18,14 @@ above_none (Some n) some = rw (is_above n (some n refl)) refl
     is_above n lt = grind (arith, common_steps, lt)
 
 -- It names the newest equal entry that it may.
-pub finds_all : (s : EncoderHistory) (d : Draft) (f : Field) → s.economical ≡ false → found s d f ≡ held s d f
+pub finds_all : (s : EncoderHistory) (d : Draft) (f : Field) → s.choices.economical ≡ false → found s d f ≡ held s d f
 finds_all s d f plain =
     found_above s d f
     ∙ ap (λ b. above_only (if b then evictions (lasting_capacity s.capacity) s.inserted else 0) (held s d f)) plain
     ∙ above_none (held s d f) (λ n e. omega (arith, (newest_from-passes _ 1 d.inserted n e).above))
 
 -- It inserts whatever there is room for.
-pub inserts_all : (s : EncoderHistory) (d : Draft) (f : Field) → s.economical ≡ false → is_insertable s d f ≡ (nat_lt (blocks_out s) s.limit && finds_room s d f)
+pub inserts_all : (s : EncoderHistory) (d : Draft) (f : Field) → s.choices.economical ≡ false → is_insertable s d f ≡ (nat_lt (blocks_out s) s.limit && finds_room s d f)
 inserts_all s d f plain = rw plain (and_true (nat_lt (blocks_out s) s.limit))
   where
     and_true : (a : Bool) → (a && true && finds_room s d f) ≡ (a && finds_room s d f)
@@ -33,5 +33,5 @@ inserts_all s d f plain = rw plain (and_true (nat_lt (blocks_out s) s.limit))
     and_true false = refl
 
 -- It leaves no mark.
-pub marks_nothing : (s : EncoderHistory) (lines : List FieldLine) → s.economical ≡ false → marks_after s lines ≡ s.marks
+pub marks_nothing : (s : EncoderHistory) (lines : List FieldLine) → s.choices.economical ≡ false → marks_after s lines ≡ s.marks
 marks_nothing s lines plain = ap (λ b. fold (marked b) s.marks lines) plain ∙ plain_lines s.marks lines

@@ -22,7 +22,9 @@ use Rattle.h3_field.specs.declared.error.Error.TheVariants as of
 use Rattle.h3_qpack.specs.EncoderHistory.{EncoderHistory, no_table, encoder_after, encoder_after_all, writing_on}
 use Rattle.h3_qpack.specs.TableHistory.{IsReadAs}
 use Rattle.h3_qpack.specs.DecoderState.{DecoderState, announcing, decoder_after_all}
-use Rattle.h3_qpack.specs.SectionEncoding.{draft_of, required_insert_count, encoded_section, instructions_for, having_inserted, sent_section}
+use Rattle.h3_qpack.specs.declared.encoder_choices.EncoderChoices.{EncoderChoices}
+use Rattle.h3_qpack.specs.GuardLaws.{as_given, guarded_on}
+use Rattle.h3_qpack.specs.SectionEncoding.{guarded_fields, draft_of, required_insert_count, encoded_section, instructions_for, having_inserted, sent_section}
 use Rattle.h3_qpack.specs.Meaning.{MeansFields, IsMissing, IsBadSection}
 use Rattle.h3_qpack.specs.SectionAnswers.{IsReasonFor}
 use Rattle.h3_qpack.specs.Instructions.{BeginsBad, BeginsRefused}
@@ -55,6 +57,7 @@ pub record IsRunSection (capacity : ℕ) (b : UndecodedSection) : Type 0 where
   pub lines : AllByRecursion IsWrittenLine (draft_of b.encoder b.fields).lines
   pub base : length b.encoder.inserted < 2 ^ 62
   pub announced_is : 0 < count_of b → b.encoder.announced ≡ capacity
+  pub as_given : guarded_fields b.encoder b.fields ≡ b.fields
 
 -- The two ends are those of the session.
 pub record Stands (capacity : ℕ) (w : ExchangeHistory) (s : Session) : Type 0 where
@@ -62,6 +65,8 @@ pub record Stands (capacity : ℕ) (w : ExchangeHistory) (s : Session) : Type 0 
   pub encoder : w.encoder ≡ s.encoder
   pub capacity_is : s.encoder.capacity ≡ capacity
   pub announced_is : s.encoder.announced ≡ capacity
+  -- no choice is made in a run
+  pub guards_none : s.encoder.choices.guards_secrets ≡ false
   pub count : ℕ
   pub encoder_stream : EncoderStream capacity s.instructions w.encoder_stream w.decoder count
   pub received : s.received ≡ count - length (opening capacity)
@@ -132,6 +137,7 @@ begun_stands capacity limit small =
       encoder = ap (λ c. record no_table { announced = capacity; capacity = c; limit = limit }) (sym whole);
       capacity_is = whole;
       announced_is = refl;
+      guards_none = refl;
       count = 0;
       encoder_stream = begun_encoder_stream capacity small;
       received = omega arith;
@@ -165,6 +171,7 @@ encoded_stands capacity w s stream fields count new st size h =
         encoder = ap (λ x. sent_section x stream fields) st.encoder;
         capacity_is = st.capacity_is;
         announced_is = st.announced_is;
+        guards_none = st.guards_none;
         count = st.count;
         encoder_stream = subst (λ x. EncoderStream capacity (s.instructions ++ instructions_for by fields) (writing w.encoder_stream (flat_map encoder_bytes (instructions_for x fields))) w.decoder st.count) (sym same)
             (encoder_stream_more capacity s.instructions (instructions_for by fields) w.encoder_stream w.decoder st.count st.encoder_stream encoder_after);
@@ -172,7 +179,7 @@ encoded_stands capacity w s stream fields count new st size h =
         decoder_stream = st.decoder_stream;
         sections = ap (λ bs. bs ++ record { stream = stream; bytes = encoded_section (writing_on w.encoder stream) fields } ∷ []) st.sections
             ∙ ap (λ x. map encoded_section_of s.sections ++ record { stream = stream; bytes = encoded_section x fields } ∷ []) same ∙ sym (map-append encoded_section_of s.sections (one ∷ []));
-        written = All-join (IsRunSection capacity) s.sections (one ∷ []) st.written (record { lines = lines; base = small; announced_is = λ above. on_announced s.encoder stream fields above ∙ st.announced_is }, tt);
+        written = All-join (IsRunSection capacity) s.sections (one ∷ []) st.written (record { lines = lines; base = small; announced_is = λ above. on_announced s.encoder stream fields above ∙ st.announced_is; as_given = guarded_on s.encoder stream fields ∙ as_given s.encoder fields st.guards_none }, tt);
         canceled = st.canceled;
       }),
     )
@@ -196,6 +203,7 @@ cut_stands capacity w s stream fields e new st size h =
         encoder = ap (λ (x : EncoderHistory). having_inserted x stream front) st.encoder;
         capacity_is = st.capacity_is;
         announced_is = st.announced_is;
+        guards_none = st.guards_none;
         count = st.count;
         encoder_stream = subst (λ x. EncoderStream capacity (s.instructions ++ instructions_for by front) (writing w.encoder_stream (flat_map encoder_bytes (instructions_for x front))) w.decoder st.count) (sym same)
             (encoder_stream_more capacity s.instructions (instructions_for by front) w.encoder_stream w.decoder st.count st.encoder_stream encoder_after);
@@ -256,6 +264,7 @@ encoder_stream_step capacity w s more new st d =
           encoder = encoder ∙ st.encoder;
           capacity_is = st.capacity_is;
           announced_is = st.announced_is;
+          guards_none = st.guards_none;
           count = count;
           encoder_stream = encoder_stream;
           received = omega (arith, received, none);
@@ -270,6 +279,7 @@ encoder_stream_step capacity w s more new st d =
           encoder = encoder ∙ st.encoder;
           capacity_is = st.capacity_is;
           announced_is = st.announced_is;
+          guards_none = st.guards_none;
           count = count;
           encoder_stream = encoder_stream;
           received = received;
@@ -325,6 +335,15 @@ encoder_after_all_announced : (s : EncoderHistory) (is : List DecoderInstruction
 encoder_after_all_announced s [] = refl
 encoder_after_all_announced s (i ∷ is) = encoder_after_all_announced (encoder_after s i) is ∙ encoder_after_announced s i
 
+encoder_after_choices : (s : EncoderHistory) (i : DecoderInstruction) → (encoder_after s i).choices ≡ s.choices
+encoder_after_choices s (Acknowledge stream) = refl
+encoder_after_choices s (CancelStream stream) = refl
+encoder_after_choices s (Increment count) = refl
+
+encoder_after_all_choices : (s : EncoderHistory) (is : List DecoderInstruction) → (encoder_after_all s is).choices ≡ s.choices
+encoder_after_all_choices s [] = refl
+encoder_after_all_choices s (i ∷ is) = encoder_after_all_choices (encoder_after s i) is ∙ encoder_after_choices s i
+
 decoder_stream_step : (capacity : ℕ) (w : ExchangeHistory) (s : Session) (more : ℕ) (new : ExchangeHistory) → Stands capacity w s → (d : EncoderReads w more new)
     → (count : ℕ) × Stands capacity new (heard_so s count) × (BeginsRefused new.encoder d.left → ⊥)
 decoder_stream_step capacity w s more new st d =
@@ -336,6 +355,7 @@ decoder_stream_step capacity w s more new st d =
         encoder = ap (λ x. encoder_after_all x d.instructions) st.encoder ∙ ap (encoder_after_all s.encoder) b.are;
         capacity_is = encoder_after_all_capacity s.encoder (take b.count s.decoder_instructions) ∙ st.capacity_is;
         announced_is = encoder_after_all_announced s.encoder (take b.count s.decoder_instructions) ∙ st.announced_is;
+        guards_none = ap (λ (c : EncoderChoices). c.guards_secrets) (encoder_after_all_choices s.encoder (take b.count s.decoder_instructions)) ∙ st.guards_none;
         count = st.count;
         encoder_stream = st.encoder_stream;
         received = st.received;
@@ -416,6 +436,7 @@ record Tried (capacity : ℕ) (w : ExchangeHistory) (s : Session) (stream : ℕ)
   alive : is_canceled s section.stream ≡ false
   alive_there : is_canceled s stream ≡ false
   written : IsWritten s section
+  as_given : guarded_fields section.encoder section.fields ≡ section.fields
   decoder : IsDecoderOf s w.decoder
 
 decoder_is : (capacity : ℕ) (w : ExchangeHistory) (s : Session) → Stands capacity w s → IsDecoderOf s w.decoder
@@ -440,6 +461,7 @@ tried capacity w s stream st h =
       alive = subst (λ n. is_canceled s n ≡ false) (sym at.of_stream) alive;
       alive_there = alive;
       written = record { lines = own.lines; base = own.base; announced = λ above. own.announced_is above ∙ sym st.announced_is };
+      as_given = own.as_given;
       decoder = decoder_is capacity w s st;
     }
 
@@ -449,12 +471,13 @@ decoded_stands capacity w s stream fields new st few h =
     let k = tried capacity w s stream st h.0 in
     let right = decodes_right s k.section w.decoder h.1 fields.items st.sound k.decoder k.is k.alive k.written (subst (λ c. MeansFields w.decoder c.bytes h.1 fields.items) k.encoded_is h.2) in (
       decoded s k.section,
-      (k.alive_there, (k.section, k.is_there, right.fields_are, right.came, refl)),
+      (k.alive_there, (k.section, k.is_there, right.fields_are ∙ k.as_given, right.came, refl)),
       subst (λ x. Stands capacity x (decoded s k.section)) (sym h.3) (record {
         sound = section_decoded s k.section k.is k.alive right.came st.sound;
         encoder = st.encoder;
         capacity_is = st.capacity_is;
         announced_is = st.announced_is;
+        guards_none = st.guards_none;
         count = st.count;
         encoder_stream = st.encoder_stream;
         received = st.received;
@@ -521,6 +544,7 @@ given_up_stands capacity w s stream st few =
       encoder = st.encoder;
       capacity_is = st.capacity_is;
       announced_is = st.announced_is;
+      guards_none = st.guards_none;
       count = st.count;
       encoder_stream = st.encoder_stream;
       received = st.received;

@@ -8,13 +8,14 @@ use Rattle.h3_field.specs.Instruction.{EncoderInstruction, DecoderInstruction}
 use Rattle.h3_field.specs.Instruction.DecoderInstruction.{Acknowledge}
 use Rattle.h3_qpack.specs.TableHistory.{IsReadAs}
 use Rattle.h3_table.specs.Table.{evictions}
+use Rattle.h3_qpack.specs.declared.encoder_choices.EncoderChoices.{EncoderChoices}
 use Rattle.h3_qpack.specs.EncoderHistory.{EncoderHistory, referenced_entries, encoder_after, writing_on, was_canceled}
 use Rattle.h3_qpack.specs.SectionEncoding.{encoded_section, instructions_for}
 use Rattle.h3_qpack.specs.Session.{Session, IsSound}
-use Rattle.h3_qpack.specs.Schedule.{SessionEvent, SessionStep, SessionRun, beginning, with_table, economizing, keeping_canceled}
+use Rattle.h3_qpack.specs.Schedule.{SessionEvent, SessionStep, SessionRun, beginning, with_table, choosing, keeping_canceled}
 use Rattle.h3_table.specs.Cancellations.{none_canceled}
 use Rattle.h3_qpack.proofs.Cancellations.{untracked_by}
-use Rattle.h3_qpack.specs.Schedule.SessionEvent.{UseTable, Economize, KeepCanceled, Encode, CutOff, InsertionsRead, Decode, Cancel, DecoderInstructionRead}
+use Rattle.h3_qpack.specs.Schedule.SessionEvent.{UseTable, Choose, KeepCanceled, Encode, CutOff, InsertionsRead, Decode, Cancel, DecoderInstructionRead}
 use Rattle.h3_qpack.proofs.Sessions.{section_written, insertions_kept, insertions_read, section_decoded, stream_abandoned, reply_read, nothing_told}
 
 nothing_evicted : (capacity : ℕ) (inserted : List Field) → inserted ≡ [] → evictions capacity inserted ≡ 0
@@ -53,9 +54,9 @@ table_used s announced limit none zero_limit h =
       small = h.small;
     }
 
--- whether an encoder is economical plays no part in what is sound
-now_economical : (s : Session) (economical : Bool) → IsSound s → IsSound (economizing s economical)
-now_economical s economical h =
+-- what an encoder chooses plays no part in what is sound
+now_choosing : (s : Session) (choices : EncoderChoices) → IsSound s → IsSound (choosing s choices)
+now_choosing s choices h =
     record {
       received = h.received;
       accounted = h.accounted;
@@ -95,7 +96,7 @@ now_keeping s most h =
 
 pub step_is_sound : (s : Session) (event : SessionEvent) (new : Session) → IsSound s → SessionStep s event new → IsSound new
 step_is_sound s (UseTable announced limit) new h e = subst IsSound (sym e.2) (table_used s announced limit e.0 e.1 h)
-step_is_sound s (Economize economical) new h e = subst IsSound (sym e) (now_economical s economical h)
+step_is_sound s (Choose choices) new h e = subst IsSound (sym e) (now_choosing s choices h)
 step_is_sound s (KeepCanceled most) new h e = subst IsSound (sym e) (now_keeping s most h)
 step_is_sound s (Encode stream fields) new h e = subst IsSound (sym e) (section_written s stream fields h)
 step_is_sound s (CutOff stream fields) new h e = subst IsSound (sym e) (insertions_kept s stream fields h)
@@ -139,15 +140,15 @@ nothing_new counts most announced limit events s stream rest run is = nothing_to
 pub same_bytes : (s : EncoderHistory) (counts : Bool) (stream : ℕ) (fields : List Field) → encoded_section (writing_on (record s { counts_acknowledgments = counts }) stream) fields ≡ encoded_section (writing_on s stream) fields
 same_bytes s counts stream fields = by_test (was_canceled s stream)
   where
-    by_test : (b : Bool) → encoded_section (if b then record s { announced = 0; capacity = 0; limit = 0; economical = false; counts_acknowledgments = counts } else record s { counts_acknowledgments = counts }) fields
-        ≡ encoded_section (if b then record s { announced = 0; capacity = 0; limit = 0; economical = false } else s) fields
+    by_test : (b : Bool) → encoded_section (if b then record s { announced = 0; capacity = 0; limit = 0; choices = record s.choices { economical = false }; counts_acknowledgments = counts } else record s { counts_acknowledgments = counts }) fields
+        ≡ encoded_section (if b then record s { announced = 0; capacity = 0; limit = 0; choices = record s.choices { economical = false } } else s) fields
     by_test true = refl
     by_test false = refl
 
 pub same_instructions : (s : EncoderHistory) (counts : Bool) (stream : ℕ) (fields : List Field) → instructions_for (writing_on (record s { counts_acknowledgments = counts }) stream) fields ≡ instructions_for (writing_on s stream) fields
 same_instructions s counts stream fields = by_test (was_canceled s stream)
   where
-    by_test : (b : Bool) → instructions_for (if b then record s { announced = 0; capacity = 0; limit = 0; economical = false; counts_acknowledgments = counts } else record s { counts_acknowledgments = counts }) fields
-        ≡ instructions_for (if b then record s { announced = 0; capacity = 0; limit = 0; economical = false } else s) fields
+    by_test : (b : Bool) → instructions_for (if b then record s { announced = 0; capacity = 0; limit = 0; choices = record s.choices { economical = false }; counts_acknowledgments = counts } else record s { counts_acknowledgments = counts }) fields
+        ≡ instructions_for (if b then record s { announced = 0; capacity = 0; limit = 0; choices = record s.choices { economical = false } } else s) fields
     by_test true = refl
     by_test false = refl

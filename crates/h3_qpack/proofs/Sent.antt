@@ -47,7 +47,7 @@ section_put before mid encoded lines capacity own count base p same is prefix al
 
 -- what drains, by what is kept
 draining_held : (s : EncoderHistory) → draining_in (encoder_state s) ≡ draining s
-draining_held s = ap (λ es. if s.economical then length s.inserted - length es else 0) (table-table (lasting_capacity s.capacity) s.capacity s.inserted (omega arith))
+draining_held s = ap (λ es. if s.choices.economical then length s.inserted - length es else 0) (table-table (lasting_capacity s.capacity) s.capacity s.inserted (omega arith))
 
 -- before the first field
 pub begun_drafted : (s : EncoderHistory) (t : EncoderState) (section : Section) (lines start : List ℕ) → t ≡ encoder_state s → section ≡ begun t → lines ≡ [] → IsDrafted s (draft_of s []) t section lines start start

@@ -7,12 +7,12 @@ use Rattle.std.proofs.lemmas.Grind.{common_steps}
 use Rattle.std.proofs.lemmas.List.{drop-append-le, drop-drop}
 use Rattle.std.proofs.lemmas.List.Sums.{sum_by-cons, sum_by-append}
 use Rattle.h3_field.specs.Field.{Field}
-use Rattle.h3_field.specs.Section.{static_line}
+use Rattle.h3_qpack.specs.StaticSections.{static_line_by}
 use Rattle.h3_field.specs.Instruction.{DecoderInstruction}
 use Rattle.h3_field.specs.Instruction.DecoderInstruction.{Acknowledge, CancelStream, Increment}
 use Rattle.h3_table.specs.Table.{evictions}
 use Rattle.h3_qpack.specs.EncoderHistory.{EncoderHistory, UnacknowledgedSection, acknowledged_count, known_by, released, without_stream, was_canceled, writing_on, blocks_out}
-use Rattle.h3_qpack.specs.SectionEncoding.{Draft, draft_of, marks_after, required_insert_count}
+use Rattle.h3_qpack.specs.SectionEncoding.{Draft, guarded_fields, draft_of, marks_after, required_insert_count}
 use Rattle.h3_table.specs.Cancellations.{with_canceled}
 use Rattle.h3_qpack.proofs.Cancellations.{untracked_by, kept_counts, kept_before, canceled_before, is_among}
 use Rattle.h3_qpack.proofs.Canceled.{on_static, on_other, on_marks, sent_draft}
@@ -342,7 +342,7 @@ canceled_written s stream fields e h =
     let one : UndecodedSection = record { stream = stream; fields = fields; encoder = writing_on s.encoder stream } in
     let plain : Session = record s { encoder = record s.encoder { required_insert_counts = s.encoder.required_insert_counts ++ 0 ∷ [] }; sections = s.sections ++ one ∷ [] } in
     let same : encoded s stream fields ≡ plain =
-    ap (encoded_by s stream fields (writing_on s.encoder stream)) static ∙ rw (append-nil s.instructions, append-nil s.encoder.tracked, on_marks s.encoder stream (map static_line fields) e) refl in
+    ap (encoded_by s stream fields (writing_on s.encoder stream)) static ∙ rw (append-nil s.instructions, append-nil s.encoder.tracked, on_marks s.encoder stream (map (static_line_by s.encoder.choices.shortest_strings) (guarded_fields s.encoder fields)) e) refl in
     subst IsSound (sym same) (plain_written s one (ap (λ (d : Draft). d.inserted) static) (ap required_insert_count static) h)
 
 -- a tracked section is of a stream that is not canceled

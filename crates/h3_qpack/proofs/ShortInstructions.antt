@@ -1,5 +1,5 @@
 -- Each instruction that is written for a section of small fields is far shorter than memory, so writers take it.
-use Rattle.std.proofs.Common.{ℕ, ◌-◌, ◌^◌, ◌<◌, List, [], ◌∷◌, ◌++◌, length, ap, arith, length-append, fold, bytes_eq}
+use Rattle.std.proofs.Common.{ℕ, ◌-◌, ◌^◌, ◌<◌, Bool, List, [], ◌∷◌, ◌++◌, length, ap, sym, subst, arith, length-append, fold, bytes_eq}
 use Rattle.std.specs.List.{AllByRecursion}
 use Rattle.std.proofs.lemmas.List.Sums.{sum_by-cons}
 use Rattle.h3_field.specs.Field.{Field, field_eq, field_size, section_size}
@@ -7,10 +7,11 @@ use Rattle.h3_field.specs.Instruction.{EncoderInstruction, encoder_bytes}
 use Rattle.h3_field.specs.Integer.{prefixed}
 use Rattle.h3_field.specs.ReadBack.{IsFieldOfBytes}
 use Rattle.h3_field.specs.StaticTable.{static_field, static_name}
-use Rattle.h3_field.specs.StringLiteral.{string_literal}
+use Rattle.h3_field.specs.StringLiteral.{coded, string_literal}
 use Rattle.h3_qpack.specs.EncoderHistory.{EncoderHistory, writing_on}
 use Rattle.h3_qpack.specs.Encodings.{IsWrittenInstruction}
-use Rattle.h3_qpack.specs.SectionEncoding.{Draft, add_field, add_literal, draft_of, found, found_name, insertion, instructions_for, is_insertable, remaining, write_field}
+use Rattle.h3_qpack.specs.SectionEncoding.{Draft, add_field, add_literal, first_draft, guarded_fields, draft_of, found, found_name, insertion, instructions_for, is_insertable, remaining, write_field}
+use Rattle.h3_field.specs.SecretLaws.{guarded_sizes}
 use Rattle.h3_qpack.specs.ShortLaws.{prefixed_short, string_short}
 use Rattle.h3_qpack.proofs.Canceled.{on_inserted}
 use Rattle.h3_qpack.proofs.Drafts.{either_way, with_field}
@@ -21,16 +22,16 @@ use Rattle.h3_qpack.proofs.Writable.{draft_small, instructions_fit}
 abbrev IsShort : EncoderInstruction → Type 0
 IsShort i = length (encoder_bytes i) < 2 ^ 63
 
-index_and_string : (flags index : ℕ) (f : Field) → field_size f < 2 ^ 56 → length (prefixed 6 flags index ++ string_literal 8 0 f.value) < 2 ^ 63
-index_and_string flags index f small =
-    omega (arith, small, length-append (prefixed 6 flags index) (string_literal 8 0 f.value), prefixed_short 6 flags index, string_short 8 0 f.value)
+index_and_string : (flags index : ℕ) (shortest : Bool) (f : Field) → field_size f < 2 ^ 56 → length (prefixed 6 flags index ++ string_literal 8 0 (coded shortest f.value)) < 2 ^ 63
+index_and_string flags index shortest f small =
+    omega (arith, small, length-append (prefixed 6 flags index) (string_literal 8 0 (coded shortest f.value)), prefixed_short 6 flags index, string_short 8 0 (coded shortest f.value))
 
 insertion_short : (s : EncoderHistory) (d : Draft) (f : Field) → field_size f < 2 ^ 56 → IsShort (insertion s d f)
 insertion_short s d f small =
     chosen IsShort (remaining s d f (λ entry. field_eq entry f)) _ _ (λ number e. omega (arith, prefixed_short 5 0 (length d.inserted - number))) (λ none.
-    chosen IsShort (static_name f.name) _ _ (λ index e. index_and_string 3 index f small) (λ none.
-    chosen IsShort (remaining s d f (λ entry. bytes_eq entry.name f.name)) _ _ (λ number e. index_and_string 2 (length d.inserted - number) f small) (λ none.
-    omega (arith, small, length-append (string_literal 6 1 f.name) (string_literal 8 0 f.value), string_short 6 1 f.name, string_short 8 0 f.value))))
+    chosen IsShort (static_name f.name) _ _ (λ index e. index_and_string 3 index s.choices.shortest_strings f small) (λ none.
+    chosen IsShort (remaining s d f (λ entry. bytes_eq entry.name f.name)) _ _ (λ number e. index_and_string 2 (length d.inserted - number) s.choices.shortest_strings f small) (λ none.
+    omega (arith, small, length-append (string_literal 6 1 (coded s.choices.shortest_strings f.name)) (string_literal 8 0 (coded s.choices.shortest_strings f.value)), string_short 6 1 (coded s.choices.shortest_strings f.name), string_short 8 0 (coded s.choices.shortest_strings f.value)))))
 
 abbrev HasShort : Draft → Type 0
 HasShort d = AllByRecursion IsShort d.instructions
@@ -61,4 +62,4 @@ instructions_writable s stream fields few bytes small =
     let by = writing_on s stream in
     instructions_fit (draft_of by fields).instructions
     (draft_small by fields (omega (arith, few, ap length (on_inserted s stream))) bytes (omega (arith, small))).instructions
-    (fields_short by (record { inserted = by.inserted; instructions = []; lines = []; references = [] }) fields small tt)
+    (fields_short by (first_draft by) (guarded_fields by fields) (subst (λ n. n < 2 ^ 56) (sym (guarded_sizes by.choices.guards_secrets fields)) small) tt)

@@ -48,7 +48,7 @@ names_same : (capacity : ℕ) (fs : List Field) (i : EncoderInstruction) (f : Fi
 names_same capacity fs (SetCapacity c) f h = absurd (cc)
 names_same capacity fs (InsertWithStaticName index value) f h = h
 names_same capacity fs (InsertWithEntryName index value) f h =
-    with_value-more value false (entry_still_at (table_of capacity fs) (length fs - index)) _ f (λ g e. still_there capacity fs (length fs - index) g e) h
+    with_value-more value.bytes false (entry_still_at (table_of capacity fs) (length fs - index)) _ f (λ g e. still_there capacity fs (length fs - index) g e) h
 names_same capacity fs (InsertLiteral name value) f h = h
 names_same capacity fs (Duplicate index) f h = still_there capacity fs (length fs - index) f h
 

@@ -10,7 +10,7 @@ use Rattle.h3_field.specs.ReadBack.{IsFieldOfBytes}
 use Rattle.h3_qpack.specs.EncoderHistory.{EncoderHistory, encoder_after, writing_on}
 use Rattle.h3_qpack.specs.Encodings.{IsWritten}
 use Rattle.h3_qpack.specs.Schedule.{SessionEvent, SessionStep, SessionRun, beginning}
-use Rattle.h3_qpack.specs.Schedule.SessionEvent.{UseTable, Economize, KeepCanceled, Encode, CutOff, InsertionsRead, Decode, Cancel, DecoderInstructionRead}
+use Rattle.h3_qpack.specs.Schedule.SessionEvent.{UseTable, Choose, KeepCanceled, Encode, CutOff, InsertionsRead, Decode, Cancel, DecoderInstructionRead}
 use Rattle.h3_qpack.specs.SectionEncoding.{draft_of, encoded_section, required_insert_count}
 use Rattle.h3_qpack.specs.Session.{Session, UndecodedSection, oldest, count_of, IsSound, IsWrittenOver}
 use Rattle.h3_qpack.proofs.Canceled.{on_announced}
@@ -46,7 +46,7 @@ HaveAnnounced s = AllByRecursion (HasAnnounced s.encoder.announced) s.sections
 
 step_announced : (s : Session) (event : SessionEvent) (new : Session) → IsSound s → HaveAnnounced s → SessionStep s event new → HaveAnnounced new
 step_announced s (UseTable announced limit) new sound h e = subst HaveAnnounced (sym e.2) (none_named announced s.encoder.inserted s.sections e.0 sound.written)
-step_announced s (Economize economical) new sound h e = subst HaveAnnounced (sym e) h
+step_announced s (Choose choices) new sound h e = subst HaveAnnounced (sym e) h
 step_announced s (KeepCanceled most) new sound h e = subst HaveAnnounced (sym e) h
 step_announced s (Encode stream fields) new sound h e =
     let one : UndecodedSection = record { stream = stream; fields = fields; encoder = writing_on s.encoder stream } in

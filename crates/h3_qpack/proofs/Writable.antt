@@ -1,11 +1,12 @@
 -- What an encoder writes is what writers take: small indexes, strings of bytes, and as many bytes as memory holds.
-use Rattle.std.proofs.Common.{◌≡◌, ℕ, ◌-◌, ◌^◌, ◌<◌, Bool, true, false, List, [], ◌∷◌, length, arith, length-append, Some, nat_le, bytes_eq, fold, flat_map, if◌then◌else◌}
+use Rattle.std.proofs.Common.{◌≡◌, ℕ, ◌-◌, ◌^◌, ◌<◌, Bool, true, false, List, [], ◌∷◌, length, sym, subst, arith, length-append, Some, nat_le, bytes_eq, fold, flat_map, if◌then◌else◌}
 use Rattle.std.specs.List.{AllByRecursion}
 use Rattle.std.proofs.lemmas.List.Quantifiers.{position-Some}
 use Rattle.std.proofs.lemmas.List.Sums.{sum_by-cons}
 use Rattle.h3_field.specs.Field.{Field, plain_field, field_eq, field_size, section_size}
 use Rattle.h3_field.specs.ReadBack.{IsFieldOfBytes, IsLineOfBytes, IsInstructionOfBytes}
 use Rattle.h3_field.specs.StaticTable.{static_table, static_field, static_name}
+use Rattle.h3_field.specs.StringLiteral.{coded}
 use Rattle.h3_field.specs.Line.{FieldLine, line_bytes}
 use Rattle.h3_field.specs.Line.{FieldLine as line}
 use Rattle.h3_field.specs.LineAnswer.{IsWritable}
@@ -13,8 +14,9 @@ use Rattle.h3_field.specs.Instruction.{EncoderInstruction, encoder_bytes}
 use Rattle.h3_field.specs.InstructionAnswer.{IsSendable}
 use Rattle.h3_field.specs.StaticTableLaws.{table_length}
 use Rattle.h3_qpack.specs.EncoderHistory.{EncoderHistory}
-use Rattle.h3_qpack.specs.SectionEncoding.{Draft, found, found_name, marks_after, is_insertable, remaining, insertion, add_line, add_inserted, add_ahead, add_literal, write_field, add_field, draft_of, entry_name_line}
+use Rattle.h3_qpack.specs.SectionEncoding.{Draft, found, found_name, marks_after, is_insertable, remaining, insertion, add_line, add_inserted, add_ahead, add_literal, write_field, add_field, first_draft, guarded_fields, draft_of, entry_name_line}
 use Rattle.h3_qpack.specs.Encodings.{IsWrittenLine, IsWrittenInstruction}
+use Rattle.h3_field.specs.SecretLaws.{guarded_bytes, guarded_sizes}
 use Rattle.h3_qpack.proofs.Newest.{chosen, newest_from-passes}
 use Rattle.h3_qpack.proofs.Drafts.{MayInsert, either_way, may_insert, may_insert_ahead, with_field}
 use Rattle.h3_table.specs.ReleasingLaws.{All-join}
@@ -47,10 +49,10 @@ name_below name index h = let p = position-Some (λ entry. bytes_eq entry.name n
 more_lines : (s : EncoderHistory) (d : Draft) (l : FieldLine) (names : List ℕ) → IsSmallDraft s d → IsSmallLine l → IsSmallDraft s (add_line d l names)
 more_lines s d l names h k = record { few = h.few; base = h.base; lines = All-join IsSmallLine d.lines (l ∷ []) h.lines (k, tt); instructions = h.instructions }
 
-named_line : (base number : ℕ) (f : Field) → base < 2 ^ 62 → number < 2 ^ 62 → IsSmallField f → IsSmallLine (entry_name_line base number f.value f.never_indexed)
-named_line base number f low high k = by_order (nat_le number base)
+named_line : (base number : ℕ) (shortest : Bool) (f : Field) → base < 2 ^ 62 → number < 2 ^ 62 → IsSmallField f → IsSmallLine (entry_name_line base number (coded shortest f.value) f.never_indexed)
+named_line base number shortest f low high k = by_order (nat_le number base)
   where
-    by_order : (b : Bool) → IsSmallLine (if b then line.RelativeName (base - number) f.value f.never_indexed else line.PostBaseName (number - base - 1) f.value f.never_indexed)
+    by_order : (b : Bool) → IsSmallLine (if b then line.RelativeName (base - number) (coded shortest f.value) f.never_indexed else line.PostBaseName (number - base - 1) (coded shortest f.value) f.never_indexed)
     by_order true = ((omega (arith, low), omega (arith, k.size)), k.bytes.1)
     by_order false = ((omega (arith, high), omega (arith, k.size)), k.bytes.1)
 
@@ -59,7 +61,7 @@ literal_small s d f h k =
     chosen (IsSmallDraft s) (static_name f.name) _ _ (λ index e. more_lines s d _ [] h ((name_below f.name index e, omega (arith, k.size)), k.bytes.1)) (λ none.
     chosen (IsSmallDraft s) (found_name s d f) _ _ (λ number e.
     let p = newest_from-passes _ 1 d.inserted number e in
-    more_lines s d _ (number ∷ []) h (named_line (length s.inserted) number f h.base (omega (arith, p.below, h.few)) k)) (λ none.
+    more_lines s d _ (number ∷ []) h (named_line (length s.inserted) number s.choices.shortest_strings f h.base (omega (arith, p.below, h.few)) k)) (λ none.
     more_lines s d _ [] h ((omega (arith, k.size), omega (arith, k.size)), k.bytes)))
 
 insertion_small : (s : EncoderHistory) (d : Draft) (f : Field) → IsSmallDraft s d → IsSmallField f → IsSmallInstruction (insertion s d f)
@@ -104,7 +106,9 @@ fields_small s d (f ∷ fields) h bytes size =
     fields_small s (add_field s d f) fields (field_small s d f h (record { bytes = bytes.0; size = omega (arith, size, sum) })) bytes.1 (omega (arith, size, sum))
 
 pub draft_small : (s : EncoderHistory) (fields : List Field) → length s.inserted < 2 ^ 62 → AllByRecursion IsFieldOfBytes fields → section_size fields < 2 ^ 62 → IsSmallDraft s (draft_of s fields)
-draft_small s fields few bytes size = fields_small s (record { inserted = s.inserted; instructions = []; lines = []; references = [] }) fields (record { few = few; base = few; lines = tt; instructions = tt }) bytes size
+draft_small s fields few bytes size =
+    fields_small s (first_draft s) (guarded_fields s fields) (record { few = few; base = few; lines = tt; instructions = tt }) (guarded_bytes s.choices.guards_secrets fields bytes)
+    (subst (λ n. n < 2 ^ 62) (sym (guarded_sizes s.choices.guards_secrets fields)) size)
 
 lines_held : (ls : List FieldLine) → AllByRecursion IsSmallLine ls → length (flat_map line_bytes ls) < 2 ^ 63 → AllByRecursion IsWrittenLine ls
 lines_held [] h few = tt

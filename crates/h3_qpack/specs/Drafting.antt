@@ -4,6 +4,7 @@ use Rattle.std.specs.List.{AllByRecursion}
 use Rattle.h3_field.specs.Field.{Field, section_size}
 use Rattle.h3_field.specs.ReadBack.{IsFieldOfBytes}
 use Rattle.h3_field.specs.StaticTable.{static_field, static_name}
+use Rattle.h3_field.specs.StringLiteral.{coded}
 use Rattle.h3_field.specs.Line.{FieldLine, line_bytes}
 use Rattle.h3_field.specs.Line.{FieldLine as line}
 use Rattle.h3_field.specs.Instruction.{EncoderInstruction, encoder_bytes}
@@ -26,7 +27,7 @@ oldest_of ns = fold min (2 ^ 64 - 1) ns
 
 -- Of the entries of an economical encoder's table, those up to this number drain.
 abbrev pub draining_in : EncoderState → ℕ
-draining_in t = if t.economical then t.table.inserted - length (table (lasting_capacity t.table.capacity) t.table.entries) else 0
+draining_in t = if t.choices.economical then t.table.inserted - length (table (lasting_capacity t.table.capacity) t.table.entries) else 0
 
 -- a section before its first field
 abbrev pub begun : EncoderState → Section
@@ -70,7 +71,7 @@ named_lasting t section f = newest_in t.table (matches what.Name f) (max section
 -- The field is worth an entry, whether an entry of it drains or not.
 abbrev pub is_worth_in : EncoderState → Bool → Field → Bool
 is_worth_in t drains f =
-    is_worth t.economical drains (section_size t.table.entries) t.table.capacity (newest_in t.table (matches what.Name f) (evicted t.table) t.table.inserted) t.marks f
+    is_worth t.choices.economical drains (section_size t.table.entries) t.table.capacity (newest_in t.table (matches what.Name f) (evicted t.table) t.table.inserted) t.marks f
 
 -- There is no equal entry that may be named.
 pub record IsNowhere (t : EncoderState) (section : Section) (f : Field) : Type 0 where
@@ -104,7 +105,7 @@ equal_in t f = newest_in t.table (matches what.Field f) (evicted t.table) t.tabl
 -- An economical encoder whose sections may never be blocked inserts the field, which is worth an entry and which no entry equals but such
 -- as drain, for later sections.
 pub record MayInsertAhead (t : EncoderState) (section : Section) (f : Field) : Type 0 where
-  pub economical : t.economical ≡ true
+  pub economical : t.choices.economical ≡ true
   pub no_limit : t.limit ≡ 0
   pub no_entry : unwrap_or (equal_in t f) 0 ≤ section.draining
   pub worth : is_worth_in t (not (is_none (equal_in t f))) f ≡ true
@@ -142,9 +143,9 @@ abbrev pub line_for : EncoderState → Section → Field → Choice → FieldLin
 line_for t section f (choice.Static index) = line.StaticField index
 line_for t section f (choice.Entry number) = line.RelativeField (section.base - number)
 line_for t section f (choice.Insertion after searched) = line.PostBaseField (t.table.inserted - section.base)
-line_for t section f (choice.StaticName index) = line.StaticName index f.value f.never_indexed
-line_for t section f (choice.EntryName number) = entry_name_line section.base number f.value f.never_indexed
-line_for t section f choice.Literal = line.Literal f.name f.value f.never_indexed
+line_for t section f (choice.StaticName index) = line.StaticName index (coded t.choices.shortest_strings f.value) f.never_indexed
+line_for t section f (choice.EntryName number) = entry_name_line section.base number (coded t.choices.shortest_strings f.value) f.never_indexed
+line_for t section f choice.Literal = line.Literal (coded t.choices.shortest_strings f.name) (coded t.choices.shortest_strings f.value) f.never_indexed
 
 -- the section with this line
 abbrev pub section_after : EncoderState → Section → Choice → Section
@@ -155,13 +156,13 @@ section_after t section (choice.StaticName index) = section
 section_after t section (choice.EntryName number) = naming section number
 section_after t section choice.Literal = section
 
--- how a field is inserted, after which so many entries are evicted
-abbrev pub insertion_for : TableState → ℕ → Field → EncoderInstruction
-insertion_for h after f =
+-- how a field is inserted, after which so many entries are evicted, with the shortest strings or none but Huffman coded ones
+abbrev pub insertion_for : Bool → TableState → ℕ → Field → EncoderInstruction
+insertion_for shortest h after f =
     unwrap_or (option_map (λ number. Duplicate (h.inserted - number)) (newest_in h (matches what.Field f) after h.inserted)) (
-    unwrap_or (option_map (λ index. InsertWithStaticName index f.value) (static_name f.name)) (
-    unwrap_or (option_map (λ number. InsertWithEntryName (h.inserted - number) f.value) (newest_in h (matches what.Name f) after h.inserted))
-    (InsertLiteral f.name f.value)))
+    unwrap_or (option_map (λ index. InsertWithStaticName index (coded shortest f.value)) (static_name f.name)) (
+    unwrap_or (option_map (λ number. InsertWithEntryName (h.inserted - number) (coded shortest f.value)) (newest_in h (matches what.Name f) after h.inserted))
+    (InsertLiteral (coded shortest f.name) (coded shortest f.value))))
 
 -- what is kept with it
 abbrev pub encoder_state_with : EncoderState → Field → Choice → EncoderState
@@ -170,17 +171,17 @@ encoder_state_with t f other = t
 
 -- what is kept behind the field: a literal that may be indexed leaves its mark with an economical encoder
 abbrev pub noted : EncoderState → Field → EncoderState
-noted t f = record t { marks = if t.economical && not f.never_indexed then with_mark t.marks f.value else t.marks }
+noted t f = record t { marks = if t.choices.economical && not f.never_indexed then with_mark t.marks f.value else t.marks }
 
 -- the instructions for it
 abbrev pub instructions_after : EncoderState → Field → Choice → List EncoderInstruction
-instructions_after t f (choice.Insertion after searched) = insertion_for t.table after f ∷ []
+instructions_after t f (choice.Insertion after searched) = insertion_for t.choices.shortest_strings t.table after f ∷ []
 instructions_after t f other = []
 
 -- The field was inserted for later sections where it may be, and these are the instructions then; else nothing changed.
 pub record IsPutAhead (t : EncoderState) (section : Section) (f : Field) (new : EncoderState) (instructions after : List ℕ) : Type 0 where
   pub inserted : MayInsertAhead t section f →
-      (new ≡ record t { table = with_entry t.table f }) × (after ≡ instructions ++ encoder_bytes (insertion_for t.table (evicted (with_entry t.table f)) f))
+      (new ≡ record t { table = with_entry t.table f }) × (after ≡ instructions ++ encoder_bytes (insertion_for t.choices.shortest_strings t.table (evicted (with_entry t.table f)) f))
   pub same : (MayInsertAhead t section f → ⊥) → (new ≡ t) × (after ≡ instructions)
 
 -- What is kept is that of a history with the draft's insertions and these marks, and the section names what the draft names.

@@ -7,6 +7,7 @@ use Rattle.h3_table.specs.Cancellations.{Cancellations, none_canceled, with_canc
 use Rattle.h3_qpack.specs.Marks.{no_marks}
 use Rattle.h3_field.specs.Instruction.{DecoderInstruction}
 use Rattle.h3_field.specs.Instruction.DecoderInstruction.{Acknowledge, CancelStream, Increment}
+use Rattle.h3_qpack.specs.declared.encoder_choices.EncoderChoices.{EncoderChoices}
 
 -- a section that names entries and is neither acknowledged nor canceled
 pub record UnacknowledgedSection : Type 0 where
@@ -30,14 +31,17 @@ pub record EncoderHistory : Type 0 where
   pub canceled : Cancellations
   -- an acknowledgment tells of the insertions that its section needs (RFC 9204, section 2.1.4); else increments alone tell of any
   pub counts_acknowledgments : Bool
-  -- it does not keep in its table what never comes again, and inserts for later sections what the present one may not name
-  pub economical : Bool
+  pub choices : EncoderChoices
   -- marks of the last values that it wrote as literals while it was economical, the newest first
   pub marks : List ℕ
 
+-- by default it chooses nothing
+abbrev pub no_choices : EncoderChoices
+no_choices = record { economical = false; guards_secrets = false; shortest_strings = false }
+
 -- an encoder that may not use a table yet, and then as large a one as is announced: a greater capacity than this is not used
 abbrev pub no_table : EncoderHistory
-no_table = record { most_capacity = 2 ^ 30 - 1; announced = 0; capacity = 0; limit = 0; inserted = []; known_received = 0; required_insert_counts = []; tracked = []; canceled = none_canceled None; counts_acknowledgments = false; economical = false; marks = no_marks }
+no_table = record { most_capacity = 2 ^ 30 - 1; announced = 0; capacity = 0; limit = 0; inserted = []; known_received = 0; required_insert_counts = []; tracked = []; canceled = none_canceled None; counts_acknowledgments = false; choices = no_choices; marks = no_marks }
 
 -- The decoder announced this: the encoder sets the lesser of the capacity and the most that its table may have (RFC 9204, section 3.2.3).
 abbrev pub using_table : EncoderHistory → ℕ → ℕ → EncoderHistory
@@ -86,7 +90,7 @@ was_canceled s stream = counts_as_canceled s.canceled stream (is_tracked s strea
 -- What a section on the stream is written by (RFC 9204, section 2.1.2): where the stream counts as canceled, an encoder
 -- of an announced capacity 0 whose sections may not be blocked, and which is not economical.
 abbrev pub writing_on : EncoderHistory → ℕ → EncoderHistory
-writing_on s stream = if was_canceled s stream then record s { announced = 0; capacity = 0; limit = 0; economical = false } else s
+writing_on s stream = if was_canceled s stream then record s { announced = 0; capacity = 0; limit = 0; choices = record s.choices { economical = false } } else s
 
 -- the encoder after an instruction of the decoder. The known received count stops at the greatest number of 64 bits.
 abbrev pub encoder_after : EncoderHistory → DecoderInstruction → EncoderHistory

@@ -12,6 +12,7 @@ use Rattle.h3_table.specs.TableState.{TableState, evicted, with_entry, with_capa
 use Rattle.h3_field.specs.declared.dynamic.Error.{Error}
 use Rattle.h3_field.specs.declared.dynamic.Error.TheVariants.{MaximumTableSizeTooLarge, MaxTableSizeReached}
 use Rattle.h3_qpack.specs.EncoderHistory.{EncoderHistory, UnacknowledgedSection}
+use Rattle.h3_qpack.specs.declared.encoder_choices.EncoderChoices.{EncoderChoices}
 use Rattle.h3_table.specs.declared.tracking.TrackedSection.{TrackedSection}
 
 pub record EncoderState : Type 0 where
@@ -28,7 +29,7 @@ pub record EncoderState : Type 0 where
   -- the streams of which a cancellation was read
   pub canceled : Cancellations
   pub counts_acknowledgments : Bool
-  pub economical : Bool
+  pub choices : EncoderChoices
   -- marks of the last values that it wrote as literals
   pub marks : List ℕ
 
@@ -52,7 +53,7 @@ encoder_state s =
       tracked = in_order (λ t. t.stream) (map tracked_section s.tracked);
       canceled = s.canceled;
       counts_acknowledgments = s.counts_acknowledgments;
-      economical = s.economical;
+      choices = s.choices;
       marks = s.marks;
     }
 

@@ -1,7 +1,8 @@
 -- A dynamic table as the encoder of one section uses it (RFC 9204, sections 2.1 and 3.2.4 to 3.2.6).
-use Rattle.std.specs.Prelude.{◌≡◌, ◌<◌, ◌≤◌, ℕ, ◌+◌, ◌-◌, true, Some, None, if◌then◌else◌, ◌==◌}
+use Rattle.std.specs.Prelude.{◌≡◌, ◌<◌, ◌≤◌, ℕ, ◌+◌, ◌-◌, true, false, Some, None, if◌then◌else◌, ◌==◌}
 use Rattle.h3_field.specs.Field.{Field}
 use Rattle.h3_field.specs.StaticTable.{static_field, static_name}
+use Rattle.h3_field.specs.StringLiteral.{huffman_text}
 use Rattle.h3_field.specs.Instruction.EncoderInstruction.{InsertWithStaticName, InsertWithEntryName, InsertLiteral, Duplicate}
 use Rattle.h3_table.specs.TableState.{TableState, evicted, with_entry}
 use Rattle.h3_qpack.specs.EncoderState.{EncoderState, MayInsertInto, encoder_state_sent}
@@ -33,16 +34,17 @@ section_found section (lookup.Relative index absolute) = naming section absolute
 section_found section (lookup.PostBase index absolute) = naming section absolute
 section_found section lookup.NotFound = section
 
--- The answer says how the next entry is inserted, after which so many entries are evicted, and which entry that is.
+-- The answer says how the next entry is inserted, after which so many entries are evicted, and which entry that is. Its strings are told as
+-- they are written without a choice.
 abbrev pub IsInsertion : TableState → ℕ → ℕ → Field → DynamicInsertionResult → Type 0
 IsInsertion h base after f (insertion.Inserted postbase absolute) =
-    (insertion_for h after f ≡ InsertLiteral f.name f.value) × (postbase ≡ h.inserted - base) × (absolute ≡ h.inserted + 1)
+    (insertion_for false h after f ≡ InsertLiteral (huffman_text f.name) (huffman_text f.value)) × (postbase ≡ h.inserted - base) × (absolute ≡ h.inserted + 1)
 IsInsertion h base after f (insertion.Duplicated relative postbase absolute) =
-    (insertion_for h after f ≡ Duplicate relative) × (postbase ≡ h.inserted - base) × (absolute ≡ h.inserted + 1)
+    (insertion_for false h after f ≡ Duplicate relative) × (postbase ≡ h.inserted - base) × (absolute ≡ h.inserted + 1)
 IsInsertion h base after f (insertion.InsertedWithNameRef relative postbase absolute) =
-    (insertion_for h after f ≡ InsertWithEntryName relative f.value) × (postbase ≡ h.inserted - base) × (absolute ≡ h.inserted + 1)
+    (insertion_for false h after f ≡ InsertWithEntryName relative (huffman_text f.value)) × (postbase ≡ h.inserted - base) × (absolute ≡ h.inserted + 1)
 IsInsertion h base after f (insertion.InsertedWithStaticNameRef index postbase absolute) =
-    (insertion_for h after f ≡ InsertWithStaticName index f.value) × (postbase ≡ h.inserted - base) × (absolute ≡ h.inserted + 1)
+    (insertion_for false h after f ≡ InsertWithStaticName index (huffman_text f.value)) × (postbase ≡ h.inserted - base) × (absolute ≡ h.inserted + 1)
 IsInsertion h base after f insertion.NotInserted = ⊥
 
 -- The field was to be inserted, and was, and the section names its entry.

@@ -10,7 +10,7 @@ use Rattle.h3_field.specs.InstructionAnswer.{IsSendable}
 use Rattle.h3_qpack.specs.DecoderState.{DecoderState}
 use Rattle.h3_qpack.specs.DecodedSection.{DecodedSection, Fields, Missing}
 use Rattle.h3_qpack.specs.TableHistory.{table_state, table_of}
-use Rattle.h3_qpack.specs.SectionEncoding.{draft_of}
+use Rattle.h3_qpack.specs.SectionEncoding.{guarded_fields, draft_of}
 use Rattle.h3_qpack.specs.Session.{Session, UndecodedSection, count_of}
 
 -- The indexes and strings of the line are small enough, and its strings are bytes.
@@ -48,4 +48,4 @@ pub record HasInsertions (announced capacity : ℕ) (inserted : List Field) (r :
 
 -- what such a decoder makes of a section whenever it is tried: its fields once the insertions came, and until then how many it needs
 abbrev pub tried : Session → UndecodedSection → DecodedSection
-tried s b = if nat_le (count_of b) s.received then Fields b.fields (count_of b) else Missing (count_of b)
+tried s b = if nat_le (count_of b) s.received then Fields (guarded_fields b.encoder b.fields) (count_of b) else Missing (count_of b)

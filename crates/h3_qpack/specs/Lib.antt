@@ -2,6 +2,7 @@ pub mod Marks
 pub mod EncoderHistory
 pub mod SectionEncoding
 pub mod Secrets
+pub mod StaticSections
 pub mod WholeInstructions
 pub mod NamedFields
 pub mod DecoderState
@@ -37,6 +38,7 @@ pub mod ShortLaws
 pub mod InstructionSizes
 pub mod ShortInstructionLaws
 pub mod SecretsLaws
+pub mod GuardLaws
 pub mod ReasonLaws
 pub mod InstructionLaws
 pub mod HearingLaws

@@ -23,10 +23,10 @@ abbrev pub line_field_by : (ℕ → Option Field) → ℕ → FieldLine → Opti
 line_field_by entry base (StaticField index) = slice_get static_table index
 line_field_by entry base (RelativeField index) = entry (base - index)
 line_field_by entry base (PostBaseField index) = entry (base + index + 1)
-line_field_by entry base (StaticName index value n) = with_value value n (slice_get static_table index)
-line_field_by entry base (RelativeName index value n) = with_value value n (entry (base - index))
-line_field_by entry base (PostBaseName index value n) = with_value value n (entry (base + index + 1))
-line_field_by entry base (Literal name value n) = Some (record { name = name; value = value; never_indexed = n })
+line_field_by entry base (StaticName index value n) = with_value value.bytes n (slice_get static_table index)
+line_field_by entry base (RelativeName index value n) = with_value value.bytes n (entry (base - index))
+line_field_by entry base (PostBaseName index value n) = with_value value.bytes n (entry (base + index + 1))
+line_field_by entry base (Literal name value n) = Some (record { name = name.bytes; value = value.bytes; never_indexed = n })
 
 -- The lines are of these fields, one of each.
 abbrev pub AreOf : (FieldLine → Option Field) → List FieldLine → List Field → Type 0
@@ -38,9 +38,9 @@ AreOf field_of (line ∷ lines) [] = ⊥
 -- the field that an instruction inserts behind so many insertions, or none where it names none
 abbrev pub insertion_by : (ℕ → Option Field) → ℕ → EncoderInstruction → Option Field
 insertion_by entry inserted (SetCapacity capacity) = None
-insertion_by entry inserted (InsertWithStaticName index value) = with_value value false (slice_get static_table index)
-insertion_by entry inserted (InsertWithEntryName index value) = with_value value false (entry (inserted - index))
-insertion_by entry inserted (InsertLiteral name value) = Some (plain_field name value)
+insertion_by entry inserted (InsertWithStaticName index value) = with_value value.bytes false (slice_get static_table index)
+insertion_by entry inserted (InsertWithEntryName index value) = with_value value.bytes false (entry (inserted - index))
+insertion_by entry inserted (InsertLiteral name value) = Some (plain_field name.bytes value.bytes)
 insertion_by entry inserted (Duplicate index) = entry (inserted - index)
 
 -- the insertion of that number, of the list of all

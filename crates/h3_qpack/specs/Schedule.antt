@@ -4,14 +4,15 @@ use Rattle.h3_field.specs.Field.{Field}
 use Rattle.h3_field.specs.Instruction.{DecoderInstruction}
 use Rattle.h3_table.specs.Cancellations.{none_canceled}
 use Rattle.h3_qpack.specs.EncoderHistory.{no_table, using_table, writing_on}
+use Rattle.h3_qpack.specs.declared.encoder_choices.EncoderChoices.{EncoderChoices}
 use Rattle.h3_qpack.specs.SectionEncoding.{having_inserted, instructions_for}
 use Rattle.h3_qpack.specs.Session.{Session, UndecodedSection, encoded, inserted, oldest, is_canceled, count_of, decoded, after_cancellation, after_decoder_instruction}
 
 pub data SessionEvent : Type 0 where
   -- the peer's limits come, before anything was inserted
   UseTable : (announced limit : ℕ) → SessionEvent
-  -- from now on the encoder is economical with its table, or is not
-  Economize : (economical : Bool) → SessionEvent
+  -- from now on the encoder goes by these choices
+  Choose : (choices : EncoderChoices) → SessionEvent
   -- from now on at most so many of the streams are kept whose cancellation is read, or all; those that were kept are forgotten
   KeepCanceled : (most : Option ℕ) → SessionEvent
   Encode : (stream : ℕ) (fields : List Field) → SessionEvent
@@ -26,8 +27,8 @@ pub data SessionEvent : Type 0 where
 abbrev pub with_table : Session → ℕ → ℕ → Session
 with_table s announced limit = record s { encoder = using_table s.encoder announced limit }
 
-abbrev pub economizing : Session → Bool → Session
-economizing s economical = record s { encoder = record s.encoder { economical = economical } }
+abbrev pub choosing : Session → EncoderChoices → Session
+choosing s choices = record s { encoder = record s.encoder { choices = choices } }
 
 abbrev pub keeping_canceled : Session → Option ℕ → Session
 keeping_canceled s most = record s { encoder = record s.encoder { canceled = none_canceled most } }
@@ -41,7 +42,7 @@ without_section s stream fields =
 
 abbrev pub SessionStep : Session → SessionEvent → Session → Type 0
 SessionStep s (UseTable announced limit) new = (s.encoder.inserted ≡ []) × (s.encoder.limit ≡ 0) × (new ≡ with_table s announced limit)
-SessionStep s (Economize economical) new = new ≡ economizing s economical
+SessionStep s (Choose choices) new = new ≡ choosing s choices
 SessionStep s (KeepCanceled most) new = new ≡ keeping_canceled s most
 SessionStep s (Encode stream fields) new = new ≡ encoded s stream fields
 SessionStep s (CutOff stream fields) new = new ≡ without_section s stream fields

@@ -1,7 +1,9 @@
 -- How a field section is written: field by field, over the plain list of insertions.
-use Rattle.std.specs.Prelude.{ℕ, ◌+◌, ◌-◌, ◌/◌, ◌^◌, Bool, not, ◌&&◌, ◌||◌, List, [], ◌∷◌, ◌++◌, length, fold, flat_map, max, nat_le, nat_lt, bytes_eq, Option, Some, None, option_map, unwrap_or, is_none, if◌then◌else◌, ◌==◌}
+use Rattle.std.specs.Prelude.{ℕ, ◌+◌, ◌-◌, ◌/◌, ◌^◌, Bool, not, ◌&&◌, ◌||◌, List, [], ◌∷◌, ◌++◌, length, map, fold, flat_map, max, nat_le, nat_lt, bytes_eq, Option, Some, None, option_map, unwrap_or, is_none, if◌then◌else◌, ◌==◌}
 use Rattle.std.specs.List.{list_all}
 use Rattle.h3_field.specs.Field.{Field, field_eq, field_size, section_size}
+use Rattle.h3_field.specs.Secret.{guarded}
+use Rattle.h3_field.specs.StringLiteral.{Text, coded}
 use Rattle.h3_field.specs.StaticTable.{static_field, static_name}
 use Rattle.h3_field.specs.Line.{FieldLine, line_bytes}
 use Rattle.h3_field.specs.Line.FieldLine.{StaticField, RelativeField, PostBaseField, StaticName, RelativeName, PostBaseName, Literal}
@@ -30,7 +32,7 @@ lasting_capacity capacity = capacity - capacity / 8
 -- The oldest entries of an economical encoder's table drain (RFC 9204, section 2.1.1.1): of those that are older than the section, the
 -- ones behind the newest that fill all but an eighth of the capacity. No line names an entry up to this number, so that they can go.
 abbrev pub draining : EncoderHistory → ℕ
-draining s = if s.economical then evictions (lasting_capacity s.capacity) s.inserted else 0
+draining s = if s.choices.economical then evictions (lasting_capacity s.capacity) s.inserted else 0
 
 -- Entries up to this number are gone, or drain.
 abbrev pub unnamed : EncoderHistory → Draft → ℕ
@@ -57,10 +59,10 @@ abbrev pub literal_value : FieldLine → Option (List ℕ)
 literal_value (StaticField index) = None
 literal_value (RelativeField index) = None
 literal_value (PostBaseField index) = None
-literal_value (StaticName index value n) = unless_never n value
-literal_value (RelativeName index value n) = unless_never n value
-literal_value (PostBaseName index value n) = unless_never n value
-literal_value (Literal name value n) = unless_never n value
+literal_value (StaticName index value n) = unless_never n value.bytes
+literal_value (RelativeName index value n) = unless_never n value.bytes
+literal_value (PostBaseName index value n) = unless_never n value.bytes
+literal_value (Literal name value n) = unless_never n value.bytes
 
 -- the marks behind a further line
 abbrev pub marked : Bool → List ℕ → FieldLine → List ℕ
@@ -68,7 +70,7 @@ marked economical marks line = unwrap_or (option_map (λ value. if economical th
 
 -- the marks behind the lines of a section
 abbrev pub marks_after : EncoderHistory → List FieldLine → List ℕ
-marks_after s lines = fold (marked s.economical) s.marks lines
+marks_after s lines = fold (marked s.choices.economical) s.marks lines
 
 -- Worth an entry is what an encoder inserts that is not economical. Else it is a field whose entry drains, one with which nothing would
 -- drain, the first of its name, and one whose value was among the last literals.
@@ -83,7 +85,7 @@ any_of_name s draft f = newest (λ number entry. bytes_eq entry.name f.name && n
 -- Worth an entry by the table as it is.
 abbrev pub is_worth_to : EncoderHistory → Bool → List ℕ → Draft → Field → Bool
 is_worth_to s drains marks draft f =
-    is_worth s.economical drains (section_size (table s.capacity draft.inserted)) s.capacity (any_of_name s draft f) marks f
+    is_worth s.choices.economical drains (section_size (table s.capacity draft.inserted)) s.capacity (any_of_name s draft f) marks f
 
 -- how many insertions are evicted once the field is inserted
 abbrev pub evictions_by : EncoderHistory → Draft → Field → ℕ
@@ -116,7 +118,7 @@ is_new s draft f = is_none (static_field f) && nat_le (unwrap_or (any_equal s dr
 -- it is known to be received (RFC 9204, section 2.1.2). The marks are those before the field.
 abbrev pub is_insertable_ahead : EncoderHistory → List ℕ → Draft → Field → Bool
 is_insertable_ahead s marks draft f =
-    s.economical && (s.limit == 0) && is_new s draft f && is_worth_to s (not (is_none (any_equal s draft f))) marks draft f && finds_room s draft f
+    s.choices.economical && (s.limit == 0) && is_new s draft f && is_worth_to s (not (is_none (any_equal s draft f))) marks draft f && finds_room s draft f
 
 -- the newest entry that remains after the insertion and passes
 abbrev pub remaining : EncoderHistory → Draft → Field → (Field → Bool) → Option ℕ
@@ -126,9 +128,9 @@ remaining s draft f test = newest (λ number entry. nat_lt (evictions_by s draft
 abbrev pub insertion : EncoderHistory → Draft → Field → EncoderInstruction
 insertion s draft f =
     unwrap_or (option_map (λ number. Duplicate (length draft.inserted - number)) (remaining s draft f (λ entry. field_eq entry f))) (
-    unwrap_or (option_map (λ index. InsertWithStaticName index f.value) (static_name f.name)) (
-    unwrap_or (option_map (λ number. InsertWithEntryName (length draft.inserted - number) f.value) (remaining s draft f (λ entry. bytes_eq entry.name f.name)))
-    (InsertLiteral f.name f.value)))
+    unwrap_or (option_map (λ index. InsertWithStaticName index (coded s.choices.shortest_strings f.value)) (static_name f.name)) (
+    unwrap_or (option_map (λ number. InsertWithEntryName (length draft.inserted - number) (coded s.choices.shortest_strings f.value)) (remaining s draft f (λ entry. bytes_eq entry.name f.name)))
+    (InsertLiteral (coded s.choices.shortest_strings f.name) (coded s.choices.shortest_strings f.value))))
 
 -- the newest entry of the field's name that is still there, does not drain and is usable
 abbrev pub found_name : EncoderHistory → Draft → Field → Option ℕ
@@ -141,15 +143,15 @@ abbrev pub add_line : Draft → FieldLine → List ℕ → Draft
 add_line draft line names = record draft { lines = draft.lines ++ line ∷ []; references = draft.references ++ names }
 
 -- the line that names an entry's name, counted from the base of the section
-abbrev pub entry_name_line : ℕ → ℕ → List ℕ → Bool → FieldLine
+abbrev pub entry_name_line : ℕ → ℕ → Text → Bool → FieldLine
 entry_name_line base number value n =
     if nat_le number base then RelativeName (base - number) value n else PostBaseName (number - base - 1) value n
 
 abbrev pub add_literal : EncoderHistory → Draft → Field → Draft
 add_literal s draft f =
-    unwrap_or (option_map (λ index. add_line draft (StaticName index f.value f.never_indexed) []) (static_name f.name)) (
-    unwrap_or (option_map (λ number. add_line draft (entry_name_line (length s.inserted) number f.value f.never_indexed) (number ∷ [])) (found_name s draft f))
-    (add_line draft (Literal f.name f.value f.never_indexed) []))
+    unwrap_or (option_map (λ index. add_line draft (StaticName index (coded s.choices.shortest_strings f.value) f.never_indexed) []) (static_name f.name)) (
+    unwrap_or (option_map (λ number. add_line draft (entry_name_line (length s.inserted) number (coded s.choices.shortest_strings f.value) f.never_indexed) (number ∷ [])) (found_name s draft f))
+    (add_line draft (Literal (coded s.choices.shortest_strings f.name) (coded s.choices.shortest_strings f.value) f.never_indexed) []))
 
 -- the field goes into the table, and its line names the new entry
 abbrev pub add_inserted : EncoderHistory → Draft → Field → Draft
@@ -184,9 +186,21 @@ insert_ahead s marks draft f = if is_insertable_ahead s marks draft f then add_a
 abbrev pub add_field : EncoderHistory → Draft → Field → Draft
 add_field s draft f = insert_ahead s (marks_after s draft.lines) (write_field s draft f) f
 
+-- the draft before the first field
+abbrev pub first_draft : EncoderHistory → Draft
+first_draft s = record { inserted = s.inserted; instructions = []; lines = []; references = [] }
+
+-- behind these fields, each with its flag as it is
+abbrev pub draft_as_given : EncoderHistory → List Field → Draft
+draft_as_given s fields = fold (add_field s) (first_draft s) fields
+
+-- the fields as the encoder takes them: it flags the secrets among them if it guards these
+abbrev pub guarded_fields : EncoderHistory → List Field → List Field
+guarded_fields s fields = map (guarded s.choices.guards_secrets) fields
+
 -- all fields of a section
 abbrev pub draft_of : EncoderHistory → List Field → Draft
-draft_of s fields = fold (add_field s) (record { inserted = s.inserted; instructions = []; lines = []; references = [] }) fields
+draft_of s fields = draft_as_given s (guarded_fields s fields)
 
 -- the greatest number that a line names, or 0
 abbrev pub required_insert_count : Draft → ℕ

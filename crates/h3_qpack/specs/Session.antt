@@ -7,7 +7,7 @@ use Rattle.h3_field.specs.Instruction.DecoderInstruction.{Acknowledge, CancelStr
 use Rattle.h3_qpack.specs.NamedFields.{StandFor}
 use Rattle.h3_table.specs.Table.{evictions}
 use Rattle.h3_qpack.specs.EncoderHistory.{EncoderHistory, UnacknowledgedSection, acknowledged_count, released, without_stream, encoder_after, blocks_out, referenced_entries, was_canceled, writing_on}
-use Rattle.h3_qpack.specs.SectionEncoding.{draft_of, instructions_for, required_insert_count, sent_section}
+use Rattle.h3_qpack.specs.SectionEncoding.{guarded_fields, draft_of, instructions_for, required_insert_count, sent_section}
 use Rattle.h3_qpack.specs.TableHistory.{IsReadAs}
 
 -- a section that is written and not yet decoded
@@ -158,7 +158,7 @@ pub record IsSound (s : Session) : Type 0 where
   pub small : length s.encoder.inserted < 2 ^ 62
 
 -- The decoder that has read so many insertions reads the section: its table holds what the lines name, and they stand
--- for the fields.
+-- for the fields as the encoder took them.
 pub record DecodesTo (s : Session) (b : UndecodedSection) : Type 0 where
-  pub lines : StandFor (take s.received s.encoder.inserted) (length b.encoder.inserted) (draft_of b.encoder b.fields).lines b.fields
+  pub lines : StandFor (take s.received s.encoder.inserted) (length b.encoder.inserted) (draft_of b.encoder b.fields).lines (guarded_fields b.encoder b.fields)
   pub present : AllByRecursion (λ number. evictions s.encoder.capacity (take s.received s.encoder.inserted) < number) (references_of b)

@@ -10,7 +10,7 @@ use Rattle.h3_field.specs.Instruction.EncoderInstruction.{Duplicate, InsertLiter
 use Rattle.h3_field.specs.Integer.{prefixed}
 use Rattle.h3_field.specs.Section.{with_value}
 use Rattle.h3_field.specs.StaticTable.{static_table}
-use Rattle.h3_field.specs.StringLiteral.{string_literal}
+use Rattle.h3_field.specs.StringLiteral.{Text, string_literal}
 use Rattle.h3_table.specs.TableState.{entry_at, has_room, with_capacity, with_entry}
 use Rattle.h3_qpack.specs.DecoderState.{DecoderState, announcing, decoder_after, decoder_after_all, greatest_capacity, inserting}
 use Rattle.h3_qpack.specs.InstructionSizes.{HasAnnounced, most_instruction}
@@ -66,20 +66,20 @@ any_taken : (announced : ℕ) (r new : DecoderState) (o : Option Field) → HasA
 any_taken announced r new None h e = absurd (none_some new e)
 any_taken announced r new (Some f) h e = (entry_taken announced r new f h e).1
 
-index_and_string : (announced flags index : ℕ) (value : List ℕ) → length value + 32 ≤ announced → length (prefixed 6 flags index ++ string_literal 8 0 value) ≤ most_instruction announced
+index_and_string : (announced flags index : ℕ) (value : Text) → length value.bytes + 32 ≤ announced → length (prefixed 6 flags index ++ string_literal 8 0 value) ≤ most_instruction announced
 index_and_string announced flags index value fits =
     omega (arith, fits, length-append (prefixed 6 flags index) (string_literal 8 0 value), prefixed_short 6 flags index, string_short 8 0 value)
 
 one_taken : (announced : ℕ) (r new : DecoderState) (i : EncoderInstruction) → HasAnnounced announced r → decoder_after r i ≡ Some new → (length (encoder_bytes i) ≤ most_instruction announced) × HasAnnounced announced new
 one_taken announced r new (SetCapacity capacity) h e = (omega (arith, prefixed_short 5 1 capacity), capacity_taken announced capacity r new h e)
 one_taken announced r new (InsertWithStaticName index value) h e =
-    let taken = valued_taken announced r new value (slice_get static_table index) h e in
+    let taken = valued_taken announced r new value.bytes (slice_get static_table index) h e in
     (index_and_string announced 3 index value taken.0, taken.1)
 one_taken announced r new (InsertWithEntryName index value) h e =
-    let taken = valued_taken announced r new value (entry_at r.table (r.table.inserted - index)) h e in
+    let taken = valued_taken announced r new value.bytes (entry_at r.table (r.table.inserted - index)) h e in
     (index_and_string announced 2 index value taken.0, taken.1)
 one_taken announced r new (InsertLiteral name value) h e =
-    let fits = entry_taken announced r new (plain_field name value) h e in
+    let fits = entry_taken announced r new (plain_field name.bytes value.bytes) h e in
     (omega (arith, fits.0, length-append (string_literal 6 1 name) (string_literal 8 0 value), string_short 6 1 name, string_short 8 0 value), fits.1)
 one_taken announced r new (Duplicate index) h e = (omega (arith, prefixed_short 5 0 index), any_taken announced r new (entry_at r.table (r.table.inserted - index)) h e)
 

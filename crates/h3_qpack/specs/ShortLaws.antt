@@ -1,9 +1,10 @@
 -- How long strings and integers are as they are written.
-use Rattle.std.proofs.Common.{ℕ, zero, suc, ◌+◌, ◌*◌, ◌-◌, ◌/◌, ◌%◌, ◌^◌, ◌≤◌, Bool, true, false, List, [], ◌∷◌, length, refl, arith, length-append, nat_lt, if◌then◌else◌, Option, Some, None, option_map, unwrap_or, ◌≡◌}
+use Rattle.std.proofs.Common.{ℕ, zero, suc, ◌+◌, ◌*◌, ◌-◌, ◌/◌, ◌%◌, ◌^◌, ◌≤◌, Bool, true, false, List, [], ◌∷◌, length, refl, sym, subst, arith, length-append, nat_lt, if◌then◌else◌, Option, Some, None, option_map, unwrap_or, ◌≡◌}
 use Rattle.std.specs.Prelude.{flat_map, position, nat_eq}
 use Rattle.h3_huffman.specs.Huffman.{huffman, octets, code_word, bits, word_from, symbols_by_length}
 use Rattle.h3_field.specs.Integer.{groups, ones, prefixed}
-use Rattle.h3_field.specs.StringLiteral.{string_literal}
+use Rattle.h3_field.specs.StringLiteral.{Text, coded, bit_h, text_bytes, string_literal}
+use Rattle.h3_field.specs.LengthLaws.{shortest_within}
 use Rattle.h3_qpack.specs.ShortRows.{RowsWithin}
 
 groups_few : (most n : ℕ) → length (groups most n) ≤ most
@@ -68,7 +69,19 @@ huffman_short : (plain : List ℕ) → length (huffman plain) ≤ 4 * length pla
 unfolding huffman
 huffman_short plain = omega (arith, octets_few (flat_map code_word plain), words_short plain)
 
-pub string_short : (size flags : ℕ) (plain : List ℕ) → length (string_literal size flags plain) ≤ 10 + 4 * length plain
-string_short size flags plain =
-    let p = prefixed (size - 1) (2 * flags + 1) (length (huffman plain)) in
-    omega (arith, huffman_short plain, prefixed_short (size - 1) (2 * flags + 1) (length (huffman plain)), length-append p (huffman plain))
+bytes_short : (text : Text) → length (text_bytes text) ≤ 4 * length text.bytes
+bytes_short text = by_code text.is_huffman
+  where
+    by_code : (h : Bool) → length (if h then huffman text.bytes else text.bytes) ≤ 4 * length text.bytes
+    by_code true = huffman_short text.bytes
+    by_code false = omega arith
+
+-- however it is coded
+pub string_short : (size flags : ℕ) (text : Text) → length (string_literal size flags text) ≤ 10 + 4 * length text.bytes
+string_short size flags text =
+    let p = prefixed (size - 1) (2 * flags + bit_h text.is_huffman) (length (text_bytes text)) in
+    omega (arith, bytes_short text, prefixed_short (size - 1) (2 * flags + bit_h text.is_huffman) (length (text_bytes text)), length-append p (text_bytes text))
+
+-- where the shorter of both is chosen
+pub shortest_short : (size flags : ℕ) (shortest : Bool) (plain : List ℕ) → shortest ≡ true → length (string_literal size flags (coded shortest plain)) ≤ length plain + 10
+shortest_short size flags shortest plain e = subst (λ b. length (string_literal size flags (coded b plain)) ≤ length plain + 10) (sym e) (shortest_within size flags plain)

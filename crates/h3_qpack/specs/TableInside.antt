@@ -11,7 +11,7 @@ use Rattle.h3_qpack.specs.declared.dynamic.DynamicTable.TheInside.{Inside}
 
 abbrev pub encoder_state_inside : Inside → EncoderState
 encoder_state_inside d =
-    record { table = d.entries; most_capacity = d.most_capacity; announced = d.announced; limit = d.limit; known_received = d.blocking.known_received; blocking_counts = d.blocking.counts; tracked = d.tracking.sections; canceled = d.canceled; counts_acknowledgments = d.counts_acknowledgments; economical = d.economical; marks = d.marks }
+    record { table = d.entries; most_capacity = d.most_capacity; announced = d.announced; limit = d.limit; known_received = d.blocking.known_received; blocking_counts = d.blocking.counts; tracked = d.tracking.sections; canceled = d.canceled; counts_acknowledgments = d.counts_acknowledgments; choices = d.choices; marks = d.marks }
 
 -- The entries are indexed by this.
 abbrev pub IsIndexedBy : Index → Match → TableState → Type 0

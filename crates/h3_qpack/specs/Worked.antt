@@ -1,9 +1,10 @@
 -- The worked values that the definitions are tried at.
 use Rattle.std.specs.Prelude.{ℕ, Bool, true, List, [], ◌∷◌, replicate, codes}
 use Rattle.h3_field.specs.Field.{Field, plain_field, flagged}
+use Rattle.h3_field.specs.StringLiteral.{huffman_text}
 use Rattle.h3_field.specs.Instruction.DecoderInstruction.{Acknowledge, CancelStream, Increment}
 use Rattle.h3_table.specs.Cancellations.{none_canceled}
-use Rattle.h3_qpack.specs.EncoderHistory.{EncoderHistory, no_table, using_table, encoder_after}
+use Rattle.h3_qpack.specs.EncoderHistory.{EncoderHistory, no_choices, no_table, using_table, encoder_after}
 use Rattle.h3_field.specs.Instruction.EncoderInstruction.{SetCapacity, InsertLiteral, InsertWithEntryName, Duplicate}
 use Rattle.std.specs.Prelude.{Option, Some}
 use Rattle.h3_qpack.specs.DecoderState.{DecoderState, announcing, decoder_after_all}
@@ -53,7 +54,7 @@ older_known = sent_section (encoder_after (sent_section (fresh 200 1) 0 (x_a_of 
 
 -- a table of two entries that three were inserted into
 abbrev pub three : Option DecoderState
-three = decoder_after_all (Some (announcing 100)) (SetCapacity 100 ∷ InsertLiteral (codes "x-a") (codes "1") ∷ Duplicate 0 ∷ InsertWithEntryName 0 (codes "2") ∷ [])
+three = decoder_after_all (Some (announcing 100)) (SetCapacity 100 ∷ InsertLiteral (huffman_text (codes "x-a")) (huffman_text (codes "1")) ∷ Duplicate 0 ∷ InsertWithEntryName 0 (huffman_text (codes "2")) ∷ [])
 
 -- Three responses on stream 0, two of them interim, each with one more field; then the insertion is
 -- known to be received, and the stream is canceled.
@@ -87,7 +88,7 @@ two_on_a_stream counts = sent_section (sent_section (record (fresh 100 10) { cou
 
 -- No section may be blocked, and the encoder is economical with a table of this capacity; a response has one more field.
 abbrev pub no_waiting : ℕ → EncoderHistory
-no_waiting capacity = record (fresh capacity 0) { economical = true }
+no_waiting capacity = record (fresh capacity 0) { choices = record no_choices { economical = true } }
 
 abbrev pub inserted_ahead : ℕ → EncoderHistory
 inserted_ahead capacity = sent_section (no_waiting capacity) 0 (with_header x_a)
@@ -108,7 +109,7 @@ x_long = plain_field (codes "x") (replicate 217 97)
 
 -- An economical encoder has 316 bytes in a table of 320, of which seven eighths are 280: the two oldest of its three entries drain.
 abbrev pub two_drain : EncoderHistory
-two_drain = kept_field (kept_field (kept_field (record (fresh 320 10) { economical = true }) 0 empty_a) 4 empty_b) 8 x_long
+two_drain = kept_field (kept_field (kept_field (record (fresh 320 10) { choices = record no_choices { economical = true } }) 0 empty_a) 4 empty_b) 8 x_long
 
 -- another value of the oldest entry's name
 abbrev pub a_of_two : Field
@@ -123,3 +124,17 @@ abbrev pub twice_inserted : EncoderHistory → EncoderHistory
 twice_inserted s =
     let first = encoder_after (encoder_after (sent_section s 0 (with_header x_a)) (Increment 1)) (Acknowledge 0) in
     encoder_after (encoder_after (sent_section first 4 (with_header x_b)) (Increment 1)) (Acknowledge 4)
+
+-- Its encoder guards secrets.
+abbrev pub guarding : EncoderHistory
+guarding = record (fresh 4096 100) { choices = record no_choices { guards_secrets = true } }
+
+abbrev pub short_cookie : Field
+short_cookie = plain_field (codes "cookie") (codes "id=1")
+
+abbrev pub long_cookie : Field
+long_cookie = plain_field (codes "cookie") (replicate 20 97)
+
+-- Its encoder writes the shortest strings.
+abbrev pub with_shortest : ℕ → ℕ → EncoderHistory
+with_shortest capacity limit = record (fresh capacity limit) { choices = record no_choices { shortest_strings = true } }

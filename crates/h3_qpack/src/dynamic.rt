@@ -8,12 +8,14 @@ ghost use Rattle.h3_table.specs.Matches.{matches};
 ghost use Rattle.h3_table.specs.Index.{IsIndexed, HasRoom};
 ghost use Rattle.h3_table.specs.Tracking.{is_of, is_free_to};
 ghost use Rattle.h3_field.specs.Instruction.DecoderInstruction.{Acknowledge, CancelStream};
+ghost use Rattle.h3_qpack.specs.EncoderHistory.{no_choices};
 ghost use Rattle.h3_qpack.specs.EncoderState.{EncoderState, MayInsertInto, MayHaveCapacity, IsCapacityRefusal, raised, refuses_increment, encoder_state_sent, encoder_state_after, encoder_state_withdrawn, was_canceled_in};
 ghost use Rattle.h3_qpack.specs.Marks.{no_marks};
 ghost use Rattle.h3_qpack.specs.Missed.{IsMissed};
 ghost use Rattle.h3_qpack.specs.Drafting.{begun, draining_in, is_worth_in, noted, IsSmall, MayInsertAhead};
 ghost use Rattle.h3_field.specs.declared.dynamic.Error.TheVariants.{MaxBlockedStreamsTooLarge};
 
+use crate::encoder_choices::EncoderChoices;
 use crate::encoder_view::DynamicTableEncoder;
 use crate::marks::Marks;
 use crate::section::Section;
@@ -51,8 +53,7 @@ pub struct DynamicTable {
     blocking: BlockingCounts,
     // an acknowledgment tells of the insertions that its section needs
     counts_acknowledgments: bool,
-    // it does not keep what never comes again, and inserts for later sections what the present one may not name
-    economical: bool,
+    choices: EncoderChoices,
     // of the last values that it wrote as literals
     marks: Marks,
     alloc: Global,
@@ -83,7 +84,7 @@ fn reserve(names: &mut Index, fields: &mut Index) -> Result<(), AllocError>
 impl DynamicTable {
     /// A table of capacity 0, whose sections may not be blocked. It may have any capacity up to 2^30 - 1.
     pub fn new(alloc: Global) -> DynamicTable
-        ensures { result ≡ record { table = no_entries; most_capacity = 2 ^ 30 - 1; announced = 0; limit = 0; known_received = 0; blocking_counts = []; tracked = []; canceled = none_canceled None; counts_acknowledgments = false; economical = false; marks = no_marks } }
+        ensures { result ≡ record { table = no_entries; most_capacity = 2 ^ 30 - 1; announced = 0; limit = 0; known_received = 0; blocking_counts = []; tracked = []; canceled = none_canceled None; counts_acknowledgments = false; choices = no_choices; marks = no_marks } }
     {
         DynamicTable {
             entries: Entries::new(alloc),
@@ -96,7 +97,11 @@ impl DynamicTable {
             limit: 0,
             blocking: BlockingCounts::new(alloc),
             counts_acknowledgments: false,
-            economical: false,
+            choices: EncoderChoices {
+                economical: false,
+                guards_secrets: false,
+                shortest_strings: false,
+            },
             marks: Marks::new(),
             alloc,
         }
@@ -329,7 +334,7 @@ impl DynamicTable {
     pub(crate) fn draining(&self) -> usize
         ensures { result ≡ draining_in self.now }
     {
-        if !self.economical {
+        if !self.choices.economical {
             return 0;
         }
         let capacity = self.entries.capacity();
@@ -349,7 +354,7 @@ impl DynamicTable {
     pub(crate) fn is_worth(&self, field: &FieldRef<'_>, drains: bool) -> bool
         ensures { result ≡ is_worth_in self.now drains field.now }
     {
-        if !self.economical || drains {
+        if !self.choices.economical || drains {
             return true;
         }
         let capacity = self.entries.capacity();
@@ -368,7 +373,7 @@ impl DynamicTable {
     pub(crate) fn note(&mut self, field: &FieldRef<'_>)
         ensures { self.new ≡ noted self.old field.now }
     {
-        if self.economical && !field.is_never_indexed() {
+        if self.choices.economical && !field.is_never_indexed() {
             self.marks.add(field.value());
         }
     }
@@ -384,7 +389,7 @@ impl DynamicTable {
         ensures missed { IfSome result (λ p. IsMissed self.now.table p.1 field.now) }
         ensures none { IfNone result (MayInsertAhead self.now section.now field.now → ⊥) }
     {
-        if !self.economical || self.limit != 0 || field.is_never_indexed() {
+        if !self.choices.economical || self.limit != 0 || field.is_never_indexed() {
             return None;
         }
         if size_of(field) > self.entries.capacity() {
@@ -472,11 +477,19 @@ impl DynamicTable {
         self.counts_acknowledgments = counted;
     }
 
-    /// From now on the encoder is economical with the table, or is not.
-    pub(crate) fn economize(&mut self, economical: bool)
-        ensures { self.new ≡ record self.old { economical = economical } }
+    /// What the encoder chose.
+    #[inline(always)]
+    pub(crate) fn choices(&self) -> EncoderChoices
+        ensures { result ≡ self.now.choices }
     {
-        self.economical = economical;
+        self.choices
+    }
+
+    /// From now on the encoder goes by these choices.
+    pub(crate) fn choose(&mut self, choices: EncoderChoices)
+        ensures { self.new ≡ record self.old { choices = choices } }
+    {
+        self.choices = choices;
     }
 
     /// Whether an increment is 0 or past what was inserted, if acknowledgments count.

@@ -18,12 +18,14 @@ ghost use Rattle.h3_qpack.specs.Hearing.{HasListened};
 ghost use Rattle.h3_qpack.specs.EncoderAnswers.{HasReadDecoderInstructions, AnswersDecoderInstruction, IsLeft, IsDecoderInstructionRefusal, IsSizeRefusal, IsTableRefusal};
 
 use crate::dynamic::{DynamicTable, MAX_BLOCKED};
+use crate::encoder_choices::EncoderChoices;
 use crate::section::Section;
+use crate::static_section::put_static_section;
 use crate::writing::{put_fields, put_section};
 use h3_field::stream::{
     DecoderInstruction, DynamicTableSizeUpdate, HeaderAck, InsertCountIncrement, StreamCancel,
 };
-use h3_field::{EncoderError, Fields, HeaderField, SliceCursor, dynamic, encode_stateless_lent};
+use h3_field::{EncoderError, Fields, HeaderField, SliceCursor, dynamic};
 use h3_table::entries::MAX_CAPACITY;
 use std::alloc::Global;
 use std::marker::Model;
@@ -71,15 +73,11 @@ impl Encoder {
         self.table.count_acknowledgments(counted);
     }
 
-    /// From now on the encoder is economical with its table, or is not. An economical encoder names no entry of the oldest eighth of its
-    /// table, and inserts such a field again (RFC 9204, section 2.1.1.1). Else it inserts a field with which nothing would drain, and the
-    /// first of its name. It also inserts one whose value seems to be among the last 32 that were written as literals. If the decoder lets
-    /// no section wait (a limit of 0), it inserts such a field after its literal line. It names the entry once the insertion is known to be
-    /// received (section 2.1.2). An encoder that is not economical never inserts there. Off at first.
-    pub fn economize(&mut self, economical: bool)
-        ensures { (s : EncoderHistory) → self.old ≡ encoder_state s → self.new ≡ encoder_state (record s { economical = economical }) }
+    /// From now on the encoder goes by these choices. At first nothing is chosen.
+    pub fn choose(&mut self, choices: EncoderChoices)
+        ensures { (s : EncoderHistory) → self.old ≡ encoder_state s → self.new ≡ encoder_state (record s { choices = choices }) }
     {
-        self.table.economize(economical);
+        self.table.choose(choices);
     }
 
     /// From now on at most so many of the streams are kept whose cancellation is read, or all, as at first; those that were kept are
@@ -329,7 +327,7 @@ impl Encoder {
         ensures cut_off { OnErr result ((s : EncoderHistory) → self.old ≡ encoder_state s → IsCutOff s (writing_on s stream) fields.now self.new encoder_buf.old.items encoder_buf.new.items) }
     {
         if self.table.is_canceled(stream) {
-            encode_stateless_lent(block, fields)?;
+            put_static_section(self.table.choices(), fields, block)?;
             return Ok(0);
         }
         self.lines.clear();

@@ -1,19 +1,20 @@
 //! What the definitions give at values worked out by hand. These functions do nothing: the check computes their contracts.
 ghost use Rattle.std.specs.Prelude.{◌≡◌, ◌∷◌, ◌++◌, [], replicate, codes, flat_map};
 ghost use Rattle.h3_field.specs.Field.{plain_field, flagged};
+ghost use Rattle.h3_field.specs.StringLiteral.{huffman_text};
 ghost use Rattle.h3_field.specs.Instruction.{encoder_bytes};
 ghost use Rattle.h3_field.specs.Instruction.DecoderInstruction.{CancelStream, Increment};
-ghost use Rattle.h3_qpack.specs.EncoderHistory.{blocks_out, encoder_after, was_canceled, writing_on};
+ghost use Rattle.h3_qpack.specs.EncoderHistory.{no_choices, blocks_out, encoder_after, was_canceled, writing_on};
 ghost use Rattle.h3_qpack.specs.Marks.{value_mark};
-ghost use Rattle.h3_qpack.specs.SectionEncoding.{draining, draft_of, encoded_section, instructions_for, sent_section};
+ghost use Rattle.h3_qpack.specs.SectionEncoding.{draining, guarded_fields, draft_of, encoded_section, instructions_for, sent_section};
 ghost use Rattle.std.specs.Prelude.{Some, None, option_map, true, false};
 ghost use Rattle.h3_field.specs.Instruction.DecoderInstruction.{Acknowledge};
 ghost use Rattle.h3_field.specs.Line.FieldLine.{RelativeField, PostBaseField, Literal};
-ghost use Rattle.h3_field.specs.Instruction.EncoderInstruction.{SetCapacity, InsertWithEntryName, InsertLiteral, Duplicate};
+ghost use Rattle.h3_field.specs.Instruction.EncoderInstruction.{SetCapacity, InsertWithStaticName, InsertWithEntryName, InsertLiteral, Duplicate};
 ghost use Rattle.h3_qpack.specs.EncoderHistory.{is_refused, encoder_after_front, withdrawn};
 ghost use Rattle.h3_table.specs.Table.{table};
 ghost use Rattle.h3_qpack.specs.DecoderState.{announcing, decoder_after_all};
-ghost use Rattle.h3_qpack.specs.Worked.{three, fresh, sample, host_text, path_text, with_header, x_a, x_b, x_a_of, secret_a, secret_sent, older_known, three_canceled, canceled_first, one_kept, one_waits, one_acknowledged, two_on_a_stream, no_waiting, inserted_ahead, capped, twice_inserted, empty_b, x_long, two_drain, a_of_two};
+ghost use Rattle.h3_qpack.specs.Worked.{three, fresh, sample, host_text, path_text, with_header, x_a, x_b, x_a_of, secret_a, secret_sent, older_known, three_canceled, canceled_first, one_kept, one_waits, one_acknowledged, two_on_a_stream, no_waiting, inserted_ahead, capped, twice_inserted, empty_b, x_long, two_drain, a_of_two, guarding, short_cookie, long_cookie, with_shortest};
 
 /// Three requests for the same page: the first inserts two fields, the second names them, and the third may not.
 #[tactic(auto, unfolding(h3_field::specs::StaticTable::static_table, h3_field::specs::StaticTable::static_field, h3_field::specs::StaticTable::static_name, h3_huffman::specs::Huffman::huffman, h3_huffman::specs::Huffman::octets, h3_huffman::specs::Huffman::code_word, h3_huffman::specs::Huffman::bits))]
@@ -44,10 +45,10 @@ pub fn older_entry()
 pub fn decoder()
     ensures two { option_map (λ r. r.table.entries) three ≡ Some (x_a ∷ x_a_of (codes "2") ∷ []) }
     ensures one { option_map (λ r. r.table.entries) (decoder_after_all three (SetCapacity 40 ∷ SetCapacity 100 ∷ [])) ≡ Some (x_a_of (codes "2") ∷ []) }
-    ensures evicted { decoder_after_all three (SetCapacity 40 ∷ InsertWithEntryName 1 (codes "3") ∷ []) ≡ None }
+    ensures evicted { decoder_after_all three (SetCapacity 40 ∷ InsertWithEntryName 1 (huffman_text (codes "3")) ∷ []) ≡ None }
     ensures above { decoder_after_all three (SetCapacity 101 ∷ []) ≡ None }
     ensures too_large { decoder_after_all (Some (announcing 220)) (SetCapacity 221 ∷ []) ≡ None }
-    ensures early { decoder_after_all (Some (announcing 100)) (InsertWithEntryName 0 [] ∷ []) ≡ None }
+    ensures early { decoder_after_all (Some (announcing 100)) (InsertWithEntryName 0 (huffman_text []) ∷ []) ≡ None }
 {}
 
 /// An acknowledgment needs a tracked section, and what follows a refused one is left.
@@ -142,7 +143,7 @@ pub fn economical_tables()
     ensures unknown { encoded_section (inserted_ahead 64) (with_header x_a) ≡ 0 ∷ 0 ∷ 217 ∷ 43 ∷ 242 ∷ 176 ∷ 255 ∷ 129 ∷ 15 ∷ [] }
     ensures once { instructions_for (inserted_ahead 64) (with_header x_a) ≡ [] }
     ensures known { encoded_section (encoder_after (inserted_ahead 64) (Increment 1)) (with_header x_a) ≡ 2 ∷ 0 ∷ 217 ∷ 128 ∷ [] }
-    ensures first_of_name { instructions_for (encoder_after (inserted_ahead 64) (Increment 1)) (with_header x_b) ≡ InsertLiteral (codes "x-b") (codes "2") ∷ [] }
+    ensures first_of_name { instructions_for (encoder_after (inserted_ahead 64) (Increment 1)) (with_header x_b) ≡ InsertLiteral (huffman_text (codes "x-b")) (huffman_text (codes "2")) ∷ [] }
     ensures spared { instructions_for (encoder_after (inserted_ahead 64) (Increment 1)) (x_a_of (codes "2") ∷ []) ≡ [] }
     ensures other { instructions_for (fresh 64 0) (with_header x_a) ≡ [] }
 {}
@@ -156,9 +157,9 @@ pub fn draining_tables()
     ensures new_entry { (draft_of two_drain (empty_b ∷ [])).lines ≡ PostBaseField 0 ∷ [] }
     ensures lasts { (draft_of two_drain (x_long ∷ [])).lines ≡ RelativeField 0 ∷ [] }
     ensures spared { instructions_for two_drain (a_of_two ∷ []) ≡ [] }
-    ensures literal { (draft_of two_drain (a_of_two ∷ [])).lines ≡ Literal (codes "a") (codes "2") false ∷ [] }
-    ensures second_time { instructions_for (sent_section two_drain 12 (a_of_two ∷ [])) (a_of_two ∷ []) ≡ InsertLiteral (codes "a") (codes "2") ∷ [] }
-    ensures plain { (draft_of (record two_drain { economical = false }) (empty_b ∷ [])).lines ≡ RelativeField 1 ∷ [] }
+    ensures literal { (draft_of two_drain (a_of_two ∷ [])).lines ≡ Literal (huffman_text (codes "a")) (huffman_text (codes "2")) false ∷ [] }
+    ensures second_time { instructions_for (sent_section two_drain 12 (a_of_two ∷ [])) (a_of_two ∷ []) ≡ InsertLiteral (huffman_text (codes "a")) (huffman_text (codes "2")) ∷ [] }
+    ensures plain { (draft_of (record two_drain { choices = no_choices }) (empty_b ∷ [])).lines ≡ RelativeField 1 ∷ [] }
 {}
 
 /// A never-indexed field is a literal with the bit N, whatever a table has, and leaves no trace. A second section with it is like the
@@ -169,12 +170,31 @@ pub fn never_indexed()
     ensures none { instructions_for (fresh 4096 100) (secret_a ∷ []) ≡ [] }
     ensures second { encoded_section secret_sent (secret_a ∷ []) ≡ 0 ∷ 0 ∷ 59 ∷ 242 ∷ 176 ∷ 255 ∷ 129 ∷ 15 ∷ [] }
     ensures still { instructions_for secret_sent (secret_a ∷ []) ≡ [] }
-    ensures new_entry { instructions_for secret_sent (x_a ∷ []) ≡ InsertLiteral (codes "x-a") (codes "1") ∷ [] }
+    ensures new_entry { instructions_for secret_sent (x_a ∷ []) ≡ InsertLiteral (huffman_text (codes "x-a")) (huffman_text (codes "1")) ∷ [] }
     ensures entry { encoded_section (sent_section (fresh 4096 100) 0 (x_a ∷ [])) (secret_a ∷ []) ≡ 2 ∷ 0 ∷ 96 ∷ 129 ∷ 15 ∷ [] }
     ensures behind { encoded_section (fresh 4096 100) (x_a ∷ secret_a ∷ []) ≡ 2 ∷ 128 ∷ 16 ∷ 8 ∷ 129 ∷ 15 ∷ [] }
     ensures static_entry { encoded_section (fresh 4096 100) (flagged (plain_field (codes ":path") (codes "/")) true ∷ []) ≡ 0 ∷ 0 ∷ 113 ∷ 129 ∷ 99 ∷ [] }
     ensures ahead { instructions_for (no_waiting 64) (secret_a ∷ []) ≡ [] }
     ensures marks { (sent_section (no_waiting 64) 0 (secret_a ∷ [])).marks ≡ (no_waiting 64).marks }
+{}
+
+/// An encoder that guards secrets flags a short cookie, on every stream: it is a literal with the bit N, and is not inserted. Else it is
+/// inserted, and so is a longer cookie.
+#[tactic(auto, unfolding(h3_field::specs::StaticTable::static_table, h3_field::specs::StaticTable::static_field, h3_field::specs::StaticTable::static_name, h3_huffman::specs::Huffman::huffman, h3_huffman::specs::Huffman::octets, h3_huffman::specs::Huffman::code_word, h3_huffman::specs::Huffman::bits))]
+pub fn guarded_secrets()
+    ensures literal { encoded_section guarding (short_cookie ∷ []) ≡ 0 ∷ 0 ∷ 117 ∷ 131 ∷ 52 ∷ 144 ∷ 7 ∷ [] }
+    ensures none { instructions_for guarding (short_cookie ∷ []) ≡ [] }
+    ensures canceled { encoded_section (writing_on (encoder_after guarding (CancelStream 0)) 0) (short_cookie ∷ []) ≡ 0 ∷ 0 ∷ 117 ∷ 131 ∷ 52 ∷ 144 ∷ 7 ∷ [] }
+    ensures unasked { instructions_for (fresh 4096 100) (short_cookie ∷ []) ≡ InsertWithStaticName 5 (huffman_text (codes "id=1")) ∷ [] }
+    ensures long { guarded_fields guarding (long_cookie ∷ short_cookie ∷ []) ≡ long_cookie ∷ flagged short_cookie true ∷ [] }
+{}
+
+/// With the shortest strings one is written as it stands if its Huffman code is not shorter, in lines and in instructions.
+#[tactic(auto, unfolding(h3_field::specs::StaticTable::static_table, h3_field::specs::StaticTable::static_field, h3_field::specs::StaticTable::static_name, h3_huffman::specs::Huffman::huffman, h3_huffman::specs::Huffman::octets, h3_huffman::specs::Huffman::code_word, h3_huffman::specs::Huffman::bits))]
+pub fn shortest_strings()
+    ensures plain { encoded_section (with_shortest 64 0) (x_a ∷ []) ≡ 0 ∷ 0 ∷ 35 ∷ 120 ∷ 45 ∷ 97 ∷ 1 ∷ 49 ∷ [] }
+    ensures coded { encoded_section (with_shortest 64 0) (plain_field (codes ":authority") (codes "www.example.com") ∷ []) ≡ 0 ∷ 0 ∷ 80 ∷ host_text }
+    ensures inserts { flat_map encoder_bytes (instructions_for (with_shortest 64 10) (x_a ∷ [])) ≡ 67 ∷ 120 ∷ 45 ∷ 97 ∷ 1 ∷ 49 ∷ [] }
 {}
 
 /// The mark of a value goes by its length and its last 16 bytes.

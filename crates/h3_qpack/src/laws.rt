@@ -8,7 +8,7 @@ ghost use Rattle.h3_field.specs.Instruction.DecoderInstruction.{Acknowledge, Can
 ghost use Rattle.h3_table.specs.Table.{table};
 ghost use Rattle.std.specs.Prelude.{take, length, [], ◌++◌};
 ghost use Rattle.h3_qpack.specs.DecoderState.{DecoderState, announcing, decoder_after_all};
-ghost use Rattle.std.specs.Prelude.{flat_map, map};
+ghost use Rattle.std.specs.Prelude.{flat_map, map, max};
 ghost use Rattle.std.specs.List.{AllByRecursion};
 ghost use Rattle.h3_field.specs.Instruction.{EncoderInstruction, encoder_bytes, DecoderInstruction, decoder_bytes};
 ghost use Rattle.h3_field.specs.InstructionAnswer.{IsReply};
@@ -20,10 +20,13 @@ ghost use Rattle.h3_qpack.specs.TableHistory.{IsReadAs, table_after_all, table_o
 ghost use Rattle.h3_qpack.specs.Meaning.{MeansFields, IsMissing};
 ghost use Rattle.h3_qpack.specs.DecodedSection.{DecodedSection, decode_section, IsDecodedAs};
 ghost use Rattle.h3_qpack.specs.Hearing.{Heard, heard, hear, heard_then, IsHeardAs, Listened, listened, listen, listened_then, IsListenedAs};
-ghost use Rattle.h3_qpack.specs.SectionEncoding.{Draft, draft_of, encoded_section, finds_room, found, having_inserted, held, instructions_for, is_insertable, is_insertable_ahead, marks_after, required_insert_count, sent_section};
-ghost use Rattle.h3_field.specs.Line.{FieldLine};
-ghost use Rattle.h3_qpack.specs.Secrets.{MayBeIndexed, has_bit_n, without_secret, line_without_secret};
-ghost use Rattle.h3_qpack.specs.SectionSizes.{most_encoded};
+ghost use Rattle.h3_field.specs.Secret.{is_secret};
+ghost use Rattle.h3_field.specs.StringLiteral.{coded, huffman_text};
+ghost use Rattle.h3_qpack.specs.StaticSections.{static_section};
+ghost use Rattle.h3_qpack.specs.SectionEncoding.{Draft, guarded_fields, draft_of, encoded_section, finds_room, found, having_inserted, held, instructions_for, is_insertable, is_insertable_ahead, marks_after, required_insert_count, sent_section};
+ghost use Rattle.h3_field.specs.Line.{FieldLine, line_bytes};
+ghost use Rattle.h3_qpack.specs.Secrets.{MayBeIndexed, has_bit_n, without_secrets, line_without_secret};
+ghost use Rattle.h3_qpack.specs.SectionSizes.{most_encoded, most_encoded_shortest};
 ghost use Rattle.h3_qpack.specs.InstructionSizes.{most_instruction};
 ghost use Rattle.h3_qpack.specs.Encodings.{decoder_of, HasInsertions, IsDecoderAt, IsWritten, IsWrittenInstruction, tried};
 ghost use Rattle.h3_field.specs.Prefix.{most_entries, IsRequiredCount};
@@ -32,7 +35,7 @@ ghost use Rattle.h3_qpack.specs.Schedule.{SessionEvent, SessionRun, beginning};
 ghost use Rattle.std.specs.Ordering.{nat_cmp};
 ghost use Rattle.std.specs.BTreeSet.{insert_key};
 ghost use Rattle.h3_table.specs.Cancellations.{Cancellations, KeepsAll, with_canceled};
-ghost use Rattle.h3_qpack.specs.EncoderHistory.{EncoderHistory, HasNoTable, blocks_out, encoder_after, encoder_after_all, was_canceled, withdrawn, writing_on};
+ghost use Rattle.h3_qpack.specs.EncoderHistory.{EncoderHistory, HasNoTable, no_choices, blocks_out, encoder_after, encoder_after_all, was_canceled, withdrawn, writing_on};
 ghost use Rattle.h3_qpack.specs.EncoderState.{encoder_state};
 ghost use Rattle.h3_qpack.specs.Exchange.{ExchangeHistory, Exchange, start, opening};
 ghost use Rattle.h3_qpack.specs.Expected.{Expected};
@@ -44,31 +47,43 @@ pub fn no_table_passes_its_capacity()
     ensures { (capacity : ℕ) (inserted : List Field) → section_size (table capacity inserted) ≤ capacity }
 {}
 
-/// The bits N of a section's lines are the flags of its fields, one after the other, and a line of an entry has none. So each never-indexed
-/// field is a literal with that bit (RFC 9204, section 4.5.4). None is inserted (section 7.1.3).
+/// The bits N of a section's lines are the flags of its fields, one after the other, and a line of an entry has none. If the encoder guards
+/// secrets, each field that is known to be one has its bit too. So each never-indexed field, and each guarded secret, is a literal with
+/// that bit (RFC 9204, section 4.5.4). None is inserted (section 7.1.3).
 pub fn never_indexed_fields_are_literals()
-    ensures bits { (s : EncoderHistory) (fields : List Field) → map has_bit_n (draft_of s fields).lines ≡ map (λ f. f.never_indexed) fields }
+    ensures bits { (s : EncoderHistory) (fields : List Field) → map has_bit_n (draft_of s fields).lines ≡ map (λ f. f.never_indexed || (s.choices.guards_secrets && is_secret f)) fields }
     ensures inserted { (s : EncoderHistory) (fields : List Field) → AllByRecursion MayBeIndexed s.inserted → AllByRecursion MayBeIndexed (draft_of s fields).inserted }
 {}
 
-/// Nothing that an encoder inserts, names or keeps rests on the value of a never-indexed field. If two lists of fields differ in such
-/// values alone, their instructions are equal, and so is the encoder after them, with all that it writes later. The two sections differ in
-/// the literal values of those fields alone. So no instruction and no later section tells of a secret (RFC 9204, section 7.1.3).
+/// Nothing that an encoder inserts, names or keeps rests on the value of a never-indexed field, or of a secret that it guards. If two lists
+/// of fields differ in such values alone, their instructions are equal, and so is the encoder after them, with all that it writes later.
+/// The two sections differ in the literal values of those fields alone, and in how these are coded. So no instruction and no later section
+/// tells of a secret (RFC 9204, section 7.1.3).
 pub fn secrets_leave_no_trace()
-    ensures instructions { (s : EncoderHistory) (fields others : List Field) → map without_secret fields ≡ map without_secret others → instructions_for s fields ≡ instructions_for s others }
-    ensures count { (s : EncoderHistory) (fields others : List Field) → map without_secret fields ≡ map without_secret others →
+    ensures instructions { (s : EncoderHistory) (fields others : List Field) → without_secrets s fields ≡ without_secrets s others → instructions_for s fields ≡ instructions_for s others }
+    ensures count { (s : EncoderHistory) (fields others : List Field) → without_secrets s fields ≡ without_secrets s others →
         required_insert_count (draft_of s fields) ≡ required_insert_count (draft_of s others) }
-    ensures lines { (s : EncoderHistory) (fields others : List Field) → map without_secret fields ≡ map without_secret others →
+    ensures lines { (s : EncoderHistory) (fields others : List Field) → without_secrets s fields ≡ without_secrets s others →
         map line_without_secret (draft_of s fields).lines ≡ map line_without_secret (draft_of s others).lines }
-    ensures sent { (s : EncoderHistory) (stream : ℕ) (fields others : List Field) → map without_secret fields ≡ map without_secret others → sent_section s stream fields ≡ sent_section s stream others }
-    ensures inserted { (s : EncoderHistory) (stream : ℕ) (fields others : List Field) → map without_secret fields ≡ map without_secret others →
+    ensures sent { (s : EncoderHistory) (stream : ℕ) (fields others : List Field) → without_secrets s fields ≡ without_secrets s others → sent_section s stream fields ≡ sent_section s stream others }
+    ensures inserted { (s : EncoderHistory) (stream : ℕ) (fields others : List Field) → without_secrets s fields ≡ without_secrets s others →
         having_inserted s stream fields ≡ having_inserted s stream others }
 {}
 
+/// An encoder that guards no secrets takes the fields as they are, and one that does not choose the shortest strings writes each Huffman
+/// coded. What it chooses is the same on every stream, but that it is not economical on one that was canceled. If nothing is chosen a
+/// section that names no entry is that of `encode_stateless`.
+pub fn choices_change_what_they_say()
+    ensures fields { (s : EncoderHistory) (fields : List Field) → s.choices.guards_secrets ≡ false → guarded_fields s fields ≡ fields }
+    ensures strings { (bytes : List ℕ) → coded false bytes ≡ huffman_text bytes }
+    ensures guarded { (s : EncoderHistory) (stream : ℕ) (fields : List Field) → guarded_fields (writing_on s stream) fields ≡ guarded_fields s fields }
+    ensures stateless { (fields : List Field) → static_section no_choices fields ≡ section_bytes fields }
+{}
+
 /// A section on a stream whose cancellation was read names no entry, and nothing is inserted for it. Its bytes are those of static
-/// lines and literals with static or literal names.
+/// lines and literals with static or literal names, with the strings and the flags that the encoder chose.
 pub fn canceled_streams_use_no_table()
-    ensures bytes { (s : EncoderHistory) (stream : ℕ) (fields : List Field) → was_canceled s stream ≡ true → encoded_section (writing_on s stream) fields ≡ section_bytes fields }
+    ensures bytes { (s : EncoderHistory) (stream : ℕ) (fields : List Field) → was_canceled s stream ≡ true → encoded_section (writing_on s stream) fields ≡ static_section s.choices fields }
     ensures names { (s : EncoderHistory) (stream : ℕ) (fields : List Field) → was_canceled s stream ≡ true → (draft_of (writing_on s stream) fields).references ≡ [] }
     ensures inserts { (s : EncoderHistory) (stream : ℕ) (fields : List Field) → was_canceled s stream ≡ true → instructions_for (writing_on s stream) fields ≡ [] }
     ensures same { (s : EncoderHistory) (stream : ℕ) (fields : List Field) → was_canceled s stream ≡ true → encoder_state (sent_section s stream fields) ≡ encoder_state s }
@@ -77,7 +92,7 @@ pub fn canceled_streams_use_no_table()
 /// An encoder without a table that has inserted nothing names no entry and inserts nothing, whether it is economical or not: so a table
 /// may come into use later.
 pub fn encoders_without_insertions_use_no_table()
-    ensures bytes { (s : EncoderHistory) (stream : ℕ) (fields : List Field) → HasNoTable s → s.inserted ≡ [] → encoded_section (writing_on s stream) fields ≡ section_bytes fields }
+    ensures bytes { (s : EncoderHistory) (stream : ℕ) (fields : List Field) → HasNoTable s → s.inserted ≡ [] → encoded_section (writing_on s stream) fields ≡ static_section s.choices fields }
     ensures inserts { (s : EncoderHistory) (stream : ℕ) (fields : List Field) → HasNoTable s → s.inserted ≡ [] → instructions_for (writing_on s stream) fields ≡ [] }
     ensures still { (s : EncoderHistory) (stream : ℕ) (fields : List Field) → HasNoTable s → s.inserted ≡ [] → (sent_section s stream fields).inserted ≡ [] }
 {}
@@ -85,18 +100,18 @@ pub fn encoders_without_insertions_use_no_table()
 /// An encoder that is not economical and has inserted nothing names no entry and inserts nothing if no section may be blocked, whatever its
 /// capacity (RFC 9204, section 2.1.2).
 pub fn plain_encoders_of_limit_zero_use_no_table()
-    ensures bytes { (s : EncoderHistory) (stream : ℕ) (fields : List Field) → s.limit ≡ 0 → s.economical ≡ false → s.inserted ≡ [] → encoded_section (writing_on s stream) fields ≡ section_bytes fields }
-    ensures inserts { (s : EncoderHistory) (stream : ℕ) (fields : List Field) → s.limit ≡ 0 → s.economical ≡ false → s.inserted ≡ [] → instructions_for (writing_on s stream) fields ≡ [] }
-    ensures still { (s : EncoderHistory) (stream : ℕ) (fields : List Field) → s.limit ≡ 0 → s.economical ≡ false → s.inserted ≡ [] → (sent_section s stream fields).inserted ≡ [] }
+    ensures bytes { (s : EncoderHistory) (stream : ℕ) (fields : List Field) → s.limit ≡ 0 → s.choices.economical ≡ false → s.inserted ≡ [] → encoded_section (writing_on s stream) fields ≡ static_section s.choices fields }
+    ensures inserts { (s : EncoderHistory) (stream : ℕ) (fields : List Field) → s.limit ≡ 0 → s.choices.economical ≡ false → s.inserted ≡ [] → instructions_for (writing_on s stream) fields ≡ [] }
+    ensures still { (s : EncoderHistory) (stream : ℕ) (fields : List Field) → s.limit ≡ 0 → s.choices.economical ≡ false → s.inserted ≡ [] → (sent_section s stream fields).inserted ≡ [] }
 {}
 
 /// An encoder that is not economical goes by its table alone. It names the newest equal entry that it may, and inserts whatever there is
 /// room for if one more section may be blocked. It inserts nothing ahead, and leaves no mark.
 pub fn plain_encoders_go_by_their_table()
-    ensures names { (s : EncoderHistory) (d : Draft) (f : Field) → s.economical ≡ false → found s d f ≡ held s d f }
-    ensures inserts { (s : EncoderHistory) (d : Draft) (f : Field) → s.economical ≡ false → is_insertable s d f ≡ (nat_lt (blocks_out s) s.limit && finds_room s d f) }
-    ensures ahead { (s : EncoderHistory) (marks : List ℕ) (d : Draft) (f : Field) → s.economical ≡ false → is_insertable_ahead s marks d f ≡ false }
-    ensures marks { (s : EncoderHistory) (lines : List FieldLine) → s.economical ≡ false → marks_after s lines ≡ s.marks }
+    ensures names { (s : EncoderHistory) (d : Draft) (f : Field) → s.choices.economical ≡ false → found s d f ≡ held s d f }
+    ensures inserts { (s : EncoderHistory) (d : Draft) (f : Field) → s.choices.economical ≡ false → is_insertable s d f ≡ (nat_lt (blocks_out s) s.limit && finds_room s d f) }
+    ensures ahead { (s : EncoderHistory) (marks : List ℕ) (d : Draft) (f : Field) → s.choices.economical ≡ false → is_insertable_ahead s marks d f ≡ false }
+    ensures marks { (s : EncoderHistory) (lines : List FieldLine) → s.choices.economical ≡ false → marks_after s lines ≡ s.marks }
 {}
 
 /// A stream counts as canceled once its cancellation was read, and over every schedule it does from then on, however many are kept. At
@@ -125,8 +140,8 @@ pub fn canceled_streams_are_not_tracked()
         tracked_references stream s.encoder.tracked ≡ [] }
 {}
 
-/// Over every schedule, whether acknowledgments count or not, however small the encoder's table is to be, and whenever it becomes
-/// economical, what is under way fits what both ends have.
+/// Over every schedule, whether acknowledgments count or not, however small the encoder's table is to be, and whatever it
+/// chooses and whenever, what is under way fits what both ends have.
 pub fn every_session_is_sound()
     ensures { (counts : Bool) (most announced limit : ℕ) (events : List SessionEvent) (s : Session) → SessionRun (beginning counts most announced limit) events s → IsSound s }
 {}
@@ -150,13 +165,14 @@ pub fn every_section_decodes()
         IsRequiredCount s.encoder.announced s.received (count_of b % (2 * most_entries s.encoder.announced) + 1) (count_of b) }
 {}
 
-/// Over every schedule, the encoding of a section means the section's fields to a decoder that has read its insertions. Before that it is
-/// missing exactly so many, and is never bad. The decoder announced the capacity that the encoder goes by, or any other while the encoder
-/// has inserted nothing, as before the peer's settings came.
+/// Over every schedule, the encoding of a section means the section's fields to a decoder that has read its insertions: with the flags that
+/// the encoder set, if it guards secrets, and else as they are. Before that it is missing exactly so many, and is never bad. The decoder
+/// announced the capacity that the encoder goes by, or any other while the encoder has inserted nothing, as before the peer's settings
+/// came.
 pub fn every_encoding_means_its_fields()
     ensures means { (counts : Bool) (most announced limit : ℕ) (events : List SessionEvent) (s : Session) (b : UndecodedSection) → SessionRun (beginning counts most announced limit) events s →
         oldest b.stream s.sections ≡ Some b → is_canceled s b.stream ≡ false → count_of b ≤ s.received → IsWritten s b →
-        MeansFields (decoder_of s) (encoded_section b.encoder b.fields) (count_of b) b.fields }
+        MeansFields (decoder_of s) (encoded_section b.encoder b.fields) (count_of b) (guarded_fields b.encoder b.fields) }
     ensures value { (counts : Bool) (most announced limit other : ℕ) (events : List SessionEvent) (s : Session) (b : UndecodedSection) (r : DecoderState) → SessionRun (beginning counts most announced limit) events s → IsDecoderAt other s r →
         oldest b.stream s.sections ≡ Some b → is_canceled s b.stream ≡ false → IsWritten s b →
         decode_section r (encoded_section b.encoder b.fields) ≡ tried s b }
@@ -188,16 +204,22 @@ pub fn sections_leave_their_counts()
 {}
 
 /// The encoding of a list of fields is no longer than four times the list's size, whatever its encoder did before. That size is the sum of
-/// names, values and 32 for each field (RFC 9114, section 4.2.2). The encoding of an empty list takes two bytes. Every string is written in
-/// the Huffman code, whose words have up to thirty bits: so the encoding may be longer than the list's size.
+/// names, values and 32 for each field (RFC 9114, section 4.2.2). The encoding of an empty list takes two bytes. If each string is written
+/// in the Huffman code, whose words have up to thirty bits, the encoding may be longer than the list's size. With the shortest strings it
+/// is at most eight bytes longer. The lines then leave twelve bytes of each field's size, and the prefix takes up to twenty: so a section
+/// of two fields or more is no longer than its list's size, and nor is one that names no entry, whose prefix takes two bytes.
 pub fn encoded_sections_are_short()
     ensures short { (s : EncoderHistory) (fields : List Field) → length (encoded_section s fields) ≤ most_encoded fields }
     ensures empty { (s : EncoderHistory) → length (encoded_section s []) ≡ 2 }
+    ensures lines { (s : EncoderHistory) (fields : List Field) → s.choices.shortest_strings ≡ true → length (flat_map line_bytes (draft_of s fields).lines) + 12 * length fields ≤ section_size fields }
+    ensures shortest { (s : EncoderHistory) (fields : List Field) → s.choices.shortest_strings ≡ true → length (encoded_section s fields) ≤ most_encoded_shortest fields }
+    ensures several { (s : EncoderHistory) (fields : List Field) → s.choices.shortest_strings ≡ true → 2 ≤ length fields → length (encoded_section s fields) ≤ section_size fields }
+    ensures unnamed { (s : EncoderHistory) (fields : List Field) → s.choices.shortest_strings ≡ true → required_insert_count (draft_of s fields) ≡ 0 → length (encoded_section s fields) ≤ max 2 (section_size fields) }
 {}
 
 /// An instruction of an encoder that a decoder takes is written in at most ten bytes, or in four times the capacity that the decoder
-/// announced. The strings of an entry that fits it are written in the Huffman code. An instruction of a decoder is one number, of at most
-/// ten bytes (RFC 9204, section 4.1.1).
+/// announced. The strings of an entry that fits it may be written in the Huffman code. An instruction of a decoder is one number, of at
+/// most ten bytes (RFC 9204, section 4.1.1).
 pub fn instructions_are_short()
     ensures taken { (announced : ℕ) (instructions : List EncoderInstruction) (r : DecoderState) → decoder_after_all (Some (announcing announced)) instructions ≡ Some r →
         AllByRecursion (λ i. length (encoder_bytes i) ≤ most_instruction announced) instructions }

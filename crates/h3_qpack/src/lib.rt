@@ -5,6 +5,7 @@ pub mod block_within;
 pub mod decoder;
 pub mod dynamic;
 pub mod encoder;
+pub mod encoder_choices;
 pub mod encoder_view;
 pub mod examples;
 pub mod laws;
@@ -15,6 +16,7 @@ mod pending_section;
 pub mod reserved;
 mod section;
 pub mod session;
+mod static_section;
 pub mod view;
 pub mod within;
 mod writing;
@@ -23,6 +25,7 @@ pub use block_within::BlockWithin;
 pub use decoder::{Decoder, ack_header, stream_canceled};
 pub use dynamic::DynamicTable;
 pub use encoder::{Encoder, set_dynamic_table_size};
+pub use encoder_choices::EncoderChoices;
 pub use encoder_view::{DynamicInsertionResult, DynamicLookupResult, DynamicTableEncoder};
 pub use h3_field::{
     Decoded, DecoderError, EncoderError, Error, FieldBlock, FieldRef, Fields, HeaderField, Part,

@@ -4,6 +4,8 @@ ghost use Rattle.std.specs.List.{AllByRecursion};
 ghost use Rattle.std.specs.Result.{IsOkUnless};
 ghost use Rattle.h3_field.specs.ReadBack.{IsFieldOfBytes};
 ghost use Rattle.h3_field.specs.Field.{field_size, section_size};
+ghost use Rattle.h3_field.specs.Secret.{guarded};
+ghost use Rattle.h3_field.specs.StringLiteral.{coded};
 ghost use Rattle.h3_field.specs.Line.{line_bytes};
 ghost use Rattle.h3_field.specs.Line.FieldLine.{PostBaseField};
 ghost use Rattle.h3_field.specs.Instruction.{encoder_bytes};
@@ -30,7 +32,8 @@ use h3_table::entries::Match;
 use std::alloc::AllocError;
 
 /// Appends the instruction that inserts a field, after which so many entries are evicted. No entry up to the number that was searched
-/// equals the field, so none is searched there. The index is that of the static entry with its name.
+/// equals the field, so none is searched there. The index is that of the static entry with its name. The table's encoder chose how strings
+/// are coded.
 #[tactic(auto, using(crate::proofs::Missed::missed))]
 fn put_insertion(
     table: &DynamicTable,
@@ -46,23 +49,24 @@ fn put_insertion(
     requires missed { IsMissed table.now.table searched field.now }
     requires size { field_size field.now < 2 ^ 62 }
     ensures memory { IsOkUnless result OutOfMemory }
-    ensures ok { OnOk result (encoder_buf.new.items ≡ encoder_buf.old.items ++ encoder_bytes (insertion_for table.now.table after field.now)) }
+    ensures ok { OnOk result (encoder_buf.new.items ≡ encoder_buf.old.items ++ encoder_bytes (insertion_for table.now.choices.shortest_strings table.now.table after field.now)) }
     ensures err { OnErr result (encoder_buf.new.items ≡ encoder_buf.old.items) }
 {
     let inserted = table.inserted();
+    let shortest = table.choices().shortest_strings;
     if let Some(number) = table.newest(Match::Field, field, after.max(searched), inserted) {
         Duplicate(inserted - number).encode(encoder_buf)?;
         return Ok(());
     }
     if let Some(index) = static_index {
-        InsertWithNameRef::write_static(index, field.value(), encoder_buf)?;
+        InsertWithNameRef::write_static(index, field.value(), shortest, encoder_buf)?;
         return Ok(());
     }
     if let Some(number) = table.newest(Match::Name, field, after, inserted) {
-        InsertWithNameRef::write_dynamic(inserted - number, field.value(), encoder_buf)?;
+        InsertWithNameRef::write_dynamic(inserted - number, field.value(), shortest, encoder_buf)?;
         return Ok(());
     }
-    InsertWithoutNameRef::write(field.name(), field.value(), encoder_buf)?;
+    InsertWithoutNameRef::write(field.name(), field.value(), shortest, encoder_buf)?;
     Ok(())
 }
 
@@ -82,7 +86,7 @@ fn put_entry(
     requires size { field_size field.now < 2 ^ 62 }
     ensures memory { IsOkUnless result OutOfMemory }
     ensures ok { OnOk result (table.new ≡ record table.old { table = with_entry table.old.table field.now }) }
-    ensures instructions { OnOk result (encoder_buf.new.items ≡ encoder_buf.old.items ++ encoder_bytes (insertion_for table.old.table after field.now)) }
+    ensures instructions { OnOk result (encoder_buf.new.items ≡ encoder_buf.old.items ++ encoder_bytes (insertion_for table.old.choices.shortest_strings table.old.table after field.now)) }
     ensures err { OnErr result ((table.new ≡ table.old) × (encoder_buf.new.items ≡ encoder_buf.old.items)) }
 {
     let static_index = StaticTable::find_name(field.name());
@@ -115,32 +119,34 @@ fn put_inserted(
     ensures memory { IsOkUnless result OutOfMemory }
     ensures ok { OnOk result (table.new ≡ record table.old { table = with_entry table.old.table field.now }) }
     ensures line { OnOk result (lines.new.items ≡ lines.old.items ++ line_bytes (PostBaseField (table.old.table.inserted - base))) }
-    ensures instructions { OnOk result (encoder_buf.new.items ≡ encoder_buf.old.items ++ encoder_bytes (insertion_for table.old.table after field.now)) }
+    ensures instructions { OnOk result (encoder_buf.new.items ≡ encoder_buf.old.items ++ encoder_bytes (insertion_for table.old.choices.shortest_strings table.old.table after field.now)) }
     ensures err { OnErr result ((table.new ≡ table.old) × (encoder_buf.new.items ≡ encoder_buf.old.items)) }
 {
     IndexedWithPostBase(table.inserted() - base).encode(lines)?;
     put_entry(table, searched, field, after, encoder_buf)
 }
 
-/// Appends the line of a literal value with the name of a dynamic entry, and that bit N.
+/// Appends the line of a literal value with the name of a dynamic entry, and that bit N. If `shortest`, the value is Huffman coded only
+/// if that is shorter.
 fn put_entry_name(
     base: usize,
     number: usize,
     value: &[u8],
     never_indexed: bool,
+    shortest: bool,
     lines: &mut Vec<u8>,
 ) -> Result<(), EncoderError>
     requires base { base < 2 ^ 62 }
     requires number { number < 2 ^ 62 }
     requires value { length value.now < 2 ^ 62 }
     ensures memory { IsOkUnless result OutOfMemory }
-    ensures ok { OnOk result (lines.new.items ≡ lines.old.items ++ line_bytes (entry_name_line base number value.now never_indexed)) }
+    ensures ok { OnOk result (lines.new.items ≡ lines.old.items ++ line_bytes (entry_name_line base number (coded shortest value.now) never_indexed)) }
 {
     if number <= base {
-        LiteralWithNameRef::write_dynamic(base - number, value, never_indexed, lines)?;
+        LiteralWithNameRef::write_dynamic(base - number, value, never_indexed, shortest, lines)?;
         return Ok(());
     }
-    LiteralWithPostBaseNameRef::write(number - base - 1, value, never_indexed, lines)?;
+    LiteralWithPostBaseNameRef::write(number - base - 1, value, never_indexed, shortest, lines)?;
     Ok(())
 }
 
@@ -166,6 +172,7 @@ fn put_chosen(
 {
     let inserted = table.inserted();
     let never_indexed = field.is_never_indexed();
+    let shortest = table.choices().shortest_strings;
     match choice {
         Choice::Static(index) => Indexed::Static(index).encode(lines)?,
         Choice::Entry(number) => {
@@ -185,13 +192,22 @@ fn put_chosen(
             section.name(inserted + 1);
         }
         Choice::StaticName(index) => {
-            LiteralWithNameRef::write_static(index, field.value(), never_indexed, lines)?
+            LiteralWithNameRef::write_static(index, field.value(), never_indexed, shortest, lines)?
         }
         Choice::EntryName(number) => {
-            put_entry_name(section.base, number, field.value(), never_indexed, lines)?;
+            put_entry_name(
+                section.base,
+                number,
+                field.value(),
+                never_indexed,
+                shortest,
+                lines,
+            )?;
             section.name(number);
         }
-        Choice::Literal => Literal::write(field.name(), field.value(), never_indexed, lines)?,
+        Choice::Literal => {
+            Literal::write(field.name(), field.value(), never_indexed, shortest, lines)?
+        }
     }
     Ok(())
 }
@@ -247,6 +263,16 @@ fn put_field(
     Ok(())
 }
 
+/// The field as an encoder takes it: with the flag if it is a secret and the encoder guards these.
+pub(crate) fn guard(guards: bool, field: FieldRef<'_>) -> FieldRef<'_>
+    ensures { result ≡ guarded guards field.entry }
+{
+    if guards && field.is_secret() {
+        return field.with_never_indexed(true);
+    }
+    field
+}
+
 /// Writes the fields of a section, one after the other. A refusal leaves whole instructions, those of the insertions made.
 pub(crate) fn put_fields(
     table: &mut DynamicTable,
@@ -266,12 +292,14 @@ pub(crate) fn put_fields(
     ensures err { OnErr result ((s : EncoderHistory) (start : List ℕ) → IsDrafted s (draft_of s []) table.old section.old lines.old.items start encoder_buf.old.items →
         IsCutOff s s fields.now table.new start encoder_buf.new.items) }
 {
+    let guards = table.choices().guards_secrets;
     // (the label names the loop in its proof)
     'fields: for place in 0..fields.len() {
         let field = fields.get(place);
         // (for the proof: name and value are bytes)
         field.are_bytes();
-        put_field(table, section, &field, lines, encoder_buf)?;
+        let taken = guard(guards, field);
+        put_field(table, section, &taken, lines, encoder_buf)?;
     }
     Ok(())
 }

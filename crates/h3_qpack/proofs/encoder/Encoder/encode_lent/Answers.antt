@@ -1,19 +1,22 @@
-use Rattle.std.proofs.Common.{◌≡◌, ◌∙◌, ◌++◌, true, false, refl, sym, rules}
+use Rattle.std.proofs.Common.{◌≡◌, ◌∙◌, ◌++◌, true, false, refl, sym, ap, rules}
 use Rattle.std.proofs.lemmas.Result.{err_from_is_err_and}
 use Rattle.h3_field.specs.Prefix.{prefix_bytes}
+use Rattle.h3_qpack.specs.EncoderState.{EncoderState}
+use Rattle.h3_qpack.specs.StaticSections.{static_section}
 use Rattle.h3_qpack.proofs.Canceled.{canceled_state, on_other, canceled_sent, nothing_written}
 use Rattle.h3_qpack.proofs.Sent.{begun_drafted, whole_cut_off, other_cut_off, section_sent, sent_named, sent_plain}
 use Rattle.h3_qpack.proofs.encoder.Encoder.encode_lent.Goals as goal
 
-pub returns-in_err-encode_stateless_lent-clause-cut_off : goal.returns-in_err-encode_stateless_lent-clause-cut_off
-returns-in_err-encode_stateless_lent-clause-cut_off c =
+pub returns-in_err-put_static_section-clause-cut_off : goal.returns-in_err-put_static_section-clause-cut_off
+returns-in_err-put_static_section-clause-cut_off c =
     let p = err_from_is_err_and c.from_residual.result c.from_residual.ensures.1 in
     rw p.1 (λ s e. nothing_written s c.args.stream c.args.fields.now c.args.self.now c.args.encoder_buf.now.items e)
 
 pub returns-then-is_canceled-clause-sent : goal.returns-then-is_canceled-clause-sent
 returns-then-is_canceled-clause-sent c = λ s e.
-    canceled_sent s c.args.stream c.args.fields.now c.args.self.now _ _ c.args.encoder_buf.now.items (canceled_state s c.self.inside.table c.args.stream true (c.self.view_is ∙ e) (sym c.if-is_canceled.true ∙ c.is_canceled.ensures))
-    e c.in_ok-encode_stateless_lent.ensures.ok c.in_ok-encode_stateless_lent.ensures.bytes
+    canceled_sent s c.args.stream c.args.fields.now c.args.self.now c.args.block.now.items _ c.args.encoder_buf.now.items (canceled_state s c.self.inside.table c.args.stream true (c.self.view_is ∙ e) (sym c.if-is_canceled.true ∙ c.is_canceled.ensures))
+    e (c.in_ok-put_static_section.ensures.ok ∙ ap (λ choices. c.args.block.now.items ++ static_section choices c.args.fields.now) (c.choices.ensures ∙ ap (λ (t : EncoderState). t.choices) c.self.view_is))
+    c.in_ok-put_static_section.ensures.bytes
 
 pub returns-in_err-put_fields-clause-cut_off : goal.returns-in_err-put_fields-clause-cut_off
 returns-in_err-put_fields-clause-cut_off c =
