@@ -470,14 +470,23 @@ typedef struct {
                                        * and any other value is malformed (H3_BAD_VALUE). A server
                                        * answers 501 to a protocol that it does not know (RFC 9220,
                                        * section 3): that is left to you */
+  uint64_t guard_secrets;             /* whether the local encoder sends each field that is known
+                                       * to be a secret as if it had H3_NEVER_INDEX: authorization,
+                                       * proxy-authorization, and cookie and set-cookie with a value
+                                       * below 20 bytes (RFC 9204, section 7.1.3). Without this the
+                                       * flags that you give are sent as they are */
+  uint64_t shortest_strings;          /* whether the local encoder writes a name or value as it
+                                       * stands if its Huffman code is not shorter (RFC 9204,
+                                       * section 4.1.2). Without this each is Huffman coded, and one
+                                       * of rare bytes takes up to four times its length */
 } h3_config;
 
 /* A client with limits for an untrusted peer: it takes field sections of at most 65,536 bytes, and
  * has a dynamic table of 4,096 bytes, for which 16 streams may wait. It counts acknowledgments, and
  * the table of its encoder has at most 4,096 bytes and is used economically. It is strict, keeps
- * 1,000 ids of canceled streams, and has reject_requests and any_protocol set. All else is 0, so a
- * frame or instruction that it keeps until it is whole has at most 262,144 bytes: four times
- * 65,536. SECURITY.md says what each limit bounds. */
+ * 1,000 ids of canceled streams, and has reject_requests, any_protocol, guard_secrets and
+ * shortest_strings set. All else is 0, so a frame or instruction that it keeps until it is whole
+ * has at most 262,144 bytes: four times 65,536. SECURITY.md says what each limit bounds. */
 static inline void h3_config_default(h3_config *config);
 
 /* Makes an endpoint in *endpoint, which is overwritten: what it held before is not freed. Its

@@ -31,6 +31,11 @@ type Config struct {
 	// AnyProtocol: :protocol may be any token of at most 31 bytes, as websocket (RFC 9220), both ways. Without it connect-udp and webtransport
 	// alone are taken.
 	AnyProtocol bool
+	// GuardSecrets: the local encoder sends each field that is known to be a secret as never indexed: authorization, proxy-authorization, and
+	// cookie and set-cookie with a value below 20 bytes (RFC 9204, section 7.1.3).
+	GuardSecrets bool
+	// ShortestStrings: the local encoder writes a name or value as it stands if its Huffman code is not shorter.
+	ShortestStrings bool
 }
 
 // DefaultConfig has the limits of h3_config_default, which are fit for a peer that is not trusted. Header and trailer sections may have at
@@ -58,6 +63,8 @@ func DefaultConfig(server bool) Config {
 		KeptIDs:                 uint64(raw.kept_ids),
 		RejectRequests:          raw.reject_requests != 0,
 		AnyProtocol:             raw.any_protocol != 0,
+		GuardSecrets:            raw.guard_secrets != 0,
+		ShortestStrings:         raw.shortest_strings != 0,
 	}
 }
 
@@ -90,5 +97,7 @@ func (c Config) raw() C.h3_config {
 	raw.kept_ids = C.uint64_t(c.KeptIDs)
 	raw.reject_requests = number(c.RejectRequests)
 	raw.any_protocol = number(c.AnyProtocol)
+	raw.guard_secrets = number(c.GuardSecrets)
+	raw.shortest_strings = number(c.ShortestStrings)
 	return raw
 }

@@ -96,8 +96,8 @@ func TestNeverIndexed(t *testing.T) {
 		is(t, client.SendHead(id, head), nil)
 		waiting := make([]byte, 64)
 		count, _ := client.Outgoing(id, waiting)
-		// RFC 9204, section 4.5.4: 01, N, T and the index 84; the value
-		is(t, bytes.HasSuffix(waiting[:count], []byte{0x7f, 0x45, 0x81, 0x1f}), true)
+		// RFC 9204, section 4.5.4: 01, N, T and the index 84; the value, whose Huffman code is not shorter
+		is(t, bytes.HasSuffix(waiting[:count], []byte{0x7f, 0x45, 1, 'a'}), true)
 		is(t, client.SendTrailer(id, trailer), nil)
 		is(t, client.Finish(id), nil)
 		carry(t, client, server, 1000)

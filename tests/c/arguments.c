@@ -502,6 +502,25 @@ static void of_rows_before_protocols(void) {
   h3_free(&e);
 }
 
+/* and of one whose header knew no guard_secrets and no shortest_strings: both are set (RFC 9204, sections 7.1.3 and 4.1.2) */
+static void of_rows_before_guards(void) {
+  enum { FEW = offsetof(h3_config, guard_secrets) / sizeof(uint64_t) };
+  static const char bytes[] = ":methodGET:schemehttps:authoritya:path/authorizationa";
+  static const h3_field_size fields[] = {{7, 3}, {7, 5}, {10, 1}, {5, 1}, {13, 1}};
+  static const uint8_t wanted[] = {1, 12, 0, 0, 0xd1, 0xd7, 0x50, 1, 'a', 0xc1, 0x7f, 0x45, 1, 'a'};
+  h3_endpoint e = H3_NONE_YET;
+  uint64_t few[FEW], id, detail;
+  uint8_t b[64];
+  size_t n = 0;
+  h3_raw_config_default(few, FEW);
+  IS(h3_raw_new(few, FEW, &detail, &e), H3_OK);
+  IS(h3_open_request(&e, &id, NULL), H3_OK);
+  IS(h3_send_head(&e, id, fields, NULL, 5, bytes, sizeof bytes - 1, &detail), H3_OK);
+  IS(h3_outgoing(&e, id, b, sizeof b, &n, NULL, NULL), H3_OK);
+  HOLDS(n == sizeof wanted && !memcmp(b, wanted, n));
+  h3_free(&e);
+}
+
 /* the limits of a default endpoint, and what it announces: a control stream with one SETTINGS frame (RFC 9114, sections 6.2.1 and 7.2.4) */
 static void of_default(void) {
   static const uint8_t announced[] = {0, 4, 24, 6, 0x80, 1, 0, 0, 8, 0, 0xab, 0x60, 0x37, 0x42, 0, 0x33, 0, 0xab, 0x60, 0x37, 0x43, 0, 1, 0x50, 0, 7, 16};
@@ -514,6 +533,7 @@ static void of_default(void) {
   HOLDS(c.max_field_section_size == 65536 && c.table == 4096 && c.blocked == 16);
   HOLDS(c.max_webtransport_sessions == 0 && c.grease == 0 && c.server == 0 && c.send_grease == 0 && c.webtransport == 0);
   HOLDS(c.extended_connect == 0 && c.datagram == 0 && c.reject_requests == 1 && c.any_protocol == 1);
+  HOLDS(c.guard_secrets == 1 && c.shortest_strings == 1);
   IS(h3_new(&e, &c, NULL), H3_OK);
   IS(h3_outgoing(&e, h3_control_id(0), b, sizeof b, &n, NULL, NULL), H3_OK);
   HOLDS(n == sizeof announced && !memcmp(b, announced, n));
@@ -768,6 +788,7 @@ int main(int argc, char **argv) {
   of_new();
   of_sizes();
   of_rows_before_protocols();
+  of_rows_before_guards();
   of_shorter_tables();
   of_next_ids();
   plain_config(&c);

@@ -223,6 +223,8 @@ static void choose(h3_config *config, const char *word) {
       {"unfinished_limit", offsetof(h3_config, unfinished_limit)},
       {"kept_ids", offsetof(h3_config, kept_ids)},
       {"any_protocol", offsetof(h3_config, any_protocol)},
+      {"guard_secrets", offsetof(h3_config, guard_secrets)},
+      {"shortest_strings", offsetof(h3_config, shortest_strings)},
   };
   size_t len = strcspn(word, "=");
   uint64_t value = word[len] ? strtoull(word + len + 1, NULL, 10) : 1;
@@ -246,6 +248,8 @@ static void begin(char **words, size_t count) {
   c.kept_ids = UINT64_MAX;
   c.reject_requests = 0;
   c.any_protocol = 0;
+  c.guard_secrets = 0;
+  c.shortest_strings = 0;
   c.server = words[1][0] == 's';
   c.max_field_section_size = strtoull(words[2], NULL, 10);
   c.table = strtoull(words[3], NULL, 10);

@@ -1,5 +1,5 @@
 /* Fields with H3_NEVER_INDEX (RFC 9204, sections 4.5.4 to 4.5.6 and 7.1.3): the bytes of their lines, that no table keeps them, and that they come with
- * the flag. One line 'ok NAME' or 'failed NAME'. */
+ * the flag. The same of secrets that an encoder guards, and the bytes of the shortest strings. One line 'ok NAME' or 'failed NAME'. */
 #include <h3.h>
 #include <stdio.h>
 #include <string.h>
@@ -20,12 +20,16 @@ static const char neutral_bytes[] = ":methodGET:schemehttps:authoritya:path/acce
 /* of the last field, of the fourth, of none */
 static const uint8_t last[MOST] = {0, 0, 0, 0, H3_NEVER_INDEX}, path[MOST] = {0, 0, 0, H3_NEVER_INDEX, 0}, none[MOST] = {0};
 
+/* What both sides choose. */
+static uint64_t guards, shortest;
+
 /* Both sides with a table of so many bytes, and this many streams that may wait. */
 static void begin(uint64_t table, uint64_t blocked, uint64_t economical) {
   for (int side = 0; side < 2; side++) {
     h3_config c;
     h3_config_default(&c);
     c.server = (uint64_t)side, c.table = c.encoder_table = table, c.blocked = blocked, c.economical_table = economical;
+    c.guard_secrets = guards, c.shortest_strings = shortest;
     IS(h3_new(&ends[side], &c, NULL), H3_OK);
   }
   carry_own();
@@ -209,6 +213,63 @@ static void of_other_flags(void) {
   drop();
 }
 
+/* a cookie of so many bytes behind GET https a /, sent twice: how much was inserted, and the flag that came */
+static size_t cookie(size_t size, uint8_t flag) {
+  const h3_field_size sizes[MOST] = {{7, 3}, {7, 5}, {10, 1}, {5, 1}, {6, (uint32_t)size}};
+  const uint8_t wanted[MOST] = {0, 0, 0, 0, flag};
+  char fields[ROOM] = ":methodGET:schemehttps:authoritya:path/cookie";
+  memset(fields + strlen(fields), 'c', size);
+  wire first = sent(sizes, fields, NULL), second = sent(sizes, fields, NULL);
+  came(SERVER, MOST, sizes, fields, wanted);
+  return first.instructions_size + second.instructions_size;
+}
+
+/* A side that guards secrets sends these as if they had the flag, and no other field. */
+static void of_guards(void) {
+  static const uint8_t flagged[] = {1, 12, 0, 0, 0xd1, 0xd7, 0x50, 0x81, 0x1f, 0xc1, 0x7f, 0x45, 0x81, 0x1f};
+  guards = 1;
+  begin(0, 0, 0);
+  for (int i = 0; i < 3; i++) {
+    wire w = sent(secret, secret_bytes, i == 0 ? NULL : i == 1 ? none : last);
+    HOLDS(is(w.section, w.section_size, flagged, sizeof flagged) && w.instructions_size == 0);
+    came(SERVER, MOST, secret, secret_bytes, last);
+  }
+  sent(other, other_bytes, NULL);
+  came(SERVER, MOST, other, other_bytes, none);
+  drop();
+  begin(4096, 100, 0);
+  sent(neutral, neutral_bytes, NULL);
+  HOLDS(sent(neutral, neutral_bytes, NULL).instructions_size == 0);
+  HOLDS(cookie(19, H3_NEVER_INDEX) == 0 && cookie(20, 0) > 0);
+  drop();
+  guards = 0;
+  begin(4096, 100, 0);
+  sent(neutral, neutral_bytes, NULL);
+  HOLDS(cookie(19, 0) > 0);
+  drop();
+}
+
+/* The shortest strings: plain where the Huffman code has as many bytes, and else Huffman coded (section 4.1.2). */
+static void of_shortest(void) {
+  static const uint8_t plain[] = {1, 12, 0, 0, 0xd1, 0xd7, 0x50, 1, 'a', 0xc1, 0x5f, 0x45, 1, 'a'};
+  static const uint8_t named[] = {1, 14, 0, 0, 0xd1, 0xd7, 0x50, 1, 'a', 0xc1, 0x33, 'x', '-', 'a', 1, '1'};
+  static const uint8_t longer[] = {1,    23,   0,    0,    0xd1, 0xd7, 0x50, 0x8c, 0xf1, 0xe3, 0xc2, 0xe5, 0xf2,
+                                   0x3a, 0x6b, 0xa0, 0xab, 0x90, 0xf4, 0xff, 0xc1, 0x5f, 0x45, 1,    'a'};
+  static const h3_field_size of_longer[MOST] = {{7, 3}, {7, 5}, {10, 15}, {5, 1}, {13, 1}};
+  static const char longer_bytes[] = ":methodGET:schemehttps:authoritywww.example.com:path/authorizationa";
+  shortest = 1;
+  begin(0, 0, 0);
+  wire w = sent(secret, secret_bytes, NULL);
+  HOLDS(is(w.section, w.section_size, plain, sizeof plain));
+  w = sent(other, other_bytes, last);
+  HOLDS(is(w.section, w.section_size, named, sizeof named));
+  w = sent(of_longer, longer_bytes, NULL);
+  HOLDS(is(w.section, w.section_size, longer, sizeof longer));
+  came(SERVER, MOST, of_longer, longer_bytes, none);
+  drop();
+  shortest = 0;
+}
+
 int main(void) {
   of_lines();
   of_a_table(0);
@@ -216,6 +277,8 @@ int main(void) {
   of_messages();
   of_another_encoder();
   of_other_flags();
-  if (!bad) puts("ok never_indexed: bytes of the lines, no table, both ways, another encoder, other flags");
+  of_guards();
+  of_shortest();
+  if (!bad) puts("ok never_indexed: bytes of the lines, no table, both ways, another encoder, other flags, guarded secrets, the shortest strings");
   return bad;
 }

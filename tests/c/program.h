@@ -73,6 +73,13 @@ struct Field {
 };
 using FieldList = std::vector<Field>;
 
+// as a side with this configuration sends it: of the names here a short cookie is a secret (RFC 9204, section 7.1.3)
+FieldList guarded(const h3_config &config, FieldList list) {
+  for (Field &field : list)
+    if (config.guard_secrets && field.name == "cookie" && field.value.size() < 20) field.never_indexed = true;
+  return list;
+}
+
 // RFC 9114, section 4.2.2
 uint64_t size_of(const FieldList &list) {
   uint64_t size = 0;
@@ -265,6 +272,8 @@ Program::Program(uint64_t seed) : seed_(seed), is_aimed_(seed % 4 == 1) {
     config.economical_table = below(2);
     config.count_acknowledgments = below(2);
     config.encoder_table = below(2) ? 4096 : 150;
+    config.guard_secrets = below(2);
+    config.shortest_strings = below(2);
     uint64_t least = std::max<uint64_t>(256, 4 * std::max(config.max_field_section_size, config.table));
     config.unfinished_limit = one_in(4) ? UINT64_MAX : least; // the least that is taken
   }
@@ -419,7 +428,7 @@ void Program::send_head(int side, uint64_t id) {
   accepts(side, id, answer, is_sending(side, id) && !own.head_sent && is_of_side && !has(list, BAD_NAME), size_of(list));
   if (answer != H3_OK) return;
   bool interim = side && is_interim(list);
-  own.sent.push_back({interim ? uint32_t{H3_INTERIM} : uint32_t{H3_HEAD}, list, 0});
+  own.sent.push_back({interim ? uint32_t{H3_INTERIM} : uint32_t{H3_HEAD}, guarded(sides_[side].config, list), 0});
   if (!interim) own.head_sent = true;
 }
 
@@ -430,7 +439,7 @@ void Program::send_trailer(int side, uint64_t id) {
   bool is_next = own.head_sent && !own.trailer_sent;
   accepts(side, id, answer, is_sending(side, id) && is_next && !has_pseudo_field(list) && !has(list, BAD_NAME), size_of(list));
   if (answer != H3_OK) return;
-  own.sent.push_back({H3_TRAILER, list, 0});
+  own.sent.push_back({H3_TRAILER, guarded(sides_[side].config, list), 0});
   own.trailer_sent = true;
 }
 

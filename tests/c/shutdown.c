@@ -6,7 +6,7 @@
 #include "field_list.h"
 #include "pair.h"
 
-enum { REQUESTS = 1000, NUMBERS = 19, SERVER_NUMBER = 5, REJECT_NUMBER = 16 };
+enum { REQUESTS = 1000, NUMBERS = 21, SERVER_NUMBER = 5, REJECT_NUMBER = 16 };
 
 static field_list request, response;
 

@@ -89,7 +89,7 @@ class Exchange(unittest.TestCase):
             id = pair.client.open_request()
             pair.client.send_head(id, head)
             # RFC 9204, section 4.5.4: 01, N, T and the index 84; the value
-            self.assertTrue(pair.client.outgoing(id)[0].endswith(b"\x7f\x45\x81\x1f"))
+            self.assertTrue(pair.client.outgoing(id)[0].endswith(b"\x7f\x45\x01a"))
             pair.client.send_trailer(id, trailer)
             pair.client.finish(id)
             pair.run(0)

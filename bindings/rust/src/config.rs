@@ -1,7 +1,7 @@
 use crate::raw;
 
 /// How many numbers `h3_config` has: its size, and those of [`Config`].
-pub(crate) const NUMBERS: usize = 19;
+pub(crate) const NUMBERS: usize = 21;
 
 /// What an endpoint is and announces, as `h3_config`.
 ///
@@ -55,6 +55,11 @@ pub struct Config {
     pub reject_requests: bool,
     /// `:protocol` may be any token of at most 31 bytes, as `websocket` (RFC 9220), both ways: else `connect-udp` and `webtransport` alone.
     pub any_protocol: bool,
+    /// The local encoder sends each field that is known to be a secret as never indexed: `authorization`, `proxy-authorization`, and `cookie`
+    /// and `set-cookie` with a value below 20 bytes (RFC 9204, section 7.1.3).
+    pub guard_secrets: bool,
+    /// The local encoder writes a name or value as it stands if its Huffman code is not shorter.
+    pub shortest_strings: bool,
 }
 
 impl Config {
@@ -90,6 +95,8 @@ impl Config {
             kept_ids: numbers[16],
             reject_requests: numbers[17] != 0,
             any_protocol: numbers[18] != 0,
+            guard_secrets: numbers[19] != 0,
+            shortest_strings: numbers[20] != 0,
         }
     }
 
@@ -115,6 +122,8 @@ impl Config {
             self.kept_ids,
             self.reject_requests.into(),
             self.any_protocol.into(),
+            self.guard_secrets.into(),
+            self.shortest_strings.into(),
         ]
     }
 }

@@ -139,7 +139,7 @@ fn a_flag_goes_over_and_on() {
     let last = [Field { name: b"x-a", value: b"1", never_indexed: true }, Field { name: b"x-b", value: b"2", never_indexed: false }];
     let (section, head, trailer) = over(&fields, &last);
     // RFC 9204, section 4.5.4: 01, N, T and the index 84; the value
-    assert_eq!(section[section.len() - 4..], [0x7f, 0x45, 0x81, 0x1f]);
+    assert_eq!(section[section.len() - 4..], [0x7f, 0x45, 1, b'a']);
     assert_eq!((head.iter().collect::<Vec<_>>(), trailer.iter().collect::<Vec<_>>()), (fields, last.to_vec()));
     let (again, next, _) = over(&head.iter().collect::<Vec<_>>(), &trailer.iter().collect::<Vec<_>>());
     assert_eq!((again, next), (section, head));

@@ -95,7 +95,8 @@ class Run(exchanges.Run):
             whole += 1
             for which, message in ((0, exchange.request), (1, exchange.response)):
                 told = self.sides[1 - which].messages(stream)
-                assert told == message.told(), f"stream {stream}: {told}\nwanted {message.told()}"
+                wanted = message.told(self.sides[which].library)
+                assert told == wanted, f"stream {stream}: {told}\nwanted {wanted}"
         for side in self.sides:
             side.connection.free()
         return len(self.given_up), whole

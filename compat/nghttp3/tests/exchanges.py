@@ -19,9 +19,12 @@ def random_fields(chance, count, names=NAMES):
     return [(chance.choice(names), value, NEVER_INDEX if chance.random() < 0.2 else 0) for value in values]
 
 
-def told_of(kind, field):
-    """what an application is told of a field: the name, the value, and its flags, which are none where none were given"""
+def told_of(kind, field, sender):
+    """what an application is told of a field: the name, the value, and its flags, which are none where none were given. Ours flags a short
+    cookie by itself (RFC 9204, 7.1.3), and nghttp3 does not"""
     name, value, *flags = field
+    if sender.name != "nghttp3" and name == b"cookie" and len(value) < 20:
+        flags = [NEVER_INDEX]
     return (kind, name, value, *(flags or [0]))
 
 
@@ -44,15 +47,15 @@ class Message:
     def length(self):
         return sum(map(len, self.pieces))
 
-    def told(self):
-        """what the receiver's application is told of it"""
+    def told(self, sender):
+        """what the receiver's application is told of it, by the sender's library"""
         out = []
         for fields in [*self.interim, self.head]:
-            out += [("begin_headers",), *(told_of("header", field) for field in fields), ("end_headers",)]
+            out += [("begin_headers",), *(told_of("header", field, sender) for field in fields), ("end_headers",)]
         if self.pieces:
             out.append(("data", b"".join(self.pieces)))
         if self.trailer is not None:
-            out += [("begin_trailers",), *(told_of("trailer", field) for field in self.trailer), ("end_trailers",)]
+            out += [("begin_trailers",), *(told_of("trailer", field, sender) for field in self.trailer), ("end_trailers",)]
         return [*out, ("end_stream",)]
 
 
@@ -246,7 +249,8 @@ class Run:
         for which, message in ((0, exchange.request), (1, exchange.response)):
             sender, receiver = self.sides[which], self.sides[1 - which]
             assert self.ends[which].get(stream) is False, f"stream {stream} did not end"
-            assert receiver.messages(stream) == message.told(), f"stream {stream}: {receiver.messages(stream)}\nwanted {message.told()}"
+            wanted = message.told(sender.library)
+            assert receiver.messages(stream) == wanted, f"stream {stream}: {receiver.messages(stream)}\nwanted {wanted}"
             acked = sender.acked.get(stream, 0)
             assert acked == message.length(), f"stream {stream}: {acked} of {message.length()} bytes of the body acknowledged"
             consumed = receiver.consumed[stream] + message.length()

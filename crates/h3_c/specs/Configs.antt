@@ -40,12 +40,14 @@ default_config =
       kept_ids = 1000;
       reject_requests = 1;
       any_protocol = 1;
+      guard_secrets = 1;
+      shortest_strings = 1;
     }
 
 -- the numbers of `h3_config`: its size, and the others in its order
 abbrev pub numbers_of : ℕ → GivenConfig → List ℕ
 numbers_of size c =
-    size ∷ c.max_field_section_size ∷ c.max_webtransport_sessions ∷ c.table ∷ c.blocked ∷ c.grease ∷ c.server ∷ c.send_grease ∷ c.webtransport ∷ c.extended_connect ∷ c.datagram ∷ c.strict ∷ c.count_acknowledgments ∷ c.encoder_table ∷ c.economical_table ∷ c.unfinished_limit ∷ c.kept_ids ∷ c.reject_requests ∷ c.any_protocol ∷ []
+    size ∷ c.max_field_section_size ∷ c.max_webtransport_sessions ∷ c.table ∷ c.blocked ∷ c.grease ∷ c.server ∷ c.send_grease ∷ c.webtransport ∷ c.extended_connect ∷ c.datagram ∷ c.strict ∷ c.count_acknowledgments ∷ c.encoder_table ∷ c.economical_table ∷ c.unfinished_limit ∷ c.kept_ids ∷ c.reject_requests ∷ c.any_protocol ∷ c.guard_secrets ∷ c.shortest_strings ∷ []
 
 -- one of the numbers that a caller gave, or what it is where the caller has fewer
 abbrev pub number_at : List ℕ → ℕ → ℕ → ℕ
@@ -73,13 +75,15 @@ config_in numbers =
       kept_ids = number_at numbers 16 default_config.kept_ids;
       reject_requests = number_at numbers 17 default_config.reject_requests;
       any_protocol = number_at numbers 18 default_config.any_protocol;
+      guard_secrets = number_at numbers 19 default_config.guard_secrets;
+      shortest_strings = number_at numbers 20 default_config.shortest_strings;
     }
 
 -- what a caller asks for, whose first number is the size of all in bytes: of none but as many as are known here
 abbrev pub config_given : List ℕ → Option GivenConfig
 config_given [] = None
 config_given (size ∷ others) =
-    if (size == 8 * length (size ∷ others)) && nat_le (length (size ∷ others)) 19 then Some (config_in (size ∷ others)) else None
+    if (size == 8 * length (size ∷ others)) && nat_le (length (size ∷ others)) 21 then Some (config_in (size ∷ others)) else None
 
 -- a number other than 0 means yes
 abbrev pub is_on : ℕ → Bool
@@ -112,7 +116,13 @@ config_of given =
         encoder_table = given.encoder_table;
         economical_table = is_on given.economical_table;
         unfinished_limit = limit_of_given given;
-        extensions = record { kept_ids = given.kept_ids; requests_rejected = is_on given.reject_requests; any_protocol = is_on given.any_protocol };
+        extensions = record {
+          kept_ids = given.kept_ids;
+          requests_rejected = is_on given.reject_requests;
+          any_protocol = is_on given.any_protocol;
+          secrets_guarded = is_on given.guard_secrets;
+          shortest_strings = is_on given.shortest_strings;
+        };
       };
     }
 

@@ -11,7 +11,7 @@ use h3_session::endpoint::Endpoint;
 use std::alloc::Global;
 
 /// How many numbers `h3_config` has: its size in bytes, and those of `GivenConfig`.
-const NUMBERS: usize = 19;
+const NUMBERS: usize = 21;
 
 /// The numbers of `h3_config` after its size, in its order. One other than 0 means yes.
 #[derive(Copy, Clone)]
@@ -34,6 +34,8 @@ pub struct GivenConfig {
     pub kept_ids: u64,
     pub reject_requests: u64,
     pub any_protocol: u64,
+    pub guard_secrets: u64,
+    pub shortest_strings: u64,
 }
 
 impl Default for GivenConfig {
@@ -59,6 +61,8 @@ impl Default for GivenConfig {
             kept_ids: 1000,
             reject_requests: 1,
             any_protocol: 1,
+            guard_secrets: 1,
+            shortest_strings: 1,
         }
     }
 }
@@ -93,6 +97,8 @@ impl GivenConfig {
             kept_ids: number_or(numbers, 16, default.kept_ids),
             reject_requests: number_or(numbers, 17, default.reject_requests),
             any_protocol: number_or(numbers, 18, default.any_protocol),
+            guard_secrets: number_or(numbers, 19, default.guard_secrets),
+            shortest_strings: number_or(numbers, 20, default.shortest_strings),
         })
     }
 
@@ -120,6 +126,8 @@ impl GivenConfig {
             self.kept_ids,
             self.reject_requests,
             self.any_protocol,
+            self.guard_secrets,
+            self.shortest_strings,
         ]
     }
 
@@ -183,6 +191,8 @@ fn config_of(given: &GivenConfig) -> Config
         .with_kept_ids(given.kept_ids)
         .with_requests_rejected(given.reject_requests != 0)
         .with_any_protocol(given.any_protocol != 0)
+        .with_secrets_guarded(given.guard_secrets != 0)
+        .with_shortest_strings(given.shortest_strings != 0)
 }
 
 /// The endpoint that is asked for.

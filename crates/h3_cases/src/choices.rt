@@ -5,7 +5,7 @@ use h3_proto::config::Config;
 
 /// What `h3_config_default` has. `scripts/gate/wide_scripts.py` compares it with `h3_c`.
 const DEFAULT: &str =
-    "max_field_section_size=65536 table=4096 blocked=16 strict count_acknowledgments encoder_table=4096 economical_table unfinished_limit=0 kept_ids=1000 reject_requests any_protocol";
+    "max_field_section_size=65536 table=4096 blocked=16 strict count_acknowledgments encoder_table=4096 economical_table unfinished_limit=0 kept_ids=1000 reject_requests any_protocol guard_secrets shortest_strings";
 
 /// No limit on what is unfinished.
 const NONE: u64 = (1 << 62) - 1;
@@ -99,6 +99,8 @@ fn allowed(told: &mut Told, config: Config, name: &str, yes: bool) -> Config {
         "economical_table" => config.with_economical_table(yes),
         "reject_requests" => config.with_requests_rejected(yes),
         "any_protocol" => config.with_any_protocol(yes),
+        "guard_secrets" => config.with_secrets_guarded(yes),
+        "shortest_strings" => config.with_shortest_strings(yes),
         _ => {
             told.unreadable();
             config

@@ -118,7 +118,7 @@ fn write(told: &mut Told, kind: &str, first: &str, value: &[u8])
     let mut out = Vec::new(told.alloc());
     if kind == "literal" {
         let name = told.text(first);
-        told.done(InsertWithoutNameRef::write(&name, value, &mut out));
+        told.done(InsertWithoutNameRef::write(&name, value, false, &mut out));
     } else {
         let index = told.small(first);
         write_named(told, kind, index, value, &mut out);
@@ -131,8 +131,8 @@ fn write_named(told: &mut Told, kind: &str, index: usize, value: &[u8], out: &mu
     requires value { length value.now ≤ 1000 }
 {
     match kind {
-        "static" => told.done(InsertWithNameRef::write_static(index, value, out)),
-        "dynamic" => told.done(InsertWithNameRef::write_dynamic(index, value, out)),
+        "static" => told.done(InsertWithNameRef::write_static(index, value, false, out)),
+        "dynamic" => told.done(InsertWithNameRef::write_dynamic(index, value, false, out)),
         _ => told.unreadable(),
     }
 }

@@ -125,7 +125,7 @@ fn write(told: &mut Told, kind: &str, first: &str, value: &[u8])
     };
     if kind == "literal" {
         let name = told.text(first);
-        told.done(Literal::write(&name, value, never, &mut out));
+        told.done(Literal::write(&name, value, never, false, &mut out));
     } else {
         let index = told.small(first);
         write_named(told, (kind, never), index, value, &mut out);
@@ -139,9 +139,11 @@ fn write_named(told: &mut Told, form: (&str, bool), index: usize, value: &[u8], 
 {
     let (kind, never) = form;
     match kind {
-        "static" => told.done(LiteralWithNameRef::write_static(index, value, never, out)),
-        "dynamic" => told.done(LiteralWithNameRef::write_dynamic(index, value, never, out)),
-        "post_base" => told.done(LiteralWithPostBaseNameRef::write(index, value, never, out)),
+        "static" => told.done(LiteralWithNameRef::write_static(index, value, never, false, out)),
+        "dynamic" => told.done(LiteralWithNameRef::write_dynamic(index, value, never, false, out)),
+        "post_base" => told.done(LiteralWithPostBaseNameRef::write(
+            index, value, never, false, out,
+        )),
         _ => told.unreadable(),
     }
 }

@@ -140,7 +140,7 @@ grows_one : (r : DecoderState) (i : EncoderInstruction) (s : DecoderState) → d
 grows_one r (SetCapacity capacity) s is = grows_set (nat_le capacity (greatest_capacity r)) r s _ refl is
 grows_one r (InsertWithStaticName index value) s is = grows_by r _ s is
 grows_one r (InsertWithEntryName index value) s is = grows_by r _ s is
-grows_one r (InsertLiteral name value) s is = grows_by r (Some (plain_field name value)) s is
+grows_one r (InsertLiteral name value) s is = grows_by r (Some (plain_field name.bytes value.bytes)) s is
 grows_one r (Duplicate index) s is = grows_by r _ s is
 
 grows_form : (r : DecoderState) (i : Option EncoderInstruction) (s : DecoderState) → decoder_after_form r i ≡ Some s → Grows r s

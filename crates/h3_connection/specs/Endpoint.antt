@@ -8,6 +8,7 @@ use Rattle.h3_proto.specs.Config.{is_limit}
 use Rattle.h3_proto.specs.declared.config.Choices.{Choices}
 use Rattle.h3_table.specs.Cancellations.{none_canceled}
 use Rattle.h3_qpack.specs.EncoderHistory.{EncoderHistory, no_table}
+use Rattle.h3_qpack.specs.declared.encoder_choices.EncoderChoices.{EncoderChoices}
 use Rattle.h3_qpack.specs.DecoderState.{DecoderState, announcing}
 use Rattle.h3_connection.specs.declared.setup.Announced.{Announced}
 use Rattle.h3_connection.specs.OwnIds.{other, control_id, encoder_id, decoder_id, is_own}
@@ -59,14 +60,23 @@ pub record EndpointHistory : Type 0 where
 abbrev pub most_kept : Choices → Option ℕ
 most_kept choices = if is_limit choices.extensions.kept_ids then Some choices.extensions.kept_ids else None
 
--- what an encoder goes by before anything. Whether acknowledgments count, the most that its table may have, whether it is economical with
--- it, and how many canceled streams it keeps, is chosen once
+-- of the choices of an end, those that its encoder goes by
+abbrev pub encoder_choices : Choices → EncoderChoices
+encoder_choices choices =
+    record {
+      economical = choices.economical_table;
+      guards_secrets = choices.extensions.secrets_guarded;
+      shortest_strings = choices.extensions.shortest_strings;
+    }
+
+-- what an encoder goes by before anything. Whether acknowledgments count, the most that its table may have, how it writes fields, and how
+-- many canceled streams it keeps, is chosen once
 abbrev pub chosen_encoder : Choices → EncoderHistory
 chosen_encoder choices =
     record no_table {
       most_capacity = choices.encoder_table;
       counts_acknowledgments = choices.acknowledgments_counted;
-      economical = choices.economical_table;
+      choices = encoder_choices choices;
       canceled = none_canceled (most_kept choices);
     }
 

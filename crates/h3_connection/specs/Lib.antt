@@ -74,3 +74,4 @@ pub mod StrictSends
 pub mod SentContent
 pub mod StrictSendingLaws
 pub mod FlagLaws
+pub mod FlagReadLaws

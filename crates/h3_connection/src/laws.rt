@@ -290,17 +290,25 @@ pub fn a_limit_takes_what_is_announced()
         is_limit a.choices.unfinished_limit ≡ true → 256 ≤ a.choices.unfinished_limit }
 {}
 
-ghost use Rattle.std.specs.Prelude.{Option};
+ghost use Rattle.std.specs.Prelude.{Option, map};
 ghost use Rattle.h3_field.specs.Field.{section_size, with_flags};
+ghost use Rattle.h3_field.specs.Secret.{guarded};
+ghost use Rattle.h3_field.specs.Instruction.{DecoderInstruction};
+ghost use Rattle.h3_connection.specs.Pulling.{read_section};
 ghost use Rattle.h3_connection.specs.Sending.{fields_cost};
 ghost use Rattle.h3_connection.specs.StrictSending.{broken_head, broken_trailer};
 
 /// Whichever flag each field of a list gets (RFC 9204, section 4.5.4), the list has the same size, costs the same to send, and breaks the
-/// same rule as what a strict endpoint sends.
+/// same rule as what a strict endpoint sends. What a pull answers of a section is the same too, with any flags, and with those that an
+/// encoder which guards secrets gave its fields.
 pub fn lists_are_judged_without_flags()
     ensures size { (flag : Field → Bool) (fields : List Field) → section_size (with_flags flag fields) ≡ section_size fields }
     ensures cost { (flag : Field → Bool) (fields : List Field) → fields_cost (with_flags flag fields) ≡ fields_cost fields }
     ensures head { (flag : Field → Bool) (side : Side) (own : Announced) (settings : Option (List (ℕ × ℕ))) (fields : List Field) →
         broken_head side own settings (with_flags flag fields) ≡ broken_head side own settings fields }
     ensures trailer { (flag : Field → Bool) (own : Announced) (fields : List Field) → broken_trailer own (with_flags flag fields) ≡ broken_trailer own fields }
+    ensures read { (flag : Field → Bool) (side : Side) (own : Announced) (id : ℕ) (r : DecoderState) (i : Incoming) (replies : List DecoderInstruction) (fields : List Field) →
+        read_section side own id r i replies (with_flags flag fields) ≡ read_section side own id r i replies fields }
+    ensures guarded { (guards : Bool) (side : Side) (own : Announced) (id : ℕ) (r : DecoderState) (i : Incoming) (replies : List DecoderInstruction) (fields : List Field) →
+        read_section side own id r i replies (map (guarded guards) fields) ≡ read_section side own id r i replies fields }
 {}

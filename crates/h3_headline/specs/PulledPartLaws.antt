@@ -44,7 +44,7 @@ use Rattle.h3_headline.specs.PulledBodyLaws.{payload_comes}
 use Rattle.h3_headline.specs.PulledFlowLaws.{all_came, came_is, not_ended, nothing_there, section_there, unfinished_waits, waits_on, whole_frame}
 use Rattle.h3_headline.specs.PulledLaws.{receives_on, stands_at}
 use Rattle.h3_headline.specs.PulledSectionLaws.{first_try, head_part, interim_part, reads_head, reads_interim, reads_trailer, trailer_part}
-use Rattle.h3_headline.specs.Pulling.{ComesTo, DecodesNext, HandsOut, IsBefore, IsReadAs, IsReadableNext, IsSectionPart, before_bytes, tried_as}
+use Rattle.h3_headline.specs.Pulling.{ComesTo, DecodesNext, HandsOut, IsBefore, IsReadAs, IsReadableNext, IsSectionPart, IsTriedAs, before_bytes}
 use Rattle.h3_headline.specs.ReceivingLaws.{encoding_some}
 use Rattle.h3_headline.specs.Standing.{WaitsIn, section_frame, section_of_part}
 
@@ -65,7 +65,7 @@ module _ (lists : ListsAreTheirValue) (side : Side) (announced : Announced) (pla
   section_comes : (kind : header.Head → Item) (p : Party) (f : Flow) (part : Part) (s : Section) (i : Incoming) → IsBefore p f i → IsPartAt p f.sent f.parts_out part → next_part f ≡ Some part
       → IsSectionPart kind s part → part_bytes part ≡ frame_encoding 1 s.encoded → IsSentSection p s → s.own_length ≡ before_bytes f + length (part_bytes part)
       → ((j : Incoming) → j.content ≡ Unsaid → at_frame side announced id r side j i.place (frame.Headers s.encoded) ≡ new_section side announced id r j s.encoded)
-      → decode_section r s.encoded ≡ tried_as came s
+      → IsTriedAs came s (decode_section r s.encoded)
       → ((x : Incoming) → x.place ≡ i.place → x.content ≡ Unsaid → IsReadAs side announced id r kind part s x (acknowledgment id s.count))
       → ComesTo (section_of announced) id f came (Some part) (between_frames side announced id r i)
   section_comes kind p f part s i h at next is bytes sent own frames decodes reads = elim (cases_lt (length (concat i.unread)) (length (frame_encoding 1 s.encoded))) [

@@ -4,8 +4,9 @@ use Rattle.h3_connection.specs.declared.event.Item.TheVariants as item
 use Rattle.h3_world.specs.Flow.{Section, Flow, Part, flow_bytes}
 use Rattle.h3_world.specs.Flow.Part.{Interim, Head, Trailer}
 use Rattle.h3_field.specs.Field.{Field, section_size}
+use Rattle.h3_field.specs.Secret.{guarded}
 use Rattle.h3_qpack.specs.Sizes.{told_size, last_value}
-use Rattle.std.specs.Prelude.{◌&&◌, slice_get, codes, not, Option, option_map, ◌==◌, nat_le}
+use Rattle.std.specs.Prelude.{◌&&◌, slice_get, codes, map, not, Option, option_map, ◌==◌, nat_le}
 use Rattle.h3_world.specs.Order.{next_part, is_end}
 use Rattle.std.specs.List.{concat}
 use Rattle.h3_header.specs.Head as header
@@ -28,17 +29,18 @@ use Rattle.h3_messages.specs.declared.content.Content.TheVariants.{Unsaid}
 use Rattle.h3_connection.specs.StrictMessages.{broken_rule, content_behind, if_whole, malformation_by, violation_at, content_behind_large, response_behind}
 use Rattle.h3_connection.specs.Pulling.{Pulled, is_client, is_interim, next_place, judged, with_content, malformed, head_or_trailer, past_large, just, decoded, at_section, acknowledgment, past_section, tried, connection_fault}
 use Rattle.h3_connection.specs.Codes.{decompression_failed}
+use Rattle.h3_connection.specs.FlagReadLaws.{guarded_sections_read}
 use Rattle.h3_connection.specs.declared.event.Malformation.{Malformation}
 use Rattle.h3_connection.specs.declared.event.Malformation.TheVariants as malformation
 use Rattle.h3_connection.specs.declared.place.Place.TheVariants.{BeforeHead, InBody, AfterTrailer}
 use Rattle.h3_connection.specs.declared.setup.Announced.{Announced}
 use Rattle.h3_world.specs.Items.{IsSectionItem}
 use Rattle.h3_world.specs.Setup.{IsPlain, takes_any}
-use Rattle.h3_qpack.specs.DecodedSection.{Fields, Missing, decode_section}
+use Rattle.h3_qpack.specs.DecodedSection.{DecodedSection, Fields, Missing, decode_section}
 use Rattle.h3_wire.specs.Encoded.{frame_encoding}
 use Rattle.h3_headline.specs.Cited.{ListsAreTheirValue}
 use Rattle.h3_headline.specs.PulledLaws.{receives_on, stands_at}
-use Rattle.h3_headline.specs.Pulling.{ComesTo, HandsOut, IsAtSection, IsReadAs, IsSectionPart, Pauses, behind_section, placed, tried_as}
+use Rattle.h3_headline.specs.Pulling.{ComesTo, HandsOut, IsAtSection, IsReadAs, IsSectionPart, IsTriedAs, Pauses, behind_section, placed}
 use Rattle.h3_headline.specs.Standing.{IsReadableBy, ReceivesFlow, WaitsIn, place_after, place_behind, section_frame, section_of_part}
 use Rattle.h3_headline.specs.StatusLaws.{interim_by_last}
 
@@ -217,15 +219,24 @@ module _ (side : Side) (announced : Announced) (id : ℕ) (r : DecoderState) whe
   missing_is : (a b : ℕ) → nat_le a b ≡ false → b < a
   missing_is a b e = grind (arith, common_steps, e)
 
+  -- A section that was tried is read as its fields were sent, whichever of them its encoder flagged.
+  pub tried_plainly : (came : ℕ) (s : Section) (i : Incoming) (d : DecodedSection) → IsTriedAs came s d
+      → decoded side announced id r i d ≡ decoded side announced id r i (if nat_le s.count came then Fields s.fields s.count else Missing s.count)
+  tried_plainly came s i d h = ap (decoded side announced id r i) h.is ∙ by_test (nat_le s.count came)
+    where
+      by_test : (b : Bool) → decoded side announced id r i (if b then Fields (map (guarded h.guards) s.fields) s.count else Missing s.count) ≡ decoded side announced id r i (if b then Fields s.fields s.count else Missing s.count)
+      by_test true = guarded_sections_read h.guards side announced id r (past_section i) (acknowledgment id s.count) s.fields
+      by_test false = refl
+
   -- **A section whose frame was read now.**
   pub first_try : (kind : header.Head → Item) (f : Flow) (came : ℕ) (part : Part) (s : Section) (i : Incoming) → IsAtSection kind f part s i → i.section ≡ Some s.encoded → i.waits_for ≡ 0
-      → decode_section r s.encoded ≡ tried_as came s
+      → IsTriedAs came s (decode_section r s.encoded)
       → IsReadAs side announced id r kind part s (past_section i) (acknowledgment id s.count)
       → ComesTo (section_of announced) id f came (Some part) (at_section side announced id r i s.encoded)
   first_try kind f came part s i h framed waits decodes read =
       subst (ComesTo (section_of announced) id f came (Some part))
       (sym (ap (λ b. if b then just (pull.Waiting i.waits_for) i else decoded side announced id r i (decode_section r s.encoded)) (le-ltb r.table.inserted i.waits_for (omega (arith, waits)))
-      ∙ ap (decoded side announced id r i) decodes))
+      ∙ tried_plainly came s i (decode_section r s.encoded) decodes))
       (by_count (nat_le s.count came) refl)
     where
       by_count : (b : Bool) → nat_le s.count came ≡ b → ComesTo (section_of announced) id f came (Some part) (decoded side announced id r i (if b then Fields s.fields s.count else Missing s.count))
@@ -254,7 +265,7 @@ module _ (side : Side) (announced : Announced) (id : ℕ) (r : DecoderState) whe
   -- **A section for whose insertions the last pull waited.**
   pub next_try : (kind : header.Head → Item) (f : Flow) (came : ℕ) (part : Part) (s : Section) (i : Incoming) → IsAtSection kind f part s i → i.waits_for ≡ s.count → r.table.inserted ≡ came
       → ReceivesFlow (record f { waits_for = s.count }) i
-      → decode_section r s.encoded ≡ tried_as came s
+      → IsTriedAs came s (decode_section r s.encoded)
       → IsReadAs side announced id r kind part s (past_section i) (acknowledgment id s.count)
       → ComesTo (section_of announced) id f came (Some part) (at_section side announced id r i s.encoded)
   next_try kind f came part s i h waits inserted same decodes read = by_test (nat_lt r.table.inserted i.waits_for) refl
@@ -269,8 +280,10 @@ module _ (side : Side) (announced : Announced) (id : ℕ) (r : DecoderState) whe
           above_is a b x = grind (arith, common_steps, x)
       by_test false e =
           let enough : s.count ≤ came = omega (arith, below_is _ _ e, waits, inserted) in
-          let decodes_now : decode_section r s.encoded ≡ Fields s.fields s.count = decodes ∙ ap (λ b. if b then Fields s.fields s.count else Missing s.count) (le-leb s.count came enough) in
-          subst (λ d. ComesTo (section_of announced) id f came (Some part) (decoded side announced id r i d)) (sym decodes_now) (decoded_comes kind f came part s i h enough read)
+          subst (ComesTo (section_of announced) id f came (Some part))
+          (sym (tried_plainly came s i (decode_section r s.encoded) decodes
+          ∙ ap (λ b. decoded side announced id r i (if b then Fields s.fields s.count else Missing s.count)) (le-leb s.count came enough)))
+          (decoded_comes kind f came part s i h enough read)
         where
           below_is : (a b : ℕ) → nat_lt a b ≡ false → b ≤ a
           below_is a b x = grind (arith, common_steps, x)

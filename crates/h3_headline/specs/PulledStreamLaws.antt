@@ -31,7 +31,7 @@ use Rattle.h3_headline.specs.PulledBodyLaws.{payload_comes}
 use Rattle.h3_headline.specs.PulledFlowLaws.{all_came}
 use Rattle.h3_headline.specs.PulledPartLaws.{before_comes}
 use Rattle.h3_headline.specs.PulledSectionLaws.{head_part, interim_part, next_try, reads_head, reads_interim, reads_trailer, trailer_part}
-use Rattle.h3_headline.specs.Pulling.{ComesTo, DecodesNext, GoesOn, IsInMessage, IsReadAs, IsReadableNext, IsSectionPart, tried_as}
+use Rattle.h3_headline.specs.Pulling.{ComesTo, DecodesNext, GoesOn, IsInMessage, IsReadAs, IsReadableNext, IsSectionPart, IsTriedAs}
 use Rattle.h3_headline.specs.Standing.{ReadsFlow, ReceivesFlow, StandsBefore, WaitsIn, place_behind, section_frame, section_of_part}
 
 stays_in : (place : Place) (part : Part) → IsInMessage place → IsInMessage (place_behind place part)
@@ -155,7 +155,7 @@ module _ (lists : ListsAreTheirValue) (side : Side) (announced : Announced) (id 
       → IsSectionPart kind s part → part_bytes part ≡ frame_encoding 1 s.encoded → IsSentSection p s → s.own_length ≤ f.delivered → i.section ≡ Some bytes
       → (f.waits_for ≡ s.count) × (0 < s.count) × (bytes ≡ s.encoded) × (i.tries ≡ 1)
       → ((n : ℕ) (left : List ℕ) → StandsBefore f (suc n) (Some part) left → ⊥)
-      → r.table.inserted ≡ came → decode_section r s.encoded ≡ tried_as came s → IsReadAs side announced id r kind part s (past_section i) (acknowledgment id s.count)
+      → r.table.inserted ≡ came → IsTriedAs came s (decode_section r s.encoded) → IsReadAs side announced id r kind part s (past_section i) (acknowledgment id s.count)
       → ComesTo (section_of announced) id f came (Some part) (at_section side announced id r i bytes)
   waited kind p f part s i bytes sound on same reads next is frame sent own there h not_inside inserted decodes read =
       let at = part_at p f part sound next in

@@ -26,7 +26,8 @@ use Rattle.h3_qpack.specs.DecoderState.{DecoderState}
 use Rattle.h3_proto.specs.declared.stream.Side.{Side}
 use Rattle.h3_connection.specs.Announcing.{section_of}
 use Rattle.h3_connection.specs.declared.setup.Announced.{Announced}
-use Rattle.std.specs.Prelude.{nat_le}
+use Rattle.std.specs.Prelude.{Bool, map, nat_le}
+use Rattle.h3_field.specs.Secret.{guarded}
 use Rattle.h3_qpack.specs.DecodedSection.{DecodedSection, Fields, Missing, decode_section}
 use Rattle.h3_connection.specs.declared.place.Place.TheVariants.{InSession}
 use Rattle.h3_headline.specs.Cited.{ListsAreTheirValue}
@@ -142,17 +143,29 @@ pub record IsReadAs (side : Side) (announced : Announced) (id : ℕ) (r : Decode
   pub reads : read_section side announced id r x replies s.fields ≡ record { answer = pull.Item item_is; incoming = record x { place = place_behind x.place part }; replies = replies }
   pub of_fields : IsSectionItem kind (section_of announced) s.fields item_is
 
--- what the decoder makes of the section: its fields, or that it misses insertions
-abbrev pub tried_as : ℕ → Section → DecodedSection
-tried_as came s = if nat_le s.count came then Fields s.fields s.count else Missing s.count
+-- what the decoder makes of the section: its fields, as the encoder took them, or that it misses insertions
+abbrev pub tried_as : Bool → ℕ → Section → DecodedSection
+tried_as guards came s = if nat_le s.count came then Fields (map (guarded guards) s.fields) s.count else Missing s.count
+
+-- One of both is made of it.
+pub record IsTriedAs (came : ℕ) (s : Section) (d : DecodedSection) : Type 0 where
+  pub guards : Bool
+  pub is : d ≡ tried_as guards came s
 
 module _ (lists : ListsAreTheirValue) (side : Side) (announced : Announced) (id : ℕ) (r : DecoderState) (came : ℕ) where
   -- what the decoder makes of the section that is next
   abbrev pub DecodesNext : Option Part → Type 0
-  DecodesNext (Some (Interim s)) = decode_section r s.encoded ≡ tried_as came s
-  DecodesNext (Some (Head s)) = decode_section r s.encoded ≡ tried_as came s
-  DecodesNext (Some (Trailer s)) = decode_section r s.encoded ≡ tried_as came s
+  DecodesNext (Some (Interim s)) = IsTriedAs came s (decode_section r s.encoded)
+  DecodesNext (Some (Head s)) = IsTriedAs came s (decode_section r s.encoded)
+  DecodesNext (Some (Trailer s)) = IsTriedAs came s (decode_section r s.encoded)
   DecodesNext _ = Unit {0}
+
+  -- the same where it is known whether the secrets among its fields were guarded
+  abbrev pub DecodesNextAs : Bool → Option Part → Type 0
+  DecodesNextAs guards (Some (Interim s)) = decode_section r s.encoded ≡ tried_as guards came s
+  DecodesNextAs guards (Some (Head s)) = decode_section r s.encoded ≡ tried_as guards came s
+  DecodesNextAs guards (Some (Trailer s)) = decode_section r s.encoded ≡ tried_as guards came s
+  DecodesNextAs guards _ = Unit {0}
 
   abbrev pub IsReadableNext : Option Part → Type 0
   IsReadableNext None = Unit {0}

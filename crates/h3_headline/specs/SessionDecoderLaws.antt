@@ -12,7 +12,7 @@ use Rattle.h3_connection.specs.OwnIds.{other}
 use Rattle.h3_world.specs.declared.setup.Setup.{Setup}
 use Rattle.h3_world.specs.Came.{settings_came, instructions_came, insertions_came}
 use Rattle.h3_world.specs.Following.{HasCapacity, as_encoded, EncodedSection, section_in, sections_in, sections_left, sections_on, undecoded, HasSession}
-use Rattle.h3_world.specs.Setup.{IsMadeSetup, announced_at}
+use Rattle.h3_world.specs.Setup.{IsMadeSetup, announced_at, flags_secrets}
 use Rattle.h3_world.specs.Sound.{IsSoundParty, IsSentSection, IsSentPart, AreSent, IsSoundExchange, IsSoundWorld}
 use Rattle.h3_world.specs.World.{World, party, Party, Exchange, no_exchange}
 use Rattle.h3_qpack.specs.EncoderHistory.{EncoderHistory}
@@ -30,12 +30,12 @@ use Rattle.h3_world.specs.Order.{next_part}
 use Rattle.h3_headline.specs.AcceptedLaws.{counts_all}
 use Rattle.h3_headline.specs.Cited.{ListsAreTheirValue, StreamLaws}
 use Rattle.h3_headline.specs.ComingLaws.{sound_flow}
-use Rattle.h3_headline.specs.DecodesLaws.{next_decodes}
+use Rattle.h3_headline.specs.DecodesLaws.{decodes_some, next_decodes}
 use Rattle.h3_headline.specs.Decoding.{AreTaken, HasRead, IsAfter, IsTaken, held}
 use Rattle.h3_headline.specs.EncoderStreamLaws.{least_right, opened_instructions, read_as}
 use Rattle.h3_headline.specs.FlowLaws.{open_there, other-other}
 use Rattle.h3_headline.specs.OwnOverLaws.{party_sound}
-use Rattle.h3_headline.specs.Pulling.{DecodesNext}
+use Rattle.h3_headline.specs.Pulling.{DecodesNext, DecodesNextAs}
 use Rattle.h3_headline.specs.Standing.{StandsAt}
 use Rattle.h3_headline.specs.UnitLaws.{whole_within}
 
@@ -183,10 +183,10 @@ insertions_read setup w side e h =
     omega (arith, counts.sum)
 
 -- **What its decoder makes of the next section of a stream that was not given up.**
-pub endpoint_decodes : (laws : StreamLaws) (lists : ListsAreTheirValue) (setup : Setup) (w : World) (side : Side) (id : ℕ) (e : EndpointHistory) → IsMadeSetup setup → StandsAt setup w side e → IsSoundWorld setup w
+pub endpoint_decodes_as : (laws : StreamLaws) (lists : ListsAreTheirValue) (setup : Setup) (w : World) (side : Side) (id : ℕ) (e : EndpointHistory) → IsMadeSetup setup → StandsAt setup w side e → IsSoundWorld setup w
     → is_open w side id ≡ true → (flow w (other side) id).fault ≡ None
-    → DecodesNext lists side (announced_at setup side) id e.decoding.decoder (insertions_came (party w (other side))) (next_part (flow w (other side) id))
-endpoint_decodes laws lists setup w side id e made h sound there alive =
+    → DecodesNextAs lists side (announced_at setup side) id e.decoding.decoder (insertions_came (party w (other side))) (flags_secrets (announced_at setup (other side))) (next_part (flow w (other side) id))
+endpoint_decodes_as laws lists setup w side id e made h sound there alive =
     let writer = party_sound setup w (other side) sound in
     let reads : IsAfter setup w (other side) e.decoding.decoder =
     subst (λ s. decoder_after_all (Some (announcing (announced_at setup s).limits.table)) (instructions_came (party w (other side))) ≡ Some e.decoding.decoder) (sym (other-other side)) h.encoder_stream.decoder in
@@ -194,3 +194,11 @@ endpoint_decodes laws lists setup w side id e made h sound there alive =
     (sound_flow setup w (other side) id sound (open_there w side id there)) alive
     (decoder_is_at laws setup w (other side) e.decoding.decoder made writer reads)
     (sections_written laws setup w (other side) sound writer.session)
+
+-- the same, whether its secrets were guarded or not
+pub endpoint_decodes : (laws : StreamLaws) (lists : ListsAreTheirValue) (setup : Setup) (w : World) (side : Side) (id : ℕ) (e : EndpointHistory) → IsMadeSetup setup → StandsAt setup w side e → IsSoundWorld setup w
+    → is_open w side id ≡ true → (flow w (other side) id).fault ≡ None
+    → DecodesNext lists side (announced_at setup side) id e.decoding.decoder (insertions_came (party w (other side))) (next_part (flow w (other side) id))
+endpoint_decodes laws lists setup w side id e made h sound there alive =
+    decodes_some lists side (announced_at setup side) id (insertions_came (party w (other side))) e.decoding.decoder (flags_secrets (announced_at setup (other side))) (next_part (flow w (other side) id))
+    (endpoint_decodes_as laws lists setup w side id e made h sound there alive)

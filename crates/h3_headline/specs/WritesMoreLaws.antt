@@ -1,8 +1,8 @@
 -- What an endpoint has of the other side's own streams stays as it is when that side writes more on them.
-use Rattle.std.proofs.Common.{ℕ, ◌<◌, length, arith, ◌-◌, List, ◌++◌, length-append, ◌≡◌, [], ◌∷◌, refl, ap, ◌≤◌, flat_map, if◌then◌else◌, take, drop, sym, ◌∙◌, Option, Some, Bool, true, false}
+use Rattle.std.proofs.Common.{ℕ, ◌<◌, length, arith, ◌+◌, ◌*◌, ◌-◌, List, ◌++◌, length-append, ◌≡◌, [], ◌∷◌, refl, ap, ◌≤◌, flat_map, if◌then◌else◌, take, drop, sym, ◌∙◌, Option, Some, Bool, true, false}
 use Rattle.std.proofs.lemmas.Grind.{common_steps}
 use Rattle.h3_field.specs.Integer.{prefixed}
-use Rattle.h3_field.specs.StringLiteral.{string_literal}
+use Rattle.h3_field.specs.StringLiteral.{Text, bit_h, text_bytes, string_literal}
 use Rattle.h3_field.specs.Instruction.{EncoderInstruction, encoder_bytes, DecoderInstruction, decoder_bytes}
 use Rattle.h3_field.specs.Instruction.EncoderInstruction.{SetCapacity, InsertWithStaticName, InsertWithEntryName, InsertLiteral, Duplicate}
 use Rattle.h3_field.specs.Instruction.DecoderInstruction.{Acknowledge, CancelStream, Increment}
@@ -27,8 +27,10 @@ some_prefixed size flags n = grind (arith, common_steps)
 behind : (xs ys : List ℕ) → 0 < length xs → 0 < length (xs ++ ys)
 behind xs ys h = omega (arith, h, length-append xs ys)
 
-some_string : (size flags : ℕ) (bytes : List ℕ) → 0 < length (string_literal size flags bytes)
-some_string size flags bytes = grind (arith, common_steps)
+some_string : (size flags : ℕ) (text : Text) → 0 < length (string_literal size flags text)
+some_string size flags text =
+    behind (prefixed (size - 1) (2 * flags + bit_h text.is_huffman) (length (text_bytes text))) (text_bytes text)
+    (some_prefixed (size - 1) (2 * flags + bit_h text.is_huffman) (length (text_bytes text)))
 
 some_encoder : (i : EncoderInstruction) → 0 < length (encoder_bytes i)
 some_encoder (SetCapacity capacity) = some_prefixed 5 1 capacity

@@ -12,12 +12,12 @@ ghost use Rattle.h3_world.specs.Headline.{Happens};
 ghost use Rattle.h3_world.specs.Order.{next_part};
 ghost use Rattle.h3_world.specs.Run.{Run};
 ghost use Rattle.h3_world.specs.Sendable.{IsSendable};
-ghost use Rattle.h3_world.specs.Setup.{IsMadeSetup, JudgesPlainly, announced_at};
+ghost use Rattle.h3_world.specs.Setup.{IsMadeSetup, JudgesPlainly, announced_at, flags_secrets};
 ghost use Rattle.h3_world.specs.Sound.{IsSoundWorld};
 ghost use Rattle.h3_world.specs.Streams.{flow, is_open};
 ghost use Rattle.h3_world.specs.World.{World, empty_world, party};
 ghost use Rattle.h3_headline.specs.Cited.{Laws, ListsAreTheirValue};
-ghost use Rattle.h3_headline.specs.Pulling.{DecodesNext};
+ghost use Rattle.h3_headline.specs.Pulling.{DecodesNextAs};
 ghost use Rattle.h3_headline.specs.Standing.{Stands, StandsAt};
 
 /// What the lemmas here cite holds: of QPACK's sessions and streams, of what a field list is read as, and of the steps of a world.
@@ -37,13 +37,13 @@ pub fn what_is_cited_holds()
 }
 
 /// An endpoint that stands in a world has read the insertions that came. In a sound world its decoder makes of the section that is next on
-/// a stream what was sent, if the stream was not given up. That is its fields once its insertions came, and until then how many it needs
-/// (RFC 9204, section 2.2.1).
+/// a stream what was sent, if the stream was not given up. That is its fields once its insertions came, with the secrets among them flagged
+/// if their sender guards these, and until then how many it needs (RFC 9204, section 2.2.1).
 pub fn endpoints_decode_what_was_sent()
     ensures insertions { (setup : Setup) (w : World) (side : Side) (e : EndpointHistory) → StandsAt setup w side e → e.decoding.decoder.table.inserted ≡ insertions_came (party w (other side)) }
     ensures sections { (lists : ListsAreTheirValue) (setup : Setup) (w : World) (side : Side) (id : ℕ) (e : EndpointHistory) → IsMadeSetup setup → StandsAt setup w side e → IsSoundWorld setup w →
         is_open w side id ≡ true → (flow w (other side) id).fault ≡ None →
-        DecodesNext lists side (announced_at setup side) id e.decoding.decoder (insertions_came (party w (other side))) (next_part (flow w (other side) id)) }
+        DecodesNextAs lists side (announced_at setup side) id e.decoding.decoder (insertions_came (party w (other side))) (flags_secrets (announced_at setup (other side))) (next_part (flow w (other side) id)) }
 {
     what_is_cited_holds();
 }

@@ -4,7 +4,7 @@ use Rattle.std.specs.List.{list_all, list_any, count_by}
 use Rattle.std.proofs.lemmas.List.Sums.{sum_by-cons}
 use Rattle.h3_field.specs.Field.{Field, flagged, with_flags}
 use Rattle.h3_header.specs.Connect.{is_plain_host}
-use Rattle.h3_messages.specs.Content.{asked_by, awaited, awaited_by, said}
+use Rattle.h3_messages.specs.Content.{asked_by, awaited, awaited_by, content_of_request, content_behind_status, content_behind_response, said}
 use Rattle.h3_messages.specs.Messages.{has_name, holds, repeats, value_of, values_pass, is_one_of, is_word, is_pseudo, pseudo_first, request_names, response_names, only_pseudo_of, connection_names, has_connection_field, is_te_wrong, is_length, is_length_wrong, number_of, has_space_around, first_broken, is_connect, is_plain_connect, needs_authority, misses_pseudo, repeats_pseudo, is_protocol_wrong, names_port, is_connect_wrong, is_scheme, is_scheme_wrong, is_host, are_alike, misses_authority, is_host_wrong, is_target_wrong, is_authority_wrong, is_path_right, is_path_wrong, violation_of_request, is_length_misplaced, violation_of_response, violation_of_trailer}
 use Rattle.h3_messages.specs.OwnMessages.{or_broken, says_content, is_trace, violation_of_own_request, is_reset_content, is_own_length_misplaced, violation_of_own_response, is_no_trailer_name, has_no_trailer_field, violation_of_own_trailer, or_nothing, content_of_own_request, content_of_own_status, content_of_own_response}
 use Rattle.h3_messages.specs.declared.content.Content.{Content}
@@ -181,7 +181,14 @@ own_responses_alike flag fields = λ i. or_broken (response flag fields i) (own_
 pub own_trailers_alike : (flag : Field → Bool) (fields : List Field) → violation_of_own_trailer (with_flags flag fields) ≡ violation_of_own_trailer fields
 own_trailers_alike flag fields = λ i. or_broken (trailer flag fields i) (unfit flag fields i) TrailerField
 
--- how much content follows, and what a request asks for
+-- how much content follows what comes
+pub request_content_alike : (flag : Field → Bool) (fields : List Field) → content_of_request (with_flags flag fields) ≡ content_of_request fields
+request_content_alike flag fields = λ i. if connect flag fields i then Tunnel else said (value flag fields (codes "content-length") i)
+
+pub response_content_alike : (flag : Field → Bool) (content : Content) (fields : List Field) → content_behind_response content (with_flags flag fields) ≡ content_behind_response content fields
+response_content_alike flag content fields = λ i. content_behind_status content (value flag fields (codes ":status") i) (value flag fields (codes "content-length") i)
+
+-- and what is sent, and what a request asks for
 pub awaited_alike : (flag : Field → Bool) (fields : List Field) → awaited_by (with_flags flag fields) ≡ awaited_by fields
 awaited_alike flag fields = λ i. awaited (asked_by (value flag fields (codes ":method") i))
 

@@ -109,6 +109,10 @@ pub struct Extensions {
     pub requests_rejected: bool,
     /// `:protocol` may have any token of 1 to 31 bytes (RFC 8441, section 4), and not the two known ones alone, both ways.
     pub any_protocol: bool,
+    /// The local encoder flags each field that is known to be a secret, as if the caller had (RFC 9204, section 7.1.3).
+    pub secrets_guarded: bool,
+    /// The local encoder writes a string plain if its Huffman code is not shorter.
+    pub shortest_strings: bool,
 }
 
 impl Default for Extensions {
@@ -119,6 +123,8 @@ impl Default for Extensions {
             kept_ids: VarInt::MAX.into_inner(),
             requests_rejected: false,
             any_protocol: false,
+            secrets_guarded: false,
+            shortest_strings: false,
         }
     }
 }
@@ -263,8 +269,8 @@ impl Config {
     /// longer. So is more than this of its decoder stream before its settings. 2^62 - 1 by default, which no length exceeds: there is no
     /// limit then. A greater value is the same.
     /// A limit below the greatest size of a field section is refused when an endpoint is made, so it goes with
-    /// `with_max_field_section_size`. An encoder that writes every string in the Huffman code, as this library's, may need four times that
-    /// size.
+    /// `with_max_field_section_size`. An encoder that writes every string in the Huffman code, as this library's without
+    /// `with_shortest_strings`, may need four times that size.
     pub fn with_unfinished_limit(mut self, max: u64) -> Self
         ensures { result ≡ record self { choices = record self.choices { unfinished_limit = max } } }
     {
@@ -303,6 +309,30 @@ impl Config {
         } }
     {
         self.choices.extensions.any_protocol = any;
+        self
+    }
+
+    /// Whether the local encoder flags each field that is known to be a secret, as if the caller had flagged it (RFC 9204, section 7.1.3).
+    /// These are `authorization`, `proxy-authorization`, and `cookie` and `set-cookie` with a value below 20 bytes. Such a field is never
+    /// in a table, so its value cannot be guessed by the lengths of what is sent, and a peer that passes it on must keep it so (section
+    /// 4.5.4). Off by default: the caller's flags are sent as they are.
+    pub fn with_secrets_guarded(mut self, guarded: bool) -> Self
+        ensures { result ≡ record self {
+          choices = record self.choices { extensions = record self.choices.extensions { secrets_guarded = guarded } };
+        } }
+    {
+        self.choices.extensions.secrets_guarded = guarded;
+        self
+    }
+
+    /// Whether the local encoder writes a string plain if its Huffman code is not shorter (RFC 9204, section 4.1.2). Off by default: then
+    /// each string is Huffman coded, so that one of rare bytes takes up to four times its length.
+    pub fn with_shortest_strings(mut self, shortest: bool) -> Self
+        ensures { result ≡ record self {
+          choices = record self.choices { extensions = record self.choices.extensions { shortest_strings = shortest } };
+        } }
+    {
+        self.choices.extensions.shortest_strings = shortest;
         self
     }
 

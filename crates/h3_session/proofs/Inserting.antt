@@ -5,9 +5,10 @@ use Rattle.std.specs.List.{list_all}
 use Rattle.std.proofs.lemmas.Grind.{common_steps}
 use Rattle.h3_field.specs.Field.{Field, field_size}
 use Rattle.h3_field.specs.Line.FieldLine.{StaticField, RelativeField, StaticName, Literal}
+use Rattle.h3_field.specs.StringLiteral.{coded}
 use Rattle.h3_field.specs.StaticTable.{static_field, static_name}
 use Rattle.h3_qpack.specs.EncoderHistory.{EncoderHistory, blocks_out, referenced_entries, was_canceled, writing_on}
-use Rattle.h3_qpack.specs.SectionEncoding.{Draft, draft_of, add_ahead, add_field, add_line, add_inserted, add_literal, any_equal, entry_name_line, evictions_by, finds_room, found, found_name, having_inserted, held, is_insertable, is_insertable_ahead, is_new, is_worth_to, marks_after, write_field, write_indexed}
+use Rattle.h3_qpack.specs.SectionEncoding.{Draft, first_draft, guarded_fields, draft_of, add_ahead, add_field, add_line, add_inserted, add_literal, any_equal, entry_name_line, evictions_by, finds_room, found, found_name, having_inserted, held, is_insertable, is_insertable_ahead, is_new, is_worth_to, marks_after, write_field, write_indexed}
 use Rattle.h3_table.specs.Table.{evictions}
 
 -- a choice whose ways all keep what was inserted
@@ -17,9 +18,9 @@ either kept (Some n) x rest here there = here n
 
 literal_kept : (s : EncoderHistory) (d : Draft) (f : Field) → (add_literal s d f).inserted ≡ d.inserted
 literal_kept s d f =
-    either d.inserted (static_name f.name) (λ index. add_line d (StaticName index f.value f.never_indexed) []) _ (λ n. refl)
-    (either d.inserted (found_name s d f) (λ number. add_line d (entry_name_line (length s.inserted) number f.value f.never_indexed) (number ∷ []))
-    (add_line d (Literal f.name f.value f.never_indexed) []) (λ n. refl) refl)
+    either d.inserted (static_name f.name) (λ index. add_line d (StaticName index (coded s.choices.shortest_strings f.value) f.never_indexed) []) _ (λ n. refl)
+    (either d.inserted (found_name s d f) (λ number. add_line d (entry_name_line (length s.inserted) number (coded s.choices.shortest_strings f.value) f.never_indexed) (number ∷ []))
+    (add_line d (Literal (coded s.choices.shortest_strings f.name) (coded s.choices.shortest_strings f.value) f.never_indexed) []) (λ n. refl) refl)
 
 too_small : (size capacity : ℕ) → capacity ≡ 0 → 32 ≤ size → nat_le size capacity ≡ false
 too_small size capacity none some = grind (arith, common_steps, none, some)
@@ -51,7 +52,7 @@ not_insertable s d f h =
 
 not_ahead : (s : EncoderHistory) (marks : List ℕ) (d : Draft) (f : Field) → s.capacity ≡ 0 → is_insertable_ahead s marks d f ≡ false
 not_ahead s marks d f h =
-    last (s.economical && (s.limit == 0) && is_new s d f && is_worth_to s (not (is_none (any_equal s d f))) marks d f) (finds_room s d f) (no_room s d f h)
+    last (s.choices.economical && (s.limit == 0) && is_new s d f && is_worth_to s (not (is_none (any_equal s d f))) marks d f) (finds_room s d f) (no_room s d f h)
 
 indexed_kept : (s : EncoderHistory) (d : Draft) (f : Field) → s.capacity ≡ 0 → (write_indexed s d f).inserted ≡ d.inserted
 indexed_kept s d f h =
@@ -74,15 +75,15 @@ fields_kept : (s : EncoderHistory) (d : Draft) (fields : List Field) → s.capac
 fields_kept s d [] h = refl
 fields_kept s d (f ∷ fields) h = fields_kept s (add_field s d f) fields h ∙ field_kept s d f h
 
-same_inserted : (s : EncoderHistory) (b : Bool) → (if b then record s { announced = 0; capacity = 0; limit = 0; economical = false } else s).inserted ≡ s.inserted
+same_inserted : (s : EncoderHistory) (b : Bool) → (if b then record s { announced = 0; capacity = 0; limit = 0; choices = record s.choices { economical = false } } else s).inserted ≡ s.inserted
 same_inserted s true = refl
 same_inserted s false = refl
 
-no_capacity : (s : EncoderHistory) (b : Bool) → s.capacity ≡ 0 → (if b then record s { announced = 0; capacity = 0; limit = 0; economical = false } else s).capacity ≡ 0
+no_capacity : (s : EncoderHistory) (b : Bool) → s.capacity ≡ 0 → (if b then record s { announced = 0; capacity = 0; limit = 0; choices = record s.choices { economical = false } } else s).capacity ≡ 0
 no_capacity s true h = refl
 no_capacity s false h = h
 
-same_marks : (s : EncoderHistory) (b : Bool) → (if b then record s { announced = 0; capacity = 0; limit = 0; economical = false } else s).marks ≡ s.marks
+same_marks : (s : EncoderHistory) (b : Bool) → (if b then record s { announced = 0; capacity = 0; limit = 0; choices = record s.choices { economical = false } } else s).marks ≡ s.marks
 same_marks s true = refl
 same_marks s false = refl
 
@@ -98,5 +99,5 @@ none_inserted s stream =
 pub nothing_inserted : (s : EncoderHistory) (stream : ℕ) (fields : List Field) → s.capacity ≡ 0 → s.inserted ≡ [] → (draft_of (writing_on s stream) fields).inserted ≡ []
 nothing_inserted s stream fields none empty =
     let by = writing_on s stream in
-    fields_kept by (record { inserted = by.inserted; instructions = []; lines = []; references = [] }) fields (no_capacity s (was_canceled s stream) none)
+    fields_kept by (first_draft by) (guarded_fields by fields) (no_capacity s (was_canceled s stream) none)
     ∙ begins_with s stream ∙ empty

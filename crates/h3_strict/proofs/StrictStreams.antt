@@ -40,8 +40,8 @@ use Rattle.h3_headline.specs.FrontLaws.{data_front, long_front, short_front, unf
 use Rattle.h3_headline.specs.PartLaws.{ended_over, flow_parts, none_left, part_at}
 use Rattle.h3_headline.specs.Parts.{IsPartAt, IsPlaceOf}
 use Rattle.h3_headline.specs.PulledFlowLaws.{came_is, not_ended, nothing_there, unfinished_waits, whole_frame}
-use Rattle.h3_headline.specs.PulledSectionLaws.{head_part, interim_part, trailer_part}
-use Rattle.h3_headline.specs.Pulling.{DecodesNext, GoesOn, IsBefore, IsInMessage, IsReadableNext, before_bytes, tried_as}
+use Rattle.h3_headline.specs.PulledSectionLaws.{head_part, interim_part, trailer_part, tried_plainly}
+use Rattle.h3_headline.specs.Pulling.{DecodesNext, GoesOn, IsBefore, IsInMessage, IsReadableNext, IsTriedAs, before_bytes}
 use Rattle.h3_headline.specs.ReceivingLaws.{encoding_some}
 use Rattle.h3_headline.specs.Standing.{ReadsFlow, ReceivesFlow, StandsBefore, WaitsIn, place_after, place_behind, section_frame, section_of_part}
 use Rattle.h3_strict.proofs.StrictSections.{either, head_reads, interim_reads, read_good, trailer_reads}
@@ -104,11 +104,11 @@ module _ (lists : ListsAreTheirValue) (side : Side) (own : Announced) (id : ℕ)
       by_left (suc n) left at = absurd (none n left at)
 
   -- The section at hand, whose fields are read well.
-  section_good : (f : Flow) (came : ℕ) (s : Section) (i : Incoming) → Counting side awaited known f i → decode_section r s.encoded ≡ tried_as came s
+  section_good : (f : Flow) (came : ℕ) (s : Section) (i : Incoming) → Counting side awaited known f i → IsTriedAs came s (decode_section r s.encoded)
       → PullsOn side awaited known f (read_section side own id r (past_section i) (acknowledgment id s.count) s.fields) → PullsOn side awaited known f (at_section side own id r i s.encoded)
   section_good f came s i counts decodes good =
       either (PullsOn side awaited known f) (nat_lt r.table.inserted i.waits_for) _ _ (stays f (pull.Waiting i.waits_for) i refl refl refl counts)
-      (subst (λ d. PullsOn side awaited known f (decoded side own id r i d)) (sym decodes) (by_count (nat_le s.count came)))
+      (subst (PullsOn side awaited known f) (sym (tried_plainly side own id r came s i (decode_section r s.encoded) decodes)) (by_count (nat_le s.count came)))
     where
       by_count : (b : Bool) → PullsOn side awaited known f (decoded side own id r i (if b then Fields s.fields s.count else Missing s.count))
       by_count true = good
@@ -194,7 +194,7 @@ module _ (lists : ListsAreTheirValue) (side : Side) (own : Announced) (id : ℕ)
   section_comes : (came : ℕ) (p : Party) (f : Flow) (part : Part) (s : Section) (i : Incoming) → IsBefore p f (plain_incoming i) → IsPartAt p f.sent f.parts_out part → Counting side awaited known f i
       → part_bytes part ≡ frame_encoding 1 s.encoded → IsSentSection p s
       → ((j : Incoming) → j.content ≡ i.content → at_frame side own id r side j i.place (frame.Headers s.encoded) ≡ new_section side own id r j s.encoded)
-      → decode_section r s.encoded ≡ tried_as came s
+      → IsTriedAs came s (decode_section r s.encoded)
       → ((x : Incoming) → x.place ≡ i.place → x.body_left ≡ 0 → x.content ≡ i.content → x.response ≡ i.response → PullsOn side awaited known f (read_section side own id r x (acknowledgment id s.count) s.fields))
       → PullsOn side awaited known f (between_frames side own id r i)
   section_comes came p f part s i h at counts bytes sent frames decodes reads = elim (cases_lt (length (concat i.unread)) (length (frame_encoding 1 s.encoded))) [

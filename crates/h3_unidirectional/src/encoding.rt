@@ -22,7 +22,7 @@ use h3_proto::config::{Choices, MAX_BLOCKED_STREAMS, MAX_TABLE_CAPACITY};
 use h3_proto::error::Code;
 use h3_proto::frame::{SettingId, Settings};
 use h3_proto::stream::StreamId;
-use h3_qpack::{Encoder, EncoderError, SliceCursor};
+use h3_qpack::{Encoder, EncoderChoices, EncoderError, SliceCursor};
 use std::alloc::{AllocError, Global};
 use std::marker::Model;
 
@@ -51,14 +51,19 @@ impl Model for Encoding {
 
 impl Encoding {
     /// An encoder that may not use a table yet. The choices say whether acknowledgments tell of insertions (RFC 9204, section 2.1.4), and
-    /// the most that its table may have. They also say whether it is economical with it, and how many canceled streams it keeps.
+    /// the most that its table may have. They also say whether it is economical with it, whether it flags secrets and writes the shortest
+    /// strings, and how many canceled streams it keeps.
     pub fn new(alloc: Global, choices: Choices) -> Encoding
         ensures { result ≡ record { encoder = encoder_state (chosen_encoder choices); unread = [] } }
     {
         let mut encoder = Encoder::new(alloc);
         encoder.limit_table(choices.encoder_table as usize);
         encoder.count_acknowledgments(choices.acknowledgments_counted);
-        encoder.economize(choices.economical_table);
+        encoder.choose(EncoderChoices {
+            economical: choices.economical_table,
+            guards_secrets: choices.extensions.secrets_guarded,
+            shortest_strings: choices.extensions.shortest_strings,
+        });
         encoder.keep_canceled(most_kept(choices));
         Encoding {
             encoder,

@@ -4,8 +4,8 @@ use Rattle.std.specs.Prelude.{is_some, unwrap_or, slice_get, drop}
 use Rattle.std.proofs.lemmas.Grind.{common_steps}
 use Rattle.h3_coding.specs.Encodings.{encoding}
 use Rattle.h3_field.specs.Instruction.{DecoderInstruction}
-use Rattle.h3_qpack.specs.Schedule.{beginning, economizing, keeping_canceled}
-use Rattle.h3_qpack.specs.Schedule.SessionEvent.{Economize, KeepCanceled}
+use Rattle.h3_qpack.specs.Schedule.{beginning, choosing, keeping_canceled}
+use Rattle.h3_qpack.specs.Schedule.SessionEvent.{Choose, KeepCanceled}
 use Rattle.h3_qpack.specs.Session.{Session}
 use Rattle.h3_qpack.specs.WholeInstructions.{decoder_instructions_in}
 use Rattle.h3_wire.specs.Encoded.{frame_encoding}
@@ -13,7 +13,7 @@ use Rattle.h3_proto.specs.Pairs.{payload_of}
 use Rattle.h3_proto.specs.StreamIds.{is_request_stream, index_of}
 use Rattle.h3_proto.specs.declared.stream.Side.{Side}
 use Rattle.h3_proto.specs.declared.stream.Side.TheVariants.{Client, Server}
-use Rattle.h3_connection.specs.Endpoint.{first_encoder, most_kept}
+use Rattle.h3_connection.specs.Endpoint.{encoder_choices, first_encoder, most_kept}
 use Rattle.h3_connection.specs.declared.setup.Announced.{Announced}
 use Rattle.h3_world.specs.declared.setup.Setup.{Setup}
 use Rattle.h3_world.specs.Setup.{announced_at}
@@ -53,21 +53,21 @@ flow-empty : (setup : Setup) (side : Side) (id : ℕ) → flow (empty_world setu
 flow-empty setup Client id = ap (λ e. e.request) (exchange-empty setup id)
 flow-empty setup Server id = ap (λ e. e.response) (exchange-empty setup id)
 
--- the session of a side, before its encoder chose whether it is economical and how many canceled streams it keeps
+-- the session of a side, before its encoder goes by its choices, and before it chose how many canceled streams it keeps
 abbrev first : Setup → Side → Session
 first setup side = beginning (announced_at setup side).choices.acknowledgments_counted (announced_at setup side).choices.encoder_table 0 0
 
 -- before it chose how many
-abbrev economical : Setup → Side → Session
-economical setup side = economizing (first setup side) (announced_at setup side).choices.economical_table
+abbrev chosen : Setup → Side → Session
+chosen setup side = choosing (first setup side) (encoder_choices (announced_at setup side).choices)
 
 -- and before anything else
 abbrev begun : Setup → Side → Session
-begun setup side = keeping_canceled (economical setup side) (most_kept (announced_at setup side).choices)
+begun setup side = keeping_canceled (chosen setup side) (most_kept (announced_at setup side).choices)
 
 -- its encoder has no table
 none_used : (announced : Announced)
-    → (keeping_canceled (economizing (beginning announced.choices.acknowledgments_counted announced.choices.encoder_table 0 0) announced.choices.economical_table) (most_kept announced.choices)).encoder ≡ (silent announced).encoder
+    → (keeping_canceled (choosing (beginning announced.choices.acknowledgments_counted announced.choices.encoder_table 0 0) (encoder_choices announced.choices)) (most_kept announced.choices)).encoder ≡ (silent announced).encoder
 none_used announced = ap (λ c. record (first_encoder announced) { capacity = c }) (least_none announced.choices.encoder_table)
   where
     least_none : (n : ℕ) → min n 0 ≡ 0
@@ -98,7 +98,7 @@ writer_empty setup side announced knows =
     record { control = omega arith; encoder = omega arith; decoder = omega arith; unknown = λ e. ((refl, refl), refl, refl); limit = omega arith; capacity = inr ((refl, refl), refl) }
 
 session_empty : (setup : Setup) (side : Side) → HasSession setup (empty_world setup) side
-session_empty setup side = record { counts = (announced_at setup side).choices.acknowledgments_counted; most = (announced_at setup side).choices.encoder_table; events = Economize (announced_at setup side).choices.economical_table ∷ KeepCanceled (most_kept (announced_at setup side).choices) ∷ []; session = begun setup side; run = (economical setup side, refl, (begun setup side, refl, refl)); follows = follows_empty setup side }
+session_empty setup side = record { counts = (announced_at setup side).choices.acknowledgments_counted; most = (announced_at setup side).choices.encoder_table; events = Choose (encoder_choices (announced_at setup side).choices) ∷ KeepCanceled (most_kept (announced_at setup side).choices) ∷ []; session = begun setup side; run = (chosen setup side, refl, (begun setup side, refl, refl)); follows = follows_empty setup side; guards = (refl, tt) }
 
 pub empty_sound : (setup : Setup) → IsSoundWorld setup (empty_world setup)
 empty_sound setup =

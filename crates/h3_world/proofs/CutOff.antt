@@ -60,7 +60,7 @@ inserted_session setup w side id fields sound h =
     let is_for = own_instructions p.encoder id fields in
     let begun = opening s.encoder.most_capacity (limits_for setup side) in
     let knows : settings_came setup new (other side) ≡ settings_came setup w (other side) = ap (knows_of setup (other side)) others in
-    steps_on setup w new side h (CutOff id fields) (without_section s id fields) refl (record {
+    steps_on setup w new side h (CutOff id fields) (without_section s id fields) tt refl (record {
       encoder = ap (λ x. having_inserted x id fields) is ∙ sym (ap (λ x. x.encoder) own);
       instructions =
           ap (λ x. x.own.instructions) own

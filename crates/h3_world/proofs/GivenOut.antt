@@ -113,7 +113,7 @@ section_out_kept setup old new side id section rest h out =
     let there : count_of r.b ≤ s.received = omega (arith, count, out.there, h.follows.received) in
     let left : (i : ℕ) (t : Bool) → (id == i) ≡ t → (flow old side i).fault ≡ None → sections_on i (without_oldest r.b.stream s.sections) ≡ (if t then rest else sections_left (flow old side i)) =
     λ i t e none. left_of s r.b.stream id i section rest r t e (sections_left (flow old side i)) (h.follows.sections i none) r.stream in
-    steps_on setup old new side h (Decode r.b) (decoded s r.b) (oldest_is, alive, there, refl) (record {
+    steps_on setup old new side h (Decode r.b) (decoded s r.b) tt (oldest_is, alive, there, refl) (record {
       encoder = h.follows.encoder ∙ sym out.encoder;
       instructions = out.instructions ∙ h.follows.instructions ∙ ap (λ k. (if k then opening s.encoder.most_capacity limits else []) ++ s.instructions) (sym out.knows);
       received = h.follows.received ∙ sym out.received;
@@ -172,7 +172,7 @@ given_up_kept setup old new side id h out =
     let s = h.session in
     let limits = limits_for setup side in
     let alive : is_canceled s id ≡ false = h.follows.canceled id ∙ ap is_some out.alive in
-    steps_on setup old new side h (Cancel id) (after_cancellation s id) (alive, refl) (record {
+    steps_on setup old new side h (Cancel id) (after_cancellation s id) tt (alive, refl) (record {
       encoder = h.follows.encoder ∙ sym out.encoder;
       instructions = out.instructions ∙ h.follows.instructions ∙ ap (λ k. (if k then opening s.encoder.most_capacity limits else []) ++ s.instructions) (sym out.knows);
       received = h.follows.received ∙ sym out.received;

@@ -1,11 +1,14 @@
 -- A schedule of a session grown at the end, and the session of a world after more events.
 use Rattle.std.proofs.Common.{ℕ, Bool, List, [], ◌∷◌, ◌++◌, refl, subst}
+use Rattle.std.specs.List.{AllByRecursion}
 use Rattle.h3_qpack.specs.Session.{Session, IsSound}
 use Rattle.h3_qpack.specs.Schedule.{SessionEvent, SessionStep, SessionRun, beginning}
 use Rattle.h3_proto.specs.declared.stream.Side.{Side}
 use Rattle.h3_world.specs.declared.setup.Setup.{Setup}
 use Rattle.h3_world.specs.World.{World}
+use Rattle.h3_world.specs.Setup.{announced_at, flags_secrets}
 use Rattle.h3_world.specs.Following.{Follows, HasSession}
+use Rattle.h3_world.proofs.Guarding.{ChoosesNothing, run_guards}
 
 -- the law of h3_qpack on schedules from nothing
 abbrev pub SessionsAreSound : Type 0
@@ -20,9 +23,9 @@ run_joined s [] more mid new first then = subst (λ x. SessionRun x more new) fi
 run_joined s (event ∷ events) more mid new first then = (first.0, first.1, run_joined first.0 events more mid new first.2 then)
 
 -- the session of the new world is the old one after more events
-pub goes_on : (setup : Setup) (old new : World) (side : Side) (h : HasSession setup old side) (events : List SessionEvent) (after : Session) → SessionRun h.session events after → Follows setup new side after
-    → HasSession setup new side
-goes_on setup old new side h events after run follows =
+pub goes_on : (setup : Setup) (old new : World) (side : Side) (h : HasSession setup old side) (events : List SessionEvent) (after : Session) → AllByRecursion ChoosesNothing events
+    → SessionRun h.session events after → Follows setup new side after → HasSession setup new side
+goes_on setup old new side h events after none run follows =
     record {
       counts = h.counts;
       most = h.most;
@@ -30,9 +33,10 @@ goes_on setup old new side h events after run follows =
       session = after;
       run = run_joined (beginning h.counts h.most 0 0) h.events events h.session after h.run run;
       follows = follows;
+      guards = run_guards (flags_secrets (announced_at setup side)) h.session events after none run h.guards;
     }
 
 -- or after one event
-pub steps_on : (setup : Setup) (old new : World) (side : Side) (h : HasSession setup old side) (event : SessionEvent) (after : Session) → SessionStep h.session event after → Follows setup new side after
-    → HasSession setup new side
-steps_on setup old new side h event after step follows = goes_on setup old new side h (event ∷ []) after (after, step, refl) follows
+pub steps_on : (setup : Setup) (old new : World) (side : Side) (h : HasSession setup old side) (event : SessionEvent) (after : Session) → ChoosesNothing event
+    → SessionStep h.session event after → Follows setup new side after → HasSession setup new side
+steps_on setup old new side h event after none step follows = goes_on setup old new side h (event ∷ []) after (none, tt) (after, step, refl) follows

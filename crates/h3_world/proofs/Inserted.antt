@@ -9,10 +9,10 @@ use Rattle.h3_field.specs.Field.{Field}
 use Rattle.h3_field.specs.StaticTable.{static_field, static_name}
 use Rattle.h3_field.specs.Instruction.{EncoderInstruction, encoder_bytes}
 use Rattle.h3_qpack.specs.EncoderHistory.{EncoderHistory, writing_on}
-use Rattle.h3_qpack.specs.SectionEncoding.{Draft, add_ahead, add_field, add_literal, draft_of, found, found_name, insertion, remaining, marks_after, is_insertable, is_insertable_ahead, required_insert_count, instructions_for, sent_section, write_field, write_indexed}
+use Rattle.h3_qpack.specs.SectionEncoding.{Draft, add_ahead, add_field, add_literal, first_draft, guarded_fields, draft_of, found, found_name, insertion, remaining, marks_after, is_insertable, is_insertable_ahead, required_insert_count, instructions_for, sent_section, write_field, write_indexed}
 use Rattle.h3_qpack.specs.Session.{Session}
 use Rattle.h3_qpack.specs.Schedule.{SessionEvent, SessionStep, SessionRun, beginning}
-use Rattle.h3_qpack.specs.Schedule.SessionEvent.{UseTable, Economize, KeepCanceled, Encode, CutOff, InsertionsRead, Decode, Cancel, DecoderInstructionRead}
+use Rattle.h3_qpack.specs.Schedule.SessionEvent.{UseTable, Choose, KeepCanceled, Encode, CutOff, InsertionsRead, Decode, Cancel, DecoderInstructionRead}
 use Rattle.h3_table.specs.Table.{newest_from, or_else}
 use Rattle.h3_qpack.specs.WholeInstructions.{whole_in, insertions_in, is_insertion}
 use Rattle.h3_proto.specs.declared.stream.Side.{Side}
@@ -80,11 +80,11 @@ fields_insert s d [] h = h
 fields_insert s d (f ∷ fields) h = fields_insert s (add_field s d f) fields (field_inserts s d f h)
 
 section_inserts : (s : EncoderHistory) (fields : List Field) → AreInsertions (instructions_for s fields)
-section_inserts s fields = fields_insert s (record { inserted = s.inserted; instructions = []; lines = []; references = [] }) fields refl
+section_inserts s fields = fields_insert s (first_draft s) (guarded_fields s fields) refl
 
 step_inserts : (s : Session) (event : SessionEvent) (new : Session) → AreInsertions s.instructions → SessionStep s event new → AreInsertions new.instructions
 step_inserts s (UseTable capacity limit) new h e = subst (λ x. AreInsertions x.instructions) (sym e.2) h
-step_inserts s (Economize economical) new h e = subst (λ x. AreInsertions x.instructions) (sym e) h
+step_inserts s (Choose choices) new h e = subst (λ x. AreInsertions x.instructions) (sym e) h
 step_inserts s (KeepCanceled most) new h e = subst (λ x. AreInsertions x.instructions) (sym e) h
 step_inserts s (Encode stream fields) new h e = subst (λ x. AreInsertions x.instructions) (sym e) (joined s.instructions (instructions_for (writing_on s.encoder stream) fields) h (section_inserts (writing_on s.encoder stream) fields))
 step_inserts s (CutOff stream fields) new h e = subst (λ x. AreInsertions x.instructions) (sym e) (joined s.instructions (instructions_for (writing_on s.encoder stream) fields) h (section_inserts (writing_on s.encoder stream) fields))
@@ -157,7 +157,7 @@ pub needs_made : (s : EncoderHistory) (fields : List Field) → required_insert_
 needs_made s fields =
     let d = draft_of s fields in
     most_named (length d.inserted) 0 d.inserted d.references refl (omega arith)
-    (fields_name s (record { inserted = s.inserted; instructions = []; lines = []; references = [] }) fields tt)
+    (fields_name s (first_draft s) (guarded_fields s fields) tt)
 
 -- what a party that has a session wrote on its encoder stream: one insertion for each entry, and the capacity
 pub written_insertions : SessionsAreSound → (setup : Setup) (w : World) (side : Side) → HasSession setup w side → count_by is_insertion (party w side).own.instructions ≡ length (party w side).encoder.inserted

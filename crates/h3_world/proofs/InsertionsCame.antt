@@ -73,7 +73,7 @@ pub insertions_kept : SessionsAreSound → (setup : Setup) (old new : World) (si
 insertions_kept law setup old new side h b = more (insertions_came (party new side) - insertions_came (party old side)) refl
   where
     more : (n : ℕ) → insertions_came (party new side) - insertions_came (party old side) ≡ n → HasSession setup new side
-    more zero e = goes_on setup old new side h [] h.session refl (record {
+    more zero e = goes_on setup old new side h [] h.session tt refl (record {
       encoder = h.follows.encoder ∙ sym b.encoder;
       instructions = b.instructions ∙ h.follows.instructions ∙ ap (λ k. (if k then opening h.session.encoder.most_capacity (limits_for setup side) else []) ++ h.session.instructions) (sym b.knows);
       received = h.follows.received ∙ omega (arith, e, b.received);
@@ -81,7 +81,7 @@ insertions_kept law setup old new side h b = more (insertions_came (party new si
       canceled = λ i. h.follows.canceled i ∙ ap is_some (sym (b.faults i));
       sections = λ i none. h.follows.sections i (sym (b.faults i) ∙ none) ∙ sym (b.sections i);
     })
-    more (suc n) e = steps_on setup old new side h (InsertionsRead (suc n)) (inserted h.session (suc n))
+    more (suc n) e = steps_on setup old new side h (InsertionsRead (suc n)) (inserted h.session (suc n)) tt
         (omega arith, omega (arith, e, h.follows.received, insertions_made law setup old new side h b.instructions), refl) (record {
           encoder = h.follows.encoder ∙ sym b.encoder;
           instructions = b.instructions ∙ h.follows.instructions ∙ ap (λ k. (if k then opening h.session.encoder.most_capacity (limits_for setup side) else []) ++ h.session.instructions) (sym b.knows);

@@ -6,6 +6,7 @@ pub mod Pieces
 pub mod Wholes
 pub mod ComesOut
 pub mod Enough
+pub mod Guarding
 pub mod Grown
 pub mod SessionSends
 pub mod GivenOut

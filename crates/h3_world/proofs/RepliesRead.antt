@@ -1,6 +1,7 @@
 -- The session of a direction when its encoder reads decoder instructions, or learns its peer's limits.
 use Rattle.std.proofs.Common.{◌≡◌, ℕ, Bool, true, false, List, [], ◌∷◌, ◌++◌, refl, sym, ap, ◌∙◌, append-nil}
 use Rattle.std.specs.Prelude.{if◌then◌else◌, is_some}
+use Rattle.std.specs.List.{AllByRecursion}
 use Rattle.h3_field.specs.Instruction.{EncoderInstruction, DecoderInstruction}
 use Rattle.h3_qpack.specs.EncoderHistory.{EncoderHistory, using_table, encoder_after_all}
 use Rattle.h3_qpack.specs.Session.{Session, after_decoder_instruction}
@@ -16,6 +17,7 @@ use Rattle.h3_world.specs.Came.{settings_came, insertions_came}
 use Rattle.h3_world.specs.Streams.{flow}
 use Rattle.h3_world.specs.Following.{Follows, HasSession, sections_left, replies_left, opening, limits_for}
 use Rattle.h3_world.proofs.Capacity.{all_read_same}
+use Rattle.h3_world.proofs.Guarding.{ChoosesNothing}
 use Rattle.h3_world.proofs.Grown.{goes_on}
 
 -- the session after its encoder read these, and has the rest to read
@@ -31,6 +33,10 @@ pub all_read : (s : Session) (is rest : List DecoderInstruction) → s.decoder_i
 all_read s [] rest e = ap (λ l. record s { decoder_instructions = l }) (sym e)
 all_read s (i ∷ is) rest e = (after_decoder_instruction s i (is ++ rest), (e, refl), all_read (after_decoder_instruction s i (is ++ rest)) is rest refl)
 
+none_chosen : (is rest : List DecoderInstruction) → AllByRecursion ChoosesNothing (each_read is rest)
+none_chosen [] rest = tt
+none_chosen (i ∷ is) rest = (tt, none_chosen is rest)
+
 -- What reading decoder instructions changes of what the session sees.
 pub record ReadsReplies (setup : Setup) (old new : World) (side : Side) (is : List DecoderInstruction) : Type 0 where
   pub encoder : (party new side).encoder ≡ encoder_after_all (party old side).encoder is
@@ -45,7 +51,7 @@ pub replies_kept : (setup : Setup) (old new : World) (side : Side) (is : List De
 replies_kept setup old new side is h r =
     let s = h.session in
     let rest = replies_left setup new side in
-    goes_on setup old new side h (each_read is rest) (heard s is rest) (all_read s is rest (h.follows.decoder_instructions ∙ r.replies)) (record {
+    goes_on setup old new side h (each_read is rest) (heard s is rest) (none_chosen is rest) (all_read s is rest (h.follows.decoder_instructions ∙ r.replies)) (record {
       encoder = ap (λ x. encoder_after_all x is) h.follows.encoder ∙ sym r.encoder;
       instructions =
           r.instructions ∙ h.follows.instructions ∙ ap (λ k. (if k then opening s.encoder.most_capacity (limits_for setup side) else []) ++ s.instructions) (sym r.knows)
@@ -128,11 +134,11 @@ learned_kept setup old new side is h l = by_test (has_table most limits) refl
         let used = with_table h.session limits.table limits.blocked in
         let empty = ap (λ x. x.inserted) h.follows.encoder ∙ l.empty in
         let no_limit = ap (λ x. x.limit) h.follows.encoder ∙ l.no_limit in
-        goes_on setup old new side h (UseTable limits.table limits.blocked ∷ each_read is rest) (heard used is rest)
+        goes_on setup old new side h (UseTable limits.table limits.blocked ∷ each_read is rest) (heard used is rest) (tt, none_chosen is rest)
         (used, (empty, no_limit, refl), all_read used is rest (h.follows.decoder_instructions ∙ l.replies))
         (follows used.encoder same_most (l.encoder ∙ ap (λ b. encoder_after_all (if b then limited (party old side).encoder limits else (party old side).encoder) is) e
         ∙ ap (λ x. encoder_after_all (limited x limits) is) (sym h.follows.encoder)))
     by_test false e =
-        goes_on setup old new side h (each_read is rest) (heard h.session is rest) (all_read h.session is rest (h.follows.decoder_instructions ∙ l.replies))
+        goes_on setup old new side h (each_read is rest) (heard h.session is rest) (none_chosen is rest) (all_read h.session is rest (h.follows.decoder_instructions ∙ l.replies))
         (follows h.session.encoder same_most (l.encoder ∙ ap (λ b. encoder_after_all (if b then limited (party old side).encoder limits else (party old side).encoder) is) e
         ∙ ap (λ x. encoder_after_all x is) (sym h.follows.encoder)))

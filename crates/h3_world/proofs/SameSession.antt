@@ -26,7 +26,7 @@ pub record SeesSame (setup : Setup) (old new : World) (side : Side) : Type 0 whe
 
 pub same_kept : (setup : Setup) (old new : World) (side : Side) → HasSession setup old side → SeesSame setup old new side → HasSession setup new side
 same_kept setup old new side h same =
-    goes_on setup old new side h [] h.session refl (record {
+    goes_on setup old new side h [] h.session tt refl (record {
       encoder = h.follows.encoder ∙ sym same.encoder;
       instructions = same.instructions ∙ h.follows.instructions ∙ ap (λ k. (if k then opening h.session.encoder.most_capacity (limits_for setup side) else []) ++ h.session.instructions) (sym same.knows);
       received = h.follows.received ∙ sym same.received;

@@ -9,7 +9,7 @@ use Rattle.h3_qpack.specs.EncoderHistory.{EncoderHistory, encoder_after, was_can
 use Rattle.h3_qpack.specs.SectionEncoding.{draft_of}
 use Rattle.h3_qpack.specs.Session.{Session, UndecodedSection, IsSound, IsWrittenOver, count_of, without_oldest}
 use Rattle.h3_qpack.specs.Schedule.{SessionEvent, SessionStep, SessionRun, beginning}
-use Rattle.h3_qpack.specs.Schedule.SessionEvent.{UseTable, Economize, KeepCanceled, Encode, CutOff, InsertionsRead, Decode, Cancel, DecoderInstructionRead}
+use Rattle.h3_qpack.specs.Schedule.SessionEvent.{UseTable, Choose, KeepCanceled, Encode, CutOff, InsertionsRead, Decode, Cancel, DecoderInstructionRead}
 use Rattle.h3_world.proofs.Grown.{SessionsAreSound, run_joined}
 use Rattle.h3_world.proofs.Inserted.{needs_made}
 use Rattle.h3_world.proofs.SoundFlows.{all_weaker}
@@ -55,7 +55,7 @@ new_section canceled s stream fields = by_test (was_canceled s stream) refl
   where
     by_test : (t : Bool) → was_canceled s stream ≡ t → HasItsAnnounced s.announced (record { stream = stream; fields = fields; encoder = writing_on s stream })
     by_test true e = λ some. absurd (omega (arith, some, ap (λ names. fold max 0 names) (canceled s stream fields e)))
-    by_test false e = λ some. ap (λ t. (if t then record s { announced = 0; capacity = 0; limit = 0; economical = false } else s).announced) e
+    by_test false e = λ some. ap (λ t. (if t then record s { announced = 0; capacity = 0; limit = 0; choices = record s.choices { economical = false } } else s).announced) e
 
 read_announced : (s : EncoderHistory) (i : DecoderInstruction) → (encoder_after s i).announced ≡ s.announced
 read_announced s (Acknowledge stream) = refl
@@ -65,7 +65,7 @@ read_announced s (Increment count) = refl
 step_has : CanceledNameNone → (s : Session) (event : SessionEvent) (new : Session) → IsSound s → SessionStep s event new → AllHave s → AllHave new
 step_has canceled s (UseTable announced limit) new sound e all =
     subst AllHave (sym e.2) (all_weaker (IsWrittenOver s.encoder.inserted) (HasItsAnnounced announced) (λ b w. names_none announced s.encoder.inserted b e.0 w) s.sections sound.written)
-step_has canceled s (Economize economical) new sound e all = subst AllHave (sym e) all
+step_has canceled s (Choose choices) new sound e all = subst AllHave (sym e) all
 step_has canceled s (KeepCanceled most) new sound e all = subst AllHave (sym e) all
 step_has canceled s (Encode stream fields) new sound e all =
     subst AllHave (sym e) (all_and (HasItsAnnounced s.encoder.announced) s.sections _ all (new_section canceled s.encoder stream fields))

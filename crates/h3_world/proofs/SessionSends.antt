@@ -49,7 +49,7 @@ section_sent_kept setup old new side id fields h sends =
     let e = (party old side).encoder in
     let is = h.follows.encoder in
     let b : UndecodedSection = record { stream = id; fields = fields; encoder = writing_on s.encoder id } in
-    steps_on setup old new side h (Encode id fields) (encoded s id fields) refl (record {
+    steps_on setup old new side h (Encode id fields) (encoded s id fields) tt refl (record {
       encoder = ap (λ x. sent_section x id fields) is ∙ sym sends.encoder;
       instructions =
           sends.instructions

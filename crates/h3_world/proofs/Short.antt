@@ -9,9 +9,10 @@ use Rattle.h3_field.specs.Line.{FieldLine, bit_n, line_bytes}
 use Rattle.h3_field.specs.Line.FieldLine.{StaticField, RelativeField, PostBaseField, StaticName, RelativeName, PostBaseName, Literal}
 use Rattle.h3_field.specs.Prefix.{most_entries, prefix_bytes}
 use Rattle.h3_field.specs.StaticTable.{static_field, static_name}
-use Rattle.h3_field.specs.StringLiteral.{string_literal}
+use Rattle.h3_field.specs.StringLiteral.{coded, string_literal}
 use Rattle.h3_qpack.specs.EncoderHistory.{EncoderHistory, writing_on}
-use Rattle.h3_qpack.specs.SectionEncoding.{Draft, add_field, add_literal, draft_of, entry_name_line, found, found_name, is_insertable, required_insert_count, write_field, write_indexed}
+use Rattle.h3_qpack.specs.SectionEncoding.{Draft, add_field, add_literal, first_draft, guarded_fields, draft_of, entry_name_line, found, found_name, is_insertable, required_insert_count, write_field, write_indexed}
+use Rattle.h3_field.specs.SecretLaws.{guarded_sizes}
 use Rattle.h3_qpack.specs.ShortLaws.{prefixed_short, string_short}
 use Rattle.h3_connection.specs.Sections.{written_section}
 use Rattle.h3_world.proofs.Inserted.{chosen, either_way, with_field}
@@ -31,31 +32,31 @@ line_added most more d line h k =
       length-append (line_bytes line) [],
     )
 
-index_and_string : (size flags index : ℕ) (f : Field) → length (prefixed size flags index ++ string_literal 8 0 f.value) ≤ 30 * field_size f
-index_and_string size flags index f =
-    omega (arith, length-append (prefixed size flags index) (string_literal 8 0 f.value), prefixed_short size flags index, string_short 8 0 f.value)
+index_and_string : (size flags index : ℕ) (shortest : Bool) (f : Field) → length (prefixed size flags index ++ string_literal 8 0 (coded shortest f.value)) ≤ 30 * field_size f
+index_and_string size flags index shortest f =
+    omega (arith, length-append (prefixed size flags index) (string_literal 8 0 (coded shortest f.value)), prefixed_short size flags index, string_short 8 0 (coded shortest f.value))
 
 short_index : (size flags index : ℕ) (f : Field) → length (prefixed size flags index) ≤ 30 * field_size f
 short_index size flags index f = omega (arith, prefixed_short size flags index)
 
-entry_name_short : (base number : ℕ) (f : Field) → length (line_bytes (entry_name_line base number f.value f.never_indexed)) ≤ 30 * field_size f
-entry_name_short base number f =
+entry_name_short : (base number : ℕ) (shortest : Bool) (f : Field) → length (line_bytes (entry_name_line base number (coded shortest f.value) f.never_indexed)) ≤ 30 * field_size f
+entry_name_short base number shortest f =
     let n = f.never_indexed in
-    either_way (λ line. length (line_bytes line) ≤ 30 * field_size f) (nat_le number base) (RelativeName (base - number) f.value n) (PostBaseName (number - base - 1) f.value n)
-    (index_and_string 4 (4 + 2 * bit_n n) (base - number) f) (index_and_string 3 (bit_n n) (number - base - 1) f)
+    either_way (λ line. length (line_bytes line) ≤ 30 * field_size f) (nat_le number base) (RelativeName (base - number) (coded shortest f.value) n) (PostBaseName (number - base - 1) (coded shortest f.value) n)
+    (index_and_string 4 (4 + 2 * bit_n n) (base - number) shortest f) (index_and_string 3 (bit_n n) (number - base - 1) shortest f)
 
 literal_short : (most : ℕ) (s : EncoderHistory) (d : Draft) (f : Field) → LinesWithin most d → LinesWithin (most + 30 * field_size f) (add_literal s d f)
 literal_short most s d f h =
     chosen (LinesWithin (most + 30 * field_size f)) (static_name f.name) _ _
-    (λ index e. line_added most (30 * field_size f) d (StaticName index f.value f.never_indexed) h (index_and_string 4 (5 + 2 * bit_n f.never_indexed) index f)) (λ none.
+    (λ index e. line_added most (30 * field_size f) d (StaticName index (coded s.choices.shortest_strings f.value) f.never_indexed) h (index_and_string 4 (5 + 2 * bit_n f.never_indexed) index s.choices.shortest_strings f)) (λ none.
     chosen (LinesWithin (most + 30 * field_size f)) (found_name s d f) _ _
-    (λ number e. line_added most (30 * field_size f) d (entry_name_line (length s.inserted) number f.value f.never_indexed) h (entry_name_short (length s.inserted) number f))
-    (λ none. line_added most (30 * field_size f) d (Literal f.name f.value f.never_indexed) h
+    (λ number e. line_added most (30 * field_size f) d (entry_name_line (length s.inserted) number (coded s.choices.shortest_strings f.value) f.never_indexed) h (entry_name_short (length s.inserted) number s.choices.shortest_strings f))
+    (λ none. line_added most (30 * field_size f) d (Literal (coded s.choices.shortest_strings f.name) (coded s.choices.shortest_strings f.value) f.never_indexed) h
     (omega (
       arith,
-      length-append (string_literal 4 (2 + bit_n f.never_indexed) f.name) (string_literal 8 0 f.value),
-      string_short 4 (2 + bit_n f.never_indexed) f.name,
-      string_short 8 0 f.value,
+      length-append (string_literal 4 (2 + bit_n f.never_indexed) (coded s.choices.shortest_strings f.name)) (string_literal 8 0 (coded s.choices.shortest_strings f.value)),
+      string_short 4 (2 + bit_n f.never_indexed) (coded s.choices.shortest_strings f.name),
+      string_short 8 0 (coded s.choices.shortest_strings f.value),
     ))))
 
 line_of_field_short : (most : ℕ) (s : EncoderHistory) (d : Draft) (f : Field) → LinesWithin most d → LinesWithin (most + 30 * field_size f) (write_field s d f)
@@ -91,13 +92,13 @@ pub section_short : (s : EncoderHistory) (id : ℕ) (fields : List Field) → le
 section_short s id fields =
     let e = writing_on s id in
     let d = draft_of e fields in
-    let start : Draft = record { inserted = e.inserted; instructions = []; lines = []; references = [] } in
     let front = prefix_bytes e.announced (required_insert_count d) (length e.inserted) in
     omega (
       arith,
       length-append front (flat_map line_bytes d.lines),
       prefix_short e.announced (required_insert_count d) (length e.inserted),
-      fields_short 0 e start fields (omega arith),
+      fields_short 0 e (first_draft e) (guarded_fields e fields) (omega arith),
+      guarded_sizes e.choices.guards_secrets fields,
     )
 
 pub sections_are_short : (s : EncoderHistory) (id : ℕ) (fields : List Field) → section_size fields < 2 ^ 56 → length (written_section s id fields) < 2 ^ 62

@@ -1,11 +1,11 @@
 -- What came of a stream stays as it came when more is written.
-use Rattle.std.proofs.Common.{◌≡◌, ℕ, ◌+◌, ◌-◌, ◌<◌, ◌≤◌, false, List, [], ◌∷◌, ◌++◌, length, take, refl, ap, ◌∙◌, arith, nat_le, if◌then◌else◌, length-append}
+use Rattle.std.proofs.Common.{◌≡◌, ℕ, ◌+◌, ◌*◌, ◌-◌, ◌<◌, ◌≤◌, false, List, [], ◌∷◌, ◌++◌, length, take, refl, ap, ◌∙◌, arith, nat_le, if◌then◌else◌, length-append}
 use Rattle.std.specs.List.{flat_map, count_by}
 use Rattle.std.proofs.lemmas.Grind.{common_steps}
 use Rattle.std.proofs.lemmas.List.{take-append-le}
 use Rattle.h3_coding.specs.Encodings.{encoding}
 use Rattle.h3_field.specs.Integer.{prefixed}
-use Rattle.h3_field.specs.StringLiteral.{string_literal}
+use Rattle.h3_field.specs.StringLiteral.{Text, bit_h, text_bytes, string_literal}
 use Rattle.h3_field.specs.Instruction.{EncoderInstruction, encoder_bytes, DecoderInstruction, decoder_bytes}
 use Rattle.h3_field.specs.Instruction.EncoderInstruction.{SetCapacity, InsertWithStaticName, InsertWithEntryName, InsertLiteral, Duplicate}
 use Rattle.h3_field.specs.Instruction.DecoderInstruction.{Acknowledge, CancelStream, Increment}
@@ -41,8 +41,10 @@ some_prefixed size flags n = grind (arith, common_steps)
 behind : (xs ys : List ℕ) → 0 < length xs → 0 < length (xs ++ ys)
 behind xs ys h = omega (arith, h, length-append xs ys)
 
-some_string : (size flags : ℕ) (bytes : List ℕ) → 0 < length (string_literal size flags bytes)
-some_string size flags bytes = grind (arith, common_steps)
+some_string : (size flags : ℕ) (text : Text) → 0 < length (string_literal size flags text)
+some_string size flags text =
+    behind (prefixed (size - 1) (2 * flags + bit_h text.is_huffman) (length (text_bytes text))) (text_bytes text)
+    (some_prefixed (size - 1) (2 * flags + bit_h text.is_huffman) (length (text_bytes text)))
 
 pub encoder_some : (i : EncoderInstruction) → 0 < length (encoder_bytes i)
 encoder_some (SetCapacity capacity) = some_prefixed 5 1 capacity

@@ -1,5 +1,6 @@
 -- The QPACK session of one direction, as the world goes.
 use Rattle.std.specs.Prelude.{◌≡◌, ◌⊎◌, ℕ, Bool, List, [], ◌∷◌, ◌++◌, length, min, drop, map, filter, ◌==◌, None, is_some, if◌then◌else◌}
+use Rattle.std.specs.List.{AllByRecursion}
 use Rattle.h3_field.specs.Field.{Field}
 use Rattle.h3_field.specs.Instruction.{EncoderInstruction, DecoderInstruction}
 use Rattle.h3_field.specs.Instruction.EncoderInstruction.{SetCapacity}
@@ -11,7 +12,7 @@ use Rattle.h3_proto.specs.declared.stream.Side.{Side}
 use Rattle.h3_connection.specs.OwnIds.{other}
 use Rattle.h3_connection.specs.declared.setup.Limits.{Limits}
 use Rattle.h3_world.specs.declared.setup.Setup.{Setup}
-use Rattle.h3_world.specs.Setup.{announced_at, has_table}
+use Rattle.h3_world.specs.Setup.{announced_at, flags_secrets, has_table}
 use Rattle.h3_world.specs.Flow.{Flow, Part, Section}
 use Rattle.h3_world.specs.Flow.Part.{Interim, Head, Body, Trailer, End}
 use Rattle.h3_world.specs.World.{World, party}
@@ -72,8 +73,12 @@ pub record Follows (setup : Setup) (w : World) (side : Side) (s : Session) : Typ
   pub canceled : (id : ℕ) → is_canceled s id ≡ is_some (flow w side id).fault
   pub sections : (id : ℕ) → (flow w side id).fault ≡ None → sections_on id s.sections ≡ sections_left (flow w side id)
 
+-- Its encoder guards secrets or not, and so did the one of each section that is not decoded yet.
+abbrev pub Guards : Bool → Session → Type 0
+Guards guards s = (s.encoder.choices.guards_secrets ≡ guards) × AllByRecursion (λ b. b.encoder.choices.guards_secrets ≡ guards) s.sections
+
 -- Some schedule of one encoder and one decoder leads there, whether acknowledgments count for the encoder or not, and whatever the
--- most is that its table may have.
+-- most is that its table may have. The encoder guards secrets as its side chose.
 pub record HasSession (setup : Setup) (w : World) (side : Side) : Type 0 where
   pub counts : Bool
   pub most : ℕ
@@ -81,6 +86,7 @@ pub record HasSession (setup : Setup) (w : World) (side : Side) : Type 0 where
   pub session : Session
   pub run : SessionRun (beginning counts most 0 0) events session
   pub follows : Follows setup w side session
+  pub guards : Guards (flags_secrets (announced_at setup side)) session
 
 -- The encoder goes by the announced capacity and has set the lesser of it and the most that its table may have, or may name no entry
 -- yet.

@@ -25,6 +25,10 @@ announced_at setup Server = setup.server
 abbrev pub takes_any : Announced → Bool
 takes_any a = a.choices.extensions.any_protocol
 
+-- its encoder flags the secrets that it sends (RFC 9204, section 7.1.3)
+abbrev pub flags_secrets : Announced → Bool
+flags_secrets a = a.choices.extensions.secrets_guarded
+
 -- a message from either side to the other may have any
 abbrev pub both_take_any : Setup → Bool
 both_take_any setup = takes_any setup.client && takes_any setup.server
