@@ -1,6 +1,6 @@
 # The commands of this repository. `make help` lists them.
 SCRIPT ?= examples/first.talk
-# of `make examples`, `make compat` and `make load`: the folder that `make lib` or `make lib-unproved` leaves
+# of `make examples`, `make compat`, `make bench-sizes` and `make load`: the folder that `make lib` or `make lib-unproved` leaves
 LIB ?= build/c
 # of `make bench-long`: how many exchanges go over the one connection
 EXCHANGES ?= 1000000
@@ -8,7 +8,7 @@ PREFIX ?= /usr/local
 # of `make fuzz`: how long each fuzzer runs
 SECONDS ?= 60
 
-.PHONY: help run draw build lib lib-unproved install abi dist test-dist dist-roots examples compat test test-c test-compat fuzz refused witnessed bench bench-build bench-page bench-exchange bench-instructions bench-long interop soak upstream-root load need-rt
+.PHONY: help run draw build lib lib-unproved install abi dist test-dist dist-roots examples compat test test-c test-compat fuzz refused witnessed bench bench-build bench-page bench-exchange bench-instructions bench-sizes bench-long interop soak upstream-root load need-rt
 
 help: ## list the commands
 	@grep -hE '^[a-z-]+:.*## ' $(MAKEFILE_LIST) | sed -E 's/^([a-z-]+):.*## /make \1: /'
@@ -92,6 +92,9 @@ bench-exchange: need-rt ## of these the rows of whole exchanges alone, over the 
 
 bench-instructions: ## print how many instructions an exchange takes, ours and nghttp3's (valgrind), over the folder that `make lib` leaves, or LIB=build/c-unproved
 	@LIB="$(LIB)" bash scripts/bench/instructions.sh
+
+bench-sizes: ## print how large header sections are, ours beside nghttp3's and ls-qpack's, and have both decoders read ours, over the folder that `make lib` leaves, or LIB=build/c-unproved
+	@LIB="$(LIB)" bash scripts/bench/sizes.sh
 
 bench-long: ## print what a connection that lives long costs, EXCHANGES=1000000 on it, over the folder that `make lib` leaves, or LIB=build/c-unproved
 	@bash scripts/dev/need.sh library "$(LIB)"

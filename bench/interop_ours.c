@@ -126,6 +126,7 @@ conn_end our_end(int is_server, size_t table, size_t blocked, size_t streams) {
   h3_config_default(&config);
   config.max_field_section_size = (UINT64_C(1) << 62) - 1; /* any list that is read */
   config.unfinished_limit = UINT64_MAX;
+  config.guard_secrets = 0; /* flags come out as they were given */
   config.server = (uint32_t)is_server;
   config.table = table;
   config.blocked = blocked;

@@ -59,6 +59,7 @@ static answer at_ours(const message *m) {
   config.server = m->side == 's';
   config.strict = 1;
   config.extended_connect = (uint32_t)m->extended;
+  config.any_protocol = 0; /* the table knows the two registered names alone */
   if (h3_new(&endpoint, &config, NULL)) fail("no endpoint");
   if (m->side == 'c') send_request(&endpoint, m->asked);
   answer found = told("ok", 0);

@@ -1,5 +1,5 @@
 #!/usr/bin/env bash
-# The library for C beside nghttp3, then the examples against HTTP/3 peers over QUIC, and then our encoder and decoder of QPACK against nghttp3's, which
+# The library for C beside nghttp3 (and its header sections beside ls-qpack), then the examples against HTTP/3 peers over QUIC, and then our encoder and decoder of QPACK against nghttp3's, which
 # want a second library (h3_bench) proved. Beside them peers of Debian 13 and the Rust crate h3, where `make upstream-root` made a root of Debian 13, and
 # Firefox, where its packages are there. The last line is 'N passed, M failed', with ', K skipped' behind it where something is not there.
 set -uo pipefail
@@ -31,6 +31,7 @@ fi
 if bash scripts/c/lib.sh && make --no-print-directory -s -C bench out/interop_exchange out/interop_strict; then
   count bench/out/interop_exchange bench/data
   count python3 scripts/gate/strict_messages.py --peer bench/out/interop_strict
+  count env LIB="$PWD/build/c" bash scripts/bench/sizes.sh
   count env LIB="$PWD/build/c" bash scripts/interop/interop_quic.sh
   count env LIB="$PWD/build/c" bash scripts/interop/interop_sections.sh
   count env LIB="$PWD/build/c" bash scripts/interop/interop_bindings.sh
