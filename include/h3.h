@@ -983,9 +983,8 @@ enum h3_event {
                             section 5.2) */
 };
 
-/* The next event of the connection that was not returned yet: *kind is an h3_event. Returns H3_NONE
- * if there is none; neither is written then. Call it after data on a unidirectional stream of the
- * peer:
+/* The next event of the connection, each once: *kind is an h3_event. Returns H3_NONE if there is
+ * none; neither is written then. Call it after data on a unidirectional stream of the peer:
  *   while (h3_next_event(&e, &kind, &number) == H3_OK) ..
  * The settings are returned once, before a GOAWAY. Of several GOAWAY frames only the last one is
  * returned, and none if its id was returned before. It takes no memory. */

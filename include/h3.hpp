@@ -409,7 +409,7 @@ class endpoint {
     h3_connection(&raw_, &state);
     return state;
   }
-  /* The next event of the connection that was not returned yet. */
+  /* The next event of the connection, each once. */
   struct event {
     std::uint32_t kind;   /* an h3_event */
     std::uint64_t number; /* the id of H3_EVENT_GOAWAY */

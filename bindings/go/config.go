@@ -31,8 +31,8 @@ type Config struct {
 	// AnyProtocol: :protocol may be any token of at most 31 bytes, as websocket (RFC 9220), both ways. Without it connect-udp and webtransport
 	// alone are taken.
 	AnyProtocol bool
-	// GuardSecrets: the local encoder sends each field that is known to be a secret as never indexed: authorization, proxy-authorization, and
-	// cookie and set-cookie with a value below 20 bytes (RFC 9204, section 7.1.3).
+	// GuardSecrets: the local encoder sends secrets as never indexed (RFC 9204, section 7.1.3). These are authorization and
+	// proxy-authorization, and cookie and set-cookie with a value below 20 bytes.
 	GuardSecrets bool
 	// ShortestStrings: the local encoder writes a name or value as it stands if its Huffman code is not shorter.
 	ShortestStrings bool

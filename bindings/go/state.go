@@ -92,8 +92,8 @@ type Event struct {
 	ID   uint64 // of EventGoaway: a server processes no request from this id on (RFC 9114, section 5.2)
 }
 
-// NextEvent returns the next event of the connection that was not returned yet, or false if there is none. Call it after data on a
-// unidirectional stream of the peer, until it returns false. The settings are returned once, and of several GOAWAY frames the last one.
+// NextEvent returns the next event of the connection, each once. It returns false if there is none. Call it until then, after data on a
+// unidirectional stream of the peer. Of several GOAWAY frames it returns the last one.
 func (e *Endpoint) NextEvent() (Event, bool) {
 	var kind C.uint32_t
 	var number C.uint64_t

@@ -54,8 +54,8 @@ class Config:
     any_protocol: bool
     """`:protocol` may be any token of at most 31 bytes, such as `websocket` (RFC 9220). If false, only `connect-udp` and `webtransport` are valid."""
     guard_secrets: bool
-    """The local encoder sends each field that is known to be a secret as never indexed: `authorization`, `proxy-authorization`, and `cookie` and
-    `set-cookie` with a value below 20 bytes (RFC 9204, section 7.1.3)."""
+    """The local encoder sends secrets as never indexed (RFC 9204, section 7.1.3). These are `authorization` and `proxy-authorization`, and
+    `cookie` and `set-cookie` with a value below 20 bytes."""
     shortest_strings: bool
     """The local encoder writes a name or value as it stands if its Huffman code is not shorter."""
 

@@ -454,8 +454,8 @@ class Endpoint:
         return ConnectionState(state.sending_table, state.receiving_table, state.waiting_heads, state.sent, goaway, peer)
 
     def next_event(self) -> SettingsCame | GoawayCame | None:
-        """The next event of the connection that was not returned yet. Call it after data on a unidirectional stream of the peer, until it returns
-        None. The settings are returned once, and of several GOAWAY frames the last one."""
+        """The next event of the connection, each once, or None. Call it until it returns None, after data on a unidirectional stream of the
+        peer. Of several GOAWAY frames it returns the last one."""
         kind, number = c_uint32(), c_uint64()
         answer = self._answer("h3_raw_next_event", byref(kind), byref(number))
         if answer not in (Answer.OK, Answer.NONE):

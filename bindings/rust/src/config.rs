@@ -55,8 +55,8 @@ pub struct Config {
     pub reject_requests: bool,
     /// `:protocol` may be any token of at most 31 bytes, as `websocket` (RFC 9220), both ways: else `connect-udp` and `webtransport` alone.
     pub any_protocol: bool,
-    /// The local encoder sends each field that is known to be a secret as never indexed: `authorization`, `proxy-authorization`, and `cookie`
-    /// and `set-cookie` with a value below 20 bytes (RFC 9204, section 7.1.3).
+    /// The local encoder sends secrets as never indexed (RFC 9204, section 7.1.3). These are `authorization` and `proxy-authorization`, and
+    /// `cookie` and `set-cookie` with a value below 20 bytes.
     pub guard_secrets: bool,
     /// The local encoder writes a name or value as it stands if its Huffman code is not shorter.
     pub shortest_strings: bool,

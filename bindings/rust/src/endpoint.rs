@@ -581,8 +581,8 @@ impl Endpoint {
         })
     }
 
-    /// The next event of the connection that was not returned yet. Call it after data on a unidirectional stream of the peer, until it returns
-    /// `None`. The settings are returned once, and of several GOAWAY frames the last one.
+    /// The next event of the connection, each once, or `None`. Call it until it returns `None`, after data on a unidirectional stream of the
+    /// peer. Of several GOAWAY frames it returns the last one.
     pub fn next_event(&mut self) -> Option<ConnectionEvent> {
         let (mut kind, mut number) = (0, 0);
         self.call(|handle, _, out| unsafe { raw::h3_raw_next_event(handle, &mut kind, &mut number, out) }).ok()?;
