@@ -1,4 +1,7 @@
 pub mod Setup
+pub mod Lists
+pub mod Coming
+pub mod EndLists
 pub mod Flow
 pub mod World
 pub mod OwnStreams
