@@ -32,3 +32,4 @@ pub mod WorkedEnds
 pub mod WorkedTables
 pub mod WorkedInterim
 pub mod WorkedCanceled
+pub mod WorkedLists

@@ -1,5 +1,5 @@
 -- Lists of fields in the place of headers: why one may not be sent, and which answer with headers an answer with lists stands for.
-use Rattle.std.specs.Prelude.{ℕ, Bool, List, [], map, Option, Some, None}
+use Rattle.std.specs.Prelude.{Bool, List, [], map, Option, Some, None}
 use Rattle.h3_field.specs.Field.{Field}
 use Rattle.h3_field.specs.Secret.{guarded}
 use Rattle.h3_header.specs.HeadRead.{HeadRead, IsHead, IsNone, head_by}
