@@ -25,6 +25,8 @@ pub mod HeadLaws
 pub mod InOrder
 pub mod KeepsPartsLaws
 pub mod LearningLaws
+pub mod ListComesLaws
+pub mod ListEventLaws
 pub mod ListeningLaws
 pub mod Messages
 pub mod MovedLaws

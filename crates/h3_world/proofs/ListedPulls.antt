@@ -1,22 +1,16 @@
 -- What the machine answers to a pull with lists is a step that is allowed, and exact.
-use Rattle.std.proofs.Common.{◌≡◌, ℕ, Bool, true, false, List, [], ◌∷◌, refl, sym, ap, ◌∙◌, subst, nat_lt, if◌then◌else◌, Option, Some, None}
-use Rattle.std.specs.Prelude.{◌==◌, ◌%◌, not, IfSome, option_map, fold}
-use Rattle.h3_field.specs.Field.{Field, flagged, section_size}
-use Rattle.h3_field.specs.Secret.{guarded, is_secret}
-use Rattle.h3_header.specs.Head.{Head as Fields, trailer_head}
-use Rattle.h3_header.specs.Reads.{head_of_fields, kind_of, with_field, with_kind}
-use Rattle.h3_header.specs.declared.headers.kind.FieldKind.{FieldKind}
-use Rattle.h3_header.specs.declared.headers.kind.FieldKind.TheVariants.{Method, Scheme, Authority, Path, Status, Protocol, Regular}
-use Rattle.h3_proto.specs.StreamIds.{is_request_stream}
+use Rattle.std.proofs.Common.{◌≡◌, ℕ, Bool, true, false, List, refl, sym, ap, subst, nat_lt, if◌then◌else◌, Option, Some, None}
+use Rattle.std.specs.Prelude.{◌==◌, IfSome, option_map}
+use Rattle.h3_field.specs.Field.{Field, section_size}
+use Rattle.h3_header.specs.Head.{Head as Fields}
+use Rattle.h3_header.specs.Reads.{head_of_fields}
 use Rattle.h3_proto.specs.declared.stream.Side.{Side}
 use Rattle.h3_connection.specs.Announcing.{section_of}
-use Rattle.h3_connection.specs.OwnIds.{other, control_id}
-use Rattle.h3_connection.specs.Pulling.{is_client}
+use Rattle.h3_connection.specs.OwnIds.{other}
 use Rattle.h3_connection.specs.declared.event.Item.{Item}
 use Rattle.h3_connection.specs.declared.event.Item.TheVariants as item
 use Rattle.h3_connection.specs.declared.event.Pull.{Pull}
 use Rattle.h3_connection.specs.declared.event.Pull.TheVariants as pull
-use Rattle.h3_connection.specs.declared.event.StreamFault.{StreamFault}
 use Rattle.h3_world.specs.declared.setup.Setup.{Setup}
 use Rattle.h3_world.specs.declared.event.Event.TheVariants as event
 use Rattle.h3_world.specs.declared.event.Answer.{Answer}
@@ -25,47 +19,16 @@ use Rattle.h3_world.specs.Came.{insertions_came}
 use Rattle.h3_world.specs.Flow.{Flow, Part, Section}
 use Rattle.h3_world.specs.Flow.Part.{Interim, Head, Body, Trailer, End}
 use Rattle.h3_world.specs.Items.{body_there}
-use Rattle.h3_world.specs.Lists.{as_flagged, list_of, listed_pull, pull_of}
+use Rattle.h3_world.specs.ListLaws.{read_flagged, settled_listed}
+use Rattle.h3_world.specs.Lists.{IsListedAs, as_flagged}
 use Rattle.h3_world.specs.Machine.{item_there, listed, pull_next, pull_settled, pulled, section_item}
-use Rattle.h3_world.specs.Order.{is_over, next_part, section_of_part}
+use Rattle.h3_world.specs.Order.{next_part, section_of_part}
 use Rattle.h3_world.specs.Pauses.{pause_before, section_pause}
-use Rattle.h3_world.specs.Pulling.{PausesExactly, Pulls, fault_or, list_next, own_delivered, settled}
+use Rattle.h3_world.specs.Pulling.{PausesExactly, Pulls, list_next, settled}
 use Rattle.h3_world.specs.Setup.{announced_at, flags_secrets}
 use Rattle.h3_world.specs.Step.{IsExact, Step}
-use Rattle.h3_world.specs.Streams.{flow, is_open}
+use Rattle.h3_world.specs.Streams.{flow}
 use Rattle.h3_world.specs.World.{World, party}
-
--- A field is read alike whichever flag it has.
-kind_flagged : (at : FieldKind) (h : Fields) (f : Field) (b : Bool) → with_kind at h (flagged f b) ≡ with_kind at h f
-kind_flagged Method h f b = refl
-kind_flagged Scheme h f b = refl
-kind_flagged Authority h f b = refl
-kind_flagged Path h f b = refl
-kind_flagged Status h f b = refl
-kind_flagged Protocol h f b = refl
-kind_flagged Regular h f b = refl
-
-field_guarded : (guards : Bool) (h : Fields) (f : Field) → with_field h (guarded guards f) ≡ with_field h f
-field_guarded true h f = by_secret (is_secret f)
-  where
-    by_secret : (b : Bool) → with_field h (if b then flagged f true else f) ≡ with_field h f
-    by_secret true = kind_flagged (kind_of f.name) h f true
-    by_secret false = refl
-field_guarded false h f = refl
-
-list_guarded : (guards : Bool) (h : Fields) (fields : List Field) → fold with_field h (as_flagged guards fields) ≡ fold with_field h fields
-list_guarded guards h [] = refl
-list_guarded guards h (f ∷ fields) =
-    list_guarded guards (with_field h (guarded guards f)) fields ∙ ap (λ k. fold with_field k fields) (field_guarded guards h f)
-
--- So is a list.
-pub read_flagged : (guards : Bool) (fields : List Field) → head_of_fields (as_flagged guards fields) ≡ head_of_fields fields
-read_flagged guards fields = list_guarded guards (trailer_head []) fields
-
--- The answer with this list stands for that answer, and what it has of the list is the list.
-pub record IsListedAs (fields : Option (List Field)) (p : Pull) : Type 0 where
-  pub stands : pull_of (listed_pull fields p) ≡ p
-  pub has : IfSome (list_of (listed_pull fields p)) (λ l. fields ≡ Some l)
 
 abbrev pub IsListedAnswer : Option (List Field) → Answer → Type 0
 IsListedAnswer fields (answer.Pulled p) = IsListedAs fields p
@@ -112,22 +75,6 @@ pause_listed fields f came (Some End) = by_test f.ended
     by_test : (b : Bool) → IfSome (let o : Option Pull = if b then None else Some pull.Pending in o) (IsListedAs fields)
     by_test true = tt
     by_test false = record { stands = refl; has = tt }
-
--- nor has an answer that is settled
-pub settled_listed : (fields : Option (List Field)) (w : World) (side : Side) (id : ℕ) → IfSome (settled w side id) (IsListedAs fields)
-settled_listed fields w side id = by_tests (id % 4 == control_id (other side)) (not (is_request_stream id)) (is_open w side id) (flow w (other side) id).fault (is_over (flow w (other side) id)) (own_delivered w (other side) id == 0) (is_client side)
-  where
-    by_tests : (a b c : Bool) (o : Option StreamFault) (d e g : Bool)
-        → IfSome (if a then Some (if e then pull.Pending else pull.NoMessages) else (if b then Some pull.NoMessages else (
-        if not c then Some (if g then pull.NoMessages else pull.Pending) else fault_or o (if d then Some (pull.Item item.End) else None)))) (IsListedAs fields)
-    by_tests true b c o d true g = record { stands = refl; has = tt }
-    by_tests true b c o d false g = record { stands = refl; has = tt }
-    by_tests false true c o d e g = record { stands = refl; has = tt }
-    by_tests false false false o d e true = record { stands = refl; has = tt }
-    by_tests false false false o d e false = record { stands = refl; has = tt }
-    by_tests false false true (Some fault) d e g = record { stands = refl; has = tt }
-    by_tests false false true None true e g = record { stands = refl; has = tt }
-    by_tests false false true None false e g = tt
 
 pulled_listed : (setup : Setup) (w : World) (side : Side) (id : ℕ) → IsListedAnswer (list_next setup w side id) (pulled setup w side id).0
 pulled_listed setup w side id = by_settled (settled w side id) (settled_listed fields w side id)

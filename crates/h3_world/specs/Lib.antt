@@ -24,6 +24,7 @@ pub mod Following
 pub mod Sound
 pub mod Sendable
 pub mod Few
+pub mod ListLaws
 pub mod Ends
 pub mod WorkedHeads
 pub mod WorkedResponses

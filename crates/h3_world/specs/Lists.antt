@@ -1,5 +1,5 @@
 -- Lists of fields in the place of headers: why one may not be sent, and which answer with headers an answer with lists stands for.
-use Rattle.std.specs.Prelude.{Bool, List, [], map, Option, Some, None}
+use Rattle.std.specs.Prelude.{◌≡◌, Bool, List, [], map, Option, Some, None, IfSome}
 use Rattle.h3_field.specs.Field.{Field}
 use Rattle.h3_field.specs.Secret.{guarded}
 use Rattle.h3_header.specs.HeadRead.{HeadRead, IsHead, IsNone, head_by}
@@ -82,3 +82,8 @@ fields_or_none (Some fields) = fields
 
 abbrev pub listed_pull : Option (List Field) → Pull → ListPull
 listed_pull fields p = pull_with (fields_or_none fields) p
+
+-- The answer with this list stands for that answer, and what it has of the list is the list.
+pub record IsListedAs (fields : Option (List Field)) (p : Pull) : Type 0 where
+  pub stands : pull_of (listed_pull fields p) ≡ p
+  pub has : IfSome (list_of (listed_pull fields p)) (λ l. fields ≡ Some l)
