@@ -24,6 +24,7 @@ use Rattle.h3_memory.specs.Keeping.{MayAllBeRead, came_of, text_of}
 use Rattle.h3_memory.specs.MemoryStep.{CutsSection, HandsNothingOut, Keeps, offered}
 use Rattle.h3_memory.specs.SoundKeeping.{CanBeRead, IsSoundKeeping}
 use Rattle.h3_memory.specs.Writing.{WritesOn, LeavesKept}
+use Rattle.h3_memory.proofs.Cuts.{Left}
 use Rattle.h3_memory.proofs.EventsKept.{kept_readable, with_world_sound, with_kept_sound, catches_up}
 use Rattle.h3_memory.proofs.Growing.{may_grow, may_on}
 use Rattle.h3_memory.proofs.KeptLaws.{KeptLaws}
@@ -44,30 +45,12 @@ insertions_leave setup w side id fields =
     (record { goaways = []; goaways_are = sym (append-nil p.own.goaways); instructions = own_instructions p.encoder id fields; instructions_are = refl; replies = []; replies_are = sym (append-nil p.own.replies) })
     (record { control = refl; encoder = refl; decoder = refl })
 
-pub section_cut : (q : KeptLaws) (setup : Setup) (k new : KeepingWorld) (side : Side) (id : ℕ) (fields : List Field) (o : Option Refusal) → IsSoundKeeping setup k → CutsSection o k side id fields new → IsSoundKeeping setup new
-section_cut q setup k new side id fields None h cut =
+pub section_cut : (q : KeptLaws) (setup : Setup) (k new : KeepingWorld) (side : Side) (id : ℕ) (fields : List Field) → IsSoundKeeping setup k → Left k side id fields new → IsSoundKeeping setup new
+section_cut q setup k new side id fields h (inl cut) =
     let front = take cut.front fields in
     subst (IsSoundKeeping setup) (sym cut.inserted)
     (with_world_sound setup k (with_insertions k.world side id front) h (q.insertions setup k.world side id front h.sound) (insertions_leave setup k.world side id front))
-section_cut q setup k new side id fields (Some (refusal.Closed code)) h cut = absurd cut
-section_cut q setup k new side id fields (Some (refusal.Connection code)) h cut = absurd cut
-section_cut q setup k new side id fields (Some refusal.NotReceiving) h cut = absurd cut
-section_cut q setup k new side id fields (Some refusal.AfterEnd) h cut = absurd cut
-section_cut q setup k new side id fields (Some refusal.Kept) h cut = absurd cut
-section_cut q setup k new side id fields (Some refusal.NotClient) h cut = absurd cut
-section_cut q setup k new side id fields (Some (refusal.GoingAway other_id)) h cut = absurd cut
-section_cut q setup k new side id fields (Some refusal.IdsUsedUp) h cut = absurd cut
-section_cut q setup k new side id fields (Some refusal.NotOpen) h cut = absurd cut
-section_cut q setup k new side id fields (Some refusal.OutOfOrder) h cut = absurd cut
-section_cut q setup k new side id fields (Some refusal.WrongSide) h cut = absurd cut
-section_cut q setup k new side id fields (Some refusal.PseudoInTrailer) h cut = absurd cut
-section_cut q setup k new side id fields (Some (refusal.Malformed why)) h cut = absurd cut
-section_cut q setup k new side id fields (Some (refusal.TooLarge n)) h cut = subst (IsSoundKeeping setup) (sym cut) h
-section_cut q setup k new side id fields (Some refusal.Critical) h cut = absurd cut
-section_cut q setup k new side id fields (Some refusal.Ended) h cut = absurd cut
-section_cut q setup k new side id fields (Some refusal.NotRequestId) h cut = absurd cut
-section_cut q setup k new side id fields (Some (refusal.Raised n)) h cut = absurd cut
-section_cut q setup k new side id fields (Some refusal.OutOfMemory) h cut = absurd cut
+section_cut q setup k new side id fields h (inr is) = subst (IsSoundKeeping setup) (sym is) h
 
 -- A receiver has got something on an open stream whose end has not come.
 seen_sound : (q : KeptLaws) (setup : Setup) (w : World) (writer : Side) (id : ℕ) → IsSoundWorld setup w → is_open w writer id ≡ true → (flow w writer id).delivered ≤ length (flow_bytes (flow w writer id)) → (flow w writer id).ended ≡ false
