@@ -30,6 +30,7 @@ use Rattle.h3_world.specs.Lists.{as_flagged, listed_pull}
 use Rattle.h3_world.specs.Order.{is_over, next_part, section_of_part}
 use Rattle.h3_world.specs.Pauses.{pause_before, pause_of}
 use Rattle.h3_world.specs.Pulling.{PausesExactly, Pulls, PullsNext, fault_or, list_next, own_delivered, settled}
+use Rattle.h3_world.specs.Resuming.{HasNoHeader}
 use Rattle.h3_world.specs.Setup.{IsMadeSetup, JudgesPlainly, announced_at, flags_secrets}
 use Rattle.h3_world.specs.Sound.{IsSoundWorld}
 use Rattle.h3_world.specs.Streams.{flow, is_open}
@@ -37,7 +38,7 @@ use Rattle.h3_world.specs.World.{World, party}
 use Rattle.h3_headline.specs.Cited.{Laws}
 use Rattle.h3_headline.specs.ListComesLaws.{list_comes}
 use Rattle.h3_headline.specs.PullEventLaws.{pull_on}
-use Rattle.h3_headline.specs.Pulls.{HasNoHeader, IsListOf}
+use Rattle.h3_headline.specs.Pulls.{IsListOf}
 use Rattle.h3_headline.specs.SendingLaws.{both_of}
 use Rattle.h3_headline.specs.SettledLaws.{settled_none}
 use Rattle.h3_headline.specs.Standing.{Stands, StandsAt}
@@ -59,7 +60,7 @@ any_list some more (pull.Fault fault) h = refl
 any_list some more pull.NoMessages h = refl
 
 -- an answer that is settled has none
-settled_plain : (w : World) (side : Side) (id : ℕ) → IfSome (settled w side id) HasNoHeader
+pub settled_plain : (w : World) (side : Side) (id : ℕ) → IfSome (settled w side id) HasNoHeader
 settled_plain w side id = by_tests (id % 4 == control_id (other side)) (not (is_request_stream id)) (is_open w side id) (flow w (other side) id).fault (is_over (flow w (other side) id)) (own_delivered w (other side) id == 0) (is_client side)
   where
     by_tests : (a b c : Bool) (o : Option StreamFault) (d e g : Bool)

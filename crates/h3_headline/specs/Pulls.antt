@@ -95,13 +95,6 @@ abbrev pub IsListOf : Bool → Option (List Field) → Option Section → Type 0
 IsListOf guards fields None = Unit {0}
 IsListOf guards fields (Some s) = fields ≡ Some (as_flagged guards s.fields)
 
--- it has no header
-abbrev pub HasNoHeader : Pull → Type 0
-HasNoHeader (pull.Item (item.Interim head)) = ⊥
-HasNoHeader (pull.Item (item.Head head)) = ⊥
-HasNoHeader (pull.Item (item.Trailer head)) = ⊥
-HasNoHeader _ = Unit {0}
-
 -- no more streams wait now than allowed
 abbrev pub IsWithin : EndpointHistory → Type 0
 IsWithin e = nat_lt e.announced.limits.blocked (heads_waiting e.decoding.decoder e.incoming) ≡ false
