@@ -21,10 +21,11 @@ use Rattle.h3_headline.specs.ListEventLaws.{any_list, settled_plain}
 use Rattle.h3_memory.specs.Kept.{KeepingWorld, caught_up, is_settled}
 use Rattle.h3_memory.specs.MemoryStep.{Pulls as PullsKeeping}
 use Rattle.h3_memory.proofs.SettledPull.{PullAnswered}
+use Rattle.h3_memory.proofs.Settling.{settled_some}
 
 -- an answer that is settled has no header
-told_plain : (setup : Setup) (w v : World) (side : Side) (id : ℕ) (p : Pull) → is_some (settled w side id) ≡ true → Pulls setup w side id p v → HasNoHeader p
-told_plain setup w v side id p is step = by_settled (settled w side id) is (settled_plain w side id) step
+told_plain : (setup : Setup) (w v : World) (side : Side) (id : ℕ) (p : Pull) → is_settled w side id ≡ true → Pulls setup w side id p v → HasNoHeader p
+told_plain setup w v side id p is step = by_settled (settled w side id) (settled_some w side id is) (settled_plain w side id) step
   where
     by_settled : (o : Option Pull) → is_some o ≡ true → IfSome o HasNoHeader → MatchOption o (PullsNext setup w side id p v) (λ q. (p ≡ q) × (v ≡ w)) → HasNoHeader p
     by_settled (Some q) is none step = subst HasNoHeader (sym step.0) none

@@ -50,7 +50,6 @@ pub fn whole_runs_are_plain()
 {
     ends_stay_bounded();
 }
-
 ghost use Rattle.std.specs.List.{AllByRecursion};
 ghost use Rattle.h3_world.specs.Ends.{ends_after};
 ghost use Rattle.h3_world.specs.Headline.{Happens};
@@ -70,12 +69,9 @@ pub fn strict_endpoints_run_in_a_world()
 {
     h3_headline::laws::two_endpoints_run_in_a_world();
 }
-
 ghost use Rattle.std.specs.Prelude.{ℕ, true};
-
 ghost use Rattle.h3_connection.specs.OwnIds.{other};
 ghost use Rattle.h3_world.specs.Headline.{is_connection_fault};
-ghost use Rattle.h3_world.specs.Setup.{announced_at};
 ghost use Rattle.h3_headline.specs.Messages.{IsAllOf, IsFrontOf, has_finished, has_pulled_end, pulled, reader_at, sent};
 
 /// By their own answers, with no world in view: in such a schedule no answer tells of a connection fault. What a side pulled from a stream
