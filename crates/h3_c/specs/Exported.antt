@@ -62,7 +62,7 @@ DeliversOn told id n v w does = OnStream id n v w (UnlessRejected id n v w (Call
 -- the stream refuses each list there.
 abbrev pub SendsCut : Option (List Field) → (EndpointHistory → Option Refusal) → Told → Seen → Seen → (List Field → Result Unit FieldsError → Type 0) → Type 0
 SendsCut None place n v w does = (n ≡ argument) × (w ≡ v)
-SendsCut (Some fields) place n v w does = LacksList place fields n v w ⊎ Calls list_told n v w (does fields)
+SendsCut (Some fields) place n v w does = LacksList place fields n v w ⊎ Calls (λ call. list_told call w.endpoint.announced.choices fields) n v w (does fields)
 
 -- A pull: its answer stays until the next one, and C gets what it is. Of a header or trailer section it is the list of fields that came.
 pub record Pulls (id : ℕ) (n : Told) (v w : Seen) (given : PulledItem) : Type 0 where

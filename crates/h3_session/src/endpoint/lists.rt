@@ -10,6 +10,7 @@ ghost use Rattle.h3_requests.specs.Refused.{head_refused_at, body_refused_at};
 ghost use Rattle.h3_session.specs.Refused.{own_head_refused, own_trailer_refused};
 ghost use Rattle.h3_session.specs.SendingLists.{IsJudgedOr, SendsFieldList, SendsTrailerList, SendsJudgedHead, SendsJudgedTrailer, error_after, error_of, no_memory, list_told};
 ghost use Rattle.h3_incoming.specs.Outline.{is_sent_outline, list_read};
+ghost use Rattle.h3_messages.specs.InvalidField.{invalid_field};
 ghost use Rattle.h3_session.specs.declared.endpoint.lists.FieldsError.TheVariants as error;
 ghost use Rattle.h3_session.specs.SentHeads.{IsReadOf};
 ghost use Rattle.h3_session.specs.JudgedLists.{head_list_error, trailer_list_error, IsHeadAt, IsTrailer};
@@ -22,7 +23,7 @@ use h3_connection::place::SendPlace;
 use h3_field::{Fields, HeaderField};
 use h3_header::MOST_NAMES;
 use h3_incoming::outline::{ListRead, Outline, malformation_by, read_list, read_survey};
-use h3_messages::{Seen, Survey};
+use h3_messages::{Seen, Survey, invalid_field};
 use h3_proto::stream::{Side, StreamId};
 use std::alloc::{AllocError, Global};
 
@@ -77,6 +78,20 @@ impl Endpoint {
             return Err(self.trailer_error(id, later));
         }
         as_error(self.send_trailer_list(id, fields))
+    }
+
+    /// The index of the field for which a list is refused as `FieldsError::Malformed` of `Name` or `Value`: the first whose name or value
+    /// may be in no message (RFC 9114, 4.2 and 4.3). If there is none and the endpoint asks for strict messages, it is the first with white
+    /// space around its value (RFC 9114, 10.3). It takes no memory.
+    pub fn invalid_field(&self, fields: &[HeaderField]) -> Option<usize>
+        ensures { result ≡ invalid_field self.now.announced.choices.extensions.any_protocol self.now.announced.choices.strict_messages fields.now }
+    {
+        let choices = &self.announced.choices;
+        invalid_field(
+            fields,
+            choices.extensions.any_protocol,
+            choices.strict_messages,
+        )
     }
 
     // The place of the message after a list that is sent as a header section, or why the list is not one of this side. If the endpoint asks
