@@ -15,8 +15,6 @@ use Rattle.h3_proto.specs.declared.config.Choices.{Choices}
 use Rattle.h3_messages.specs.InvalidField.{invalid_field}
 use Rattle.h3_session.specs.declared.endpoint.datagrams.DatagramError.{DatagramError}
 use Rattle.h3_session.specs.declared.endpoint.datagrams.DatagramError.TheVariants as datagram_error
-use Rattle.h3_session.specs.declared.endpoint.lists.FieldsError.{FieldsError}
-use Rattle.h3_session.specs.declared.endpoint.lists.FieldsError.TheVariants as fields_error
 use Rattle.h3_c.specs.Items.{malformation_number}
 use Rattle.h3_c.specs.declared.numbers.Told.{Told}
 
@@ -122,11 +120,11 @@ malformed_told malformation.TooMany index = number 24 0
 malformed_told why index = number 27 (malformation_number why)
 
 -- what a call tells that sends a list, with these choices
-abbrev pub list_told : {X : Type 0} → Result X FieldsError → Choices → List Field → Told
+abbrev pub list_told : {X : Type 0} → Result X Refusal → Choices → List Field → Told
 list_told (Ok done) choices fields = ok
-list_told (Err (fields_error.Refused r)) choices fields = refusal_told r
-list_told (Err (fields_error.Malformed why)) choices fields =
+list_told (Err (refusal.Malformed why)) choices fields =
     malformed_told why (unwrap_or (invalid_field choices.extensions.any_protocol choices.strict_messages fields) 0)
+list_told (Err r) choices fields = refusal_told r
 
 -- `H3_NO_DATAGRAMS`
 abbrev pub no_datagrams : Told

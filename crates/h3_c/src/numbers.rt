@@ -8,7 +8,7 @@ use h3_connection::event::{DeliverError, Malformation, Refusal};
 use h3_connection::setup::NewError;
 use h3_field::HeaderField;
 use h3_proto::frame::SettingsError;
-use h3_session::endpoint::{DatagramError, Endpoint, FieldsError};
+use h3_session::endpoint::{DatagramError, Endpoint};
 
 /// What a call answers: a number, and the code, id or size that it names, else 0.
 #[derive(Clone, Copy)]
@@ -136,7 +136,7 @@ pub(crate) fn sent(call: &Result<(), (Refusal, Bytes)>) -> Told
 
 /// What a call of this endpoint tells that sends a list.
 pub(crate) fn listed(
-    call: &Result<(), FieldsError>,
+    call: &Result<(), Refusal>,
     endpoint: &Endpoint,
     fields: &[HeaderField],
 ) -> Told
@@ -144,10 +144,10 @@ pub(crate) fn listed(
 {
     match call {
         Ok(()) => OK,
-        Err(FieldsError::Refused(refusal)) => refused(*refusal),
-        Err(FieldsError::Malformed(why)) => {
+        Err(Refusal::Malformed(why)) => {
             malformed(*why, endpoint.invalid_field(fields).unwrap_or(0) as u64)
         }
+        Err(refusal) => refused(*refusal),
     }
 }
 
