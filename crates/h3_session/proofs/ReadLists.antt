@@ -90,7 +90,7 @@ module _ (h : Head) (back : ReadsAsTaken h) (token : takes_protocol true h.proto
   abbrev trailer_sent : Option Malformation → Bool → Option Refusal × EndpointHistory
   trailer_sent protocol b =
       does (unless_closed e (first_of (
-      (not (is_open e id), refusal.NotOpen) ∷ (not (takes_body (outgoing_at e id)), refusal.OutOfOrder) ∷ unless_malformed protocol (pseudo b)))) e (after_trailer e id fields))
+      (not (is_open e id), refusal.NotOpen) ∷ (not (takes_body (outgoing_at e id)), refusal.OutOfOrder) ∷ unless_malformed protocol (pseudo b)))) e (after_trailer e id fields)
 
   pub trailer_as_list : send_trailer_fields e id fields ≡ send_trailer e id h
   trailer_as_list = by (takes_protocol any h.protocol) refl

@@ -1,5 +1,5 @@
 -- What a call answers whose bytes or list its caller has no memory to copy: what refuses it whatever they are, and else want of memory.
-use Rattle.std.specs.Prelude.{◌≡◌, ◌×◌, ℕ, List, length, Option, Some, None, Err, unwrap_or}
+use Rattle.std.specs.Prelude.{◌≡◌, ℕ, List, length, Option, Some, None, Err, unwrap_or}
 use Rattle.h3_field.specs.Field.{Field}
 use Rattle.h3_connection.specs.Endpoint.{EndpointHistory}
 use Rattle.h3_connection.specs.ReceivingContracts.{Delivers}

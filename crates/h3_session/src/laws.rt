@@ -51,6 +51,7 @@ ghost use Rattle.h3_world.specs.declared.event.Answer.{Answer};
 ghost use Rattle.h3_world.specs.declared.event.Event.{Event};
 ghost use Rattle.h3_memory.specs.Refused.{EndsRun};
 ghost use Rattle.h3_session.specs.Acting.{RunsByCalls};
+ghost use Rattle.h3_connection.specs.declared.event.Refusal.{Refusal};
 ghost use Rattle.h3_session.specs.SendingLists.{send_fields, send_trailer_fields};
 
 pub use h3_connection::laws::{
