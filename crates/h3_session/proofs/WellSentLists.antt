@@ -1,5 +1,5 @@
 -- A strict endpoint sends no list that a strict peer calls malformed.
-use Rattle.std.proofs.Common.{◌≡◌, ℕ, List, [], ◌∷◌, Option, Some, None, refl}
+use Rattle.std.proofs.Common.{◌≡◌, ℕ, List, [], ◌∷◌, None}
 use Rattle.std.specs.Prelude.{not}
 use Rattle.h3_field.specs.Field.{Field, section_size}
 use Rattle.h3_header.specs.Head.{has_pseudo}
@@ -9,7 +9,7 @@ use Rattle.h3_connection.specs.Outgoing.{takes_head, takes_body}
 use Rattle.h3_connection.specs.OwnIds.{other}
 use Rattle.h3_connection.specs.Pulling.{is_for}
 use Rattle.h3_connection.specs.Refusals.{is_too_large}
-use Rattle.h3_connection.specs.Sending.{does, is_open, outgoing_at}
+use Rattle.h3_connection.specs.Sending.{is_open, outgoing_at}
 use Rattle.h3_connection.specs.StrictMessages.{broken_rule}
 use Rattle.h3_connection.specs.StrictSending.{broken_head, broken_protocol, broken_trailer, early_trailer, unless_malformed}
 use Rattle.h3_connection.specs.StrictSendingLaws.{head_taken, trailer_taken, not_closed, passed, not_early, not_malformed, was_allowed}

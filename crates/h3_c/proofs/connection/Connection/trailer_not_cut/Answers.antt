@@ -2,7 +2,7 @@
 use Rattle.std.proofs.Common.{List, subst}
 use Rattle.std.specs.Prelude.{◌≢◌, Err}
 use Rattle.h3_field.specs.Field.{Field}
-use Rattle.h3_session.specs.SendingLists.{NotMalformed, SendsTrailerList, order_refusal}
+use Rattle.h3_session.specs.SendingLists.{SendsTrailerList, order_refusal}
 use Rattle.h3_c.specs.Seen.{Seen}
 use Rattle.h3_c.proofs.Uncut.{not_taken}
 use Rattle.h3_c.proofs.connection.Connection.trailer_not_cut.Goals as goal
