@@ -1,11 +1,8 @@
 -- With the shortest strings an encoded field section is no longer than the size of its list.
-use Rattle.std.proofs.Common.{◌≡◌, ℕ, ◌+◌, ◌*◌, ◌-◌, ◌%◌, ◌^◌, ◌<◌, ◌≤◌, Bool, true, false, List, [], ◌∷◌, ◌++◌, length, max, min, sym, subst, refl, arith, length-append, fold, if◌then◌else◌}
+use Rattle.std.proofs.Common.{◌≡◌, ℕ, ◌+◌, ◌*◌, ◌-◌, ◌%◌, ◌^◌, ◌<◌, ◌≤◌, Bool, true, false, List, [], ◌∷◌, ◌++◌, length, max, arith, length-append, fold, if◌then◌else◌}
 use Rattle.std.specs.Prelude.{flat_map, ◌==◌}
-use Rattle.std.proofs.lemmas.Grind.{common_steps}
 use Rattle.std.proofs.lemmas.Bool.{le-leb, le-ltb}
 use Rattle.h3_field.specs.Field.{Field, field_size, section_size}
-use Rattle.h3_field.specs.Instruction.{DecoderInstruction}
-use Rattle.h3_field.specs.Instruction.DecoderInstruction.{Acknowledge, CancelStream, Increment}
 use Rattle.h3_field.specs.Integer.{prefixed}
 use Rattle.h3_field.specs.IntegerWritingLaws as integer
 use Rattle.h3_field.specs.Line.{FieldLine, bit_n, line_bytes}
@@ -17,14 +14,14 @@ use Rattle.h3_field.specs.StaticTable.{static_field, static_name}
 use Rattle.h3_field.specs.StringLiteral.{coded, string_literal}
 use Rattle.h3_table.specs.TableLaws.{length-table}
 use Rattle.h3_qpack.specs.EncoderHistory.{EncoderHistory, was_canceled, writing_on}
-use Rattle.h3_qpack.specs.Schedule.{SessionEvent, SessionStep, SessionRun, beginning}
-use Rattle.h3_qpack.specs.Schedule.SessionEvent.{UseTable, Choose, KeepCanceled, Encode, CutOff, InsertionsRead, Decode, Cancel, DecoderInstructionRead}
+use Rattle.h3_qpack.specs.Schedule.{SessionEvent, SessionRun, beginning}
 use Rattle.h3_qpack.specs.SectionEncoding.{Draft, add_field, add_line, add_literal, first_draft, draft_of, encoded_section, entry_name_line, found, found_name, is_insertable, required_insert_count, write_field}
-use Rattle.h3_qpack.specs.Session.{Session, after_decoder_instruction}
+use Rattle.h3_qpack.specs.Session.{Session}
 use Rattle.h3_qpack.specs.ShortLaws.{prefixed_short, shortest_short}
 use Rattle.h3_qpack.proofs.Counts.{few_entries}
 use Rattle.h3_qpack.proofs.Drafts.{IsNamed, either_way, found_name_is_named, with_field}
 use Rattle.h3_qpack.proofs.Newest.{chosen}
+use Rattle.h3_qpack.proofs.Schedules.{every_run_is_sound}
 use Rattle.h3_qpack.proofs.ShortSections.{prefix_short, section_length, shortest_fit, shortest_lines_short}
 
 -- the prefix and the lines of a section under way
@@ -109,43 +106,11 @@ section_within_size s (f ∷ g ∷ fields) shortest small =
     let all = f ∷ g ∷ fields in
     omega (arith, section_length s all, prefix_short s.announced (required_insert_count (draft_of s all)) (length s.inserted), shortest_lines_short s all shortest)
 
--- an encoder that may have so large a table, and has no larger one
-record IsCapped (most : ℕ) (s : EncoderHistory) : Type 0 where
-  same : s.most_capacity ≡ most
-  within : s.capacity ≤ most
-
-least_left : (a b : ℕ) → min a b ≤ a
-least_left a b = grind (arith, common_steps)
-
-capped_after : (most : ℕ) (s : Session) (instruction : DecoderInstruction) (rest : List DecoderInstruction) → IsCapped most s.encoder → IsCapped most (after_decoder_instruction s instruction rest).encoder
-capped_after most s (Acknowledge stream) rest h = record { same = h.same; within = h.within }
-capped_after most s (CancelStream stream) rest h = record { same = h.same; within = h.within }
-capped_after most s (Increment count) rest h = record { same = h.same; within = h.within }
-
-step_capped : (most : ℕ) (s : Session) (event : SessionEvent) (new : Session) → IsCapped most s.encoder → SessionStep s event new → IsCapped most new.encoder
-step_capped most s (UseTable announced limit) new h e =
-    subst (λ n. IsCapped most n.encoder) (sym e.2) (record { same = h.same; within = omega (arith, h.same, least_left s.encoder.most_capacity announced) })
-step_capped most s (Choose choices) new h e = subst (λ n. IsCapped most n.encoder) (sym e) (record { same = h.same; within = h.within })
-step_capped most s (KeepCanceled kept) new h e = subst (λ n. IsCapped most n.encoder) (sym e) (record { same = h.same; within = h.within })
-step_capped most s (Encode stream fields) new h e = subst (λ n. IsCapped most n.encoder) (sym e) (record { same = h.same; within = h.within })
-step_capped most s (CutOff stream fields) new h e = subst (λ n. IsCapped most n.encoder) (sym e) (record { same = h.same; within = h.within })
-step_capped most s (InsertionsRead count) new h e = subst (λ n. IsCapped most n.encoder) (sym e.2) h
-step_capped most s (Decode section) new h e = subst (λ n. IsCapped most n.encoder) (sym e.3) h
-step_capped most s (Cancel stream) new h e = subst (λ n. IsCapped most n.encoder) (sym e.1) h
-step_capped most s (DecoderInstructionRead instruction rest) new h e = subst (λ n. IsCapped most n.encoder) (sym e.1) (capped_after most s instruction rest h)
-
-run_capped : (most : ℕ) (s : Session) (events : List SessionEvent) (new : Session) → IsCapped most s.encoder → SessionRun s events new → IsCapped most new.encoder
-run_capped most s [] new h r = subst (λ n. IsCapped most n.encoder) (sym r) h
-run_capped most s (event ∷ events) new h r = run_capped most r.0 events new (step_capped most s event r.0 h r.1) r.2
-
--- **so none is in any session whose encoder may have no larger table.**
-pub sections_within_sizes : (counts : Bool) (most announced limit : ℕ) (events : List SessionEvent) (s : Session) (stream : ℕ) (fields : List Field) → most < 2 ^ 30 → SessionRun (beginning counts most announced limit) events s
-    → s.encoder.choices.shortest_strings ≡ true → length (encoded_section (writing_on s.encoder stream) fields) ≤ max 2 (section_size fields)
-sections_within_sizes counts most announced limit events s stream fields small run shortest = by_test (was_canceled s.encoder stream)
+-- **so none is in any session whose decoder announced no larger table.**
+pub sections_within_sizes : (counts : Bool) (most announced limit : ℕ) (events : List SessionEvent) (s : Session) (stream : ℕ) (fields : List Field) → SessionRun (beginning counts most announced limit) events s
+    → s.encoder.announced < 2 ^ 30 → s.encoder.choices.shortest_strings ≡ true → length (encoded_section (writing_on s.encoder stream) fields) ≤ max 2 (section_size fields)
+sections_within_sizes counts most announced limit events s stream fields run small shortest = by_test (was_canceled s.encoder stream)
   where
-    capped : IsCapped most s.encoder
-    capped = run_capped most (beginning counts most announced limit) events s (record { same = refl; within = least_left most announced }) run
-
     by_test : (b : Bool) → length (encoded_section (if b then record s.encoder { announced = 0; capacity = 0; limit = 0; choices = record s.encoder.choices { economical = false } } else s.encoder) fields) ≤ max 2 (section_size fields)
     by_test true = section_within_size (record s.encoder { announced = 0; capacity = 0; limit = 0; choices = record s.encoder.choices { economical = false } }) fields shortest (omega arith)
-    by_test false = section_within_size s.encoder fields shortest (omega (arith, small, capped.within))
+    by_test false = section_within_size s.encoder fields shortest (omega (arith, small, (every_run_is_sound counts most announced limit events s run).within_announced))
