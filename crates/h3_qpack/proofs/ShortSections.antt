@@ -20,10 +20,10 @@ use Rattle.h3_qpack.proofs.Drafts.{either_way, with_field}
 use Rattle.h3_qpack.proofs.Newest.{chosen}
 
 -- Each line that is written for a field with such strings takes no more than its share.
-record LinesFit (shortest : Bool) (share : Field → ℕ) : Type 0 where
-  index : (size flags index : ℕ) (f : Field) → length (prefixed size flags index) ≤ share f
-  named : (size flags index : ℕ) (f : Field) → length (prefixed size flags index ++ string_literal 8 0 (coded shortest f.value)) ≤ share f
-  literal : (flags : ℕ) (f : Field) → length (string_literal 4 flags (coded shortest f.name) ++ string_literal 8 0 (coded shortest f.value)) ≤ share f
+pub record LinesFit (shortest : Bool) (share : Field → ℕ) : Type 0 where
+  pub index : (size flags index : ℕ) (f : Field) → length (prefixed size flags index) ≤ share f
+  pub named : (size flags index : ℕ) (f : Field) → length (prefixed size flags index ++ string_literal 8 0 (coded shortest f.value)) ≤ share f
+  pub literal : (flags : ℕ) (f : Field) → length (string_literal 4 flags (coded shortest f.name) ++ string_literal 8 0 (coded shortest f.value)) ≤ share f
 
 -- however strings are coded
 abbrev great_share : Field → ℕ
@@ -48,10 +48,10 @@ all_fit shortest =
     }
 
 -- the shortest ones
-abbrev least_share : Field → ℕ
+abbrev pub least_share : Field → ℕ
 least_share f = 20 + length f.name + length f.value
 
-shortest_fit : (shortest : Bool) → shortest ≡ true → LinesFit shortest least_share
+pub shortest_fit : (shortest : Bool) → shortest ≡ true → LinesFit shortest least_share
 shortest_fit shortest e =
     record {
       index = λ size flags index f. omega (arith, prefixed_short size flags index);
@@ -123,7 +123,7 @@ least_shares_are : (fields : List Field) → sum_by least_share fields + 12 * le
 least_shares_are [] = refl
 least_shares_are (f ∷ fields) = omega (arith, least_shares_are fields, sum_by-cons least_share f fields, sum_by-cons field_size f fields)
 
-prefix_short : (capacity count base : ℕ) → length (prefix_bytes capacity count base) ≤ 20
+pub prefix_short : (capacity count base : ℕ) → length (prefix_bytes capacity count base) ≤ 20
 prefix_short capacity count base = by_test (count == 0) (nat_lt base count)
   where
     first : List ℕ
@@ -141,7 +141,7 @@ lines_short share s fields fit = none_before (sum_by share (guarded_fields s fie
     none_before : (most : ℕ) (d : Draft) → LinesWithin (0 + most) d → LinesWithin most d
     none_before most d h = omega (arith, h)
 
-section_length : (s : EncoderHistory) (fields : List Field)
+pub section_length : (s : EncoderHistory) (fields : List Field)
     → length (encoded_section s fields) ≡ length (prefix_bytes s.announced (required_insert_count (draft_of s fields)) (length s.inserted)) + length (flat_map line_bytes (draft_of s fields).lines)
 section_length s fields = length-append (prefix_bytes s.announced (required_insert_count (draft_of s fields)) (length s.inserted)) (flat_map line_bytes (draft_of s fields).lines)
 
