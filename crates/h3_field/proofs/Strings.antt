@@ -1,6 +1,5 @@
 -- The steps of reading and writing a string.
-use Rattle.std.proofs.Common.{◌≡◌, ◌⊎◌, inr, ℕ, ◌+◌, ◌*◌, ◌-◌, ◌^◌, ◌<◌, ◌≤◌, ◌==◌, Bool, true, false, if◌then◌else◌, List, [], ◌∷◌, ◌++◌, length, Option, Some, None, is_some, refl, subst, sym, ◌∙◌, arith, append-nil}
-use Rattle.std.specs.Prelude.{Result, OnOk}
+use Rattle.std.proofs.Common.{◌≡◌, ◌⊎◌, inr, ℕ, ◌+◌, ◌*◌, ◌-◌, ◌^◌, ◌<◌, ◌≤◌, ◌==◌, Bool, true, false, if◌then◌else◌, List, [], ◌∷◌, length, Option, Some, None, is_some, refl, sym, ◌∙◌, arith, append-nil}
 use Rattle.std.specs.List.{AllByRecursion}
 use Rattle.std.proofs.lemmas.Grind.{pow_more}
 use Rattle.h3_huffman.specs.Huffman.{huffman, octets}
@@ -48,7 +47,7 @@ empty_literal size flags value none =
 pub empty_plain : (size flags : ℕ) (shortest : Bool) (value : List ℕ) → length value ≡ 0 → shortest ≡ true → string_literal size flags (coded shortest value) ≡ string_literal size flags (plain_text value)
 empty_plain size flags shortest value none on =
     let empty : huffman [] ≡ [] = sym (empty_form true) in
-    rw (on, no_bytes value none, empty) refl
+    rw (on, no_bytes value none, empty) (refl {a = string_literal size flags (plain_text [])})
 
 pub empty_coded : (size flags : ℕ) (shortest : Bool) (value : List ℕ) → length value ≡ 0 → shortest ≡ false → string_literal size flags (coded shortest value) ≡ prefixed (size - 1) (2 * flags + 1) 0
 empty_coded size flags shortest value none off = rw off (empty_literal size flags value none)

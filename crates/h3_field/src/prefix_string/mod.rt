@@ -214,8 +214,8 @@ fn write_plain(value: &[u8], out: &mut [u8]) -> usize
     len + 1
 }
 
-/// Writes the length and the Huffman encoding of a short string to the front of `out`, or the string as it stands, and returns how many bytes
-/// they are. None: the length takes more than one byte.
+/// Writes the length and the Huffman encoding of a short string to the front of `out`, or the string as it stands, and returns how many
+/// bytes they are. None: the length takes more than one byte.
 #[inline(always)]
 fn write_value(value: &[u8], shortest: bool, out: &mut [u8]) -> Option<usize>
     requires short { length value.now ≤ 63 }
@@ -327,8 +327,8 @@ fn put_short(
     put_name(size, flags, value, shortest, buf)
 }
 
-/// Appends the length of a string and its Huffman encoding, or the string as it stands. The encoding is counted first. A refusal may leave a
-/// part of them.
+/// Appends the length of a string and its Huffman encoding, or the string as it stands. The encoding is counted first. A refusal may leave
+/// a part of them.
 fn put_long(
     size: u8,
     flags: u8,
