@@ -309,14 +309,14 @@ impl DynamicTable {
         self.entries.size()
     }
 
-    /// How many entries are evicted once the field is inserted, if it may be inserted. One that is never indexed may not. The entries have
-    /// to be known to be received, named by no tracked section, and below `oldest`.
+    /// How many entries are evicted once the field, which has no flag, is inserted, if it may be inserted. The entries have to be known to be
+    /// received, named by no tracked section, and below `oldest`.
     pub(crate) fn room_for(&self, field: &FieldRef<'_>, oldest: usize) -> Option<usize>
+        requires plain { field.now.never_indexed ≡ false }
         ensures some { IfSome result (λ n. MayInsertInto self.now field.now oldest × (n ≡ evicted (with_entry self.now.table field.now)) × (evicted self.now.table ≤ n)) }
         ensures none { IfNone result (MayInsertInto self.now field.now oldest → ⊥) }
     {
-        if field.is_never_indexed()
-            || self.entries.inserted() + 1 >= MOST_INSERTIONS
+        if self.entries.inserted() + 1 >= MOST_INSERTIONS
             || size_of(field) > self.entries.capacity()
         {
             return None;

@@ -264,6 +264,7 @@ fn put_field(
 }
 
 /// The field as an encoder takes it: with the flag if it is a secret and the encoder guards these.
+#[inline(always)]
 pub(crate) fn guard(guards: bool, field: FieldRef<'_>) -> FieldRef<'_>
     ensures { result ≡ guarded guards field.entry }
 {
