@@ -152,6 +152,7 @@ impl<'t> LineField<'t> {
     }
 }
 
+// RFC 9204 3.2.5: relative index
 /// The entry at a distance below the base.
 pub(crate) fn relative(
     entries: &Entries,
@@ -166,6 +167,7 @@ pub(crate) fn relative(
     }
 }
 
+// RFC 9204 3.2.6: post-base index
 /// The entry at a distance from the base on.
 pub(crate) fn post_base(
     entries: &Entries,

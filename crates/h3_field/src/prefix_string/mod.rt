@@ -300,6 +300,7 @@ pub fn encode(size: u8, flags: u8, value: &[u8], buf: &mut Vec<u8>) -> Result<()
     Ok(())
 }
 
+// RFC 9204 4.1.2: shortest strings
 /// Whether a string is written Huffman coded: if `shortest`, only if its Huffman code is shorter; else always.
 #[inline(always)]
 fn is_coded(value: &[u8], shortest: bool) -> bool
