@@ -92,7 +92,7 @@ impl Content {
         }
     }
 
-    // RFC 9114 4.1.2: as much content as content-length says
+    // RFC 9114 4.1.2: content-length and content
     /// What is left after DATA of so many bytes (RFC 9114, 4.1.2).
     pub fn left_behind(self, size: u64) -> Content
         ensures { result ≡ left_behind self size }
@@ -126,7 +126,7 @@ impl Content {
         }
     }
 
-    // RFC 9114 4.1.2: as much content as content-length says
+    // RFC 9114 4.1.2: content-length and content
     /// Whether the content may end here, by the stream's end or a trailer (RFC 9114, 4.1.2).
     pub fn may_end(self) -> bool
         ensures { result ≡ may_end self }
