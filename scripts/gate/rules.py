@@ -6,7 +6,7 @@
 
 A mark is a comment on a line of its own, as `RFC 9114 4.1: DATA before the header section`: the standard, its section and the name of the rule, the
 same wherever the rule stands. It is in front of each definition (specs), of the functions that an endpoint runs (src), and of a line of a stored input that
-shows the rule. In a wrong body (refused) it is a line `rule: RFC ..`. Each rule has these four parts, and marks stand nowhere else."""
+shows the rule. In a wrong body (refused) it is a line `rule: RFC ..`. A rule that lacks one of these four parts fails."""
 import collections
 import glob
 import os
@@ -22,8 +22,8 @@ PARTS = {
     "case": ["crates/h3_cases/stdin", "tests/*/*.[ct]*", "examples/*.talk"],
     "wrong body": ["crates/*/refused/*.edit"],
 }
-MARK = re.compile(r"^ *(?:(?:--|//|#|/\*) |rule: )(RFC (\d+) (\d[\d.]*): (\S.*?))(?: \*/)?$")
-NEARLY = re.compile(r"^ *(?:--|//|#|/\*) ?RFC \d+ [\d§s]|^rule:")  # a comment that was meant to be one
+MARK = re.compile(r"^ *(?:(?:--|//|#|/\*) |rule: )(RFC (\d+) (\d+(?:\.\d+)*): (\S.*?))(?: \*/)?$")
+NEARLY = re.compile(r"^ *(?:--|//|#|/\*) ?RFC \d+ \d|^rule:")  # a line that was meant to be one
 BESIDE = re.compile(r"^ *(?:--|//|#\[|$)")  # what may stand between a mark and its item
 ITEM = re.compile(r"^ *(?:(?:pub(?:\(\w+\))?|const|unsafe|final|fn|abbrev|unfoldable|opaque|record|data) )+(\w+)")
 TABLE = re.compile(r"^\| Section \| Rule \|.*\n(?:\|.*\n)+", re.M)
@@ -77,7 +77,7 @@ def marks(wrong):
 def order(rule):
     """by standard, section and name"""
     _, standard, section, name = MARK.match(f"rule: {rule}").groups()
-    return int(standard), [int(it) for it in section.split(".") if it], name
+    return int(standard), [int(it) for it in section.split(".")], name
 
 
 def links(places):
