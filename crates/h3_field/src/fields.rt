@@ -82,6 +82,7 @@ impl<'a> FieldRef<'a> {
         self.value
     }
 
+    // RFC 9204 7.1.3: guarded secrets
     /// Whether it names a secret: an `authorization` or `proxy-authorization`, or a `cookie` or `set-cookie` with a value of fewer than 20
     /// bytes, which may be guessed. Names are compared whole.
     #[inline(always)]

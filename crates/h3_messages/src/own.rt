@@ -56,6 +56,7 @@ pub fn own_response_by(survey: &Survey) -> OwnResponseRead
     }
 }
 
+// RFC 9110 6.5.1: fields that no trailer section has, sent
 /// The first rule that a trailer breaks that is to be sent, or none.
 pub fn own_trailer_violation(fields: &[HeaderField]) -> Option<Violation>
     ensures { result ≡ violation_of_own_trailer fields.now }

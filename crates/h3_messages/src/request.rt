@@ -87,6 +87,7 @@ fn needs_authority(survey: &Survey) -> bool
     is_word(b"http", scheme) || is_word(b"https", scheme)
 }
 
+// RFC 8441 4: :protocol with CONNECT alone
 /// Whether `:protocol` may not be there (RFC 8441, 4; RFC 9220, 3).
 fn is_protocol_wrong(survey: &Survey, extended_connect: bool) -> bool
     ensures { result ≡ is_protocol_wrong extended_connect survey.now.fields.now }
@@ -136,6 +137,7 @@ fn is_target_wrong(survey: &Survey) -> bool
         && (needs_authority(survey) || is_connect(survey))
 }
 
+// RFC 9114 4.3.1: :authority and host
 /// Whether the authority is missing or wrong.
 fn is_authority_wrong(survey: &Survey) -> bool
     ensures { result ≡ is_authority_wrong survey.now.fields.now }

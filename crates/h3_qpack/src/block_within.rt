@@ -224,6 +224,7 @@ impl<'t> Lines<'t> {
         }
     }
 
+    // RFC 9114 4.2.2: size of a section, received
     /// Reads the lines, to the end of `buf`, and adds their fields to an empty block as long as they sum to at most `max`.
     /// Answers their sum. None: they pass `max`, and nothing of `buf` is taken. No memory is asked for before the first line is
     /// read or has a string.

@@ -97,6 +97,7 @@ impl Decoder {
         self.entries.size()
     }
 
+    // RFC 9204 2.2.1: missing insertions
     /// The required insert count and the base of the section at the front, whose lines are left. What needs insertions that
     /// were not read is refused.
     fn take_prefix(&self, buf: &mut SliceCursor<'_>) -> Result<(usize, usize), DecoderError>
@@ -301,6 +302,7 @@ impl Decoder {
         }
     }
 
+    // RFC 9204 4.3.1: a capacity above the limit
     /// Reads a capacity at the front, and sets it. What is refused is left unread.
     fn take_capacity(&mut self, buf: &mut SliceCursor<'_>) -> Result<bool, DecoderError>
         requires some { 0 < length buf.old }

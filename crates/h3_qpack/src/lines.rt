@@ -138,6 +138,7 @@ impl<'t> LineField<'t> {
     }
 }
 
+// RFC 9204 3.2.5: relative index
 /// The entry at a distance below the base.
 pub(crate) fn relative(
     entries: &Entries,
@@ -152,6 +153,7 @@ pub(crate) fn relative(
     }
 }
 
+// RFC 9204 3.2.6: post-base index
 /// The entry at a distance from the base on.
 pub(crate) fn post_base(
     entries: &Entries,

@@ -368,6 +368,7 @@ pub fn encode(size: u8, flags: u8, value: &[u8], buf: &mut Vec<u8>) -> Result<()
     write(size, flags, value, false, buf)
 }
 
+// RFC 9204 4.1.2: shortest strings
 /// Appends a string in the low `size` bits of a byte below `flags`: Huffman coded, or as it stands if `shortest` and its Huffman code is
 /// not shorter. A refusal appends nothing.
 pub fn write(

@@ -54,6 +54,7 @@ pub(super) fn front(
     }
 }
 
+// RFC 9114 10.5: unfinished_limit of frames
 // Reads one frame. It returns `None` if the frame gives nothing.
 #[inline(always)]
 #[tactic(auto, using(crate::proofs::FrontLaws::finds_unfinished, crate::proofs::FrontLaws::finds_refused, crate::proofs::FrontLaws::finds_frame, crate::proofs::FrontLaws::within_unfinished, crate::proofs::FrontLaws::within_refused, crate::proofs::FrontLaws::within_frame, crate::proofs::FrontLaws::long_stays, crate::proofs::FrontLaws::section_stays, crate::proofs::FrontLaws::passes_empty, crate::proofs::FrontLaws::passes_known, h3_connection::specs::SkippingLaws::rest_shorter, h3_wire::specs::PieceLaws::ending_rest))]

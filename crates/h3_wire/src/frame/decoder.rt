@@ -130,6 +130,7 @@ impl FrameDecoder {
         Some(Some(frame))
     }
 
+    // RFC 9114 9: unknown frames skipped
     // The same wherever the frame lies, and after unknown ones, if as many bytes are there as the next try needs. It stays apart, so that a
     // frame in the first piece is read without making room for the largest.
     #[inline(never)]

@@ -12,6 +12,7 @@ use crate::proto::frame::FrameHead;
 use bytes::{Buf, Bytes};
 use h3_coding::coding::BufExt;
 
+// RFC 9114 10.5: unfinished_limit of frames
 /// Whether the first frame that is no whole unknown one says a length above this limit, and is one whose payload is kept until it is whole.
 /// Nothing is taken. It stays apart, so that a reader without a limit is as short as it was.
 #[inline(never)]

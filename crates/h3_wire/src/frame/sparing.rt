@@ -106,6 +106,7 @@ impl FrameBytes {
         self.passing
     }
 
+    // RFC 9114 9: unknown frames skipped
     /// The unknown frame under way is whole, and is passed.
     pub(super) fn pass(&mut self)
         requires under_way { 0 < self.old.passing }
