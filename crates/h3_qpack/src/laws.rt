@@ -217,6 +217,15 @@ pub fn encoded_sections_are_short()
     ensures unnamed { (s : EncoderHistory) (fields : List Field) → s.choices.shortest_strings ≡ true → required_insert_count (draft_of s fields) ≡ 0 → length (encoded_section s fields) ≤ max 2 (section_size fields) }
 {}
 
+/// With the shortest strings the encoding of a list of fields is no longer than the list's size (RFC 9114, section 4.2.2), or takes two
+/// bytes if the list is empty. So it is for every encoder whose table has a capacity below 2^30, whatever it did before and whatever its
+/// decoder announced, and so over every schedule whose decoder announced a capacity below 2^30.
+pub fn sections_are_no_longer_than_their_lists()
+    ensures history { (s : EncoderHistory) (fields : List Field) → s.choices.shortest_strings ≡ true → s.capacity < 2 ^ 30 → length (encoded_section s fields) ≤ max 2 (section_size fields) }
+    ensures session { (counts : Bool) (most announced limit : ℕ) (events : List SessionEvent) (s : Session) (stream : ℕ) (fields : List Field) → SessionRun (beginning counts most announced limit) events s →
+        s.encoder.announced < 2 ^ 30 → s.encoder.choices.shortest_strings ≡ true → length (encoded_section (writing_on s.encoder stream) fields) ≤ max 2 (section_size fields) }
+{}
+
 /// An instruction of an encoder that a decoder takes is written in at most ten bytes, or in four times the capacity that the decoder
 /// announced. The strings of an entry that fits it may be written in the Huffman code. An instruction of a decoder is one number, of at
 /// most ten bytes (RFC 9204, section 4.1.1).
