@@ -1,5 +1,5 @@
--- An encoded field section is no longer than four times its fields, and with the shortest strings hardly longer than they are.
-use Rattle.std.proofs.Common.{◌≡◌, ℕ, ◌+◌, ◌*◌, ◌-◌, ◌%◌, ◌≤◌, Bool, true, false, List, [], ◌∷◌, ◌++◌, length, max, refl, ap, arith, length-append, fold, nat_lt, nat_le, if◌then◌else◌}
+-- An encoded field section is no longer than four times its fields, and with the shortest strings its lines are shorter than they are.
+use Rattle.std.proofs.Common.{◌≡◌, ℕ, ◌+◌, ◌*◌, ◌-◌, ◌%◌, ◌≤◌, Bool, true, false, List, [], ◌∷◌, ◌++◌, length, refl, ap, arith, length-append, fold, nat_lt, nat_le, if◌then◌else◌}
 use Rattle.std.specs.Prelude.{flat_map, sum_by, ◌==◌}
 use Rattle.std.proofs.lemmas.Grind.{flat_map-append}
 use Rattle.std.proofs.lemmas.List.Sums.{sum_by-cons}
@@ -12,7 +12,7 @@ use Rattle.h3_field.specs.StaticTable.{static_field, static_name}
 use Rattle.h3_field.specs.StringLiteral.{coded, string_literal}
 use Rattle.h3_qpack.specs.EncoderHistory.{EncoderHistory}
 use Rattle.h3_qpack.specs.SectionEncoding.{Draft, add_field, add_literal, first_draft, guarded_fields, draft_of, encoded_section, entry_name_line, found, found_name, is_insertable, required_insert_count, write_field}
-use Rattle.h3_qpack.specs.SectionSizes.{most_encoded, most_encoded_shortest}
+use Rattle.h3_qpack.specs.SectionSizes.{most_encoded}
 use Rattle.h3_field.specs.SecretLaws.{guarded_sizes}
 use Rattle.h3_qpack.specs.GuardLaws.{guarded_count}
 use Rattle.h3_qpack.specs.ShortLaws.{prefixed_short, string_short, shortest_short}
@@ -161,7 +161,7 @@ section_short s (f ∷ fields) =
       sum_by-cons field_size f fields,
     )
 
--- **With the shortest strings each line leaves twelve of its field's size,**
+-- **With the shortest strings each line leaves twelve of its field's size.**
 pub shortest_lines_short : (s : EncoderHistory) (fields : List Field) → s.choices.shortest_strings ≡ true → length (flat_map line_bytes (draft_of s fields).lines) + 12 * length fields ≤ section_size fields
 shortest_lines_short s fields e =
     omega (
@@ -171,22 +171,3 @@ shortest_lines_short s fields e =
       guarded_sizes s.choices.guards_secrets fields,
       guarded_count s.choices.guards_secrets fields,
     )
-
--- **so a section is at most eight bytes longer than the size of its list,**
-pub shortest_section_short : (s : EncoderHistory) (fields : List Field) → s.choices.shortest_strings ≡ true → length (encoded_section s fields) ≤ most_encoded_shortest fields
-shortest_section_short s [] e = omega arith
-shortest_section_short s (f ∷ fields) e =
-    let all = f ∷ fields in
-    omega (arith, section_length s all, prefix_short s.announced (required_insert_count (draft_of s all)) (length s.inserted), shortest_lines_short s all e)
-
--- **and no longer where it is of several fields,**
-pub shortest_several_short : (s : EncoderHistory) (fields : List Field) → s.choices.shortest_strings ≡ true → 2 ≤ length fields → length (encoded_section s fields) ≤ section_size fields
-shortest_several_short s fields e several =
-    omega (arith, several, section_length s fields, prefix_short s.announced (required_insert_count (draft_of s fields)) (length s.inserted), shortest_lines_short s fields e)
-
--- **or names no entry.**
-pub shortest_unnamed_short : (s : EncoderHistory) (fields : List Field) → s.choices.shortest_strings ≡ true → required_insert_count (draft_of s fields) ≡ 0 → length (encoded_section s fields) ≤ max 2 (section_size fields)
-shortest_unnamed_short s [] e none = omega arith
-shortest_unnamed_short s (f ∷ fields) e none =
-    let all = f ∷ fields in
-    omega (arith, section_length s all, ap (λ n. length (prefix_bytes s.announced n (length s.inserted))) none, shortest_lines_short s all e)
