@@ -6,22 +6,11 @@ use crate::host::{is_host_wrong, is_plain_host};
 use crate::known::Known;
 use crate::pseudo::{has_request_pseudo_only, repeats_pseudo};
 use crate::regular::{has_connection_field, is_length_wrong};
-use crate::seen::Seen;
 use crate::survey::Survey;
 use crate::text::{byte_at, has_byte, is_same, is_scheme, is_word, names_port};
 use crate::violation::Violation;
-use h3_field::{Fields, HeaderField};
 
 /// The first rule that the header section of a request breaks, or none. The choice is whether its server announced extended CONNECT.
-pub fn request_violation(fields: &[HeaderField], extended_connect: bool) -> Option<Violation>
-    ensures { result ≡ violation_of_request extended_connect fields.now }
-{
-    let fields = Fields::of(fields);
-    let mut seen = Seen::new();
-    seen.take_all(&fields);
-    violation_of(&Survey::of(&fields, &seen), extended_connect)
-}
-
 #[tactic(auto, unfolding(crate::specs::Messages::violation_of_request))]
 pub(crate) fn violation_of(survey: &Survey, extended_connect: bool) -> Option<Violation>
     ensures { result ≡ violation_of_request extended_connect survey.now.fields.now }
