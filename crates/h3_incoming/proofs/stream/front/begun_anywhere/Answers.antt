@@ -1,4 +1,4 @@
-use Rattle.h3_incoming.proofs.stream.front.next_begun.Goals as goal
+use Rattle.h3_incoming.proofs.stream.front.begun_anywhere.Goals as goal
 
 pub returns-in-Ok-Some-clause-gives : goal.returns-in-Ok-Some-clause-gives
 returns-in-Ok-Some-clause-gives c =
