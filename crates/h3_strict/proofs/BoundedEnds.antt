@@ -80,22 +80,22 @@ listed_sets ends side id (p, e) h k = sets ends side e h k
 abbrev with_streams : EndpointHistory → Streams Incoming → EndpointHistory
 with_streams e l = record e { incoming = l }
 
-awaits_bounds : (e : EndpointHistory) (id : ℕ) (content : Content) (o : Option Incoming) → stream_at e.incoming id ≡ o → IsBounded e → IsBounded (with_streams e (awaiting_at e.incoming id content o))
-awaits_bounds e id content None is h = h
-awaits_bounds e id content (Some i) is h =
-    let less : (awaiting i content).waits_for ≤ waits_at (stream_at e.incoming id) = subst (λ o. i.waits_for ≤ waits_at o) (sym is) (omega arith) in
+awaits_bounds : (e : EndpointHistory) (id : ℕ) (asked : Content) (o : Option Incoming) → stream_at e.incoming id ≡ o → IsBounded e → IsBounded (with_streams e (awaiting_at e.incoming id asked o))
+awaits_bounds e id asked None is h = h
+awaits_bounds e id asked (Some i) is h =
+    let less : (awaiting i asked).waits_for ≤ waits_at (stream_at e.incoming id) = subst (λ o. i.waits_for ≤ waits_at o) (sym is) (omega arith) in
     record {
       tries = λ j. set_bounds TriesTwice j (subst (OfStream TriesTwice) is (h.tries id)) (h.tries j);
       once = λ open_still j. set_bounds WaitsOnce j (subst (OfStream WaitsOnce) is (h.once open_still id)) (h.once open_still j);
-      waiting = omega (arith, count_set e.decoding.decoder.table.inserted e.incoming id (awaiting i content) less, h.waiting);
+      waiting = omega (arith, count_set e.decoding.decoder.table.inserted e.incoming id (awaiting i asked) less, h.waiting);
     }
   where
-    by_test : (P : Incoming → Type 0) (b : Bool) (j : ℕ) → P (awaiting i content) → OfStream P (stream_at e.incoming j) → OfStream P (if b then Some (awaiting i content) else stream_at e.incoming j)
+    by_test : (P : Incoming → Type 0) (b : Bool) (j : ℕ) → P (awaiting i asked) → OfStream P (stream_at e.incoming j) → OfStream P (if b then Some (awaiting i asked) else stream_at e.incoming j)
     by_test P true j here there = here
     by_test P false j here there = there
 
-    set_bounds : (P : Incoming → Type 0) (j : ℕ) → P (awaiting i content) → OfStream P (stream_at e.incoming j) → OfStream P (stream_at (set_stream e.incoming id (awaiting i content)) j)
-    set_bounds P j here there = subst (OfStream P) (sym (set_at e.incoming id j (awaiting i content))) (by_test P (id == j) j here there)
+    set_bounds : (P : Incoming → Type 0) (j : ℕ) → P (awaiting i asked) → OfStream P (stream_at e.incoming j) → OfStream P (stream_at (set_stream e.incoming id (awaiting i asked)) j)
+    set_bounds P j here there = subst (OfStream P) (sym (set_at e.incoming id j (awaiting i asked))) (by_test P (id == j) j here there)
 
 asked_bounds : (e : EndpointHistory) (id : ℕ) (fields : List Field) → IsBounded e → IsBounded (sender.asked e id fields)
 asked_bounds e id fields h = again (by_choice (sender.remembers e.side e.announced))
