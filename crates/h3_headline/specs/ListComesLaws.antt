@@ -21,7 +21,7 @@ use Rattle.h3_connection.specs.declared.event.Pull.{Pull}
 use Rattle.h3_connection.specs.declared.event.Pull.TheVariants as pull
 use Rattle.h3_world.specs.declared.setup.Setup.{Setup}
 use Rattle.h3_world.specs.Came.{insertions_came}
-use Rattle.h3_world.specs.Coming.{decoded_fields, fields_behind, fields_in, fields_next, fields_of_kind, fields_there, next_section, section_in}
+use Rattle.h3_connection.specs.Coming.{decoded_fields, fields_behind, fields_in, fields_next, fields_of_kind, fields_there, next_section, section_in}
 use Rattle.h3_world.specs.Flow.{Flow, Part, Section, flow_bytes, part_bytes}
 use Rattle.h3_world.specs.Flow.Part.{Interim, Head, Body, Trailer, End}
 use Rattle.h3_world.specs.Lists.{as_flagged}

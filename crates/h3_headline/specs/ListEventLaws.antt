@@ -19,7 +19,7 @@ use Rattle.h3_world.specs.declared.event.Answer.{Answer}
 use Rattle.h3_world.specs.declared.event.Answer.TheVariants as answer
 use Rattle.h3_world.specs.declared.event.Event.TheVariants as event
 use Rattle.h3_world.specs.Came.{insertions_came}
-use Rattle.h3_world.specs.Coming.{fields_behind}
+use Rattle.h3_connection.specs.Coming.{fields_behind}
 use Rattle.h3_world.specs.Ends.{Ends, answered, end_at, was_listed, was_pulled, with_end}
 use Rattle.h3_world.specs.Flow.{Flow, Part, Section}
 use Rattle.h3_world.specs.Flow.Part.{Interim, Head, Body, Trailer, End}
@@ -30,7 +30,7 @@ use Rattle.h3_world.specs.Lists.{as_flagged, listed_pull}
 use Rattle.h3_world.specs.Order.{is_over, next_part, section_of_part}
 use Rattle.h3_world.specs.Pauses.{pause_before, pause_of}
 use Rattle.h3_world.specs.Pulling.{PausesExactly, Pulls, PullsNext, fault_or, list_next, own_delivered, settled}
-use Rattle.h3_world.specs.Resuming.{HasNoHeader}
+use Rattle.h3_connection.specs.Coming.{HasNoHeader}
 use Rattle.h3_world.specs.Setup.{IsMadeSetup, JudgesPlainly, announced_at, flags_secrets}
 use Rattle.h3_world.specs.Sound.{IsSoundWorld}
 use Rattle.h3_world.specs.Streams.{flow, is_open}

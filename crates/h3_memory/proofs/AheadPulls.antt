@@ -14,7 +14,7 @@ use Rattle.h3_connection.specs.Endpoint.{EndpointHistory, Kind, heads_waiting, k
 use Rattle.h3_connection.specs.Endpoint.Kind.{Request, ServerOpened, OwnUnidirectional, PeerUnidirectional}
 use Rattle.h3_connection.specs.Incoming.{Incoming}
 use Rattle.h3_connection.specs.Keeping.{is_settled_request, pulled_after, pulls, pulls_behind, read_all, settles, settles_at, unkept}
-use Rattle.h3_world.specs.Resuming.{Resumes}
+use Rattle.h3_connection.specs.PartReading.{Resumes}
 use Rattle.h3_connection.specs.Pulling.{Pulled, pull_stream}
 use Rattle.h3_connection.specs.Sending.{pull_at, pull_peer, pull_request, pull_unless, pulled, within_limit, if_too_many, after_answer}
 use Rattle.h3_connection.specs.StreamSets.{Streams, stream_at, set_stream}

@@ -20,8 +20,9 @@ use Rattle.h3_connection.specs.Incoming.{Incoming, nothing_came, given_up}
 use Rattle.h3_connection.specs.Keeping.{read_arrival}
 use Rattle.h3_connection.specs.Outgoing.{nothing_sent}
 use Rattle.h3_connection.specs.PartReading.{with_pieces, with_more}
-use Rattle.h3_world.specs.Coming.{fields_next}
-use Rattle.h3_world.specs.Resuming.{HasNoHeader, Resumes}
+use Rattle.h3_connection.specs.Coming.{fields_next}
+use Rattle.h3_connection.specs.Coming.{HasNoHeader}
+use Rattle.h3_connection.specs.PartReading.{Resumes}
 use Rattle.h3_connection.specs.Pulling.{Pulled, just, next_item, pull_stream}
 use Rattle.h3_connection.specs.StreamSetLaws.{set-distinct}
 use Rattle.h3_connection.specs.StreamSets.{HaveDistinctIds, Streams, stream_at, set_stream}

@@ -10,7 +10,7 @@ use Rattle.h3_connection.specs.Delivering.{opened_at, with_incoming, give_up, gi
 use Rattle.h3_connection.specs.Endpoint.{EndpointHistory, replied, is_critical_id}
 use Rattle.h3_connection.specs.Incoming.{Incoming, nothing_came}
 use Rattle.h3_connection.specs.Outgoing.{nothing_sent}
-use Rattle.h3_world.specs.Resuming.{Resumes}
+use Rattle.h3_connection.specs.PartReading.{Resumes}
 use Rattle.h3_connection.specs.Sections.{written_section}
 use Rattle.h3_connection.specs.Refusals.{first_of, refusal_of_head, refusal_of_trailer}
 use Rattle.h3_connection.specs.Sending.{does, closed_or, unless_closed, sender_at, outgoing_at, body_refusal, appended, asked, counted, encoded, fields_cost, head_part, sent_bytes, open_refusal, finish_refusal, goaway_refusal, open_request, send_head, send_body, send_trailer, finish, goaway, cancel}

@@ -13,8 +13,9 @@ use Rattle.h3_connection.specs.OwnIds.{other}
 use Rattle.h3_connection.specs.PartReading.{with_more}
 use Rattle.h3_connection.specs.Pulling.{Pulled, pull_stream}
 use Rattle.h3_qpack.specs.DecoderState.{DecoderState}
-use Rattle.h3_world.specs.Coming.{fields_next}
-use Rattle.h3_world.specs.Resuming.{HasNoHeader, Resumes}
+use Rattle.h3_connection.specs.Coming.{fields_next}
+use Rattle.h3_connection.specs.Coming.{HasNoHeader}
+use Rattle.h3_connection.specs.PartReading.{Resumes}
 use Rattle.h3_connection.specs.StreamSets.{Streams, stream_at, set_stream}
 use Rattle.h3_world.specs.declared.setup.Setup.{Setup}
 use Rattle.h3_world.specs.Ends.{Ends, end_at, with_end}

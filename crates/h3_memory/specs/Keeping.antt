@@ -10,7 +10,7 @@ use Rattle.h3_connection.specs.Endpoint.{EndpointHistory, Own}
 use Rattle.h3_connection.specs.Incoming.{Incoming}
 use Rattle.h3_connection.specs.Outgoing.{Outgoing}
 use Rattle.h3_connection.specs.OwnIds.{other, control_id, encoder_id, decoder_id, is_own}
-use Rattle.h3_world.specs.Resuming.{Resumes}
+use Rattle.h3_connection.specs.PartReading.{Resumes}
 use Rattle.h3_connection.specs.PeerReading.{with_unread}
 use Rattle.h3_connection.specs.StreamSets.{HaveDistinctIds, Streams}
 use Rattle.h3_connection.specs.declared.setup.Announced.{Announced}

@@ -14,7 +14,7 @@ use Rattle.h3_connection.specs.Incoming.{Incoming}
 use Rattle.h3_connection.specs.Keeping.{settles, unkept}
 use Rattle.h3_connection.specs.OwnIds.{other}
 use Rattle.h3_connection.specs.PartReading.{ReadsPart}
-use Rattle.h3_world.specs.Resuming.{Resumes}
+use Rattle.h3_connection.specs.PartReading.{Resumes}
 use Rattle.h3_connection.specs.ReceivingContracts.{IsTaken}
 use Rattle.h3_connection.specs.Sections.{with_insertions}
 use Rattle.h3_connection.specs.Sending as sender

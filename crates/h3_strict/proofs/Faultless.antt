@@ -25,7 +25,7 @@ use Rattle.h3_connection.specs.declared.event.Pull.TheVariants as pull
 use Rattle.h3_connection.specs.declared.event.Refusal.{Refusal}
 use Rattle.h3_connection.specs.declared.event.Refusal.TheVariants as refusal
 use Rattle.h3_world.specs.Delivering.{reset_code}
-use Rattle.h3_world.specs.Coming.{fields_behind}
+use Rattle.h3_connection.specs.Coming.{fields_behind}
 use Rattle.h3_world.specs.EndLists.{send_fields, send_trailer_fields}
 use Rattle.h3_world.specs.Ends.{Ends, answered, answers_of_ends, done, end_at, ends_after, new_ends, was_listed, was_offered, was_pulled}
 use Rattle.h3_world.specs.Headline.{is_connection_fault}

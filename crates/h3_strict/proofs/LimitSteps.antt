@@ -7,7 +7,7 @@ use Rattle.h3_proto.specs.declared.stream.Side.TheVariants.{Client, Server}
 use Rattle.h3_connection.specs.Endpoint.{EndpointHistory, Kind, bytes_waiting, kind_of, limit_of}
 use Rattle.h3_connection.specs.Endpoint.Kind.{OwnUnidirectional, PeerUnidirectional, Request, ServerOpened}
 use Rattle.h3_field.specs.Field.{Field}
-use Rattle.h3_world.specs.Coming.{fields_behind, fields_of_kind}
+use Rattle.h3_connection.specs.Coming.{fields_behind, fields_of_kind}
 use Rattle.h3_world.specs.EndLists.{fields_refusal, send_fields, send_trailer_fields, trailer_fields_refusal}
 use Rattle.h3_world.specs.Lists.{listed_pull}
 use Rattle.h3_connection.specs.Incoming.{Incoming}

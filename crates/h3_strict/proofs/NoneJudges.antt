@@ -18,7 +18,7 @@ use Rattle.h3_connection.specs.Sending.{outgoing_at}
 use Rattle.h3_connection.specs.declared.setup.Announced.{Announced}
 use Rattle.h3_proto.specs.StreamIds.{is_request_stream}
 use Rattle.h3_connection.specs.declared.event.Pull.{Pull}
-use Rattle.h3_world.specs.Coming.{fields_behind}
+use Rattle.h3_connection.specs.Coming.{fields_behind}
 use Rattle.h3_world.specs.ListLaws.{pulls_listed}
 use Rattle.h3_world.specs.Lists.{listed_pull, pull_of}
 use Rattle.h3_world.specs.Pulling.{Pulls, list_next}

@@ -20,9 +20,9 @@ use Rattle.h3_connection.specs.declared.event.Item.TheVariants as item
 use Rattle.h3_connection.specs.declared.event.Pull.{Pull}
 use Rattle.h3_connection.specs.declared.event.Pull.TheVariants as answer
 use Rattle.h3_connection.specs.declared.event.StreamFault.{StreamFault}
-use Rattle.h3_world.specs.Coming.{fields_behind, fields_in, fields_item, fields_of_kind, fields_there, next_section}
+use Rattle.h3_connection.specs.Coming.{fields_behind, fields_in, fields_item, fields_of_kind, fields_there, next_section}
 use Rattle.h3_world.specs.Lists.{listed_pull}
-use Rattle.h3_world.specs.Resuming.{HasNoHeader}
+use Rattle.h3_connection.specs.Coming.{HasNoHeader}
 use Rattle.h3_headline.specs.ListEventLaws.{any_list}
 use Rattle.h3_strict.specs.PlainEnds.{FewWait, FewWaitBehind, FewWaitIn}
 use Rattle.h3_strict.specs.Plainly.{exceeds, is_judged, judged_as, judged_at, judged_open, plain, plain_incoming, plainly, tells_malformed}

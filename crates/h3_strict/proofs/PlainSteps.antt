@@ -18,7 +18,7 @@ use Rattle.h3_connection.specs.declared.arrival.Arrival.TheVariants.{BytesCame, 
 use Rattle.h3_connection.specs.declared.event.Pull.{Pull}
 use Rattle.h3_connection.specs.declared.event.Refusal.{Refusal}
 use Rattle.h3_connection.specs.declared.event.Refusal.TheVariants as refusal
-use Rattle.h3_world.specs.Coming.{fields_behind}
+use Rattle.h3_connection.specs.Coming.{fields_behind}
 use Rattle.h3_world.specs.EndLists.{send_fields, send_trailer_fields}
 use Rattle.h3_world.specs.Lists.{listed_pull}
 use Rattle.h3_world.specs.Delivering.{reset_code}

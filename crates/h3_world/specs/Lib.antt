@@ -1,7 +1,5 @@
 pub mod Setup
 pub mod Lists
-pub mod Coming
-pub mod Resuming
 pub mod EndLists
 pub mod Flow
 pub mod World

@@ -9,6 +9,9 @@ use Rattle.h3_wire.specs.declared.proto.frame.PayloadLen.{PayloadLen}
 use Rattle.h3_wire.specs.declared.proto.frame.Frame.{Frame}
 use Rattle.h3_wire.specs.declared.proto.frame.Frame.TheVariants as frame
 use Rattle.h3_connection.specs.declared.arrival.Arrival.{Arrival}
+use Rattle.h3_connection.specs.declared.event.Item.TheVariants as item
+use Rattle.h3_connection.specs.declared.event.Pull.{Pull}
+use Rattle.h3_connection.specs.declared.event.Pull.TheVariants as pull
 use Rattle.h3_connection.specs.Endpoint.{EndpointHistory, Kind, kind_of}
 use Rattle.h3_connection.specs.Endpoint.Kind.{Request}
 use Rattle.h3_connection.specs.Incoming.{Incoming, is_body}
@@ -57,3 +60,10 @@ fields_item e id = fields_of_kind e id (kind_of e.side id)
 abbrev pub fields_behind : List Arrival → EndpointHistory → ℕ → Option (List Field)
 fields_behind [] e id = fields_item e id
 fields_behind (k ∷ kept) e id = if settles e id then fields_item e id else fields_item (read_all (k ∷ kept) (unkept e)).0 id
+
+-- an answer without a header
+abbrev pub HasNoHeader : Pull → Type 0
+HasNoHeader (pull.Item (item.Interim head)) = ⊥
+HasNoHeader (pull.Item (item.Head head)) = ⊥
+HasNoHeader (pull.Item (item.Trailer head)) = ⊥
+HasNoHeader _ = Unit {0}
