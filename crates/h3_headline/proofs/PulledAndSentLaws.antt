@@ -23,7 +23,6 @@ use Rattle.h3_headline.specs.Cited.{WorldLaws}
 use Rattle.h3_headline.specs.ContentLaws.{moves_then, stays}
 use Rattle.h3_headline.specs.Contents.{Carried, Carries, IsAll, Moves, RunMoves, reader_of}
 use Rattle.h3_headline.specs.FlowLaws.{other-other, same_both}
-use Rattle.h3_field.specs.Field.{Field}
 use Rattle.h3_header.specs.Reads.{head_of_fields}
 use Rattle.h3_world.specs.ListLaws.{read_flagged}
 use Rattle.h3_headline.specs.Messages.MessageContent.{Byte, Foreign, Listed, Read, TooLarge}

@@ -3,13 +3,13 @@ use Rattle.std.proofs.Common.{◌≡◌, [], refl, Option, Some, None, ℕ, ◌-
 use Rattle.h3_world.specs.Flow.{Part, Flow}
 use Rattle.h3_world.specs.Flow.Part.{Interim, Head, Body, Trailer, End}
 use Rattle.std.specs.Prelude.{map, take, slice_get, ◌||◌, ◌&&◌, nat_lt}
-use Rattle.std.proofs.lemmas.List.{map-append, take-append-le}
+use Rattle.std.proofs.lemmas.List.{take-append-le}
 use Rattle.h3_world.specs.Order.{is_over, is_end, next_part}
 use Rattle.h3_world.specs.Sound.{OutOfNext}
 use Rattle.std.proofs.lemmas.Grind.{flat_map-append}
 use Rattle.std.proofs.lemmas.List.Folds.{list_any-append}
 use Rattle.h3_world.specs.Sending.{appended}
-use Rattle.h3_headline.specs.Contents.{Hands, HasSameParts, Moves, contents, has_end, out, out_of, part_contents, piece_of}
+use Rattle.h3_headline.specs.Contents.{HasSameParts, Moves, contents, has_end, out, out_of, part_contents, piece_of}
 use Rattle.h3_headline.specs.Messages.{IsAllOf, IsFrontOf, MessageContent, Reader}
 use Rattle.h3_headline.specs.Messages.MessageContent.{Byte}
 

@@ -9,7 +9,6 @@ use Rattle.h3_proto.specs.declared.stream.Side.{Side}
 use Rattle.h3_world.specs.Streams.{flow}
 use Rattle.h3_world.specs.World.{World}
 use Rattle.h3_world.specs.declared.event.Answer.{Answer}
-use Rattle.h3_world.specs.declared.event.Answer.TheVariants as answer
 use Rattle.h3_connection.specs.Announcing.{section_of}
 use Rattle.h3_connection.specs.OwnIds.{other}
 use Rattle.h3_world.specs.declared.setup.Setup.{Setup}

@@ -1,5 +1,5 @@
 -- What one item hands out of a flow.
-use Rattle.std.proofs.Common.{◌≡◌, ℕ, zero, suc, ◌+◌, ◌-◌, List, [], ◌∷◌, ◌++◌, ap, ◌∙◌, arith, Some, Bool, true, false, refl, sym, append-nil, append_assoc, ◌≤◌, ◌<◌, length, ◌⊎◌, inl, inr, subst, Option, None}
+use Rattle.std.proofs.Common.{◌≡◌, ℕ, zero, suc, ◌+◌, ◌-◌, List, [], ◌∷◌, ◌++◌, ap, ◌∙◌, arith, Some, Bool, true, false, refl, sym, append-nil, append_assoc, ◌≤◌, length, ◌⊎◌, inl, inr, subst, Option, None}
 use Rattle.std.specs.Prelude.{IfSome, option_map, take, slice_get, unwrap_or, ◌||◌, ◌&&◌, nat_lt, if◌then◌else◌, drop, ◌==◌, map}
 use Rattle.h3_world.specs.Flow.{Part, Flow, Section}
 use Rattle.std.proofs.lemmas.Grind.{common_steps, flat_map-append}
@@ -17,7 +17,7 @@ use Rattle.h3_world.specs.Items.{IsSectionItem, after_piece, HasCome, after_item
 use Rattle.std.proofs.lemmas.List.{map-append}
 use Rattle.h3_world.specs.Sound.{OutOfNext}
 use Rattle.h3_headline.specs.ContentLaws.{bytes_are, none_of_piece}
-use Rattle.h3_headline.specs.Contents.{Hands, Moves, contents, has_end, out, out_of, part_contents, piece_of}
+use Rattle.h3_headline.specs.Contents.{Moves, contents, has_end, out, out_of, part_contents, piece_of}
 use Rattle.h3_headline.specs.FlowLaws.{same_number}
 use Rattle.h3_headline.specs.Messages.{IsAllOf, MessageContent, Reader, SectionKind, is_end_item, item_contents, listed_contents}
 use Rattle.h3_headline.specs.Messages.MessageContent.{Byte, Listed, Read}

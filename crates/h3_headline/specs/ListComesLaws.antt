@@ -1,9 +1,8 @@
 -- Which list comes next at an endpoint: that of the next part, once a pull hands it out.
-use Rattle.std.proofs.Common.{◌≡◌, ℕ, zero, suc, ◌+◌, ◌≤◌, ◌<◌, Bool, true, false, List, ◌++◌, length, drop, flat_map, refl, sym, ap, ◌∙◌, subst, arith, nat_lt, if◌then◌else◌, Option, Some, None}
+use Rattle.std.proofs.Common.{◌≡◌, ℕ, zero, suc, ◌+◌, ◌≤◌, Bool, true, false, List, ◌++◌, length, drop, flat_map, refl, sym, ap, ◌∙◌, subst, arith, nat_lt, if◌then◌else◌, Option, Some, None}
 use Rattle.std.specs.List.{concat}
-use Rattle.std.specs.Prelude.{MatchOption, nat_le, option_map}
+use Rattle.std.specs.Prelude.{nat_le}
 use Rattle.std.proofs.lemmas.Grind.{common_steps}
-use Rattle.h3_field.specs.Field.{Field}
 use Rattle.h3_qpack.specs.DecodedSection.{Fields, Missing, decode_section}
 use Rattle.h3_qpack.specs.DecoderState.{DecoderState}
 use Rattle.h3_wire.specs.Encoded.{frame_encoding}
@@ -12,10 +11,8 @@ use Rattle.h3_wire.specs.Frames.{Whole, frame_at}
 use Rattle.h3_wire.specs.declared.proto.frame.Frame.TheVariants as frame
 use Rattle.h3_proto.specs.declared.stream.Side.{Side}
 use Rattle.h3_connection.specs.Endpoint.{EndpointHistory, kind_of}
-use Rattle.h3_connection.specs.Endpoint.Kind.{Request}
 use Rattle.h3_connection.specs.Incoming.{Incoming, is_body}
 use Rattle.h3_connection.specs.OwnIds.{other}
-use Rattle.h3_connection.specs.Skipping.{skipped}
 use Rattle.h3_connection.specs.StreamSets.{stream_at}
 use Rattle.h3_connection.specs.declared.event.Pull.{Pull}
 use Rattle.h3_connection.specs.declared.event.Pull.TheVariants as pull

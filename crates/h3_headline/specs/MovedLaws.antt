@@ -34,7 +34,7 @@ use Rattle.h3_connection.specs.Announcing.{section_of}
 use Rattle.h3_connection.specs.declared.event.Item.{Item}
 use Rattle.h3_connection.specs.declared.event.Pull.TheVariants as pull
 use Rattle.h3_world.specs.Items.{HasCome, handed_out, acknowledgment_of, after_item}
-use Rattle.h3_world.specs.Setup.{announced_at, flags_secrets, takes_any}
+use Rattle.h3_world.specs.Setup.{announced_at, takes_any}
 use Rattle.h3_world.specs.Lists.{as_flagged, item_of, list_of, pull_of, unreadable}
 use Rattle.h3_world.specs.declared.lists.ListItem.{ListItem}
 use Rattle.h3_world.specs.declared.lists.ListItem.TheVariants as listed
@@ -42,7 +42,7 @@ use Rattle.h3_world.specs.declared.lists.ListPull.{ListPull}
 use Rattle.h3_world.specs.declared.lists.ListPull.TheVariants as list
 use Rattle.h3_connection.specs.declared.event.Pull.{Pull}
 use Rattle.h3_world.specs.Pauses.{paused}
-use Rattle.h3_world.specs.Pulling.{settled, PullsListed, PullsNext, Pulls, list_next}
+use Rattle.h3_world.specs.Pulling.{settled, PullsNext, Pulls}
 use Rattle.h3_world.specs.Delivering.{delivery, end_delivery, reset_delivery}
 use Rattle.h3_world.specs.declared.event.Event.{Event}
 use Rattle.h3_headline.specs.ComingLaws.{sound_flow}

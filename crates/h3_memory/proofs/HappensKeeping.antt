@@ -140,9 +140,10 @@ pull_well : (q : KeptLaws) (laws : WorldLaws) (setup : Setup) (k new : KeepingWo
 pull_well q laws setup k new side id e a false here out sendable h is step exact =
     let happens = happens_at laws setup (caught_up setup k side) new.world e a sendable (catches_up q setup k side h).sound step.0 exact in
     (happens.comes_out, happens.no_connection_fault)
-pull_well q laws setup k new side id e a true here out sendable h is step exact =
-    (out (caught_up setup k side) (settled_stays q setup k side id h is),
-    (happens_at laws setup k.world new.world e a sendable h.sound step.0 (here k.world (settled_here k.world side id is))).no_connection_fault)
+pull_well q laws setup k new side id e a true here out sendable h is step exact = (
+  out (caught_up setup k side) (settled_stays q setup k side id h is),
+  (happens_at laws setup k.world new.world e a sendable h.sound step.0 (here k.world (settled_here k.world side id is))).no_connection_fault,
+)
 
 -- of each event
 answers_well : (q : KeptLaws) (laws : WorldLaws) (setup : Setup) (k new : KeepingWorld) (e : Event) (a : Answer) → IsSendable setup e → IsSoundKeeping setup k → Answers setup k e a new → IsExact (reader_world setup k e) e a → TellsWell setup k e a

@@ -1,5 +1,5 @@
 -- A pull with lists is answered as the pull, with the list that is next in the world where it stands.
-use Rattle.std.proofs.Common.{◌≡◌, ℕ, Bool, true, false, refl, sym, ap, subst, Option, Some, None, IfSome, MatchOption}
+use Rattle.std.proofs.Common.{◌≡◌, ℕ, Bool, true, false, refl, sym, subst, Option, Some, None, IfSome, MatchOption}
 use Rattle.std.specs.Prelude.{is_some}
 use Rattle.h3_proto.specs.declared.stream.Side.{Side}
 use Rattle.h3_connection.specs.declared.event.Pull.{Pull}
@@ -10,7 +10,7 @@ use Rattle.h3_world.specs.declared.event.Event.TheVariants as event
 use Rattle.h3_world.specs.declared.event.Answer.TheVariants as answer
 use Rattle.h3_world.specs.declared.lists.ListPull.{ListPull}
 use Rattle.h3_connection.specs.Coming.{fields_behind}
-use Rattle.h3_world.specs.Ends.{Ends, answered, end_at}
+use Rattle.h3_world.specs.Ends.{Ends, end_at}
 use Rattle.h3_world.specs.ListLaws.{pulls_listed}
 use Rattle.h3_world.specs.Lists.{listed_pull, pull_of}
 use Rattle.h3_world.specs.Pulling.{PausesExactly, Pulls, PullsNext, list_next, settled}

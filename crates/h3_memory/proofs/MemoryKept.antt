@@ -1,13 +1,11 @@
 -- An event after which memory was refused leaves a world sound, and what is kept readable.
-use Rattle.std.proofs.Common.{◌≡◌, inl, inr, ℕ, ◌+◌, ◌-◌, ◌≤◌, Bool, true, false, not, ◌&&◌, ◌||◌, List, [], ◌∷◌, ◌++◌, length, take, refl, sym, ap, ◌∙◌, subst, arith, append-nil, if◌then◌else◌, Option, Some, None}
+use Rattle.std.proofs.Common.{◌≡◌, inl, inr, ℕ, ◌+◌, ◌-◌, ◌≤◌, Bool, true, false, not, ◌&&◌, ◌||◌, List, [], ◌∷◌, ◌++◌, length, take, refl, sym, ap, ◌∙◌, subst, arith, append-nil, if◌then◌else◌}
 use Rattle.std.specs.Prelude.{◌==◌}
 use Rattle.std.proofs.lemmas.Grind.{common_steps}
 use Rattle.h3_field.specs.Field.{Field}
 use Rattle.h3_proto.specs.declared.stream.Side.{Side}
 use Rattle.h3_connection.specs.OwnIds.{other, is_own}
 use Rattle.h3_connection.specs.Sections.{own_instructions}
-use Rattle.h3_connection.specs.declared.event.Refusal.{Refusal}
-use Rattle.h3_connection.specs.declared.event.Refusal.TheVariants as refusal
 use Rattle.h3_world.specs.declared.setup.Setup.{Setup}
 use Rattle.h3_world.specs.declared.event.Answer.TheVariants as answer
 use Rattle.h3_world.specs.Delivering.{is_closed, may_end}
@@ -21,7 +19,7 @@ use Rattle.h3_headline.specs.DeliverLaws.{waiting_is}
 use Rattle.h3_headline.specs.FlowLaws.{open_there, other-other}
 use Rattle.h3_memory.specs.Kept.{Delivery, Bytes, End, Reset, KeepingWorld, kept_at, with_kept, stream_of, caught_up, noticed, noticed_all, ReadsPart}
 use Rattle.h3_memory.specs.Keeping.{MayAllBeRead, came_of, text_of}
-use Rattle.h3_memory.specs.MemoryStep.{CutsSection, HandsNothingOut, Keeps, offered}
+use Rattle.h3_memory.specs.MemoryStep.{HandsNothingOut, Keeps, offered}
 use Rattle.h3_memory.specs.SoundKeeping.{CanBeRead, IsSoundKeeping}
 use Rattle.h3_memory.specs.Writing.{WritesOn, LeavesKept}
 use Rattle.h3_memory.proofs.Cuts.{Left}

@@ -150,11 +150,12 @@ cut_off_keeps qpack laws setup k ends side id fields of_bytes small h =
 front_cut : (qpack : KeptLaws) (laws : Laws) (setup : Setup) (k : KeepingWorld) (ends new : Ends) (side : Side) (id : ℕ) (fields : List Field) → AllByRecursion IsFieldOfBytes fields → section_size fields < 2 ^ 56 → StandsKeeping setup k ends
     → refused.CutsOff ends side id fields new → (next : KeepingWorld) × memory_step.CutsOff k side id fields next × StandsKeeping setup next new
 front_cut qpack laws setup k ends new side id fields of_bytes small h c =
-    let front = take c.front fields in
-    (with_world k (with_insertions k.world side id front),
-    record { front = c.front; within = c.within; inserted = refl },
-    subst (StandsKeeping setup (with_world k (with_insertions k.world side id front))) (sym c.is)
-    (cut_off_keeps qpack laws setup k ends side id front (front_of_bytes c.front fields of_bytes) (omega (arith, small, front_is_smaller c.front fields)) h))
+    let front = take c.front fields in (
+      with_world k (with_insertions k.world side id front),
+      record { front = c.front; within = c.within; inserted = refl },
+      subst (StandsKeeping setup (with_world k (with_insertions k.world side id front))) (sym c.is)
+          (cut_off_keeps qpack laws setup k ends side id front (front_of_bytes c.front fields of_bytes) (omega (arith, small, front_is_smaller c.front fields)) h),
+    )
 
 -- What a refused section leaves.
 pub record CutKeeps (setup : Setup) (k : KeepingWorld) (new : Ends) (side : Side) (id : ℕ) (fields : List Field) (q : Option Refusal) : Type 0 where

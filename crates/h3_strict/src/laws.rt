@@ -50,6 +50,7 @@ pub fn whole_runs_are_plain()
 {
     ends_stay_bounded();
 }
+
 ghost use Rattle.std.specs.List.{AllByRecursion};
 ghost use Rattle.h3_world.specs.Ends.{ends_after};
 ghost use Rattle.h3_world.specs.Headline.{Happens};
@@ -69,6 +70,7 @@ pub fn strict_endpoints_run_in_a_world()
 {
     h3_headline::laws::two_endpoints_run_in_a_world();
 }
+
 ghost use Rattle.std.specs.Prelude.{ℕ, true};
 ghost use Rattle.h3_connection.specs.OwnIds.{other};
 ghost use Rattle.h3_world.specs.Headline.{is_connection_fault};
