@@ -1,5 +1,5 @@
 -- A pull that memory cut short loses nothing.
-use Rattle.std.proofs.Common.{◌≡◌, ℕ, zero, suc, ◌<◌, ◌≤◌, Bool, true, false, if◌then◌else◌, ◌&&◌, ◌==◌, List, ◌++◌, length, refl, ap, sym, ◌∙◌, subst, arith, inl, inr, ◌⊎◌}
+use Rattle.std.proofs.Common.{◌≡◌, ℕ, zero, suc, ◌<◌, ◌≤◌, Bool, true, false, if◌then◌else◌, ◌&&◌, ◌==◌, List, [], ◌++◌, length, refl, ap, sym, ◌∙◌, subst, arith, inl, inr, ◌⊎◌}
 use Rattle.std.specs.Prelude.{None, Some, Option, nat_lt}
 use Rattle.std.specs.List.{concat}
 use Rattle.std.proofs.lemmas.List.{length-drop}
@@ -260,6 +260,20 @@ resumes_begun own old mid new f b p finds small begins =
     found_there pieces =
         ap (λ l. frame_at (skipped (is_body old.place) l)) (concat-append old.unread pieces) ∙ finds (concat pieces) ∙ ap (λ l. Whole f l) (sym (concat-append mid.unread pieces))
 
+    goes_on_alike : (side : Side) (id : ℕ) (r : DecoderState) (pieces : List (List ℕ)) (ends : Bool) → IsBetween mid
+        → pull_stream side own id r (delivered new pieces ends) ≡ pull_stream side own id r (delivered old pieces ends)
+    goes_on_alike side id r pieces ends here =
+        let o = delivered old pieces ends in
+        let m = delivered mid pieces ends in
+        let there : frame_at (skipped (is_body old.place) (concat o.unread)) ≡ Whole f (concat m.unread) = found_there pieces in
+        let some = found_not_empty (is_body old.place) (concat o.unread) (concat m.unread) f there in
+        let place = place_passed old mid p in
+        begun_alike side own id r pieces ends mid new f mid.place here begins (subst (λ q. (is_body q && is_empty_data f) ≡ false) (sym place) some)
+        ∙ ap (λ q. at_frame side own id r side m q f) place
+        ∙ sym (between_frame side own id r o m f (passes_behind old mid pieces ends p) there
+        (ap (λ l. is_excessive own.choices.unfinished_limit (skipped (is_body old.place) l)) (concat-append old.unread pieces) ∙ small (concat pieces)))
+        ∙ sym (between_pull side own id r old pieces ends b)
+
     lists_alike : (side : Side) (id : ℕ) (r : DecoderState) (pieces : List (List ℕ)) (ends : Bool) → IsBetween mid
         → HasNoHeader (pull_stream side own id r (delivered old pieces ends)).answer ⊎ (fields_next r (delivered new pieces ends) ≡ fields_next r (delivered old pieces ends))
     lists_alike side id r pieces ends here =
@@ -276,17 +290,3 @@ resumes_begun own old mid new f b p finds small begins =
             → HasNoHeader (pull_stream side own id r (delivered old pieces ends)).answer ⊎ (fields_next r (delivered new pieces ends) ≡ fields_next r (delivered old pieces ends))
         either (inl without) is same = inl (subst (λ (x : Pulled). HasNoHeader x.answer) same without)
         either (inr lists) is same = inr (lists ∙ sym is)
-
-    goes_on_alike : (side : Side) (id : ℕ) (r : DecoderState) (pieces : List (List ℕ)) (ends : Bool) → IsBetween mid
-        → pull_stream side own id r (delivered new pieces ends) ≡ pull_stream side own id r (delivered old pieces ends)
-    goes_on_alike side id r pieces ends here =
-        let o = delivered old pieces ends in
-        let m = delivered mid pieces ends in
-        let there : frame_at (skipped (is_body old.place) (concat o.unread)) ≡ Whole f (concat m.unread) = found_there pieces in
-        let some = found_not_empty (is_body old.place) (concat o.unread) (concat m.unread) f there in
-        let place = place_passed old mid p in
-        begun_alike side own id r pieces ends mid new f mid.place here begins (subst (λ q. (is_body q && is_empty_data f) ≡ false) (sym place) some)
-        ∙ ap (λ q. at_frame side own id r side m q f) place
-        ∙ sym (between_frame side own id r o m f (passes_behind old mid pieces ends p) there
-        (ap (λ l. is_excessive own.choices.unfinished_limit (skipped (is_body old.place) l)) (concat-append old.unread pieces) ∙ small (concat pieces)))
-        ∙ sym (between_pull side own id r old pieces ends b)
