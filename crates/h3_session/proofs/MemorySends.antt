@@ -1,6 +1,7 @@
 -- A call of one of two endpoints that was refused memory.
-use Rattle.std.proofs.Common.{◌≡◌, ◌≢◌, ◌⊎◌, inl, inr, ℕ, ◌≤◌, ◌<◌, List, take, length, true, false, Option, Some, None, refl, ap, sym, subst}
+use Rattle.std.proofs.Common.{◌≡◌, ◌≢◌, ◌⊎◌, inl, inr, ℕ, ◌≤◌, ◌<◌, List, take, length, Bool, true, false, nat_le, arith, Option, Some, None, refl, ap, sym, subst}
 use Rattle.std.specs.Prelude.{Result, Ok, Err}
+use Rattle.std.proofs.lemmas.Bool.{leb-true, leb-false}
 use Rattle.h3_field.specs.Field.{Field}
 use Rattle.h3_header.specs.Head.{Head, head_fields}
 use Rattle.h3_proto.specs.declared.stream.Side.{Side}
@@ -91,10 +92,11 @@ record CutList (ends : Ends) (side : Side) (new : EndpointState) (id : ℕ) (fie
 
 -- only a list of so many fields may lack memory for a map
 is_long : (fields : List Field) (refused : Option Refusal) → (length fields ≤ 24576 → MayLackSize refused) → (MayLackSize refused → ⊥) → 24576 < length fields
-is_long fields refused short never = elim (least_or (length fields)) [ inl few ↦ absurd (never (short few)) | inr many ↦ many ]
+is_long fields refused short never = by (nat_le (length fields) 24576) refl
   where
-    least_or : (n : ℕ) → (n ≤ 24576) ⊎ (24576 < n)
-    least_or n = elim (cases_le n 24576) [ inl few ↦ inl few | inr many ↦ inr many ]
+    by : (b : Bool) → nat_le (length fields) 24576 ≡ b → 24576 < length fields
+    by true few = absurd (never (short (leb-true (length fields) 24576 few)))
+    by false many = omega (arith, leb-false (length fields) 24576 many)
 
 list_cut_off : (ends : Ends) (side : Side) (old new : EndpointState) (id : ℕ) (fields : List Field) (refused : Option Refusal) → MayLackMap refused → (length fields ≤ 24576 → MayLackSize refused)
     → left.CutsOff (end_at ends side) id fields new → (refused ≢ None → IsSame old new) → StandsFor old (end_at ends side) → CutList ends side new id fields refused

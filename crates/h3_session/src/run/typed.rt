@@ -5,6 +5,7 @@ ghost use Rattle.h3_field.specs.ReadBack.{IsFieldOfBytes};
 ghost use Rattle.h3_session.specs.Typed.{IsHeader, IsTyped};
 
 use h3_coding::varint::VarInt;
+use h3_field::HeaderField;
 use h3_header::Header;
 use h3_header::laws::every_header_reads_back;
 use h3_world::event::Event;
@@ -16,12 +17,18 @@ fn header_is_typed(head: &Header)
     every_header_reads_back(head);
 }
 
+fn fields_are_typed(fields: &[HeaderField])
+    ensures { AllByRecursion IsFieldOfBytes fields.now }
+{
+    for field in fields {
+        field.are_bytes();
+    }
+}
+
 fn list_is_typed(list: &FieldLines)
     ensures { AllByRecursion IsFieldOfBytes list.now }
 {
-    for field in list.fields() {
-        field.are_bytes();
-    }
+    fields_are_typed(list.fields());
 }
 
 fn number_is_typed(number: VarInt)
