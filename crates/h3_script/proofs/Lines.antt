@@ -114,7 +114,7 @@ short_number command (Some side) (Some number) =
     (bytes_eq command (codes "gone"), does.DeliverReset side number) ∷
     (bytes_eq command (codes "goaway"), does.Goaway side number) ∷
     []
-    ) (tt, (tt, (tt, (tt, (tt, (tt, (tt, tt)))))))
+    ) (tt, (tt, (tt, (tt, (tt, (tt, (tt, (tt, tt))))))))
 
 short_deliver : (command : List ℕ) (side : Option Side) (id count : Option ℕ) → IsShort (deliver_by command side id count)
 unfolding IsShort
