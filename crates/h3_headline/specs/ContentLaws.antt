@@ -10,6 +10,7 @@ use Rattle.std.proofs.lemmas.Grind.{flat_map-append}
 use Rattle.std.proofs.lemmas.List.Folds.{list_any-append}
 use Rattle.h3_world.specs.Sending.{appended}
 use Rattle.h3_headline.specs.Contents.{HasSameParts, Moves, contents, has_end, out, out_of, part_contents, piece_of}
+use Rattle.h3_headline.specs.Handing.{Begins}
 use Rattle.h3_headline.specs.Messages.{IsAllOf, IsFrontOf, MessageContent, Reader}
 use Rattle.h3_headline.specs.Messages.MessageContent.{Byte}
 
@@ -39,11 +40,6 @@ front_of_all r [] [] rest h = tt
 front_of_all r (c ∷ given) (d ∷ front) rest h = (h.0, front_of_all r given front rest h.1)
 front_of_all r [] (d ∷ front) rest h = absurd h
 front_of_all r (c ∷ given) [] rest h = absurd h
-
--- some contents are the beginning of others
-pub record Begins (front all : List MessageContent) : Type 0 where
-  pub rest : List MessageContent
-  pub is : all ≡ front ++ rest
 
 -- a piece of the body is a front of the next part
 piece_front : (n : ℕ) (bytes : List ℕ) → Begins (map Byte (take n bytes)) (map Byte bytes)

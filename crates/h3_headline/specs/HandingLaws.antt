@@ -19,6 +19,7 @@ use Rattle.h3_world.specs.Sound.{OutOfNext}
 use Rattle.h3_headline.specs.ContentLaws.{bytes_are, none_of_piece}
 use Rattle.h3_headline.specs.Contents.{Moves, contents, has_end, out, out_of, part_contents, piece_of}
 use Rattle.h3_headline.specs.FlowLaws.{same_number}
+use Rattle.h3_headline.specs.Handing.{GivesItem}
 use Rattle.h3_headline.specs.Messages.{IsAllOf, MessageContent, Reader, SectionKind, is_end_item, item_contents, listed_contents}
 use Rattle.h3_headline.specs.Messages.MessageContent.{Byte, Listed, Read}
 use Rattle.h3_headline.specs.Messages.SectionKind.{OfHead, OfInterim, OfTrailer}
@@ -81,11 +82,6 @@ part_out r f g part came given ending next over sent parts body rest is ends =
           ap (λ l. nat_lt 0 g.parts_out && is_end (slice_get l (g.parts_out - 1))) sent ∙ ap (λ n. nat_lt 0 n && is_end (slice_get f.sent (n - 1))) parts
           ∙ last_out f.parts_out f.sent part next (ends (ap (λ b. b || ending) (sym over) ∙ e));
     }
-
--- What an item hands out, as a pull or as one with lists: of a section it is the section, and else the same.
-pub record GivesItem (r : Reader) (part : Option Part) (i : Item) (given : List MessageContent) : Type 0 where
-  pub section : (k : SectionKind) (s : Section) → section_of_part part ≡ Some s → IsAllOf r (item_contents i) (Listed k s.fields ∷ []) → IsAllOf r given (Listed k s.fields ∷ [])
-  pub others : section_of_part part ≡ None → given ≡ item_contents i
 
 pub gives_itself : (r : Reader) (part : Option Part) (i : Item) → GivesItem r part i (item_contents i)
 gives_itself r part i = record { section = λ k s e h. h; others = λ e. refl }

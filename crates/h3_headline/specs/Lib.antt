@@ -20,6 +20,7 @@ pub mod EncoderStreamLaws
 pub mod FewLaws
 pub mod FlowLaws
 pub mod FrontLaws
+pub mod Handing
 pub mod HandingLaws
 pub mod HeadLaws
 pub mod InOrder

@@ -49,7 +49,8 @@ use Rattle.h3_headline.specs.ComingLaws.{sound_flow}
 use Rattle.h3_headline.specs.ContentLaws.{grows, stays}
 use Rattle.h3_headline.specs.Contents.{Goes, HasSameParts, KeepsParts, Moves, MovesBy, PullMoves, part_contents, reader_of}
 use Rattle.h3_headline.specs.FlowLaws.{flow-with_party, open_there, same_both, there-with_party}
-use Rattle.h3_headline.specs.HandingLaws.{GivesItem, gives_itself, gives_list, hands}
+use Rattle.h3_headline.specs.Handing.{GivesAs, GivesItem}
+use Rattle.h3_headline.specs.HandingLaws.{gives_itself, gives_list, hands}
 use Rattle.h3_headline.specs.KeepsPartsLaws.{flow_at, keeps_delivery, keeps_end, keeps_flows, keeps_given_up, keeps_reset, keeps_same, keeps_with_flow, keeps_with_party, same_flow}
 use Rattle.h3_headline.specs.Messages.{MessageContent, Reader, contents_of, head_content, is_end_item, is_end_of, is_on, reader_at}
 use Rattle.h3_headline.specs.Messages.MessageContent.{Byte, Listed}
@@ -220,12 +221,6 @@ reader_is setup Client Client id i e = cc
 reader_is setup Client Server id i e = refl
 reader_is setup Server Client id i e = refl
 reader_is setup Server Server id i e = cc
-
--- What an answer hands out: this of an item, and nothing where the pull does.
-pub record GivesAs (r : Reader) (part : Option Part) (p : Pull) (a : Answer) : Type 0 where
-  pub item : (i : Item) → p ≡ pull.Item i → GivesItem r part i (contents_of a)
-  pub nothing : contents_of (answer.Pulled p) ≡ [] → contents_of a ≡ []
-  pub ends : is_end_of a ≡ is_end_of (answer.Pulled p)
 
 is_item : (p : Pull) (i j : Item) → pull.Item i ≡ pull.Item j → i ≡ j
 is_item p i j e = ap item_in e
