@@ -1,12 +1,13 @@
 //! The peer's settings, and the table that they allow (RFC 9204, sections 3.2.3 and 4.3.1).
-ghost use Rattle.std.specs.Prelude.{◌≡◌, ◌+◌, ◌≤◌, None, vec_len, IfOk, OnErr};
+ghost use Rattle.std.specs.Prelude.{◌≡◌, ◌+◌, ◌≤◌, false, None, vec_len, IfOk, OnErr};
 ghost use Rattle.std.specs.Vec.{vec_capacity};
 ghost use Rattle.h3_connection.specs.KeptGoaways.{keeps_last, kept_found};
 ghost use Rattle.h3_connection.specs.PeerReading.{read_peer};
 ghost use Rattle.h3_unidirectional.specs.Fronts.{KeepsPart};
-ghost use Rattle.h3_streams.specs.Stopping.{Learns};
+ghost use Rattle.h3_connection.specs.StrictConnection.{settings_refused};
+ghost use Rattle.h3_streams.specs.Stopping.{Learns, found_first, settings_taken};
 
-use h3_proto::config::Choices;
+use h3_connection::setup::Announced;
 use h3_proto::error::Code;
 use h3_proto::stream::Side;
 use h3_qpack::reserved::{CAPACITY_LEN, put_capacity};
@@ -30,8 +31,19 @@ fn use_settings(peer: &PeerControl, encoding: &mut Encoding, out: &mut Vec<u8>)
     put_capacity(capacity, out);
 }
 
-/// Reads the peer's control stream by these choices, while its settings have not come. As soon as they are read, the table that they allow
-/// is used, and its capacity written on `out`. The room for that is taken before, so that no failed allocation comes between. The fault is
+/// Whether the settings came, and the endpoint does not take them.
+fn refuses(own: &Announced, side: Side, peer: &PeerControl) -> bool
+    ensures { result ≡ settings_refused side own.now peer.now.settings }
+{
+    match peer.settings() {
+        Some(settings) => own.refuses_settings(side, settings),
+        None => false,
+    }
+}
+
+/// Reads the peer's control stream by the choices of the endpoint, while its settings have not come. As soon as they are read, the table
+/// that they allow is used, and its capacity written on `out`. The room for that is taken before, so that no failed allocation comes
+/// between. Settings that the endpoint does not take are a fault, whatever comes after them, and nothing else is kept. Any other fault is
 /// that of the reading. If an allocation fails, the frames were read up to some place.
 #[tactic(auto, using(crate::proofs::Allowed::nothing_read))]
 pub(crate) fn read_first(
@@ -40,12 +52,13 @@ pub(crate) fn read_first(
     out: &mut Vec<u8>,
     alloc: Global,
     side: Side,
-    choices: Choices,
+    own: &Announced,
 ) -> Result<Option<Code>, AllocError>
     requires unknown { peer.old.settings ≡ None }
-    ensures ok { IfOk result (λ fault. kept_found (keeps_last choices) (read_peer choices.unfinished_limit side peer.old) ≡ (peer.new, fault)) }
-    ensures err { OnErr result (KeepsPart (keeps_last choices) choices.unfinished_limit side peer.old peer.new) }
-    ensures learns { Learns encoding.old encoding.new out.old.items out.new.items peer.new.settings }
+    ensures ok { IfOk result (λ fault. kept_found (keeps_last own.now.choices) (found_first side own.now (read_peer own.now.choices.unfinished_limit side peer.old)) ≡ (peer.new, fault)) }
+    ensures err { OnErr result (KeepsPart (keeps_last own.now.choices) own.now.choices.unfinished_limit side peer.old peer.new) }
+    ensures taken { OnErr result (settings_refused side own.now peer.new.settings ≡ false) }
+    ensures learns { Learns encoding.old encoding.new out.old.items out.new.items (settings_taken side own.now peer.new.settings) }
 {
     // (not reached: before the settings came nothing was inserted)
     if encoding.encoder().inserted() != 0 {
@@ -54,7 +67,11 @@ pub(crate) fn read_first(
     let Ok(()) = out.reserve(CAPACITY_LEN) else {
         return Err(AllocError);
     };
-    let outcome = peer.read(alloc, side, choices);
+    let outcome = peer.read(alloc, side, own.choices);
+    if refuses(own, side, peer) {
+        peer.keep_settings_alone(alloc);
+        return Ok(Some(Code::H3_SETTINGS_ERROR));
+    }
     use_settings(peer, encoding, out);
     outcome
 }

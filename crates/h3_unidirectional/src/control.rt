@@ -2,9 +2,11 @@
 ghost use Rattle.std.specs.Prelude.{◌≡◌, ◌+◌, ◌^◌, ◌<◌, ◌≤◌, ◌++◌, ℕ, List, [], length, Some, is_some, IfOk, IfErr, OnOk, OnErr, option_copied};
 ghost use Rattle.std.specs.List.{concat};
 ghost use Rattle.h3_proto.specs.declared.stream.Side.{Side};
+ghost use Rattle.h3_wire.specs.FirstFrames.{begins_other};
 ghost use Rattle.h3_wire.specs.Known.{refusal};
 ghost use Rattle.h3_wire.specs.UnknownSize.{held_length};
 ghost use Rattle.h3_connection.specs.Codes.{settings_code, refusal_code};
+ghost use Rattle.h3_connection.specs.Control.{settings_alone};
 ghost use Rattle.h3_connection.specs.KeptGoaways.{keeps_last, kept_found, kept_peer};
 ghost use Rattle.h3_connection.specs.Lasts.{last_id};
 ghost use Rattle.h3_connection.specs.PeerReading.{Peer, nothing_read, with_unread, is_no_goaway, read_goaway, read_max_push, read_frame, refused_code, read_peer};
@@ -163,6 +165,22 @@ impl PeerControl {
         ensures { concat result.now.pieces ≡ self.now.unread }
     {
         &self.unread
+    }
+
+    /// Whether those bytes begin with the whole head of a frame that is not SETTINGS (RFC 9114, section 6.2.1).
+    pub fn begins_other(&self) -> bool
+        ensures { result ≡ begins_other self.now.unread }
+    {
+        self.unread.begins_other()
+    }
+
+    /// The settings that came are not taken: all else that came is freed.
+    pub fn keep_settings_alone(&mut self, alloc: Global)
+        ensures { self.new ≡ settings_alone self.old.settings }
+    {
+        self.unread = FrameBuffer::new(alloc);
+        self.goaways.clear();
+        self.most_pushes = None;
     }
 
     /// More of the stream, which is kept until it is read. An `Err` changes nothing, and returns the bytes.

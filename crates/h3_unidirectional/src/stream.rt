@@ -49,7 +49,9 @@ pub enum Received {
     Decoder(Bytes),
     /// The stream is a push stream.
     Push,
-    /// For none: the bytes are of a session, which is pulled, or are thrown away, or tell no role yet.
+    /// The stream is one of this WebTransport session, of which the bytes are pulled.
+    Session(SessionId),
+    /// For none: the bytes are thrown away, or tell no role yet.
     Nothing,
 }
 
@@ -233,7 +235,7 @@ impl UnidirectionalStream {
     {
         match kind {
             Kind::Session(session) => match self.keep(session, bytes, passed) {
-                Ok(()) => Ok(Received::Nothing),
+                Ok(()) => Ok(Received::Session(session)),
                 Err(back) => Err(back),
             },
             Kind::Control => {
