@@ -11,8 +11,10 @@ use Rattle.h3_connection.specs.Endpoint.{EndpointHistory, limit_of}
 use Rattle.h3_connection.specs.PeerReading.{PeerFound, read_peer, with_unread}
 use Rattle.h3_connection.specs.StrictConnection.{is_strict, settings_refused, have_bad_value}
 use Rattle.h3_connection.specs.declared.setup.Announced.{Announced}
-use Rattle.h3_connection.proofs.FirstSettings.{FirstRead, Fails, HasHead, Nothing, Settings, head_stays, other_stays, what_first}
-use Rattle.h3_connection.proofs.PeerReadings.{settings_stay, then_peer}
+use Rattle.h3_connection.specs.FirstSettingsLaws.{FirstRead, Fails, HasHead, Nothing, Settings, head_stays, other_stays, what_first}
+use Rattle.h3_connection.specs.PeerReadingLaws.{settings_stay}
+use Rattle.h3_connection.specs.StrictConnectionLaws.{known_missed, known_refused}
+use Rattle.h3_connection.proofs.PeerReadings.{then_peer}
 use Rattle.h3_connection.proofs.Quiet.{quiet_taken}
 use Rattle.h3_connection.proofs.ReadingCuts.{Alike, alike_same, alike_as, frames_cut, frames_fault, frames_faults, frames_on_stay, frames_quiet, left_behind, nothing_learned, read_behind, read_frames, taken_leaves}
 
@@ -42,18 +44,10 @@ as_frames g a first taken = ap (λ m. by_tests g a m (refuses g a)) first ∙ ap
 not_missed : (e : EndpointHistory) → is_strict e.announced ≡ false → lacks_settings e ≡ false
 not_missed e off = ap (λ b. (b && is_none e.peer.settings) && begins_other e.peer.unread) off
 
-known_missed : (e : EndpointHistory) (pairs : List (ℕ × ℕ)) → e.peer.settings ≡ Some pairs → lacks_settings e ≡ false
-known_missed e pairs is =
-    ap (λ o. (is_strict e.announced && is_none o) && begins_other e.peer.unread) is
-    ∙ ap (λ b. b && begins_other e.peer.unread) (and_right (is_strict e.announced) false refl)
-
 not_refused : (e : EndpointHistory) (o q : Option (List (ℕ × ℕ))) → is_strict e.announced ≡ false → are_refused e o q ≡ false
 not_refused e None None off = refl
 not_refused e None (Some pairs) off = ap (λ b. b && have_bad_value e.side e.announced.settings pairs) off
 not_refused e (Some known) q off = refl
-
-known_refused : (e : EndpointHistory) (o q : Option (List (ℕ × ℕ))) (pairs : List (ℕ × ℕ)) → o ≡ Some pairs → are_refused e o q ≡ false
-known_refused e o q pairs is = ap (λ x. are_refused e x q) is
 
 none_refused : (e : EndpointHistory) (o q : Option (List (ℕ × ℕ))) → q ≡ None → are_refused e o q ≡ false
 none_refused e None q is = ap (settings_refused e.side e.announced) is
@@ -149,7 +143,7 @@ module _ (g : EndpointHistory) (a b : List ℕ) where
   F_own : F.announced ≡ g.announced
   F_own = (quiet_taken g (found_of g a)).announced
 
-  pub frames_alike : (read_frames g a).1 ≡ None → refuses g a ≡ false → Passes g a b → Alike IsSame (read_control g (a ++ b)) (read_control F b)
+  frames_alike : (read_frames g a).1 ≡ None → refuses g a ≡ false → Passes g a b → Alike IsSame (read_control g (a ++ b)) (read_control F b)
   frames_alike none taken (Off off) =
       let off_there : is_strict F.announced ≡ false = ap is_strict F_own ∙ off in
       alike_as IsSame _ _ _ _

@@ -21,7 +21,6 @@ pub mod UnknownFrames
 pub mod UnknownDelivered
 pub mod RoleCuts
 pub mod ReadingCuts
-pub mod FirstSettings
 pub mod ControlCuts
 pub mod DeliveryCuts
 pub mod PullCuts

@@ -8,7 +8,8 @@ use Rattle.h3_connection.specs.Codes.{encoder_stream_error, decoder_stream_error
 use Rattle.h3_connection.specs.declared.setup.Announced.{Announced}
 use Rattle.h3_connection.specs.Endpoint.{EndpointHistory, limit_of, replied}
 use Rattle.h3_connection.specs.PeerReading.{Peer, PeerFound, with_unread, read_peer}
-use Rattle.h3_connection.proofs.PeerReadings.{then_peer, peer_more, settings_stay}
+use Rattle.h3_connection.specs.PeerReadingLaws.{settings_stay}
+use Rattle.h3_connection.proofs.PeerReadings.{then_peer, peer_more}
 use Rattle.h3_connection.specs.Listeners.{fault_if, heard_more, hearing_fault, listening_fault, after_hearing, insertions_heard}
 use Rattle.h3_connection.specs.ExcessiveInstructions.{exceeds, hear_up_to, listen_up_to, heard_up_to_with, listened_up_to_with}
 use Rattle.h3_connection.specs.LimitedHearingLaws.{hear_cut, hears_no_longer}

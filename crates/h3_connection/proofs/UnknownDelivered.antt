@@ -9,7 +9,7 @@ use Rattle.h3_connection.specs.StreamSets.{stream_at, set_stream}
 use Rattle.h3_connection.specs.StreamSetLaws.{set-set, set-same}
 use Rattle.h3_connection.specs.Endpoint.{EndpointHistory, limit_of, kind_of, replied, heads_waiting}
 use Rattle.h3_connection.specs.Endpoint.Kind.{Request}
-use Rattle.h3_connection.specs.PeerReading.{Peer, with_unread, read_peer}
+use Rattle.h3_connection.specs.PeerReading.{Peer, PeerFound, with_unread, read_peer}
 use Rattle.h3_connection.specs.PeerReadingLaws.{nothing_read_on}
 use Rattle.h3_connection.proofs.PeerReadings.{peer_known}
 use Rattle.h3_wire.specs.FirstFrames.{begins_other}

@@ -5,13 +5,11 @@ use Rattle.h3_qpack.specs.EncoderHistory.{EncoderHistory}
 use Rattle.h3_qpack.specs.EncoderState.{encoder_state}
 use Rattle.h3_qpack.specs.Increments.{increment_for}
 use Rattle.h3_connection.specs.declared.arrival.Arrival.{Arrival}
-use Rattle.h3_connection.specs.Codes.{settings_error}
-use Rattle.h3_connection.specs.Control.{settings_alone, then_decoder}
+use Rattle.h3_connection.specs.Control.{then_decoder}
 use Rattle.h3_connection.specs.Endpoint.{EndpointHistory, kind_of}
 use Rattle.h3_connection.specs.Endpoint.Kind.{PeerUnidirectional}
 use Rattle.h3_connection.specs.Listeners.{Decoding, Encoding, Listens}
 use Rattle.h3_connection.specs.PartReading.{HearsPart, early_if}
-use Rattle.h3_connection.specs.PeerReading.{PeerFound}
 use Rattle.h3_connection.specs.State.{EndpointState, StandsFor}
 use Rattle.h3_connection.specs.StrictConnection.{settings_refused}
 use Rattle.h3_connection.specs.declared.setup.Announced.{Announced}
@@ -37,10 +35,6 @@ ListensIf most false bytes old new fault = (new ≡ record old { unread = old.un
 abbrev pub ListenedPart : ℕ → Stop → Bool → List ℕ → Encoding → Encoding → Type 0
 ListenedPart most (Unheld back) known bytes old new = (back ≡ bytes) × (new ≡ old)
 ListenedPart most Held known bytes old new = (known ≡ true) × ((s : EncoderHistory) → old.encoder ≡ encoder_state s → StopsListening most s (record old { unread = old.unread ++ bytes }) new)
-
--- what is found of the first frames: of settings that are refused nothing else is kept
-abbrev pub found_first : Side → Announced → PeerFound → PeerFound
-found_first side own found = if settings_refused side own found.0.settings then (settings_alone found.0.settings, Some settings_error) else found
 
 -- the settings that are used
 abbrev pub settings_taken : Side → Announced → Option (List (ℕ × ℕ)) → Option (List (ℕ × ℕ))

@@ -160,14 +160,7 @@ impl ConnectionStreams {
             return Ok(Some(Code::H3_MISSING_SETTINGS));
         }
         let out = self.own.encoder.bytes_mut();
-        match read_first(
-            &mut self.peer,
-            &mut self.encoding,
-            out,
-            alloc,
-            side,
-            own,
-        ) {
+        match read_first(&mut self.peer, &mut self.encoding, out, alloc, side, own) {
             Ok(Some(code)) => Ok(Some(code)),
             Ok(None) => self.early_replies(own),
             Err(_) => Err(Left {

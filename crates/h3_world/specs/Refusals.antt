@@ -28,13 +28,17 @@ open_refusal setup w side = refusal_to_open side (last_id (goaways_came setup w 
 abbrev pub seen_at : World → Side → ℕ → SenderStream
 seen_at w side id = seen (is_open w side id) (outgoing_of (flow w side id))
 
+-- the GOAWAY after which the side begins no message, if it asks for a strict connection (RFC 9114, section 5.2)
+abbrev pub none_after : Setup → World → Side → Option ℕ
+none_after setup w side = begins_none_after (announced_at setup side) side (last_id (goaways_came setup w (other side)))
+
 abbrev pub sender_at : Setup → World → Side → ℕ → Sender
 sender_at setup w side id =
     record {
       side = side;
       stream = seen_at w side id;
       settings = settings_known setup w side;
-      going = begins_none_after (announced_at setup side) side (last_id (goaways_came setup w (other side)));
+      going = none_after setup w side;
     }
 
 abbrev pub head_refusal : Setup → World → Side → ℕ → Head → Option Refusal

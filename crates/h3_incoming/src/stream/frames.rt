@@ -7,7 +7,7 @@ ghost use Rattle.h3_qpack.specs.DecoderState.{DecoderState};
 ghost use Rattle.h3_connection.specs.Codes.{excessive_load, refusal_code};
 ghost use Rattle.h3_connection.specs.declared.event.Fault.TheVariants.{Connection};
 ghost use Rattle.h3_connection.specs.declared.event.Pull.TheVariants as pull;
-ghost use Rattle.h3_connection.specs.Pulling.{at_session, is_memory, next_frame, between_frames};
+ghost use Rattle.h3_connection.specs.Pulling.{at_session, is_memory, just, next_frame, between_frames};
 ghost use Rattle.h3_incoming.specs.Answering.{Lists};
 ghost use Rattle.h3_incoming.specs.Coming.{fields_next};
 ghost use Rattle.h3_incoming.specs.Gives.{Gives};
@@ -93,8 +93,8 @@ impl IncomingStream {
 
     // A session begins, unless its id is that of no request stream and the endpoint asks for that.
     fn begin_session<O: Answer>(&mut self, announced: &Announced, session: SessionId, out: &mut O)
-        ensures stream { self.new ≡ (at_session announced.now self.old session).incoming }
-        ensures is { O.told out.new ≡ (at_session announced.now self.old session).answer }
+        ensures is { at_session announced.now self.old session ≡ just (O.told out.new) self.new }
+        ensures told { is_memory (O.told out.new) ≡ false }
         ensures none { O.listed out.new ≡ None }
     {
         if announced.is_no_session(session.into_inner()) {

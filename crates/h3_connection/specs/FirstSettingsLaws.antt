@@ -18,8 +18,7 @@ use Rattle.h3_wire.specs.KnownLaws.{known-other}
 use Rattle.h3_wire.specs.declared.proto.frame.FrameError.{FrameError}
 use Rattle.h3_wire.specs.declared.proto.frame.Frame.TheVariants as frame
 use Rattle.h3_connection.specs.PeerReading.{Peer, PeerFound, with_unread, read_frame, refused_code, unless_fault, at_front, read_peer}
-use Rattle.h3_connection.specs.PeerReadingLaws.{step_excessive, step_within}
-use Rattle.h3_connection.proofs.PeerReadings.{settings_stay}
+use Rattle.h3_connection.specs.PeerReadingLaws.{settings_stay, step_excessive, step_within}
 
 -- No frame's head is whole: nothing is known of it.
 pub record NoHead (bytes : List ℕ) : Type 0 where
@@ -156,3 +155,12 @@ what_first limit side p none first = elim (cases_head p.unread) [
     by_length_said h (Bad e is) false small =
         let found = refused limit side p e (known_front p.unread (Bad e is)) is small in
         Fails h _ (ap (λ (y : PeerFound). y.1) found) (ap (λ (y : PeerFound). y.0.settings) found ∙ none)
+
+-- Where no settings came from what did not begin with another frame, the same stands there still.
+pub first_still : (limit : ℕ) (side : Side) (p q : Peer) → p.settings ≡ None → begins_other p.unread ≡ false → read_peer limit side p ≡ (q, None) → q.settings ≡ None → q ≡ p
+first_still limit side p q none first read unknown = by_first (what_first limit side p none first)
+  where
+    by_first : FirstRead limit side p → q ≡ p
+    by_first (Nothing is) = ap (λ (x : PeerFound). x.0) (sym read ∙ is)
+    by_first (Settings h pairs came) = let wrong : Some pairs ≡ None = sym came ∙ ap (λ (x : PeerFound). x.0.settings) read ∙ unknown in absurd (cc)
+    by_first (Fails h code fault lacks) = let wrong : Some code ≡ None = sym fault ∙ ap (λ (x : PeerFound). x.1) read in absurd (cc)
