@@ -118,6 +118,23 @@ sized_rest None true b p q rest is = absurd (cc)
 sized_rest None false true p q rest is = absurd (cc)
 sized_rest None false false p q rest is = refl
 
+-- the same of a head, with the GOAWAY behind its place
+going_first : (closed : Option ℕ) (a b : Bool) (p q : Refusal) (going : Option ℕ) (rest : List (Bool × Refusal)) (r : Refusal)
+    → closed_or closed (first_of ((a, p) ∷ (b, q) ∷ unless_going going [])) ≡ Some r → closed_or closed (first_of ((a, p) ∷ (b, q) ∷ unless_going going rest)) ≡ Some r
+going_first (Some code) a b p q going rest r is = is
+going_first None true b p q going rest r is = is
+going_first None false true p q going rest r is = is
+going_first None false false p q (Some id) rest r is = is
+going_first None false false p q None rest r is = absurd (cc)
+
+going_rest : (closed : Option ℕ) (a b : Bool) (p q : Refusal) (going : Option ℕ) (rest : List (Bool × Refusal))
+    → closed_or closed (first_of ((a, p) ∷ (b, q) ∷ unless_going going [])) ≡ None → closed_or closed (first_of ((a, p) ∷ (b, q) ∷ unless_going going rest)) ≡ first_of rest
+going_rest (Some code) a b p q going rest is = absurd (cc)
+going_rest None true b p q going rest is = absurd (cc)
+going_rest None false true p q going rest is = absurd (cc)
+going_rest None false false p q (Some id) rest is = absurd (cc)
+going_rest None false false p q None rest is = refl
+
 abbrev is_no_memory : FieldsError → Bool
 is_no_memory (error.Refused refusal.OutOfMemory) = true
 is_no_memory (error.Refused _) = false
@@ -260,14 +277,14 @@ module _ (s : EndpointState) (id : ℕ) (fields : List Field) where
   head_first : (r : HeadRead) (e : EndpointHistory) (x : Refusal) → place_refusal e id ≡ Some x → send_read_head e id fields r ≡ (Some (error.Refused x), e)
   head_first (IsHead head) e x is =
       ap (λ o. as_error (does o e (after_head e id head fields)))
-      (sized_first e.closed (not (is_open e id)) (not (takes_head (outgoing_at e id))) refusal.NotOpen refusal.OutOfOrder
-      (first_of (unless_malformed (broken_protocol e.announced head) (sides e head))) x is)
+      (going_first e.closed (not (is_open e id)) (not (takes_head (outgoing_at e id))) refusal.NotOpen refusal.OutOfOrder (sender_at e id).going
+      (unless_malformed (broken_protocol e.announced head) (sides e head)) x is)
       ∙ ap (λ t. (Some t, e)) (plain_head e.closed (not (is_open e id)) (not (takes_head (outgoing_at e id))) (sender_at e id).going x is)
   head_first (IsNone why) e x is = ap (λ o. (Some (error_after o (malformed why)), e)) is
 
   head_behind : (e : EndpointHistory) (head : Head) → place_refusal e id ≡ None
       → listed_head_refusal e id head fields ≡ first_of (unless_malformed (broken_protocol e.announced head) (sides e head))
-  head_behind e head is = sized_rest e.closed (not (is_open e id)) (not (takes_head (outgoing_at e id))) refusal.NotOpen refusal.OutOfOrder _ is
+  head_behind e head is = going_rest e.closed (not (is_open e id)) (not (takes_head (outgoing_at e id))) refusal.NotOpen refusal.OutOfOrder (sender_at e id).going (unless_malformed (broken_protocol e.announced head) (sides e head)) is
 
   head_begins : (r : HeadRead) (later : FieldsError) → IsTakenBy r → (later ≢ no_memory → head_list_error s.side r ≡ Some later) → (later ≡ no_memory → 24576 < length fields)
       → Begins (λ e. send_read_head e id fields r) (λ e. place_refusal e id) s id fields later

@@ -36,4 +36,4 @@ returns-in-Err-Proto-clause-ok c =
     rw (sym c.self.view_is, c.reserve.ensures.items, c.refused.ensures, c.in-Err-Proto.e-is) (peer_refused _ _ _ _ _ (sym c.is_excessive.ensures ∙ c.if-is_excessive.false) gives.0 gives.1)
 
 pub returns-in-Err : goal.returns-in-Err
-returns-in-Err c = record { ok = tt; refused = rw (sym c.self.view_is) (refused_front _ _ _ _ _ _ c.reserve.ensures.items c.in-Err.ensures.gives) }
+returns-in-Err c = record { ok = tt; refused = rw (sym c.self.view_is) (refused_front _ _ _ _ _ _ c.reserve.ensures.items c.in-Err.ensures.gives); first = λ none. tt; unknown = rw (sym c.self.view_is) refl }
