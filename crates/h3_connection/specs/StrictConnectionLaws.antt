@@ -12,7 +12,7 @@ use Rattle.h3_connection.specs.Codes.{id_error, missing_settings, settings_error
 use Rattle.h3_connection.specs.Control.{are_refused, after_peer, holding, if_learned, lacks_settings, read_control, read_held, settings_alone, taken_peer, then_decoder}
 use Rattle.h3_connection.specs.Endpoint.{EndpointHistory, limit_of}
 use Rattle.h3_connection.specs.Incoming.{Incoming}
-use Rattle.h3_connection.specs.FirstSettingsLaws.{first_still}
+use Rattle.h3_connection.specs.FirstSettingsLaws.{first_still, other_stays}
 use Rattle.h3_connection.specs.PeerReading.{Peer, PeerFound, read_peer, with_unread}
 use Rattle.h3_connection.specs.PeerReadingLaws.{nothing_read_on}
 use Rattle.h3_connection.specs.Pulling.{at_session, just, connection_fault}
@@ -96,6 +96,23 @@ known_refused e o q pairs is = ap (λ x. are_refused e x q) is
 pub same_taken : (e : EndpointHistory) (o : Option (List (ℕ × ℕ))) → are_refused e o o ≡ false
 same_taken e None = refl
 same_taken e (Some pairs) = refl
+
+-- it looks at what the endpoint chose alone
+pub refused_alike : (e f : EndpointHistory) (o after : Option (List (ℕ × ℕ))) → e.side ≡ f.side → e.announced ≡ f.announced → are_refused e o after ≡ are_refused f o after
+refused_alike e f None after side own = ap (λ t. settings_refused t e.announced after) side ∙ ap (λ a. settings_refused f.side a after) own
+refused_alike e f (Some pairs) after side own = refl
+
+-- and the first one at no front where not at the whole
+pub front_missed : (e : EndpointHistory) (front rest : List ℕ) → e.peer.unread ≡ front ++ rest → lacks_settings e ≡ false → lacks_settings (record e { peer = with_unread e.peer front }) ≡ false
+front_missed e front rest cut first = by_front (begins_other front) refl
+  where
+    awaits : Bool
+    awaits = is_strict e.announced && is_none e.peer.settings
+
+    by_front : (b : Bool) → begins_other front ≡ b → (awaits && begins_other front) ≡ false
+    by_front false other = ap (λ b. awaits && b) other ∙ and_right awaits false refl
+    by_front true other =
+        ap (λ b. awaits && b) (other ∙ sym (other_stays front rest other)) ∙ ap (λ l. awaits && begins_other l) (sym cut) ∙ first
 
 nothing_learned : (o : Option (List (ℕ × ℕ))) (e : EndpointHistory) → then_decoder o o (if_learned o o e) None ≡ (e, None)
 nothing_learned None e = refl

@@ -9,6 +9,7 @@ use Rattle.h3_connection.specs.ExcessiveInstructions.{listen_up_to}
 use Rattle.h3_connection.specs.Incoming.{Incoming}
 use Rattle.h3_connection.specs.PeerReading.{Peer, PeerFound, with_unread, read_peer}
 use Rattle.h3_connection.specs.StreamSets.{Streams}
+use Rattle.h3_connection.specs.StrictConnectionLaws.{refused_alike}
 use Rattle.h3_memory.specs.Kept.{Delivery}
 use Rattle.h3_memory.specs.Keeping.{Held, ahead}
 
@@ -112,4 +113,7 @@ module _ (mine : List Delivery) (incoming : Streams Incoming) (kept : List Arriv
       by_missing : (b : Bool) → if◌then◌else◌ {A = Found} b (record f { peer = all.peer }, Some missing_settings) (after_peer (record f { peer = all.peer }) found)
           ≡ over held_then (if◌then◌else◌ {A = Found} b (all, Some missing_settings) (after_peer all found))
       by_missing true = ap (λ e. (e, Some missing_settings)) (peer_with_none behind held all.peer)
-      by_missing false = by_refused (are_refused all behind.peer.settings found.0.settings)
+      by_missing false =
+          ap (λ b. if◌then◌else◌ {A = Found} b (record f { peer = settings_alone all.peer found.0.settings }, Some settings_error) (taken_peer f found))
+          (refused_alike (record f { peer = all.peer }) all behind.peer.settings found.0.settings refl refl)
+          ∙ by_refused (are_refused all behind.peer.settings found.0.settings)

@@ -47,6 +47,16 @@ const MANY_FIELDS: usize = 64;
 /// No section of so many bytes fits into memory.
 const SIZE_LIMIT: u64 = 1 << 62;
 
+/// The one that comes first.
+fn first_refusal(first: Option<Refusal>, later: Option<Refusal>) -> Option<Refusal>
+    ensures { result ≡ or_later first later }
+{
+    match first {
+        Some(refusal) => Some(refusal),
+        None => later,
+    }
+}
+
 impl Endpoint {
     /// Sends a header section on a stream: an encoded field section in a HEADERS frame (RFC 9114, section 4.3), and its insertions on the
     /// encoder stream. One with a status from 100 to 199 is not the last one. Refused are first every call after a connection fault, then a
@@ -75,6 +85,7 @@ impl Endpoint {
 
     // Room for the frame of a header section on a stream that takes one, unless the peer is going away or `later` refuses it. The streams are
     // found as they were.
+    #[tactic(auto, using(crate::proofs::SendingRefusals::later_twice))]
     pub(super) fn reserve_head(
         &mut self,
         id: StreamId,
@@ -86,10 +97,7 @@ impl Endpoint {
         ensures why { IfErr result (λ r. r ≡ unwrap_or (or_later (head_refused_in self.old id) later) OutOfMemory) }
         ensures same { AllSame self.old.requests self.new.requests }
     {
-        let behind = match self.going_refusal() {
-            Some(refusal) => Some(refusal),
-            None => later,
-        };
+        let behind = first_refusal(self.going_refusal(), later);
         self.requests.reserve_head(id, behind)
     }
 
