@@ -148,7 +148,7 @@ stay_front side p pairs bytes (Unknown kind rest) go h later = h
 stay_front side p pairs bytes (Refused e) go h later = h
 stay_front side p pairs bytes (Unfinished least) go h later = h
 
-stay_within : (n limit : ℕ) (side : Side) (p : Peer) (pairs : List (ℕ × ℕ)) → p.settings ≡ Some pairs → (read_within n limit side p).0.settings ≡ Some pairs
+pub stay_within : (n limit : ℕ) (side : Side) (p : Peer) (pairs : List (ℕ × ℕ)) → p.settings ≡ Some pairs → (read_within n limit side p).0.settings ≡ Some pairs
 stay_within zero limit side p pairs h = h
 stay_within (suc n) limit side p pairs h =
     settings_if (is_excessive limit (known p.unread)) _ _ (Some pairs) h
