@@ -1,7 +1,7 @@
 -- A pull of any stream: it judges a message, or is answered as without strict messages.
 use Rattle.std.proofs.Common.{arith, ◌≡◌, ◌≤◌, ℕ, Bool, true, false, if◌then◌else◌, List, [], ◌∷◌, refl, ap, sym, ◌∙◌, subst, Option, Some, None}
 use Rattle.std.proofs.lemmas.Bool.{le-ltb}
-use Rattle.std.specs.Prelude.{◌||◌, is_some, nat_lt, option_map}
+use Rattle.std.specs.Prelude.{◌==◌, ◌&&◌, ◌||◌, is_some, nat_lt, option_map}
 use Rattle.h3_proto.specs.Config.{is_limit}
 use Rattle.h3_connection.specs.Codes.{excessive_load, frame_unexpected}
 use Rattle.h3_connection.specs.declared.arrival.Arrival.{Arrival}
