@@ -1,6 +1,6 @@
 -- The first frame of a control stream, and what follows if the endpoint takes the settings that it brings.
-use Rattle.std.proofs.Common.{◌≡◌, ℕ, ◌<◌, Bool, true, false, if◌then◌else◌, List, [], ◌∷◌, ◌++◌, append-nil, Option, Some, None, refl, ap, sym, ◌∙◌, subst}
-use Rattle.std.specs.Prelude.{is_some}
+use Rattle.std.proofs.Common.{◌≡◌, ℕ, ◌<◌, Bool, true, false, if◌then◌else◌, List, [], ◌∷◌, ◌++◌, append-nil, Option, Some, None, Result, Ok, Err, refl, ap, sym, ◌∙◌, subst}
+use Rattle.std.specs.Prelude.{IfOk, OnErr, is_some}
 use Rattle.h3_proto.specs.declared.stream.Side.{Side}
 use Rattle.h3_wire.specs.declared.proto.frame.PayloadLen.{PayloadLen}
 use Rattle.h3_wire.specs.declared.proto.frame.Frame.{Frame}
@@ -128,3 +128,18 @@ module _ (side : Side) (own : Announced) (old : Peer) where
       let same : new.settings ≡ k.settings =
       sym (ap (λ (x : PeerFound). x.0.settings) read) ∙ settings_stay limit side (with_unread k front) s.0 s.1 ∙ sym s.1 in
       ap (settings_refused side own) same ∙ good
+
+  -- the same of what the rest was answered by
+  pub ok_after : {E : Type 0} (r : Result (Option ℕ) E) (m k new : Peer) → ReadsFront limit side old m → is_some m.settings ≡ true → k ≡ kept_peer last m → settings_refused side own k.settings ≡ false
+      → IfOk r (λ fault. kept_found last (read_peer limit side k) ≡ (new, fault)) → IfOk r (λ fault. kept_found last (found_first side own old (read_peer limit side old)) ≡ (new, fault))
+  ok_after (Ok fault) m k new front some kept good read = read_after m k new fault front some kept good read
+  ok_after (Err e) m k new front some kept good read = tt
+
+  pub err_after : {A E : Type 0} (r : Result A E) (m k new : Peer) → ReadsFront limit side old m → k ≡ kept_peer last m → OnErr r (KeepsOn last limit side k new) → OnErr r (KeepsPart last limit side old new)
+  err_after (Ok value) m k new front kept on = tt
+  err_after (Err e) m k new front kept on = part_after m k new front kept on
+
+  pub err_taken : {A E : Type 0} (r : Result A E) (m k new : Peer) → is_some m.settings ≡ true → k ≡ kept_peer last m → settings_refused side own k.settings ≡ false → OnErr r (KeepsOn last limit side k new)
+      → OnErr r (settings_refused side own new.settings ≡ false)
+  err_taken (Ok value) m k new some kept good on = tt
+  err_taken (Err e) m k new some kept good on = taken_after m k new some kept good on
