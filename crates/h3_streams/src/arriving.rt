@@ -17,7 +17,6 @@ use h3_connection::arrival::MOST_HELD;
 use h3_connection::setup::Announced;
 use h3_proto::error::Code;
 use h3_proto::stream::{Side, StreamId};
-use h3_proto::webtransport::SessionId;
 use h3_unidirectional::stream::Received;
 use std::alloc::{AllocError, Global};
 
@@ -42,10 +41,10 @@ fn push_fault(side: Side) -> Code
 }
 
 /// The fault of a stream of this session: if the endpoint asks for a strict connection, its id is that of a request stream.
-fn session_fault(own: &Announced, session: SessionId) -> Option<Code>
+fn session_fault(own: &Announced, session: u64) -> Option<Code>
     ensures { result ≡ session_fault own.now session }
 {
-    if own.is_no_session(session.into_inner()) {
+    if own.is_no_session(session) {
         return Some(Code::H3_ID_ERROR);
     }
     None

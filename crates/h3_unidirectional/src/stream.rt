@@ -49,8 +49,8 @@ pub enum Received {
     Decoder(Bytes),
     /// The stream is a push stream.
     Push,
-    /// The stream is one of this WebTransport session, of which the bytes are pulled.
-    Session(SessionId),
+    /// The stream is one of the WebTransport session with this id, and its bytes are pulled.
+    Session(u64),
     /// For none: the bytes are thrown away, or tell no role yet.
     Nothing,
 }
@@ -235,7 +235,7 @@ impl UnidirectionalStream {
     {
         match kind {
             Kind::Session(session) => match self.keep(session, bytes, passed) {
-                Ok(()) => Ok(Received::Session(session)),
+                Ok(()) => Ok(Received::Session(session.into_inner())),
                 Err(back) => Err(back),
             },
             Kind::Control => {
