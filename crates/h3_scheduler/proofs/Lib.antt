@@ -1,0 +1,4 @@
+pub mod LeastOfTwo
+pub mod Found
+pub mod Places
+pub mod Turning

@@ -1,0 +1,6 @@
+pub mod Least
+pub mod Rounds
+pub mod Standing
+pub mod Streams
+pub mod Schedule
+pub mod Calls
