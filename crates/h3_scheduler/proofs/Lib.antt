@@ -2,3 +2,6 @@ pub mod LeastOfTwo
 pub mod Found
 pub mod Places
 pub mod Turning
+pub mod Bounds
+pub mod ThirdTurn
+pub mod NextStands

@@ -88,22 +88,22 @@ class_here e u h = go (stands e.1) h
     go true level = ap (λ b. b && alike e.1.priority.incremental e.1.priority.incremental) level ∙ alike_itself e.1.priority.incremental
     go false level = absurd (cc)
 
-class_there : (e : ℕ × Stream) (u : ℕ) (kind : Bool) → stands_as u kind e ≡ true → (stands e.1 && (urgency_of e == u)) ≡ true
+pub class_there : (e : ℕ × Stream) (u : ℕ) (kind : Bool) → stands_as u kind e ≡ true → (stands e.1 && (urgency_of e == u)) ≡ true
 class_there e u kind h = go (stands e.1) h
   where
     go : (b : Bool) → is_class (if b then Some e.1.priority else None) u kind ≡ true → (b && (urgency_of e == u)) ≡ true
     go true level = (and_parts (urgency_of e == u) (alike e.1.priority.incremental kind) level).0
     go false level = absurd (cc)
 
-either_one : (a b : Bool) → a ≡ true → (a || b) ≡ true
+pub either_one : (a b : Bool) → a ≡ true → (a || b) ≡ true
 either_one true b is = refl
 either_one false b is = absurd (cc)
 
-either_other : (a b : Bool) → b ≡ true → (a || b) ≡ true
+pub either_other : (a b : Bool) → b ≡ true → (a || b) ≡ true
 either_other true b is = refl
 either_other false b is = is
 
-some_at : (u : ℕ) (es : Streams) → any_by urgency_of (λ e. stands e.1) es u ≡ true → (kind : Bool) × (q : ℕ) × (any_by id_of (stands_as u kind) es q ≡ true)
+pub some_at : (u : ℕ) (es : Streams) → any_by urgency_of (λ e. stands e.1) es u ≡ true → (kind : Bool) × (q : ℕ) × (any_by id_of (stands_as u kind) es q ≡ true)
 some_at u [] h = absurd (cc)
 some_at u (e ∷ es) h = elim (or_cases (stands e.1 && (urgency_of e == u)) (any_by urgency_of (λ s. stands s.1) es u) h) [
   | inl here ↦ (

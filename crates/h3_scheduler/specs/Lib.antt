@@ -4,3 +4,4 @@ pub mod Standing
 pub mod Streams
 pub mod Schedule
 pub mod Calls
+pub mod Next

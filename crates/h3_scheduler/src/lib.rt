@@ -1,6 +1,7 @@
 //! Which stream sends next (RFC 9218, section 10).
 #![tactic(auto)]
 
+pub mod laws;
 mod lesser;
 mod round;
 pub mod scheduler;

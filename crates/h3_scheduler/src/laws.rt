@@ -1,0 +1,23 @@
+//! What holds of which stream sends next. These functions do nothing: their contracts are the laws.
+ghost use Rattle.std.specs.Prelude.{◌≤◌, ◌<◌, ℕ, List, length};
+ghost use Rattle.h3_scheduler.specs.Calls.{Call, turns_in, Waits};
+ghost use Rattle.h3_scheduler.specs.Next.{AreDefault, IsLowest, IsMostUrgent};
+ghost use Rattle.h3_scheduler.specs.Schedule.{next, Schedule};
+
+/// Nobody starves: while a stream waits for its turn, whatever is called, and those of its urgency send in their turns, none of these has a
+/// third turn. So it is also if streams come again and again.
+#[tactic(auto, using(crate::proofs::ThirdTurn::two_at_most))]
+pub fn none_has_a_third_turn()
+    ensures { (urgency waiting id : ℕ) (s : Schedule) (calls : List Call) → urgency < length s.rounds → Waits urgency waiting s calls
+        → turns_in urgency id s calls ≤ 2 }
+{}
+
+/// The stream that sends next has something to send and is not held, and none such is more urgent. If there is one, one sends next.
+pub fn the_next_is_most_urgent()
+    ensures { (s : Schedule) → IsMostUrgent s.streams (next s) }
+{}
+
+/// If nothing is said of any priority, the stream with the lowest id sends next, of those that have something to send and are not held.
+pub fn the_lowest_id_is_next_without_priorities()
+    ensures { (s : Schedule) → AreDefault s.streams → IsLowest s.streams (next s) }
+{}
