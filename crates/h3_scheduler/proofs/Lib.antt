@@ -5,3 +5,4 @@ pub mod Turning
 pub mod Bounds
 pub mod ThirdTurn
 pub mod NextStands
+pub mod RowsHold

@@ -5,3 +5,5 @@ pub mod Streams
 pub mod Schedule
 pub mod Calls
 pub mod Next
+pub mod Turning
+pub mod Rows

@@ -2,6 +2,7 @@
 ghost use Rattle.std.specs.Prelude.{◌≤◌, ◌<◌, ℕ, List, length};
 ghost use Rattle.h3_scheduler.specs.Calls.{Call, turns_in, Waits};
 ghost use Rattle.h3_scheduler.specs.Next.{AreDefault, IsLowest, IsMostUrgent};
+ghost use Rattle.h3_scheduler.specs.Rows.{RowsHold};
 ghost use Rattle.h3_scheduler.specs.Schedule.{next, Schedule};
 
 /// Nobody starves: while a stream waits for its turn, whatever is called, and those of its urgency send in their turns, none of these has a
@@ -20,4 +21,10 @@ pub fn the_next_is_most_urgent()
 /// If nothing is said of any priority, the stream with the lowest id sends next, of those that have something to send and are not held.
 pub fn the_lowest_id_is_next_without_priorities()
     ensures { (s : Schedule) → AreDefault s.streams → IsLowest s.streams (next s) }
+{}
+
+/// Worked rows.
+#[tactic(auto, using(crate::proofs::RowsHold::rows_hold))]
+pub fn rows_hold()
+    ensures { RowsHold }
 {}
