@@ -8,7 +8,7 @@ use Rattle.std.proofs.lemmas.Grind.{common_steps}
 use Rattle.std.proofs.lemmas.Bool.{and_parts, cases_lt, eqb-true, eq-eqb, le-leb, lt-leb, le-ltb, or_cases, true≢false}
 use Rattle.h3_scheduler.specs.Least.{IsLeast, lesser_of}
 use Rattle.h3_scheduler.specs.Rounds.{is_in, round_at, within}
-use Rattle.h3_scheduler.specs.Standing.{is_standing, AreStanding, IsFirstUrgency, Places}
+use Rattle.h3_scheduler.specs.Standing.{is_standing, takes_at, AreStanding, IsFirstUrgency, IsNext, IsTurn, HasTurn, Places}
 use Rattle.h3_scheduler.specs.Streams.{Streams, alike, any_by, class_of, first_plain, first_urgency, id_of, is_class, is_it, least_by, next_at, next_of, next_turn, or_else, stands, stands_as, takes_turn, urgency_of}
 use Rattle.h3_scheduler.specs.declared.round.Round.{Round}
 use Rattle.h3_scheduler.specs.declared.standing.Standing.{Standing}
@@ -124,7 +124,76 @@ at_some u kind q (e ∷ es) h = elim (or_cases (stands_as u kind e && (e.0 == q)
   | inr later ↦ either_other (stands e.1 && (urgency_of e == u)) (any_by urgency_of (λ s. stands s.1) es u) (at_some u kind q es later)
 ]
 
--- of a list in order, with the streams that stand
+-- ---- the turn, over places
+swap : (a b : Bool) → (a || b) ≡ (b || a)
+swap true true = refl
+swap true false = refl
+swap false true = refl
+swap false false = refl
+
+both : (a b c : Bool) → ((a && c) || (b && c)) ≡ ((b || a) && c)
+both true true true = refl
+both true true false = refl
+both true false true = refl
+both true false false = refl
+both false true true = refl
+both false true false = refl
+both false false c = refl
+
+-- the next of the round,
+turn_in : (places : Places) (u : ℕ) (r : Round) (plain shared : Option ℕ) → IsLeast (places u false) 0 plain → IsLeast (places u true) r.from shared
+    → IsLeast (λ q. takes_at places u plain q && is_in r q) 0 (lesser_of (within r plain) (within r shared))
+turn_in places u r plain shared h k =
+    least_alike (λ q. ((places u false q && is_it plain q) && is_in r q) || (places u true q && is_in r q)) (λ q. takes_at places u plain q && is_in r q) 0 (lesser_of (within r plain) (within r shared))
+    (λ q. both (places u false q && is_it plain q) (places u true q) (is_in r q))
+    (least_either (λ q. (places u false q && is_it plain q) && is_in r q) (λ q. places u true q && is_in r q) 0 (within r plain) (within r shared) (plain_within (places u false) r plain h)
+    (shared_within (places u true) r shared k))
+
+-- and the first of all
+turn_of_all : (places : Places) (u : ℕ) (plain again : Option ℕ) → IsLeast (places u false) 0 plain → IsLeast (places u true) 0 again → IsLeast (takes_at places u plain) 0 (lesser_of plain again)
+turn_of_all places u plain again h k =
+    least_alike (λ q. (places u false q && is_it plain q) || places u true q) (takes_at places u plain) 0 (lesser_of plain again) (λ q. swap (places u false q && is_it plain q) (places u true q))
+    (least_either (λ q. places u false q && is_it plain q) (places u true) 0 plain again (plain_only (places u false) plain h) k)
+
+-- where one stands, one takes turns
+someone : (places : Places) (u : ℕ) (plain : Option ℕ) → IsLeast (places u false) 0 plain → (kind : Bool) (q : ℕ) → places u kind q ≡ true → IsLeast (takes_at places u plain) 0 None → ⊥
+someone places u plain h true q there none = true≢false (sym (either_one (places u true q) (places u false q && is_it plain q) there) ∙ none q (omega arith))
+someone places u None h false q there none = true≢false (sym there ∙ h q (omega arith))
+someone places u (Some p) h false q there none =
+    true≢false (sym (either_other (places u true p) (places u false p && (p == p)) (ap (λ b. b && (p == p)) h.1 ∙ eq-eqb p p refl)) ∙ none p (omega arith))
+
+pub next_in_round : (places : Places) (rounds : List Round) (u : ℕ) (plain shared found : Option ℕ) → IsFirstUrgency places (Some u) → IsLeast (places u false) 0 plain
+    → IsLeast (places u true) (round_at rounds u).from shared → found ≡ lesser_of (within (round_at rounds u) plain) (within (round_at rounds u) shared) → is_some found ≡ true
+    → IsNext places rounds found
+next_in_round places rounds u plain shared None first h k is there = absurd (cc)
+next_in_round places rounds u plain shared (Some id) first h k is there =
+    record {
+      urgency = u;
+      first = first;
+      plain = plain;
+      least = h;
+      turn = inl (subst (IsLeast (λ q. takes_at places u plain q && is_in (round_at rounds u) q) 0) (sym is) (turn_in places u (round_at rounds u) plain shared h k));
+    }
+
+pub next_in_another : (places : Places) (rounds : List Round) (u : ℕ) (plain shared again here found : Option ℕ) → IsFirstUrgency places (Some u) → IsLeast (places u false) 0 plain
+    → IsLeast (places u true) (round_at rounds u).from shared → IsLeast (places u true) 0 again → here ≡ lesser_of (within (round_at rounds u) plain) (within (round_at rounds u) shared)
+    → is_some here ≡ false → found ≡ lesser_of plain again → IsNext places rounds found
+next_in_another places rounds u plain shared again (Some other) found first h k l was none is = absurd (cc)
+next_in_another places rounds u plain shared again None None first h k l was none is =
+    absurd (someone places u plain h first.0.0 first.0.1 first.0.2 (subst (IsLeast (takes_at places u plain) 0) (sym is) (turn_of_all places u plain again h l)))
+next_in_another places rounds u plain shared again None (Some id) first h k l was none is =
+    record {
+      urgency = u;
+      first = first;
+      plain = plain;
+      least = h;
+      turn =
+        inr
+        (subst (IsLeast (λ q. takes_at places u plain q && is_in (round_at rounds u) q) 0) (sym was) (turn_in places u (round_at rounds u) plain shared h k),
+          subst (IsLeast (takes_at places u plain) 0) (sym is) (turn_of_all places u plain again h l));
+    }
+
+-- ---- the same of a list in order, with the streams that stand
 module _ (s : Standing) (es : Streams) (sorted : IsStrictlySortedBy nat_cmp (keys_of es)) (standing : AreStanding s es) where
   found : (u : ℕ) (kind : Bool) (q : ℕ) → is_standing s u kind q ≡ any_by id_of (stands_as u kind) es q
   found u kind q = standing u kind q ∙ sym (any_found u kind es sorted q)
@@ -134,54 +203,30 @@ module _ (s : Standing) (es : Streams) (sorted : IsStrictlySortedBy nat_cmp (key
   first_is u plain h = one_least (any_by id_of (stands_as u false) es) 0 (first_plain u es) plain (least_is id_of (stands_as u false) es) (least_alike (is_standing s u false) (any_by id_of (stands_as u false) es) 0 plain (found u false) h)
 
   -- who takes turns
-  takes : (u : ℕ) (plain : Option ℕ) → IsLeast (is_standing s u false) 0 plain → (q : ℕ)
-      → ((is_standing s u false q && is_it plain q) || is_standing s u true q) ≡ any_by id_of (takes_turn u es) es q
+  takes : (u : ℕ) (plain : Option ℕ) → IsLeast (is_standing s u false) 0 plain → (q : ℕ) → takes_at (is_standing s) u plain q ≡ any_by id_of (takes_turn u es) es q
   takes u plain h q =
-      swap (is_standing s u false q && is_it plain q) (is_standing s u true q)
-      ∙ ap (λ b. b || (is_standing s u false q && is_it plain q)) (found u true q)
+      ap (λ b. b || (is_standing s u false q && is_it plain q)) (found u true q)
       ∙ ap (λ b. any_by id_of (stands_as u true) es q || (b && is_it plain q)) (found u false q)
       ∙ ap (λ o. any_by id_of (stands_as u true) es q || (any_by id_of (stands_as u false) es q && is_it o q)) (sym (first_is u plain h))
       ∙ ap (λ b. any_by id_of (stands_as u true) es q || b) (sym (any_with (stands_as u false) (is_it (first_plain u es)) es q))
       ∙ sym (any_either id_of (stands_as u true) (λ e. stands_as u false e && is_it (first_plain u es) e.0) es q)
-    where
-      swap : (a b : Bool) → (a || b) ≡ (b || a)
-      swap true true = refl
-      swap true false = refl
-      swap false true = refl
-      swap false false = refl
 
   in_round : (u : ℕ) (plain : Option ℕ) (r : Round) → IsLeast (is_standing s u false) 0 plain → (q : ℕ)
-      → (((is_standing s u false q && is_it plain q) && is_in r q) || (is_standing s u true q && is_in r q)) ≡ any_by id_of (λ e. takes_turn u es e && is_in r e.0) es q
-  in_round u plain r h q =
-      both (is_standing s u false q && is_it plain q) (is_standing s u true q) (is_in r q)
-      ∙ ap (λ b. b && is_in r q) (takes u plain h q)
-      ∙ sym (any_with (takes_turn u es) (is_in r) es q)
-    where
-      both : (a b c : Bool) → ((a && c) || (b && c)) ≡ ((a || b) && c)
-      both true true true = refl
-      both true true false = refl
-      both true false true = refl
-      both true false false = refl
-      both false b c = refl
+      → (takes_at (is_standing s) u plain q && is_in r q) ≡ any_by id_of (λ e. takes_turn u es e && is_in r e.0) es q
+  in_round u plain r h q = ap (λ b. b && is_in r q) (takes u plain h q) ∙ sym (any_with (takes_turn u es) (is_in r) es q)
 
-  -- the next of the round,
-  pub next_in : (u : ℕ) (r : Round) (plain shared : Option ℕ) → IsLeast (is_standing s u false) 0 plain → IsLeast (is_standing s u true) r.from shared
-      → least_by id_of (λ e. takes_turn u es e && is_in r e.0) es ≡ lesser_of (within r plain) (within r shared)
-  next_in u r plain shared h k =
-      one_least (any_by id_of (λ e. takes_turn u es e && is_in r e.0) es) 0 (least_by id_of (λ e. takes_turn u es e && is_in r e.0) es) (lesser_of (within r plain) (within r shared))
+  -- the next of the round, and the first of all
+  least_in : (u : ℕ) (plain : Option ℕ) (r : Round) (least : Option ℕ) → IsLeast (is_standing s u false) 0 plain → IsLeast (λ q. takes_at (is_standing s) u plain q && is_in r q) 0 least
+      → least_by id_of (λ e. takes_turn u es e && is_in r e.0) es ≡ least
+  least_in u plain r least h k =
+      one_least (any_by id_of (λ e. takes_turn u es e && is_in r e.0) es) 0 (least_by id_of (λ e. takes_turn u es e && is_in r e.0) es) least
       (least_is id_of (λ e. takes_turn u es e && is_in r e.0) es)
-      (least_alike (λ q. ((is_standing s u false q && is_it plain q) && is_in r q) || (is_standing s u true q && is_in r q)) (any_by id_of (λ e. takes_turn u es e && is_in r e.0) es) 0
-      (lesser_of (within r plain) (within r shared)) (in_round u plain r h)
-      (least_either (λ q. (is_standing s u false q && is_it plain q) && is_in r q) (λ q. is_standing s u true q && is_in r q) 0 (within r plain) (within r shared)
-      (plain_within (is_standing s u false) r plain h) (shared_within (is_standing s u true) r shared k)))
+      (least_alike (λ q. takes_at (is_standing s) u plain q && is_in r q) (any_by id_of (λ e. takes_turn u es e && is_in r e.0) es) 0 least (in_round u plain r h) k)
 
-  -- and the first of another
-  pub next_of_all : (u : ℕ) (plain shared : Option ℕ) → IsLeast (is_standing s u false) 0 plain → IsLeast (is_standing s u true) 0 shared
-      → least_by id_of (takes_turn u es) es ≡ lesser_of plain shared
-  next_of_all u plain shared h k =
-      one_least (any_by id_of (takes_turn u es) es) 0 (least_by id_of (takes_turn u es) es) (lesser_of plain shared) (least_is id_of (takes_turn u es) es)
-      (least_alike (λ q. (is_standing s u false q && is_it plain q) || is_standing s u true q) (any_by id_of (takes_turn u es) es) 0 (lesser_of plain shared) (takes u plain h)
-      (least_either (λ q. is_standing s u false q && is_it plain q) (is_standing s u true) 0 plain shared (plain_only (is_standing s u false) plain h) k))
+  least_of_all : (u : ℕ) (plain least : Option ℕ) → IsLeast (is_standing s u false) 0 plain → IsLeast (takes_at (is_standing s) u plain) 0 least → least_by id_of (takes_turn u es) es ≡ least
+  least_of_all u plain least h k =
+      one_least (any_by id_of (takes_turn u es) es) 0 (least_by id_of (takes_turn u es) es) least (least_is id_of (takes_turn u es) es)
+      (least_alike (takes_at (is_standing s) u plain) (any_by id_of (takes_turn u es) es) 0 least (takes u plain h) k)
 
   -- the least urgency is that of the list
   urgency_is : (first : Option ℕ) → IsFirstUrgency (is_standing s) first → first_urgency es ≡ first
@@ -198,42 +243,14 @@ module _ (s : Standing) (es : Streams) (sorted : IsStrictlySortedBy nat_cmp (key
       least None h = λ u there. nowhere u (h u)
       least (Some n) h = (omega arith, at_some n h.0.0 h.0.1 es (sym (found n h.0.0 h.0.1) ∙ h.0.2), λ u there less. nowhere u (λ kind q. h.1 u kind q less))
 
-  -- nobody is next where none stands,
-  pub nobody : (rounds : List Round) → IsFirstUrgency (is_standing s) None → None ≡ next_of rounds es
-  unfolding next_of
-  nobody rounds h = sym (ap (next_at rounds es) (urgency_is None h))
+  -- whose turn it is
+  turn_is : (r : Round) (u : ℕ) (plain : Option ℕ) (id : ℕ) → IsLeast (is_standing s u false) 0 plain → IsTurn (takes_at (is_standing s) u plain) r id → next_turn r u es ≡ Some id
+  turn_is r u plain id h (inl here) = ap (λ o. or_else o (least_by id_of (takes_turn u es) es)) (least_in u plain r (Some id) h here)
+  turn_is r u plain id h (inr all) =
+      ap (λ o. or_else o (least_by id_of (takes_turn u es) es)) (least_in u plain r None h all.0) ∙ least_of_all u plain (Some id) h all.1
 
-  -- and else the next of the round, or the first of another
-  named : (rounds : List Round) (u : ℕ) (plain shared again : Option ℕ) → IsFirstUrgency (is_standing s) (Some u) → IsLeast (is_standing s u false) 0 plain
-      → IsLeast (is_standing s u true) (round_at rounds u).from shared → IsLeast (is_standing s u true) 0 again
-      → next_of rounds es ≡ or_else (lesser_of (within (round_at rounds u) plain) (within (round_at rounds u) shared)) (lesser_of plain again)
+  -- the stream that sends next is that of the list
+  pub next_is : (rounds : List Round) (o : Option ℕ) → IsNext (is_standing s) rounds o → o ≡ next_of rounds es
   unfolding next_of
-  named rounds u plain shared again first h k l =
-      ap (next_at rounds es) (urgency_is (Some u) first)
-      ∙ ap (λ o. or_else o (least_by id_of (takes_turn u es) es)) (next_in u (round_at rounds u) plain shared h k)
-      ∙ ap (or_else (lesser_of (within (round_at rounds u) plain) (within (round_at rounds u) shared))) (next_of_all u plain again h l)
-
-  pub in_this_round : (rounds : List Round) (u : ℕ) (plain shared : Option ℕ) → IsFirstUrgency (is_standing s) (Some u) → IsLeast (is_standing s u false) 0 plain
-      → IsLeast (is_standing s u true) (round_at rounds u).from shared
-      → is_some (lesser_of (within (round_at rounds u) plain) (within (round_at rounds u) shared)) ≡ true
-      → lesser_of (within (round_at rounds u) plain) (within (round_at rounds u) shared) ≡ next_of rounds es
-  unfolding next_of
-  in_this_round rounds u plain shared first h k there =
-      sym (ap (next_at rounds es) (urgency_is (Some u) first)
-      ∙ ap (λ o. or_else o (least_by id_of (takes_turn u es) es)) (next_in u (round_at rounds u) plain shared h k)
-      ∙ is_there (lesser_of (within (round_at rounds u) plain) (within (round_at rounds u) shared)) there)
-    where
-      is_there : (o : Option ℕ) → is_some o ≡ true → or_else o (least_by id_of (takes_turn u es) es) ≡ o
-      is_there None none = absurd (cc)
-      is_there (Some id) some = refl
-
-  pub in_another : (rounds : List Round) (u : ℕ) (plain shared again : Option ℕ) → IsFirstUrgency (is_standing s) (Some u) → IsLeast (is_standing s u false) 0 plain
-      → IsLeast (is_standing s u true) (round_at rounds u).from shared → IsLeast (is_standing s u true) 0 again
-      → is_some (lesser_of (within (round_at rounds u) plain) (within (round_at rounds u) shared)) ≡ false
-      → lesser_of plain again ≡ next_of rounds es
-  in_another rounds u plain shared again first h k l none =
-      sym (named rounds u plain shared again first h k l ∙ is_over (lesser_of (within (round_at rounds u) plain) (within (round_at rounds u) shared)) none)
-    where
-      is_over : (o : Option ℕ) → is_some o ≡ false → or_else o (lesser_of plain again) ≡ lesser_of plain again
-      is_over None is = refl
-      is_over (Some id) is = absurd (cc)
+  next_is rounds None h = sym (ap (next_at rounds es) (urgency_is None h))
+  next_is rounds (Some id) h = sym (ap (next_at rounds es) (urgency_is (Some h.urgency) h.first) ∙ turn_is (round_at rounds h.urgency) h.urgency h.plain id h.least h.turn)

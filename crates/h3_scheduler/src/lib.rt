@@ -7,4 +7,4 @@ mod round;
 pub mod scheduler;
 mod standing;
 mod stream;
-mod turns;
+pub mod turns;

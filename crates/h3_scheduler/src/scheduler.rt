@@ -88,7 +88,7 @@ impl Scheduler {
         let Some(stream) = self.streams.remove(&id) else {
             return;
         };
-        let Ok(()) = self.turns.standing.settle(id, stream.class(), None) else {
+        let Ok(()) = self.turns.settle(id, stream.class(), None) else {
             unreachable!()
         };
     }
@@ -100,9 +100,7 @@ impl Scheduler {
         ensures err { OnErr result (self.new ≡ self.old) }
         ensures leaves { class_of here ≡ None → result ≡ Ok tt }
     {
-        self.turns
-            .standing
-            .settle(id, there.class(), here.class())?;
+        self.turns.settle(id, there.class(), here.class())?;
         let Ok(_) = self.streams.insert(id, here) else {
             unreachable!()
         };
