@@ -1,18 +1,17 @@
 -- What a list of streams has, and the least of it.
-use Rattle.std.proofs.Common.{arith, ◌≡◌, ◌<◌, ◌≤◌, ℕ, Bool, true, false, ◌&&◌, ◌||◌, not, cond, if◌then◌else◌, List, [], ◌∷◌, sym, refl, ap, subst, ◌∙◌, inl, inr}
-use Rattle.std.specs.Prelude.{◌==◌, Option, Some, None}
+use Rattle.std.proofs.Common.{arith, ◌≡◌, ℕ, Bool, true, false, ◌&&◌, ◌||◌, cond, if◌then◌else◌, [], ◌∷◌, sym, refl, ap, subst, ◌∙◌}
+use Rattle.std.specs.Prelude.{◌==◌, Some}
 use Rattle.std.specs.BTreeMap.{is_at}
 use Rattle.std.specs.List.{AllByRecursion}
 use Rattle.std.specs.List.Sorted.{IsStrictlySortedBy}
 use Rattle.std.specs.Map.{keys_of, lookup}
 use Rattle.std.specs.Ordering.{nat_cmp}
 use Rattle.std.specs.declared.cmp.Ordering.TheVariants.{Less}
-use Rattle.std.proofs.lemmas.Bool.{eqb-true, eq-eqb, ne_eqb, true≢false}
+use Rattle.std.proofs.lemmas.Bool.{eqb-true, eq-eqb, ne_eqb}
 use Rattle.std.proofs.lemmas.Grind.{common_steps}
-use Rattle.h3_priority.specs.Priority.{PriorityParameters}
 use Rattle.h3_scheduler.specs.Least.{IsLeast, lesser_of}
 use Rattle.h3_scheduler.specs.Standing.{class_at}
-use Rattle.h3_scheduler.specs.Streams.{Streams, alike, any_by, class_of, id_of, is_class, least_by, stands, stands_as, stream_at, urgency_of}
+use Rattle.h3_scheduler.specs.Streams.{Streams, any_by, id_of, is_class, least_by, stands_as, stream_at}
 use Rattle.h3_scheduler.specs.declared.stream.Stream.{Stream}
 use Rattle.h3_scheduler.proofs.LeastOfTwo.{least_either, least_itself}
 

@@ -1,14 +1,14 @@
 -- The stream that sends next stands, none that stands is more urgent, and there is one if any stands. If nothing is said of any priority it
 -- has the least id.
-use Rattle.std.proofs.Common.{arith, ◌≡◌, ◌≤◌, ◌<◌, ℕ, Bool, true, false, ◌&&◌, ◌||◌, not, if◌then◌else◌, List, [], ◌∷◌, sym, refl, ap, subst, ◌∙◌, inl, inr}
-use Rattle.std.specs.Prelude.{◌==◌, Option, Some, None, unwrap_or}
+use Rattle.std.proofs.Common.{arith, ◌≡◌, ℕ, Bool, true, false, ◌&&◌, ◌||◌, not, if◌then◌else◌, List, [], ◌∷◌, sym, refl, ap, subst, ◌∙◌, inl, inr}
+use Rattle.std.specs.Prelude.{◌==◌, Option, Some, None}
 use Rattle.std.specs.List.{AllByRecursion}
 use Rattle.std.proofs.lemmas.Bool.{and_parts, eqb-true, eq-eqb, or_cases, true≢false}
-use Rattle.h3_priority.specs.Priority.{PriorityParameters, default_parameters}
+use Rattle.h3_priority.specs.Priority.{default_parameters}
 use Rattle.h3_scheduler.specs.Least.{IsLeast}
 use Rattle.h3_scheduler.specs.Next.{some_stands, stands_at, AreDefault, IsDefault, IsLowest, IsMostUrgent}
 use Rattle.h3_scheduler.specs.Rounds.{is_in, round_at, within}
-use Rattle.h3_scheduler.specs.Streams.{Streams, alike, any_by, class_of, first_plain, first_urgency, id_of, is_class, is_it, least_by, next_at, next_of, next_turn, or_else, stands, stands_as, takes_turn, urgency_of}
+use Rattle.h3_scheduler.specs.Streams.{Streams, any_by, first_plain, first_urgency, id_of, is_class, is_it, least_by, next_at, next_of, next_turn, or_else, stands, stands_as, takes_turn, urgency_of}
 use Rattle.h3_scheduler.specs.declared.round.Round.{Round}
 use Rattle.h3_scheduler.specs.declared.stream.Stream.{Stream}
 use Rattle.h3_scheduler.proofs.Found.{any_either, any_with, least_is}
@@ -62,10 +62,10 @@ some_urgency : (es : Streams) (q : ℕ) → some_stands es q ≡ true → (u : �
 some_urgency [] q h = absurd (cc)
 some_urgency (e ∷ es) q h = elim (or_cases (stands e.1 && (e.0 == q)) (some_stands es q) h) [
   | inl here ↦ (
-      urgency_of e,
-      either_one (stands e.1 && (urgency_of e == urgency_of e)) (any_by urgency_of (λ s. stands s.1) es (urgency_of e))
+    urgency_of e,
+    either_one (stands e.1 && (urgency_of e == urgency_of e)) (any_by urgency_of (λ s. stands s.1) es (urgency_of e))
         (ap (λ b. b && (urgency_of e == urgency_of e)) (and_parts (stands e.1) (e.0 == q) here).0 ∙ eq-eqb (urgency_of e) (urgency_of e) refl),
-    )
+  )
   | inr later ↦
       let it = some_urgency es q later in
       (it.0, either_other (stands e.1 && (urgency_of e == it.0)) (any_by urgency_of (λ s. stands s.1) es it.0) it.1)

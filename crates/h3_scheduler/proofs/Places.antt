@@ -1,10 +1,10 @@
 -- Places of streams: each stream has its own, and the first has the least urgency.
-use Rattle.std.proofs.Common.{arith, ◌≡◌, ◌≢◌, ◌<◌, ◌≤◌, ◌+◌, ◌*◌, ◌/◌, ◌%◌, ◌^◌, ℕ, Bool, true, false, ◌&&◌, if◌then◌else◌, cond, sym, refl, ap, subst, ◌∙◌, inl, inr}
-use Rattle.std.specs.Prelude.{◌==◌, nat_lt, Option, Some, None}
+use Rattle.std.proofs.Common.{arith, ◌≡◌, ◌≢◌, ◌<◌, ◌≤◌, ◌+◌, ◌*◌, ◌/◌, ◌%◌, ◌^◌, ℕ, Bool, true, false, ◌&&◌, if◌then◌else◌, sym, refl, ap, ◌∙◌, inl, inr}
+use Rattle.std.specs.Prelude.{◌==◌, nat_lt, Some}
 use Rattle.std.specs.BTreeMap.{is_at}
-use Rattle.std.specs.BTreeSet.{BTreeSet, contains, IsLowerBound, Updates}
-use Rattle.std.specs.Ordering.{is_gt, nat_cmp}
-use Rattle.std.proofs.lemmas.Bool.{and_parts, cases_eq, cases_lt, eq-eqb, eqb-true, ne_eqb, lt-ltb, le-ltb, true≢false}
+use Rattle.std.specs.BTreeSet.{contains, IsLowerBound, Updates}
+use Rattle.std.specs.Ordering.{nat_cmp}
+use Rattle.std.proofs.lemmas.Bool.{and_parts, cases_eq, cases_lt, eq-eqb, eqb-true, ne_eqb, lt-ltb, le-ltb}
 use Rattle.std.proofs.lemmas.Grind.{common_steps}
 use Rattle.h3_priority.specs.Priority.{PriorityParameters}
 use Rattle.h3_scheduler.specs.Standing.{is_place, is_standing, place_at, IsFirstUrgency, Places, Settles, StandsAt}
@@ -140,7 +140,7 @@ moved id there here old mid new was apart put taken = λ u kind q. by_id u kind 
         let same : q ≡ id = eqb-true q id is in
         let before : old u kind q ≡ is_class (Some there) u kind = ap (old u kind) same ∙ was u kind in
         let between : mid u kind q ≡ (if is_class (Some here) u kind then true else is_class (Some there) u kind) =
-            put u kind q ∙ ap (λ b. if (b && is_class (Some here) u kind) then true else old u kind q) is ∙ ap (λ b. if is_class (Some here) u kind then true else b) before
+        put u kind q ∙ ap (λ b. if (b && is_class (Some here) u kind) then true else old u kind q) is ∙ ap (λ b. if is_class (Some here) u kind then true else b) before
         in
         taken u kind q
         ∙ ap (λ b. if (b && is_class (Some there) u kind) then false else mid u kind q) is

@@ -6,7 +6,7 @@ use Rattle.std.proofs.lemmas.Bool.{and_parts, cases_eq, cases_lt, cases_order, e
 use Rattle.std.proofs.lemmas.List.{get_or-set_other, get_or-set_same, length-set}
 use Rattle.std.proofs.lemmas.Option.{unwrap_or-slice_get}
 use Rattle.h3_priority.specs.Priority.{PriorityParameters}
-use Rattle.h3_scheduler.specs.Calls.{Call, after, at_urgency, has_turns, next_among, turn_of, turns_in, IsAnothers, Waits}
+use Rattle.h3_scheduler.specs.Calls.{Call, after, at_urgency, has_turns, turn_of, turns_in, IsAnothers, Waits}
 use Rattle.h3_scheduler.specs.Calls.Call.{Advanced, Held, Inserted, Prioritized, Readied, Removed}
 use Rattle.h3_scheduler.specs.Least.{IsLeast}
 use Rattle.h3_scheduler.specs.Rounds.{after_turn, is_in, no_round, round_at}
@@ -177,14 +177,17 @@ turn_facts urgency es r waiting n named takes apart =
     by_round (Some m) least is =
         let same : m ≡ n = the_same m n is in
         let here : IsLeast (any_by id_of (λ s. takes_turn urgency es s && is_in r s.0) es) 0 (Some n) = subst (λ q. IsLeast (any_by id_of (λ s. takes_turn urgency es s && is_in r s.0) es) 0 (Some q)) same least in
-        inl
-        ((and_parts (any_by id_of (takes_turn urgency es) es n) (is_in r n) (sym (with_round n) ∙ here.1)).1,
-          λ it. front (any_by id_of (λ s. takes_turn urgency es s && is_in r s.0) es) n waiting here (in_round waiting takes ∙ it) apart)
+        inl (
+          (and_parts (any_by id_of (takes_turn urgency es) es n) (is_in r n) (sym (with_round n) ∙ here.1)).1,
+          λ it. front (any_by id_of (λ s. takes_turn urgency es s && is_in r s.0) es) n waiting here (in_round waiting takes ∙ it) apart,
+        )
     by_round None least is =
         let here : IsLeast (any_by id_of (takes_turn urgency es) es) 0 (Some n) = subst (IsLeast (any_by id_of (takes_turn urgency es) es) 0) is (least_is id_of (takes_turn urgency es) es) in
-        inr
-        (sym (in_round n here.1) ∙ least n (omega arith), sym (in_round waiting takes) ∙ least waiting (omega arith),
-          front (any_by id_of (takes_turn urgency es) es) n waiting here takes apart)
+        inr (
+          sym (in_round n here.1) ∙ least n (omega arith),
+          sym (in_round waiting takes) ∙ least waiting (omega arith),
+          front (any_by id_of (takes_turn urgency es) es) n waiting here takes apart,
+        )
 
 -- ---- the round after a call
 set_same : (rounds : List Round) (u : ℕ) (r : Round) → u < length rounds → round_at (slice_set rounds u r) u ≡ r

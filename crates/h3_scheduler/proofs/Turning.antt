@@ -5,11 +5,11 @@ use Rattle.std.specs.List.Sorted.{IsStrictlySortedBy}
 use Rattle.std.specs.Map.{keys_of}
 use Rattle.std.specs.Ordering.{nat_cmp}
 use Rattle.std.proofs.lemmas.Grind.{common_steps}
-use Rattle.std.proofs.lemmas.Bool.{and_parts, cases_lt, eqb-true, eq-eqb, le-leb, lt-leb, le-ltb, or_cases, true≢false}
+use Rattle.std.proofs.lemmas.Bool.{and_parts, cases_lt, eqb-true, eq-eqb, lt-leb, le-ltb, or_cases, true≢false}
 use Rattle.h3_scheduler.specs.Least.{IsLeast, lesser_of}
 use Rattle.h3_scheduler.specs.Rounds.{is_in, round_at, within}
-use Rattle.h3_scheduler.specs.Standing.{is_standing, takes_at, AreStanding, IsFirstUrgency, IsNext, IsTurn, HasTurn, Places}
-use Rattle.h3_scheduler.specs.Streams.{Streams, alike, any_by, class_of, first_plain, first_urgency, id_of, is_class, is_it, least_by, next_at, next_of, next_turn, or_else, stands, stands_as, takes_turn, urgency_of}
+use Rattle.h3_scheduler.specs.Standing.{is_standing, takes_at, AreStanding, IsFirstUrgency, IsNext, IsTurn, Places}
+use Rattle.h3_scheduler.specs.Streams.{Streams, alike, any_by, first_plain, first_urgency, id_of, is_class, is_it, least_by, next_at, next_of, next_turn, or_else, stands, stands_as, takes_turn, urgency_of}
 use Rattle.h3_scheduler.specs.declared.round.Round.{Round}
 use Rattle.h3_scheduler.specs.declared.standing.Standing.{Standing}
 use Rattle.h3_scheduler.specs.declared.stream.Stream.{Stream}
@@ -107,11 +107,11 @@ pub some_at : (u : ℕ) (es : Streams) → any_by urgency_of (λ e. stands e.1) 
 some_at u [] h = absurd (cc)
 some_at u (e ∷ es) h = elim (or_cases (stands e.1 && (urgency_of e == u)) (any_by urgency_of (λ s. stands s.1) es u) h) [
   | inl here ↦ (
-      e.1.priority.incremental,
-      e.0,
-      either_one (stands_as u e.1.priority.incremental e && (e.0 == e.0)) (any_by id_of (stands_as u e.1.priority.incremental) es e.0)
+    e.1.priority.incremental,
+    e.0,
+    either_one (stands_as u e.1.priority.incremental e && (e.0 == e.0)) (any_by id_of (stands_as u e.1.priority.incremental) es e.0)
         (ap (λ b. b && (e.0 == e.0)) (class_here e u here) ∙ eq-eqb e.0 e.0 refl),
-    )
+  )
   | inr later ↦
       let it = some_at u es later in
       (it.0, it.1, either_other (stands_as u it.0 e && (e.0 == it.1)) (any_by id_of (stands_as u it.0) es it.1) it.2)
@@ -188,9 +188,10 @@ next_in_another places rounds u plain shared again None (Some id) first h k l wa
       plain = plain;
       least = h;
       turn =
-        inr
-        (subst (IsLeast (λ q. takes_at places u plain q && is_in (round_at rounds u) q) 0) (sym was) (turn_in places u (round_at rounds u) plain shared h k),
-          subst (IsLeast (takes_at places u plain) 0) (sym is) (turn_of_all places u plain again h l));
+          inr (
+            subst (IsLeast (λ q. takes_at places u plain q && is_in (round_at rounds u) q) 0) (sym was) (turn_in places u (round_at rounds u) plain shared h k),
+            subst (IsLeast (takes_at places u plain) 0) (sym is) (turn_of_all places u plain again h l),
+          );
     }
 
 -- ---- the same of a list in order, with the streams that stand

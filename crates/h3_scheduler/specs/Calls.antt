@@ -1,5 +1,5 @@
 -- Lists of calls of a scheduler, and who has turns in them.
-use Rattle.std.specs.Prelude.{◌≡◌, ◌≢◌, ℕ, ◌+◌, Bool, true, false, ◌==◌, List, [], ◌∷◌, Option, Some, None, if◌then◌else◌}
+use Rattle.std.specs.Prelude.{◌≡◌, ◌≢◌, ℕ, ◌+◌, Bool, true, ◌==◌, List, [], ◌∷◌, Option, Some, None, if◌then◌else◌}
 use Rattle.h3_priority.specs.Priority.{PriorityParameters}
 use Rattle.h3_scheduler.specs.Rounds.{round_at}
 use Rattle.h3_scheduler.specs.Schedule.{Schedule, advanced, changed, held, opened, prioritized, readied, removed}

@@ -1,5 +1,5 @@
 -- Turns one after another: each stream that is next sends.
-use Rattle.std.specs.Prelude.{◌≡◌, ℕ, zero, suc, List, [], ◌∷◌, length, Option, Some, None}
+use Rattle.std.specs.Prelude.{◌≡◌, ℕ, zero, suc, List, [], ◌∷◌, Option, Some, None}
 use Rattle.h3_scheduler.specs.Calls.{Call, after}
 use Rattle.h3_scheduler.specs.Schedule.{Schedule, advanced, next}
 

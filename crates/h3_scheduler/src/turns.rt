@@ -31,7 +31,12 @@ impl Turns {
 
     /// A stream that stood at one priority, or nowhere, stands at another from now on, or nowhere. An `Err` changes nothing: an allocation
     /// failed. If it stands nowhere from now on it takes no memory.
-    pub fn settle(&mut self, id: u64, before: Option<Priority>, after: Option<Priority>) -> Result<(), AllocError>
+    pub fn settle(
+        &mut self,
+        id: u64,
+        before: Option<Priority>,
+        after: Option<Priority>,
+    ) -> Result<(), AllocError>
         requires { (urgency : ℕ) (incremental : Bool) → is_standing self.old.standing urgency incremental id ≡ is_class before urgency incremental }
         ensures ok { OnOk result (Settles id after (is_standing self.old.standing) (is_standing self.new.standing)) }
         ensures err { OnErr result (StandSame (is_standing self.old.standing) (is_standing self.new.standing)) }

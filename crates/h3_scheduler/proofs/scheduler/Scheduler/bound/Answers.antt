@@ -1,5 +1,5 @@
 -- It is one above the greatest.
-use Rattle.std.proofs.Common.{arith, ◌≡◌, ◌≤◌, sym, ap, subst, ◌∙◌, rules, ◌+◌}
+use Rattle.std.proofs.Common.{arith, ap, ◌∙◌, rules}
 use Rattle.std.specs.Prelude.{IsSome}
 use Rattle.std.proofs.lemmas.Grind.{common_steps}
 use Rattle.h3_scheduler.specs.Schedule.{bound_of}

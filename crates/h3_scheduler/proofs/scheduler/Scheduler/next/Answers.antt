@@ -1,5 +1,5 @@
 -- The places are those of the streams, which are in order.
-use Rattle.std.proofs.Common.{ap, sym, ◌∙◌}
+use Rattle.std.proofs.Common.{ap, ◌∙◌}
 use Rattle.h3_scheduler.specs.Schedule.{next}
 use Rattle.h3_scheduler.proofs.Turning.{next_is}
 use Rattle.h3_scheduler.proofs.scheduler.Scheduler.next.Goals as goal

@@ -1,5 +1,5 @@
 -- One place comes.
-use Rattle.std.proofs.Common.{true, subst, rules}
+use Rattle.std.proofs.Common.{true, rules}
 use Rattle.h3_scheduler.proofs.Places.{changed}
 use Rattle.h3_scheduler.proofs.standing.Standing.put.Goals as goal
 

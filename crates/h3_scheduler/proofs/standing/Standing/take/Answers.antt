@@ -1,5 +1,5 @@
 -- One place goes.
-use Rattle.std.proofs.Common.{false, subst, rules}
+use Rattle.std.proofs.Common.{false, rules}
 use Rattle.h3_scheduler.proofs.Places.{changed}
 use Rattle.h3_scheduler.proofs.standing.Standing.take.Goals as goal
 

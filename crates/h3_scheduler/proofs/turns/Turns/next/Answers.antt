@@ -1,6 +1,5 @@
 -- The next of the round, or else the first of another.
-use Rattle.std.proofs.Common.{◌≡◌, sym, ◌∙◌, ap, subst, true, false, rules}
-use Rattle.std.specs.Prelude.{is_some}
+use Rattle.std.proofs.Common.{◌≡◌, ◌∙◌, ap, subst, true, rules}
 use Rattle.h3_scheduler.specs.Least.{IsLeast, lesser_of}
 use Rattle.h3_scheduler.specs.Rounds.{round_at, within}
 use Rattle.h3_scheduler.specs.Standing.{is_standing}
