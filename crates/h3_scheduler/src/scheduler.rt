@@ -107,7 +107,7 @@ impl Scheduler {
         Ok(())
     }
 
-    // The same where it does not stand from now on. It takes no memory.
+    // The same of a stream that does not stand from now on. It takes no memory.
     fn change_at_rest(&mut self, id: u64, there: Stream, here: Stream)
         requires there { stream_at self.old.streams id ≡ Some there }
         requires here { class_of here ≡ None }
@@ -153,7 +153,7 @@ impl Scheduler {
         );
     }
 
-    /// A stream is passed over from now on: QUIC has no credit for it. It takes no memory.
+    /// A stream is skipped from now on: QUIC has no credit for it. It takes no memory.
     pub fn hold(&mut self, id: u64)
         ensures { self.new ≡ changed self.old id (held true) }
     {
@@ -170,7 +170,7 @@ impl Scheduler {
         );
     }
 
-    /// A stream is not passed over any longer. An `Err` changes nothing: an allocation failed.
+    /// A stream is not skipped any longer. An `Err` changes nothing: an allocation failed.
     pub fn release(&mut self, id: u64) -> Result<(), AllocError>
         ensures ok { OnOk result (self.new ≡ changed self.old id (held false)) }
         ensures err { OnErr result (self.new ≡ self.old) }
