@@ -3,7 +3,7 @@
 
 pub mod laws;
 mod lesser;
-mod round;
+pub mod round;
 pub mod scheduler;
 mod standing;
 mod stream;

@@ -1,6 +1,8 @@
-//! A round of turns.
-ghost use Rattle.std.specs.Prelude.{◌≡◌, ◌<◌, ◌^◌};
-ghost use Rattle.h3_scheduler.specs.Rounds.{after_turn, is_in, no_round, within};
+//! Rounds of turns.
+ghost use Rattle.std.specs.Prelude.{◌≡◌, ◌<◌, ◌^◌, slice_set};
+ghost use Rattle.h3_scheduler.specs.Rounds.{after_turn, is_in, no_round, no_rounds, round_at, within};
+
+use h3_priority::priority::Priority;
 
 /// A round of the streams of one urgency: the ids from one on and below another have a turn in it.
 #[derive(Clone, Copy)]
@@ -10,15 +12,15 @@ pub struct Round {
 }
 
 impl Round {
-    /// No id has a turn, so the next stream begins another.
-    pub(crate) fn none() -> Round
+    // No id has a turn, so the next stream begins another.
+    fn none() -> Round
         ensures { result ≡ no_round }
     {
         Round { from: 0, until: 0 }
     }
 
     /// The first id that may have a turn.
-    pub(crate) fn from(self) -> u64
+    pub fn from(self) -> u64
         ensures { result ≡ self.from }
     {
         self.from
@@ -32,7 +34,7 @@ impl Round {
     }
 
     /// An id, if it has a turn.
-    pub(crate) fn within(self, id: Option<u64>) -> Option<u64>
+    pub fn within(self, id: Option<u64>) -> Option<u64>
         ensures { result ≡ within self id }
     {
         let Some(number) = id else {
@@ -41,8 +43,8 @@ impl Round {
         if self.has(number) { id } else { None }
     }
 
-    /// What is left after the turn of an id. If it had none in this round, another began with it: of the ids below `until`.
-    pub(crate) fn after(self, id: u64, until: u64) -> Round
+    // What is left after the turn of an id. If it had none in this round, another began with it: of the ids below `until`.
+    fn after(self, id: u64, until: u64) -> Round
         requires { id < 2 ^ 62 }
         ensures { result ≡ after_turn self id until }
     {
@@ -50,5 +52,42 @@ impl Round {
             from: id + 1,
             until: if self.has(id) { self.until } else { until },
         }
+    }
+}
+
+/// Of each urgency the round of its streams.
+#[derive(Clone, Copy)]
+pub struct Rounds {
+    rounds: [Round; 8],
+}
+
+impl Rounds {
+    /// No round has begun.
+    pub fn new() -> Rounds
+        ensures { result.rounds ≡ no_rounds }
+    {
+        Rounds {
+            rounds: [Round::none(); 8],
+        }
+    }
+
+    /// The round of an urgency.
+    pub fn of(&self, urgency: u64) -> Round
+        ensures { result ≡ round_at self.now.rounds urgency }
+    {
+        match self.rounds.get(urgency as usize) {
+            Some(round) => *round,
+            None => Round::none(),
+        }
+    }
+
+    /// The turn of a stream with this priority is over, as the ids of the streams that are open are below `until`.
+    pub fn end_turn(&mut self, priority: Priority, id: u64, until: u64)
+        requires { id < 2 ^ 62 }
+        ensures { self.new.rounds ≡ slice_set self.old.rounds priority.urgency (after_turn (round_at self.old.rounds priority.urgency) id until) }
+    {
+        let urgency = priority.urgency();
+        let round = self.of(urgency as u64);
+        self.rounds[urgency as usize] = round.after(id, until);
     }
 }

@@ -24,7 +24,7 @@ impl Model for Scheduler {
 
     ghost Value = { Schedule };
 
-    ghost view = { λ s. record { streams = s.streams.entries; rounds = s.turns.rounds } };
+    ghost view = { λ s. record { streams = s.streams.entries; rounds = s.turns.rounds.rounds } };
 
     ghost invariant = { λ s. AreKept s.turns.standing s.streams.entries };
 }

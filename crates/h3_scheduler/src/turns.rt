@@ -5,7 +5,7 @@ ghost use Rattle.h3_scheduler.specs.Standing.{is_standing, IsNext, Settles, Stan
 ghost use Rattle.h3_scheduler.specs.Streams.{is_class};
 
 use crate::lesser::lesser;
-use crate::round::Round;
+use crate::round::Rounds;
 use crate::standing::Standing;
 use h3_priority::priority::Priority;
 use std::alloc::{AllocError, Global};
@@ -14,18 +14,18 @@ use std::alloc::{AllocError, Global};
 #[derive(Drop)]
 pub struct Turns {
     standing: Standing,
-    rounds: [Round; 8],
+    rounds: Rounds,
 }
 
 impl Turns {
     /// No stream stands, and no round has begun. It takes no memory.
     pub fn new(alloc: Global) -> Turns
         ensures standing { (urgency : ℕ) (incremental : Bool) (q : ℕ) → is_standing result.standing urgency incremental q ≡ false }
-        ensures rounds { result.rounds ≡ no_rounds }
+        ensures rounds { result.rounds.rounds ≡ no_rounds }
     {
         Turns {
             standing: Standing::new(alloc),
-            rounds: [Round::none(); 8],
+            rounds: Rounds::new(),
         }
     }
 
@@ -46,25 +46,15 @@ impl Turns {
         self.standing.settle(id, before, after)
     }
 
-    // The round of an urgency.
-    fn round(&self, urgency: u64) -> Round
-        ensures { result ≡ round_at self.now.rounds urgency }
-    {
-        match self.rounds.get(urgency as usize) {
-            Some(round) => *round,
-            None => Round::none(),
-        }
-    }
-
     /// The stream that sends next. It takes no memory, and looks for five places at most.
     pub fn next(&self) -> Option<u64>
-        ensures { IsNext (is_standing self.now.standing) self.now.rounds result }
+        ensures { IsNext (is_standing self.now.standing) self.now.rounds.rounds result }
     {
         let Some(urgency) = self.standing.first_urgency() else {
             return None;
         };
         let plain = self.standing.least(urgency, false, 0);
-        let round = self.round(urgency);
+        let round = self.rounds.of(urgency);
         let shared = self.standing.least(urgency, true, round.from());
         let next = lesser(round.within(plain), round.within(shared));
         if next.is_some() {
@@ -76,11 +66,9 @@ impl Turns {
     /// The turn of a stream with this priority is over, as the ids of the streams that are open are below `until`.
     pub fn end_turn(&mut self, priority: Priority, id: u64, until: u64)
         requires { id < 2 ^ 62 }
-        ensures rounds { self.new.rounds ≡ slice_set self.old.rounds priority.urgency (after_turn (round_at self.old.rounds priority.urgency) id until) }
+        ensures rounds { self.new.rounds.rounds ≡ slice_set self.old.rounds.rounds priority.urgency (after_turn (round_at self.old.rounds.rounds priority.urgency) id until) }
         ensures standing { self.new.standing ≡ self.old.standing }
     {
-        let urgency = priority.urgency();
-        let round = self.round(urgency as u64);
-        self.rounds[urgency as usize] = round.after(id, until);
+        self.rounds.end_turn(priority, id, until);
     }
 }

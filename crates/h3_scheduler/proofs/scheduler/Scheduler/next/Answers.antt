@@ -6,5 +6,5 @@ use Rattle.h3_scheduler.proofs.scheduler.Scheduler.next.Goals as goal
 
 pub returns : goal.returns
 returns c =
-    next_is c.self.inside.turns.standing c.self.inside.streams.entries c.len.ensures.ordered c.self.invariant.standing c.self.inside.turns.rounds c.next.result c.next.ensures
+    next_is c.self.inside.turns.standing c.self.inside.streams.entries c.len.ensures.ordered c.self.invariant.standing c.self.inside.turns.rounds.rounds c.next.result c.next.ensures
     ∙ ap next c.self.view_is
