@@ -13,7 +13,7 @@ use Rattle.h3_scheduler.specs.Least.{IsLeast, lesser_of}
 use Rattle.h3_scheduler.specs.Standing.{class_at}
 use Rattle.h3_scheduler.specs.Streams.{Streams, any_by, id_of, is_class, least_by, stands_as, stream_at}
 use Rattle.h3_scheduler.specs.declared.stream.Stream.{Stream}
-use Rattle.h3_scheduler.proofs.LeastOfTwo.{least_either, least_itself}
+use Rattle.h3_scheduler.specs.LeastLaws.{least_either, least_itself}
 
 -- the least of a list is the least number that it has
 pub least_is : (number : ℕ × Stream → ℕ) (test : ℕ × Stream → Bool) (es : Streams) → IsLeast (any_by number test es) 0 (least_by number test es)

@@ -1,4 +1,3 @@
-pub mod LeastOfTwo
 pub mod Found
 pub mod Places
 pub mod Turning

@@ -12,8 +12,9 @@ use Rattle.h3_scheduler.specs.Streams.{Streams, any_by, first_plain, first_urgen
 use Rattle.h3_scheduler.specs.declared.round.Round.{Round}
 use Rattle.h3_scheduler.specs.declared.stream.Stream.{Stream}
 use Rattle.h3_scheduler.proofs.Found.{any_either, any_with, least_is}
-use Rattle.h3_scheduler.proofs.LeastOfTwo.{least_alike, one_least}
-use Rattle.h3_scheduler.proofs.Turning.{class_there, either_one, either_other, plain_only, plain_within, some_at}
+use Rattle.h3_scheduler.specs.LeastLaws.{least_alike, one_least}
+use Rattle.h3_scheduler.specs.TurnLaws.{either_one, either_other, plain_only, plain_within}
+use Rattle.h3_scheduler.proofs.Turning.{class_there, some_at}
 
 -- what passes one test passes another that asks less
 asks_less : (number : ℕ × Stream → ℕ) (a b : ℕ × Stream → Bool) → ((e : ℕ × Stream) → a e ≡ true → b e ≡ true) → (es : Streams) (q : ℕ) → any_by number a es q ≡ true → any_by number b es q ≡ true

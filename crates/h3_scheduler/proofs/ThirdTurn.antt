@@ -9,8 +9,11 @@ use Rattle.h3_priority.specs.Priority.{PriorityParameters}
 use Rattle.h3_scheduler.specs.Calls.{Call, after, at_urgency, has_turns, turn_of, turns_in, IsAnothers, Waits}
 use Rattle.h3_scheduler.specs.Calls.Call.{Advanced, Held, Inserted, Prioritized, Readied, Removed}
 use Rattle.h3_scheduler.specs.Least.{IsLeast}
+use Rattle.h3_scheduler.specs.LeastLaws.{least_alike}
+use Rattle.h3_scheduler.specs.Moments.{turns_among, Moment, WaitsThrough}
 use Rattle.h3_scheduler.specs.Rounds.{after_turn, is_in, no_round, round_at}
 use Rattle.h3_scheduler.specs.Schedule.{Schedule, advanced_at, bound_of, changed_at, opened_at, held, prioritized, readied}
+use Rattle.h3_scheduler.specs.Standing.{IsTurn}
 use Rattle.h3_scheduler.specs.Streams.{Streams, any_by, id_of, is_it, least_by, next_turn, or_else, stream_at, takes_turn}
 use Rattle.h3_scheduler.specs.declared.round.Round.{Round}
 use Rattle.h3_scheduler.specs.declared.stream.Stream.{Stream}
@@ -163,31 +166,26 @@ front f n waiting least passes apart = elim (cases_order n waiting) [
   ]
 ]
 
-turn_facts : (urgency : ℕ) (es : Streams) (r : Round) (waiting n : ℕ) → next_turn r urgency es ≡ Some n → any_by id_of (takes_turn urgency es) es waiting ≡ true → n ≢ waiting → TurnFacts r waiting n
-turn_facts urgency es r waiting n named takes apart =
-    by_round (least_by id_of (λ s. takes_turn urgency es s && is_in r s.0) es) (least_is id_of (λ s. takes_turn urgency es s && is_in r s.0) es) named
+facts_of : (takes : ℕ → Bool) (r : Round) (waiting n : ℕ) → IsTurn takes r n → takes waiting ≡ true → n ≢ waiting → TurnFacts r waiting n
+facts_of takes r waiting n (inl here) is apart =
+    inl ((and_parts (takes n) (is_in r n) here.1).1, λ it. front (λ q. takes q && is_in r q) n waiting here (ap (λ b. b && is_in r waiting) is ∙ it) apart)
+facts_of takes r waiting n (inr all) is apart =
+    inr
+    (sym (ap (λ b. b && is_in r n) all.1.1) ∙ all.0 n (omega arith), sym (ap (λ b. b && is_in r waiting) is) ∙ all.0 waiting (omega arith), front takes n waiting all.1 is apart)
+
+-- of a list
+is_turn : (urgency : ℕ) (es : Streams) (r : Round) (n : ℕ) → next_turn r urgency es ≡ Some n → IsTurn (any_by id_of (takes_turn urgency es) es) r n
+is_turn urgency es r n named = by_round (least_by id_of (λ s. takes_turn urgency es s && is_in r s.0) es) (least_is id_of (λ s. takes_turn urgency es s && is_in r s.0) es) named
   where
-    with_round : (q : ℕ) → any_by id_of (λ s. takes_turn urgency es s && is_in r s.0) es q ≡ (any_by id_of (takes_turn urgency es) es q && is_in r q)
-    with_round q = any_with (takes_turn urgency es) (is_in r) es q
+    with_round : (o : Option ℕ) → IsLeast (any_by id_of (λ s. takes_turn urgency es s && is_in r s.0) es) 0 o → IsLeast (λ q. any_by id_of (takes_turn urgency es) es q && is_in r q) 0 o
+    with_round o least =
+        least_alike (any_by id_of (λ s. takes_turn urgency es s && is_in r s.0) es) (λ q. any_by id_of (takes_turn urgency es) es q && is_in r q) 0 o
+        (λ q. any_with (takes_turn urgency es) (is_in r) es q) least
 
-    in_round : (q : ℕ) → any_by id_of (takes_turn urgency es) es q ≡ true → any_by id_of (λ s. takes_turn urgency es s && is_in r s.0) es q ≡ is_in r q
-    in_round q passes = with_round q ∙ ap (λ b. b && is_in r q) passes
-
-    by_round : (o : Option ℕ) → IsLeast (any_by id_of (λ s. takes_turn urgency es s && is_in r s.0) es) 0 o → or_else o (least_by id_of (takes_turn urgency es) es) ≡ Some n → TurnFacts r waiting n
-    by_round (Some m) least is =
-        let same : m ≡ n = the_same m n is in
-        let here : IsLeast (any_by id_of (λ s. takes_turn urgency es s && is_in r s.0) es) 0 (Some n) = subst (λ q. IsLeast (any_by id_of (λ s. takes_turn urgency es s && is_in r s.0) es) 0 (Some q)) same least in
-        inl (
-          (and_parts (any_by id_of (takes_turn urgency es) es n) (is_in r n) (sym (with_round n) ∙ here.1)).1,
-          λ it. front (any_by id_of (λ s. takes_turn urgency es s && is_in r s.0) es) n waiting here (in_round waiting takes ∙ it) apart,
-        )
-    by_round None least is =
-        let here : IsLeast (any_by id_of (takes_turn urgency es) es) 0 (Some n) = subst (IsLeast (any_by id_of (takes_turn urgency es) es) 0) is (least_is id_of (takes_turn urgency es) es) in
-        inr (
-          sym (in_round n here.1) ∙ least n (omega arith),
-          sym (in_round waiting takes) ∙ least waiting (omega arith),
-          front (any_by id_of (takes_turn urgency es) es) n waiting here takes apart,
-        )
+    by_round : (o : Option ℕ) → IsLeast (any_by id_of (λ s. takes_turn urgency es s && is_in r s.0) es) 0 o → or_else o (least_by id_of (takes_turn urgency es) es) ≡ Some n
+        → IsTurn (any_by id_of (takes_turn urgency es) es) r n
+    by_round (Some m) least is = inl (subst (λ q. IsLeast (λ k. any_by id_of (takes_turn urgency es) es k && is_in r k) 0 (Some q)) (the_same m n is) (with_round (Some m) least))
+    by_round None least is = inr (with_round None least, subst (IsLeast (any_by id_of (takes_turn urgency es) es) 0) is (least_is id_of (takes_turn urgency es) es))
 
 -- ---- the round after a call
 set_same : (rounds : List Round) (u : ℕ) (r : Round) → u < length rounds → round_at (slice_set rounds u r) u ≡ r
@@ -246,7 +244,7 @@ one_call : (u waiting id : ℕ) (s : Schedule) (o : Option ℕ) (rest : ℕ) →
     → rest ≤ left (ended (round_at s.rounds u) (bound_of s.streams) o) waiting id → one_if (is_it o id) + rest ≤ left (round_at s.rounds u) waiting id
 one_call u waiting id s None rest waits another h = omega (arith, h)
 one_call u waiting id s (Some n) rest waits another h =
-    let facts = turn_facts u s.streams (round_at s.rounds u) waiting n another.0 waits another.1 in
+    let facts = facts_of (any_by id_of (takes_turn u s.streams) s.streams) (round_at s.rounds u) waiting n (is_turn u s.streams (round_at s.rounds u) n another.0) waits another.1 in
     let fewer = fewer_left (round_at s.rounds u) waiting id n (bound_of s.streams) (above_all (takes_turn u s.streams) s.streams waiting waits) facts in
     omega (arith, h, fewer)
 
@@ -261,4 +259,18 @@ pub two_at_most : (urgency waiting id : ℕ) (s : Schedule) (calls : List Call) 
 two_at_most urgency waiting id s calls within waits =
     let few = few_turns urgency waiting id s calls within waits in
     let two = two_left (is_in (round_at s.rounds urgency) waiting) (nat_le (round_at s.rounds urgency).from id) (is_in (round_at s.rounds urgency) id) in
+    omega (arith, few, two)
+
+-- ---- moments
+few_among : (waiting id : ℕ) (r : Round) (moments : List Moment) → WaitsThrough waiting r moments → turns_among id moments ≤ left r waiting id
+few_among waiting id r [] waits = omega arith
+few_among waiting id r (m ∷ moments) waits =
+    let later = few_among waiting id (after_turn r m.id m.bound) moments waits.4 in
+    let fewer = fewer_left r waiting id m.id m.bound waits.1 (facts_of m.takes r waiting m.id waits.2 waits.0 waits.3) in
+    omega (arith, later, fewer)
+
+pub two_among : (waiting id : ℕ) (r : Round) (moments : List Moment) → WaitsThrough waiting r moments → turns_among id moments ≤ 2
+two_among waiting id r moments waits =
+    let few = few_among waiting id r moments waits in
+    let two = two_left (is_in r waiting) (nat_le r.from id) (is_in r id) in
     omega (arith, few, two)

@@ -7,3 +7,6 @@ pub mod Calls
 pub mod Next
 pub mod Turning
 pub mod Rows
+pub mod LeastLaws
+pub mod TurnLaws
+pub mod Moments

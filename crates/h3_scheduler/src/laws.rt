@@ -1,9 +1,11 @@
 //! What holds of which stream sends next. These functions do nothing: their contracts are the laws.
 ghost use Rattle.std.specs.Prelude.{◌≤◌, ◌<◌, ℕ, List, length};
 ghost use Rattle.h3_scheduler.specs.Calls.{Call, turns_in, Waits};
+ghost use Rattle.h3_scheduler.specs.Moments.{turns_among, Moment, WaitsThrough};
 ghost use Rattle.h3_scheduler.specs.Next.{AreDefault, IsLowest, IsMostUrgent};
 ghost use Rattle.h3_scheduler.specs.Rows.{RowsHold};
 ghost use Rattle.h3_scheduler.specs.Schedule.{next, Schedule};
+ghost use Rattle.h3_scheduler.specs.declared.round.Round.{Round};
 
 /// Nobody starves: while a stream waits for its turn, whatever is called, and those of its urgency send in their turns, none of these has a
 /// third turn. So it is also if streams come again and again.
@@ -11,6 +13,12 @@ ghost use Rattle.h3_scheduler.specs.Schedule.{next, Schedule};
 pub fn none_has_a_third_turn()
     ensures { (urgency waiting id : ℕ) (s : Schedule) (calls : List Call) → urgency < length s.rounds → Waits urgency waiting s calls
         → turns_in urgency id s calls ≤ 2 }
+{}
+
+/// The same of turns of one urgency, over tests that say who takes turns then, whatever happens between them.
+#[tactic(auto, using(crate::proofs::ThirdTurn::two_among))]
+pub fn none_has_a_third_turn_through_moments()
+    ensures { (waiting id : ℕ) (r : Round) (moments : List Moment) → WaitsThrough waiting r moments → turns_among id moments ≤ 2 }
 {}
 
 /// The stream that sends next has something to send and is not held, and none such is more urgent. If there is one, one sends next.

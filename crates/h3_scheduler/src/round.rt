@@ -84,7 +84,8 @@ impl Rounds {
     /// The turn of a stream with this priority is over, as the ids of the streams that are open are below `until`.
     pub fn end_turn(&mut self, priority: Priority, id: u64, until: u64)
         requires { id < 2 ^ 62 }
-        ensures { self.new.rounds ≡ slice_set self.old.rounds priority.urgency (after_turn (round_at self.old.rounds priority.urgency) id until) }
+        ensures { self.new.rounds
+            ≡ slice_set self.old.rounds priority.urgency (after_turn (round_at self.old.rounds priority.urgency) id until) }
     {
         let urgency = priority.urgency();
         let round = self.of(urgency as u64);

@@ -61,15 +61,16 @@ impl Standing {
         self.places.remove(&place_of(priority, id));
     }
 
-    /// A stream that stands there, or nowhere, stands here from now on. An `Err` changes nothing: an allocation failed. If it stands nowhere
-    /// from now on it takes no memory.
+    /// A stream that stands there, or nowhere, stands here from now on. An `Err` changes nothing: an allocation failed. If it stands
+    /// nowhere from now on it takes no memory.
     pub(crate) fn settle(
         &mut self,
         id: u64,
         before: Option<Priority>,
         after: Option<Priority>,
     ) -> Result<(), AllocError>
-        requires { (urgency : ℕ) (incremental : Bool) → is_standing self.old urgency incremental id ≡ is_class before urgency incremental }
+        requires { (urgency : ℕ) (incremental : Bool)
+            → is_standing self.old urgency incremental id ≡ is_class before urgency incremental }
         ensures ok { OnOk result (Settles id after (is_standing self.old) (is_standing self.new)) }
         ensures err { OnErr result (StandSame (is_standing self.old) (is_standing self.new)) }
         ensures leaves { after ≡ None → result ≡ Ok tt }

@@ -37,7 +37,8 @@ impl Turns {
         before: Option<Priority>,
         after: Option<Priority>,
     ) -> Result<(), AllocError>
-        requires { (urgency : ℕ) (incremental : Bool) → is_standing self.old.standing urgency incremental id ≡ is_class before urgency incremental }
+        requires { (urgency : ℕ) (incremental : Bool)
+            → is_standing self.old.standing urgency incremental id ≡ is_class before urgency incremental }
         ensures ok { OnOk result (Settles id after (is_standing self.old.standing) (is_standing self.new.standing)) }
         ensures err { OnErr result (StandSame (is_standing self.old.standing) (is_standing self.new.standing)) }
         ensures leaves { after ≡ None → result ≡ Ok tt }
@@ -66,7 +67,8 @@ impl Turns {
     /// The turn of a stream with this priority is over, as the ids of the streams that are open are below `until`.
     pub fn end_turn(&mut self, priority: Priority, id: u64, until: u64)
         requires { id < 2 ^ 62 }
-        ensures rounds { self.new.rounds.rounds ≡ slice_set self.old.rounds.rounds priority.urgency (after_turn (round_at self.old.rounds.rounds priority.urgency) id until) }
+        ensures rounds { self.new.rounds.rounds
+            ≡ slice_set self.old.rounds.rounds priority.urgency (after_turn (round_at self.old.rounds.rounds priority.urgency) id until) }
         ensures standing { self.new.standing ≡ self.old.standing }
     {
         self.rounds.end_turn(priority, id, until);

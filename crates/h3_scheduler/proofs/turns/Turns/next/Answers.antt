@@ -3,7 +3,7 @@ use Rattle.std.proofs.Common.{◌≡◌, ◌∙◌, ap, subst, true, rules}
 use Rattle.h3_scheduler.specs.Least.{IsLeast, lesser_of}
 use Rattle.h3_scheduler.specs.Rounds.{round_at, within}
 use Rattle.h3_scheduler.specs.Standing.{is_standing}
-use Rattle.h3_scheduler.proofs.Turning.{next_in_another, next_in_round}
+use Rattle.h3_scheduler.specs.TurnLaws.{next_in_another, next_in_round}
 use Rattle.h3_scheduler.proofs.turns.Turns.next.Goals as goal
 
 pub returns-then-is_some : goal.returns-then-is_some
