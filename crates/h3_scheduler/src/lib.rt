@@ -1,6 +1,7 @@
 //! Which stream sends next (RFC 9218, section 10).
 #![tactic(auto)]
 
+pub mod examples;
 pub mod laws;
 mod lesser;
 pub mod round;
