@@ -7,7 +7,8 @@ use Rattle.std.specs.Ordering.{nat_cmp}
 use Rattle.std.proofs.lemmas.Bool.{and_parts, cases_eq, cases_lt, eq-eqb, eqb-true, ne_eqb, lt-ltb, le-ltb}
 use Rattle.std.proofs.lemmas.Grind.{common_steps}
 use Rattle.h3_priority.specs.Priority.{PriorityParameters}
-use Rattle.h3_scheduler.specs.Standing.{is_place, is_standing, place_at, IsFirstUrgency, Places, Settles, StandsAt}
+use Rattle.h3_scheduler.specs.Places.{is_place, IsFirstUrgency, Places, Settles, StandsAt}
+use Rattle.h3_scheduler.specs.Standing.{is_standing, place_at}
 use Rattle.h3_scheduler.specs.Streams.{alike, is_class}
 use Rattle.h3_scheduler.specs.declared.standing.Standing.{Standing}
 

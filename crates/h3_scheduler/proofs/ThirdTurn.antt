@@ -13,7 +13,7 @@ use Rattle.h3_scheduler.specs.LeastLaws.{least_alike}
 use Rattle.h3_scheduler.specs.Moments.{turns_among, Moment, WaitsThrough}
 use Rattle.h3_scheduler.specs.Rounds.{after_turn, is_in, no_round, round_at}
 use Rattle.h3_scheduler.specs.Schedule.{Schedule, advanced_at, bound_of, changed_at, opened_at, held, prioritized, readied}
-use Rattle.h3_scheduler.specs.Standing.{IsTurn}
+use Rattle.h3_scheduler.specs.Places.{IsTurn}
 use Rattle.h3_scheduler.specs.Streams.{Streams, any_by, id_of, is_it, least_by, next_turn, or_else, stream_at, takes_turn}
 use Rattle.h3_scheduler.specs.declared.round.Round.{Round}
 use Rattle.h3_scheduler.specs.declared.stream.Stream.{Stream}

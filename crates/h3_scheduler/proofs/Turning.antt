@@ -8,7 +8,8 @@ use Rattle.std.proofs.lemmas.Bool.{and_parts, eq-eqb, or_cases, true≢false}
 use Rattle.h3_scheduler.specs.Least.{IsLeast}
 use Rattle.h3_scheduler.specs.LeastLaws.{least_alike, one_least}
 use Rattle.h3_scheduler.specs.Rounds.{is_in, round_at}
-use Rattle.h3_scheduler.specs.Standing.{is_standing, takes_at, AreStanding, IsFirstUrgency, IsNext, IsTurn}
+use Rattle.h3_scheduler.specs.Places.{takes_at, IsFirstUrgency, IsNext, IsTurn}
+use Rattle.h3_scheduler.specs.Standing.{is_standing, AreStanding}
 use Rattle.h3_scheduler.specs.Streams.{Streams, alike, any_by, first_plain, first_urgency, id_of, is_class, is_it, least_by, next_at, next_of, next_turn, or_else, stands, stands_as, takes_turn, urgency_of}
 use Rattle.h3_scheduler.specs.TurnLaws.{either_one, either_other}
 use Rattle.h3_scheduler.specs.declared.round.Round.{Round}

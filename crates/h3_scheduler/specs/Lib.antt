@@ -10,3 +10,4 @@ pub mod Rows
 pub mod LeastLaws
 pub mod TurnLaws
 pub mod Moments
+pub mod Places

@@ -1,7 +1,7 @@
 -- Turns of one urgency, one after another, whatever happens between them.
 use Rattle.std.specs.Prelude.{◌≡◌, ◌≢◌, ◌<◌, ℕ, ◌+◌, Bool, true, ◌==◌, List, [], ◌∷◌, if◌then◌else◌}
 use Rattle.h3_scheduler.specs.Rounds.{after_turn}
-use Rattle.h3_scheduler.specs.Standing.{IsTurn}
+use Rattle.h3_scheduler.specs.Places.{IsTurn}
 use Rattle.h3_scheduler.specs.declared.round.Round.{Round}
 
 -- who takes turns then, a number above all ids that are open, and the id whose turn it is

@@ -6,7 +6,7 @@ use Rattle.std.proofs.lemmas.Grind.{common_steps}
 use Rattle.h3_scheduler.specs.Least.{IsLeast, lesser_of}
 use Rattle.h3_scheduler.specs.LeastLaws.{least_alike, least_either}
 use Rattle.h3_scheduler.specs.Rounds.{is_in, round_at, within}
-use Rattle.h3_scheduler.specs.Standing.{takes_at, IsFirstUrgency, IsNext, Places}
+use Rattle.h3_scheduler.specs.Places.{takes_at, IsFirstUrgency, IsNext, Places}
 use Rattle.h3_scheduler.specs.Streams.{is_it}
 use Rattle.h3_scheduler.specs.declared.round.Round.{Round}
 

@@ -1,7 +1,8 @@
 //! The streams that stand, which have something to send and are not held, in the order in which urgency puts them.
 ghost use Rattle.std.specs.Prelude.{◌≡◌, ◌<◌, ◌^◌, ℕ, Bool, true, false, IfSome, OnOk, OnErr};
 ghost use Rattle.h3_scheduler.specs.Least.{IsLeast};
-ghost use Rattle.h3_scheduler.specs.Standing.{is_standing, place_at, IsFirstUrgency, Settles, StandSame, StandsAt};
+ghost use Rattle.h3_scheduler.specs.Places.{IsFirstUrgency, Settles, StandSame, StandsAt};
+ghost use Rattle.h3_scheduler.specs.Standing.{is_standing, place_at};
 ghost use Rattle.h3_scheduler.specs.Streams.{is_class};
 
 use h3_priority::priority::Priority;

@@ -1,7 +1,8 @@
 //! Turns of the streams that stand.
 ghost use Rattle.std.specs.Prelude.{◌≡◌, ◌<◌, ◌^◌, ℕ, Bool, None, false, OnErr, OnOk, slice_set};
 ghost use Rattle.h3_scheduler.specs.Rounds.{after_turn, no_rounds, round_at};
-ghost use Rattle.h3_scheduler.specs.Standing.{is_standing, IsNext, Settles, StandSame};
+ghost use Rattle.h3_scheduler.specs.Places.{IsNext, Settles, StandSame};
+ghost use Rattle.h3_scheduler.specs.Standing.{is_standing};
 ghost use Rattle.h3_scheduler.specs.Streams.{is_class};
 
 use crate::lesser::lesser;

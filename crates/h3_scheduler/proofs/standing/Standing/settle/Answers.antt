@@ -1,6 +1,7 @@
 -- It comes to one place and goes from the other, which is not the same.
 use Rattle.std.proofs.Common.{sym, ◌∙◌, ap, subst}
-use Rattle.h3_scheduler.specs.Standing.{is_standing, Settles}
+use Rattle.h3_scheduler.specs.Places.{Settles}
+use Rattle.h3_scheduler.specs.Standing.{is_standing}
 use Rattle.h3_scheduler.specs.Streams.{is_class}
 use Rattle.h3_scheduler.proofs.Places.{moved}
 use Rattle.h3_scheduler.proofs.standing.Standing.settle.Goals as goal
