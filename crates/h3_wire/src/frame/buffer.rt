@@ -8,7 +8,7 @@ ghost use Rattle.h3_wire.specs.Tries.{Counts};
 ghost use Rattle.h3_wire.specs.UnknownSize.{held_length};
 ghost use Rattle.h3_wire.specs.UnreadFrames.{none_unread, AreBetween, AreSpared, IsStillUnderWay, IsPassed};
 
-use super::decoder::FrameDecoder;
+use super::decoder::{FrameDecoder, any_frame};
 use super::errors::FrameStreamError;
 use super::sparing::FrameBytes;
 use crate::proto::frame::{Frame, PayloadLen};
@@ -64,7 +64,6 @@ impl FrameBuffer {
     /// Takes the next known frame, of DATA its type and length alone, and the unknown ones before it. Without a whole frame, and at an
     /// error, only unknown frames are taken, and the bytes of an unknown one under way are freed. Fewer bytes than the frame at the front
     /// is known to need are not tried.
-    #[inline(always)]
     pub fn next_frame(
         &mut self,
         alloc: Global,
@@ -94,12 +93,11 @@ impl FrameBuffer {
         if self.unread.passing() > 0 {
             return None;
         }
-        self.unread.decode_first(&mut self.decoder)
+        let answer = self.unread.decode_first(&mut self.decoder)?;
+        Some(any_frame(answer))
     }
 
-    // Whether a frame begins at the front: none is under way there, or the unknown one that was is whole, and is passed. (A function of its
-    // own: the frame is read at one place, in which it is to lie.)
-    #[inline]
+    // Whether a frame begins at the front: none is under way there, or the unknown one that was is whole, and is passed.
     fn is_at_frame(&mut self) -> bool
         ensures same { self.old.passing ≡ 0 → (result ≡ true) × (self.new ≡ self.old) }
         ensures waits { result ≡ false → IsStillUnderWay self.old self.new }
@@ -132,7 +130,6 @@ impl FrameBuffer {
     }
 
     // The same if none is under way.
-    #[inline(always)]
     fn decode(&mut self, alloc: Global) -> Result<Option<Frame<PayloadLen>>, FrameStreamError>
         requires none { self.old.passing ≡ 0 }
         ensures gives { Gives result (concat self.old.pieces) (concat self.new.pieces) }
