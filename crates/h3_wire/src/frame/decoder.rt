@@ -157,7 +157,7 @@ impl FrameDecoder {
 
 // An answer of a message's frames as one of all frames.
 #[inline(always)]
-pub(super) fn any_frame(answer: Option<MessageFrame>) -> Option<Frame<PayloadLen>>
+fn any_frame(answer: Option<MessageFrame>) -> Option<Frame<PayloadLen>>
     ensures { result ≡ any_frame answer }
 {
     match answer {
