@@ -52,14 +52,15 @@ pub record GoesOn (start here : List (List ℕ)) (old now : Decoding) : Type 0 w
   pub rest : IsRest start here
   pub counts : (answer : Result (Option (Frame PayloadLen)) FrameStreamError) (new : Decoding) → Counts now (concat here) answer new → Counts old (concat start) answer new
 
--- A look that changes nothing leaves it so.
-pub still_on : (start before here : List (List ℕ)) (old mid now : Decoding) → (now ≡ mid) × (here ≡ before) → GoesOn start before old mid → GoesOn start here old now
-still_on start before here old mid now e on =
-    subst (λ (d : Decoding). GoesOn start here old d) (sym e.0) (subst (λ (p : List (List ℕ)). GoesOn start p old mid) (sym e.1) on)
+-- Enough is there for a try.
+pub record TriesOn (start here : List (List ℕ)) (old now : Decoding) : Type 0 where
+  pub on : GoesOn start here old now
+  pub enough : needed now ≤ length (concat here)
 
-pub still_enough : (before here : List (List ℕ)) (mid now : Decoding) → (now ≡ mid) × (here ≡ before) → needed mid ≤ length (concat before) → needed now ≤ length (concat here)
-still_enough before here mid now e enough =
-    subst (λ (d : Decoding). needed d ≤ length (concat here)) (sym e.0) (subst (λ (p : List (List ℕ)). needed mid ≤ length (concat p)) (sym e.1) enough)
+-- A look that changes nothing leaves it so.
+pub still_on : (start before here : List (List ℕ)) (old mid now : Decoding) → (now ≡ mid) × (here ≡ before) → needed mid ≤ length (concat before) → GoesOn start before old mid → TriesOn start here old now
+still_on start before here old mid now e enough on =
+    subst (λ (d : Decoding). TriesOn start here old d) (sym e.0) (subst (λ (p : List (List ℕ)). TriesOn start p old mid) (sym e.1) (record { on = on; enough = enough }))
 
 -- what holds of a message's frame holds of it as one of all
 pub if_any : (o : Option MessageFrame) {fact more : Type 0} → (fact → more) → IfSome o (λ f. fact) → IfSome (any_frame o) (λ f. more)
