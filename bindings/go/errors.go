@@ -31,7 +31,7 @@ const (
 	BlockedLimit    Answer = C.H3_BLOCKED_LIMIT     // Blocked is above 65535
 	Setting         Answer = C.H3_SETTING           // a setting cannot be announced; detail: its id
 	UnfinishedLimit Answer = C.H3_UNFINISHED_LIMIT  // UnfinishedLimit is below four times what is announced
-	FieldName       Answer = C.H3_FIELD_NAME        // a name is empty, not in lower case, or an unknown one that begins with ':'; detail: the field's index
+	FieldName       Answer = C.H3_FIELD_NAME        // a name is empty, not in lower case, or an unknown pseudo-header field; detail: the field's index
 	FieldValue      Answer = C.H3_FIELD_VALUE       // a value is not in the grammar of its name; detail: the field's index
 	FieldCount      Answer = C.H3_FIELD_COUNT       // there are more different names than fit
 	Malformed       Answer = C.H3_MALFORMED         // a strict peer would call the message malformed; detail: the Malformation

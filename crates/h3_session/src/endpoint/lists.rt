@@ -26,13 +26,18 @@ use h3_proto::stream::{Side, StreamId};
 use std::alloc::{AllocError, Global};
 
 impl Endpoint {
-    /// Sends a header section on a stream, as `send_head` does, but as the list that it is given as: in its order, and from the memory of
-    /// its fields. No header is made of it. Refused are first every call after a connection fault, then a stream that is not open, then one
-    /// whose final header section or end was sent. Next is a list that `Header::try_from` refuses (`Refusal::Malformed` of `Name`, `Value`
-    /// or `TooMany`), but that any short token is taken as `:protocol` if the configuration says so (`Config::with_any_protocol`). Then
-    /// comes a header section of the other side's messages. An endpoint that asks for strict messages then refuses one that a strict peer would call malformed. Last is one
-    /// whose size is above what the peer's settings allow. If an allocation fails the encoder stream may have gained whole instructions,
-    /// and the stream is as it was. A list of more than 24,576 fields also takes memory to be judged.
+    /// Sends a list of fields as a header section of a stream: the fields go out in their order, from their own memory, and no header is
+    /// made of them. It refuses, in this order:
+    /// - every call after a connection fault (`Refusal::Closed`),
+    /// - a stream that is not open (`NotOpen`), or whose final header section or end was sent (`OutOfOrder`),
+    /// - a list that `Header::try_from` refuses (`Malformed` of `Name`, `Value` or `TooMany`); with `Config::with_any_protocol` the value of
+    ///   `:protocol` may be any token of at most 31 bytes,
+    /// - a header section of the other side's messages (`WrongSide`),
+    /// - if the endpoint asks for strict messages, a list that a strict peer would call malformed (`Malformed`),
+    /// - a list whose size is above what the peer's settings allow (`TooLarge`).
+    ///
+    /// If an allocation fails, the encoder stream may have gained whole instructions, and the stream is as it was. A list of more than 24,576
+    /// fields takes memory to be judged.
     pub fn send_fields(&mut self, id: StreamId, fields: &[HeaderField]) -> Result<(), Refusal>
         ensures { SendsFieldList self.old self.new id fields.now result }
     {
