@@ -106,7 +106,8 @@ impl StreamsUnderWay {
         )
     }
 
-    /// The stream of this id, to be changed.
+    /// The stream of this id, to be changed. In its callers, so that one that stands in the row is found with no call.
+    #[inline(always)]
     pub(crate) fn get_mut(&mut self, id: u64) -> Option<&mut RequestStream>
         ensures* writes_back { sem 𝓛 (LendsUnderWay self.entry id result) }
         ensures value { option_copied_mut result ≡ kept_at self.old id }

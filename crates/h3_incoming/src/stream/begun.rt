@@ -27,6 +27,7 @@ pub(super) enum Begun {
     Fault(Code),
 }
 
+// RFC 9114 7.2: frames out of place on a request stream
 /// What a frame begins.
 #[inline(always)]
 #[tactic(auto, using(crate::proofs::FrontLaws::none_empty))]
@@ -71,6 +72,7 @@ fn begun_by_section(place: Place, content: Content, section: Bytes) -> Begun
     }
 }
 
+// RFC 9114 4.1: DATA before the header section
 // What a DATA frame begins whose payload has so many bytes.
 #[inline(always)]
 fn begun_by_data(place: Place, len: usize) -> Begun
@@ -119,6 +121,7 @@ fn begun_by_session(side: Side, place: Place, session: SessionId) -> Begun
     Begun::Fault(Code::H3_FRAME_UNEXPECTED)
 }
 
+// RFC 9114 7.2: frames out of place on a request stream
 fn promise_code(side: Side) -> Code
     ensures { result ≡ promise_code side }
 {

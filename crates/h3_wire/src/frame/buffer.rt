@@ -1,5 +1,5 @@
 //! The bytes of a stream of frames that came and were not read.
-ghost use Rattle.std.specs.Prelude.{◌≡◌, ◌+◌, ◌^◌, ◌<◌, ◌≤◌, ◌++◌, [], None, Ok, false, true, length, IfOk, IfErr, IfSome, IfNone, OnOk, OnErr};
+ghost use Rattle.std.specs.Prelude.{◌≡◌, ◌+◌, ◌^◌, ◌<◌, ◌≤◌, ◌++◌, [], None, Ok, false, true, length, IfOk, IfErr, IfSome, IfNone, IsNone, OnOk, OnErr};
 ghost use Rattle.std.specs.List.{concat};
 ghost use Rattle.h3_wire.specs.ExcessiveFrames.{begins_section, is_excessive};
 ghost use Rattle.h3_wire.specs.Known.{Gives, known};
@@ -79,6 +79,22 @@ impl FrameBuffer {
             return self.decode(alloc);
         }
         Ok(None)
+    }
+
+    /// The same, if the first piece has a whole HEADERS frame or the type and length of a DATA frame at its front, or fewer bytes came than
+    /// the frame at the front is known to need. Otherwise `None`, which changes nothing. What it gives is not moved: it stands in its caller.
+    #[inline(always)]
+    pub fn next_first(&mut self) -> Option<Option<Frame<PayloadLen>>>
+        ensures gives { IfSome result (λ o. Gives (Ok o) (concat self.old.pieces) (concat self.new.pieces)) }
+        ensures between { IfSome result (λ o. IfSome o (λ f. AreBetween self.new)) }
+        ensures counts { IfSome result (λ o. Counts self.old.decoder (concat self.old.pieces) (Ok o) self.new.decoder) }
+        ensures same { IsNone result → self.new ≡ self.old }
+        ensures pieces { self.new.pieces ≡ ending (length (concat self.new.pieces)) self.old.pieces }
+    {
+        if self.unread.passing() > 0 {
+            return None;
+        }
+        self.unread.decode_first(&mut self.decoder)
     }
 
     // Whether a frame begins at the front: none is under way there, or the unknown one that was is whole, and is passed. (A function of its

@@ -112,7 +112,10 @@ impl FrameDecoder {
     // The same, if it takes a frame from the first piece, or fewer bytes are there than the next try needs. Otherwise `None`, which changes
     // nothing.
     #[inline(always)]
-    fn decode_first(&mut self, src: &mut BufList<Bytes>) -> Option<Option<Frame<PayloadLen>>>
+    pub(super) fn decode_first(
+        &mut self,
+        src: &mut BufList<Bytes>,
+    ) -> Option<Option<Frame<PayloadLen>>>
         requires expects { Expects self.old (concat src.old.pieces) }
         ensures gives { IfSome result (λ o. Gives (Ok o) (concat src.old.pieces) (concat src.new.pieces)) }
         ensures expects { Expects self.new (concat src.new.pieces) }
@@ -130,6 +133,7 @@ impl FrameDecoder {
         Some(Some(frame))
     }
 
+    // RFC 9114 9: unknown frames skipped
     // The same wherever the frame lies, and after unknown ones, if as many bytes are there as the next try needs. It stays apart, so that a
     // frame in the first piece is read without making room for the largest.
     #[inline(never)]

@@ -1,5 +1,5 @@
 //! The bytes of a stream of frames, of which those of an unknown frame that is under way are not kept.
-ghost use Rattle.std.specs.Prelude.{◌≡◌, ◌+◌, ◌^◌, ◌<◌, ◌≤◌, ◌++◌, [], None, Ok, true, length, drop, IfOk, IfErr, IfSome, OnOk, OnErr};
+ghost use Rattle.std.specs.Prelude.{◌≡◌, ◌+◌, ◌^◌, ◌<◌, ◌≤◌, ◌++◌, [], None, Ok, true, length, drop, IfOk, IfErr, IfSome, OnOk, OnErr, IsNone};
 ghost use Rattle.std.specs.List.{concat};
 ghost use Rattle.h3_proto.specs.Config.{is_limit};
 ghost use Rattle.h3_wire.specs.ExcessiveFrames.{begins_section, is_excessive};
@@ -106,6 +106,7 @@ impl FrameBytes {
         self.passing
     }
 
+    // RFC 9114 9: unknown frames skipped
     /// The unknown frame under way is whole, and is passed.
     pub(super) fn pass(&mut self)
         requires under_way { 0 < self.old.passing }
@@ -137,6 +138,26 @@ impl FrameBytes {
         ensures none { self.new.passing ≡ 0 }
     {
         decoder.decode(alloc, &mut self.kept)
+    }
+
+    /// `FrameDecoder::decode_first`, when no unknown frame is under way.
+    #[inline(always)]
+    pub(super) fn decode_first(
+        &mut self,
+        decoder: &mut FrameDecoder,
+    ) -> Option<Option<Frame<PayloadLen>>>
+        requires none { self.old.passing ≡ 0 }
+        requires expects { Expects decoder.old (concat self.old.pieces) }
+        ensures gives { IfSome result (λ o. Gives (Ok o) (concat self.old.pieces) (concat self.new.pieces)) }
+        ensures expects { Expects decoder.new (concat self.new.pieces) }
+        ensures fresh { IfSome result (λ o. IfSome o (λ f. decoder.new.expected ≡ None)) }
+        ensures counts { IfSome result (λ o. Counts decoder.old (concat self.old.pieces) (Ok o) decoder.new) }
+        ensures decoder { IsNone result → decoder.new ≡ decoder.old }
+        ensures same { IsNone result → self.new.pieces ≡ self.old.pieces }
+        ensures rest { IsRest self.old.pieces self.new.pieces }
+        ensures none { self.new.passing ≡ 0 }
+    {
+        decoder.decode_first(&mut self.kept)
     }
 
     /// `BufList::take_chunk`, when no unknown frame is under way.

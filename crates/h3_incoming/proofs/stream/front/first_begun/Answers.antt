@@ -1,0 +1,6 @@
+use Rattle.h3_incoming.proofs.stream.front.first_begun.Goals as goal
+
+pub returns-in-Some-Some-clause-gives : goal.returns-in-Some-Some-clause-gives
+returns-in-Some-Some-clause-gives c =
+    let b = c.begun_by.ensures in
+    (c.in-Some-Some.frame, record { is = b.is; begins = b.begins; section = b.section; empty = b.empty }, rw c.in-Some-Some.field-0-is at c.in-Some-Some.ensures.gives)
