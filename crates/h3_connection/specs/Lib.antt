@@ -48,6 +48,7 @@ pub mod Refusals
 pub mod Sending
 pub mod State
 pub mod Keeping
+pub mod Coming
 pub mod PartReading
 pub mod Calls
 pub mod Answers

@@ -20,11 +20,14 @@ pub mod EncoderStreamLaws
 pub mod FewLaws
 pub mod FlowLaws
 pub mod FrontLaws
+pub mod Handing
 pub mod HandingLaws
 pub mod HeadLaws
 pub mod InOrder
 pub mod KeepsPartsLaws
 pub mod LearningLaws
+pub mod ListComesLaws
+pub mod ListEventLaws
 pub mod ListeningLaws
 pub mod Messages
 pub mod MovedLaws

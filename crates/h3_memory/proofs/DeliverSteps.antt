@@ -40,6 +40,7 @@ behind_client k (answer.Short count, v) = refl
 behind_client k (answer.NoStream, v) = refl
 behind_client k (answer.Early, v) = refl
 behind_client k (answer.Pulled p, v) = refl
+behind_client k (answer.Listed l, v) = refl
 behind_client k (answer.Shown limits sizes waits, v) = refl
 
 behind_server : (k : KeepingWorld) (y : Answer × World) → read_behind k Server y ≡ read_so Server k.world k.at_client k.at_server y
@@ -51,6 +52,7 @@ behind_server k (answer.Short count, v) = refl
 behind_server k (answer.NoStream, v) = refl
 behind_server k (answer.Early, v) = refl
 behind_server k (answer.Pulled p, v) = refl
+behind_server k (answer.Listed l, v) = refl
 behind_server k (answer.Shown limits sizes waits, v) = refl
 
 -- the ends

@@ -82,12 +82,11 @@ plain_reset setup w writer id given new e =
     told_by given new w (delivered_reset w writer id) (other writer) (not (has_outgoing w writer id)) (is_own writer id || not (flow w writer id).is_reset) (is_closed w writer id)
     (subst (λ v. (given, new) ≡ read_behind (nothing_kept w) (other writer) (reset_delivery v writer id)) (caught setup w (other writer)) e)
 
-plain_pull : (setup : Setup) (w : World) (side : Side) (id : ℕ) (given : Answer) (new : KeepingWorld) (settled : Bool) → Pulls setup (nothing_kept w) side id settled given new
-    → IsPlain setup w (event.Pull side id) given new
-plain_pull setup w side id given new true h = record { step = h.0; none = h.1 ∙ sym (ap (λ k. nothing_kept k.world) h.1) }
-plain_pull setup w side id given new false h =
+plain_pull : (setup : Setup) (w : World) (side : Side) (e : Event) (given : Answer) (new : KeepingWorld) (settled : Bool) → Pulls setup (nothing_kept w) side e settled given new → IsPlain setup w e given new
+plain_pull setup w side e given new true h = record { step = h.0; none = h.1 ∙ sym (ap (λ k. nothing_kept k.world) h.1) }
+plain_pull setup w side e given new false h =
     record {
-      step = subst (λ v. Step setup v (event.Pull side id) given new.world) (caught setup w side) h.0;
+      step = subst (λ v. Step setup v e given new.world) (caught setup w side) h.0;
       none = h.1 ∙ kept_none w new.world side;
     }
 
@@ -95,13 +94,16 @@ plain : (setup : Setup) (w : World) (e : Event) (a : Answer) (new : KeepingWorld
 plain setup w (event.Deliver writer id count) a new h = let x = plain_bytes setup w writer id count a new h in record { step = x.same; none = x.none }
 plain setup w (event.DeliverEnd writer id) a new h = let x = plain_end setup w writer id a new h in record { step = x.same; none = x.none }
 plain setup w (event.DeliverReset writer id) a new h = let x = plain_reset setup w writer id a new h in record { step = x.same; none = x.none }
-plain setup w (event.Pull side id) a new h = plain_pull setup w side id a new (is_settled w side id) h
+plain setup w (event.Pull side id) a new h = plain_pull setup w side (event.Pull side id) a new (is_settled w side id) h
+plain setup w (event.PullFields side id) a new h = plain_pull setup w side (event.PullFields side id) a new (is_settled w side id) h
 plain setup w (event.Reset side id) a new h =
     record { step = subst (λ v. Does (reset_refusal v side id) w answer.Done (cut_off w side id) a new.world) (caught setup w (other side)) h.0; none = h.1 }
 plain setup w (event.OpenRequest side) a new h = record { step = h.0; none = h.1 }
 plain setup w (event.Head side id head) a new h = record { step = h.0; none = h.1 }
+plain setup w (event.Fields side id fields) a new h = record { step = h.0; none = h.1 }
 plain setup w (event.Body side id bytes) a new h = record { step = h.0; none = h.1 }
 plain setup w (event.Trailer side id trailer) a new h = record { step = h.0; none = h.1 }
+plain setup w (event.TrailerFields side id fields) a new h = record { step = h.0; none = h.1 }
 plain setup w (event.Finish side id) a new h = record { step = h.0; none = h.1 }
 plain setup w (event.Cancel side id) a new h = record { step = h.0; none = h.1 }
 plain setup w (event.Goaway side id) a new h = record { step = h.0; none = h.1 }
@@ -110,14 +112,17 @@ plain setup w (event.Show side) a new h = record { step = h.0; none = h.1 }
 -- where a pull stands
 at_reader : (setup : Setup) (w : World) (e : Event) → reader_world setup (nothing_kept w) e ≡ w
 at_reader setup w (event.Pull side id) = caught setup w side
+at_reader setup w (event.PullFields side id) = caught setup w side
 at_reader setup w (event.Deliver writer id count) = refl
 at_reader setup w (event.DeliverEnd writer id) = refl
 at_reader setup w (event.DeliverReset writer id) = refl
 at_reader setup w (event.Reset side id) = refl
 at_reader setup w (event.OpenRequest side) = refl
 at_reader setup w (event.Head side id head) = refl
+at_reader setup w (event.Fields side id fields) = refl
 at_reader setup w (event.Body side id bytes) = refl
 at_reader setup w (event.Trailer side id trailer) = refl
+at_reader setup w (event.TrailerFields side id fields) = refl
 at_reader setup w (event.Finish side id) = refl
 at_reader setup w (event.Cancel side id) = refl
 at_reader setup w (event.Goaway side id) = refl

@@ -38,7 +38,7 @@ use Rattle.h3_memory.proofs.KeptLaws.{KeptLaws}
 use Rattle.h3_memory.proofs.ResetEvent.{CanReset, may_reset, refused_not, resets_at}
 use Rattle.h3_memory.proofs.ResetJudged.{reset_judged}
 use Rattle.h3_memory.proofs.SendersStep.{refused_of, any_exact, steps, told}
-use Rattle.h3_memory.proofs.SendingEvents.{TellsMemory, Lacks, IsKept, PullLacks, AnswersAlike, keeps_at, call_alike}
+use Rattle.h3_memory.proofs.SendingEvents.{TellsMemory, Lacks, IsKept, PullLacks, ListLacks, AnswersAlike, keeps_at, call_alike}
 use Rattle.h3_memory.proofs.SendsHappen.{Answered}
 
 -- the endpoint that cut the stream off
@@ -132,3 +132,4 @@ reset_step qpack laws setup side id = steps setup (event.Reset side id) (λ b w 
     lacks k ends new a sendable h Lacks m l = absurd l
     lacks k ends new a sendable h IsKept m l = absurd l
     lacks k ends new a sendable h PullLacks m l = absurd l
+    lacks k ends new a sendable h ListLacks m l = absurd l

@@ -1,6 +1,6 @@
 -- **Each event of a sender, and what an end shows, is a step of the world, with anything kept at either side and memory refused or not.**
 use Rattle.std.proofs.Common.{◌≡◌, ℕ, Bool, true, false, not, List, refl, sym, ap, ◌∙◌, subst, Option, Some, None}
-use Rattle.h3_field.specs.Field.{section_size}
+use Rattle.h3_field.specs.Field.{Field, section_size}
 use Rattle.h3_header.specs.Head.{Head as Fields, head_fields, has_pseudo}
 use Rattle.h3_proto.specs.declared.stream.Side.{Side}
 use Rattle.h3_connection.specs.Endpoint.{EndpointHistory}
@@ -16,6 +16,7 @@ use Rattle.h3_world.specs.declared.event.Event.TheVariants as event
 use Rattle.h3_world.specs.declared.event.Answer.{Answer}
 use Rattle.h3_world.specs.declared.event.Answer.TheVariants as answer
 use Rattle.h3_world.specs.Came.{settings_known}
+use Rattle.h3_world.specs.EndLists.{send_fields, send_trailer_fields}
 use Rattle.h3_world.specs.Ends.{Ends, end_at, done}
 use Rattle.h3_world.specs.Headline.{is_memory}
 use Rattle.h3_world.specs.Order.{outgoing_of}
@@ -26,15 +27,15 @@ use Rattle.h3_world.specs.Step.{Does, IsExact}
 use Rattle.h3_world.specs.Streams.{flow, is_open}
 use Rattle.h3_world.specs.World.{World}
 use Rattle.h3_headline.specs.Cited.{Laws}
-use Rattle.h3_headline.specs.SentEventLaws.{opened_on, head_on, trailer_on, cancel_on, goaway_on}
+use Rattle.h3_headline.specs.SentEventLaws.{opened_on, head_on, fields_on, trailer_on, trailer_fields_on, cancel_on, goaway_on}
 use Rattle.h3_memory.specs.Kept.{KeepingWorld, with_world}
 use Rattle.h3_memory.specs.Keeping.{StandsKeeping}
 use Rattle.h3_memory.specs.MemoryStep.{Answers, LacksMemory, StepOf, UnlessMemory, reader_world}
 use Rattle.h3_memory.specs.Refused as refused
 use Rattle.h3_memory.specs.Theorem.{StandsOn, StepsOn}
 use Rattle.h3_memory.proofs.KeptLaws.{KeptLaws}
-use Rattle.h3_memory.proofs.SectionCutOff.{head_judged, section_cut, trailer_judged}
-use Rattle.h3_memory.proofs.SendingEvents.{TellsMemory, Lacks, IsKept, PullLacks, tells_memory}
+use Rattle.h3_memory.proofs.SectionCutOff.{head_judged, list_cut, section_cut, trailer_judged}
+use Rattle.h3_memory.proofs.SendingEvents.{TellsMemory, Lacks, IsKept, PullLacks, ListLacks, tells_memory}
 use Rattle.h3_memory.proofs.SendsHappen.{
   Answered,
   Calls,
@@ -42,9 +43,13 @@ use Rattle.h3_memory.proofs.SendsHappen.{
   open_answered,
   head_calls,
   head_answered,
+  fields_calls,
+  fields_answered,
   body_answered,
   trailer_calls,
   trailer_answered,
+  trailer_fields_calls,
+  trailer_fields_answered,
   finish_answered,
   cancel_calls,
   cancel_answered,
@@ -63,6 +68,7 @@ refused_of (answer.Short count) = None
 refused_of answer.NoStream = None
 refused_of answer.Early = None
 refused_of (answer.Pulled p) = None
+refused_of (answer.Listed l) = None
 refused_of (answer.Shown limits sizes waiting) = None
 
 pub told : (ends : Ends) (side : Side) (success : Answer) (x : Option Refusal × EndpointHistory) → refused_of success ≡ None → refused_of (done ends side success x).0 ≡ x.0
@@ -119,6 +125,7 @@ module _ (qpack : KeptLaws) (laws : Laws) (setup : Setup) where
           unchanged setup k ends new (event.OpenRequest side) a any_exact m (sym same ∙ l.0, refl) l.1 h
       lacks k ends new a sendable h IsKept m l = absurd l
       lacks k ends new a sendable h PullLacks m l = absurd l
+      lacks k ends new a sendable h ListLacks m l = absurd l
 
   pub body_step : (side : Side) (id : ℕ) (bytes : List ℕ) → StepsOn setup (event.Body side id bytes)
   body_step side id bytes = steps setup (event.Body side id bytes) (λ b w a. any_exact b) (λ k ends sendable h. body_answered laws setup k ends h side id bytes sendable) lacks
@@ -128,6 +135,7 @@ module _ (qpack : KeptLaws) (laws : Laws) (setup : Setup) where
       lacks k ends new a sendable h Lacks m l = unchanged setup k ends new (event.Body side id bytes) a any_exact m refl l h
       lacks k ends new a sendable h IsKept m l = absurd l
       lacks k ends new a sendable h PullLacks m l = absurd l
+      lacks k ends new a sendable h ListLacks m l = absurd l
 
   pub cancel_step : (side : Side) (id : ℕ) → StepsOn setup (event.Cancel side id)
   cancel_step side id = steps setup (event.Cancel side id) (λ b w a. any_exact b) (λ k ends sendable h. cancel_answered laws setup k ends h side id sendable) lacks
@@ -140,6 +148,7 @@ module _ (qpack : KeptLaws) (laws : Laws) (setup : Setup) where
           unchanged setup k ends new (event.Cancel side id) a any_exact m (sym same ∙ l.0, refl) l.1 h
       lacks k ends new a sendable h IsKept m l = absurd l
       lacks k ends new a sendable h PullLacks m l = absurd l
+      lacks k ends new a sendable h ListLacks m l = absurd l
 
   pub goaway_step : (side : Side) (id : ℕ) → StepsOn setup (event.Goaway side id)
   goaway_step side id = steps setup (event.Goaway side id) (λ b w a. any_exact b) (λ k ends sendable h. goaway_answered laws setup k ends h side id sendable) lacks
@@ -152,6 +161,7 @@ module _ (qpack : KeptLaws) (laws : Laws) (setup : Setup) where
           unchanged setup k ends new (event.Goaway side id) a any_exact m (sym same ∙ l.0, refl) l.1 h
       lacks k ends new a sendable h IsKept m l = absurd l
       lacks k ends new a sendable h PullLacks m l = absurd l
+      lacks k ends new a sendable h ListLacks m l = absurd l
 
   pub head_step : JudgesPlainly setup → (side : Side) (id : ℕ) (head : Fields) → StepsOn setup (event.Head side id head)
   head_step plain side id head = steps setup (event.Head side id head) (λ b w a. any_exact b) (λ k ends sendable h. head_answered laws setup k ends h side (plain side) id head sendable) lacks
@@ -167,6 +177,7 @@ module _ (qpack : KeptLaws) (laws : Laws) (setup : Setup) where
           record { new = cut.next; step = cut.cuts; exact = tt; stands = cut.stands }
       lacks k ends new a sendable h IsKept m l = absurd l
       lacks k ends new a sendable h PullLacks m l = absurd l
+      lacks k ends new a sendable h ListLacks m l = absurd l
 
   pub trailer_step : JudgesPlainly setup → (side : Side) (id : ℕ) (trailer : Fields) → StepsOn setup (event.Trailer side id trailer)
   trailer_step plain side id trailer = steps setup (event.Trailer side id trailer) (λ b w a. any_exact b) (λ k ends sendable h. trailer_answered laws setup k ends h side (plain side) id trailer sendable) lacks
@@ -182,6 +193,38 @@ module _ (qpack : KeptLaws) (laws : Laws) (setup : Setup) where
           record { new = cut.next; step = cut.cuts; exact = tt; stands = cut.stands }
       lacks k ends new a sendable h IsKept m l = absurd l
       lacks k ends new a sendable h PullLacks m l = absurd l
+      lacks k ends new a sendable h ListLacks m l = absurd l
+
+  -- of lists
+  pub fields_step : JudgesPlainly setup → (side : Side) (id : ℕ) (fields : List Field) → StepsOn setup (event.Fields side id fields)
+  fields_step plain side id fields = steps setup (event.Fields side id fields) (λ b w a. any_exact b) (λ k ends sendable h. fields_answered laws setup k ends h side (plain side) id fields sendable) lacks
+    where
+      lacks : (k : KeepingWorld) (ends new : Ends) (a : Answer) → IsSendable setup (event.Fields side id fields) → StandsKeeping setup k ends → TellsMemory a → is_memory a ≡ true → refused.LacksMemory ends (event.Fields side id fields) a new
+          → StandsOn setup k (event.Fields side id fields) a new
+      lacks k ends new a sendable h Lacks m l =
+          let on = fields_on laws setup k.world h.behind side id fields (plain side) sendable h.stands in
+          let q = refusals.fields_refusal setup k.world side id fields in
+          let same = refuses_alike setup k ends h side (λ e. send_fields e id fields) q _ on.new answer.Done answer.Done (fields_calls laws setup k ends h side (plain side) id fields) refl refl on.happens.step in
+          let cut = list_cut qpack laws setup k ends new side id fields q sendable.section.of_bytes sendable.section.small h (subst (λ r. refused.CutsList r ends side id fields new) same l) in
+          record { new = cut.next; step = cut.cuts; exact = tt; stands = cut.stands }
+      lacks k ends new a sendable h IsKept m l = absurd l
+      lacks k ends new a sendable h PullLacks m l = absurd l
+      lacks k ends new a sendable h ListLacks m l = absurd l
+
+  pub trailer_fields_step : JudgesPlainly setup → (side : Side) (id : ℕ) (fields : List Field) → StepsOn setup (event.TrailerFields side id fields)
+  trailer_fields_step plain side id fields = steps setup (event.TrailerFields side id fields) (λ b w a. any_exact b) (λ k ends sendable h. trailer_fields_answered laws setup k ends h side (plain side) id fields sendable) lacks
+    where
+      lacks : (k : KeepingWorld) (ends new : Ends) (a : Answer) → IsSendable setup (event.TrailerFields side id fields) → StandsKeeping setup k ends → TellsMemory a → is_memory a ≡ true → refused.LacksMemory ends (event.TrailerFields side id fields) a new
+          → StandsOn setup k (event.TrailerFields side id fields) a new
+      lacks k ends new a sendable h Lacks m l =
+          let on = trailer_fields_on laws setup k.world h.behind side id fields (plain side) sendable h.stands in
+          let q = refusals.trailer_fields_refusal setup k.world side id fields in
+          let same = refuses_alike setup k ends h side (λ e. send_trailer_fields e id fields) q _ on.new answer.Done answer.Done (trailer_fields_calls laws setup k ends h side id fields) refl refl on.happens.step in
+          let cut = list_cut qpack laws setup k ends new side id fields q sendable.section.of_bytes sendable.section.small h (subst (λ r. refused.CutsList r ends side id fields new) same l) in
+          record { new = cut.next; step = cut.cuts; exact = tt; stands = cut.stands }
+      lacks k ends new a sendable h IsKept m l = absurd l
+      lacks k ends new a sendable h PullLacks m l = absurd l
+      lacks k ends new a sendable h ListLacks m l = absurd l
 
   -- these two take no memory
   pub finish_step : (side : Side) (id : ℕ) → StepsOn setup (event.Finish side id)
@@ -192,6 +235,7 @@ module _ (qpack : KeptLaws) (laws : Laws) (setup : Setup) where
       lacks k ends new a sendable h Lacks m l = absurd l
       lacks k ends new a sendable h IsKept m l = absurd l
       lacks k ends new a sendable h PullLacks m l = absurd l
+      lacks k ends new a sendable h ListLacks m l = absurd l
 
   pub show_step : (side : Side) → IsMadeSetup setup → StepsOn setup (event.Show side)
   show_step side made = steps setup (event.Show side) (λ b w a. any_exact b) (λ k ends sendable h. show_answered laws setup k ends h side made sendable) lacks
@@ -201,3 +245,4 @@ module _ (qpack : KeptLaws) (laws : Laws) (setup : Setup) where
       lacks k ends new a sendable h Lacks m l = absurd l
       lacks k ends new a sendable h IsKept m l = absurd l
       lacks k ends new a sendable h PullLacks m l = absurd l
+      lacks k ends new a sendable h ListLacks m l = absurd l

@@ -35,6 +35,8 @@ pub mod PullingStreams
 pub mod PullingKept
 pub mod Listing
 pub mod Running
+pub mod ListEvents
+pub mod NamedLists
 pub mod RunningCalls
 pub mod Acting
 pub mod Copying

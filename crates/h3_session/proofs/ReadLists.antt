@@ -3,7 +3,7 @@ use Rattle.std.proofs.Common.{◌≡◌, ℕ, Bool, true, false, List, [], ◌�
 use Rattle.std.specs.Prelude.{not}
 use Rattle.h3_field.specs.Field.{Field, section_size}
 use Rattle.h3_header.specs.Head.{Head, head_fields, has_pseudo}
-use Rattle.h3_header.specs.HeadRead.{IsHead, IsNone, Value, head_by, head_of}
+use Rattle.h3_header.specs.HeadRead.{HeadRefusal, IsHead, IsNone, Value, head_by, head_of}
 use Rattle.h3_header.specs.HeadTests.{takes_protocol}
 use Rattle.h3_header.specs.ReadLaws.{same_has_pseudo}
 use Rattle.h3_header.specs.Reads.{IsHeadOf, head_of_fields}
@@ -45,13 +45,13 @@ list_malformed h true token untaken not_taken = absurd (let never : true ≡ fal
 list_malformed h false token untaken not_taken = untaken not_taken
 
 -- and so is the header
-malformed_third : (closed : Option ℕ) (a b : Bool) (rules : List (Bool × Refusal)) (e new : EndpointHistory)
-    → does (closed_or closed (first_of ((a, refusal.NotOpen) ∷ (b, refusal.OutOfOrder) ∷ (true, refusal.Malformed malformation.Value) ∷ rules))) e new
-    ≡ (Some (refusal_after (closed_or closed (first_of ((a, refusal.NotOpen) ∷ (b, refusal.OutOfOrder) ∷ []))) (malformed Value)), e)
-malformed_third (Some code) a b rules e new = refl
-malformed_third None true b rules e new = refl
-malformed_third None false true rules e new = refl
-malformed_third None false false rules e new = refl
+pub malformed_third : (why : HeadRefusal) (closed : Option ℕ) (a b : Bool) (rules : List (Bool × Refusal)) (e new : EndpointHistory)
+    → does (closed_or closed (first_of ((a, refusal.NotOpen) ∷ (b, refusal.OutOfOrder) ∷ (true, malformed why) ∷ rules))) e new
+    ≡ (Some (refusal_after (closed_or closed (first_of ((a, refusal.NotOpen) ∷ (b, refusal.OutOfOrder) ∷ []))) (malformed why)), e)
+malformed_third why (Some code) a b rules e new = refl
+malformed_third why None true b rules e new = refl
+malformed_third why None false true rules e new = refl
+malformed_third why None false false rules e new = refl
 
 module _ (h : Head) (back : ReadsAsTaken h) (token : takes_protocol true h.protocol ≡ true) (untaken : takes_protocol false h.protocol ≡ false → head_of (head_fields h) ≡ IsNone Value) (read : head_of_fields (head_fields h) ≡ as_read h) (law : ReadsByValue) (e : EndpointHistory) (id : ℕ) where
   abbrev fields : List Field
@@ -80,7 +80,7 @@ module _ (h : Head) (back : ReadsAsTaken h) (token : takes_protocol true h.proto
       by false is =
           ap (send_read_head e id fields) (list_malformed h any token untaken is)
           ∙ sym (ap (λ t. head_sent (rule t) (is_for (other e.side) h)) is
-          ∙ malformed_third e.closed (not (is_open e id)) (not (takes_head (outgoing_at e id))) (sides (is_for (other e.side) h)) e (after_head e id h fields))
+          ∙ malformed_third Value e.closed (not (is_open e id)) (not (takes_head (outgoing_at e id))) (sides (is_for (other e.side) h)) e (after_head e id h fields))
 
   abbrev pseudo : Bool → List (Bool × Refusal)
   pseudo b =
@@ -101,4 +101,4 @@ module _ (h : Head) (back : ReadsAsTaken h) (token : takes_protocol true h.proto
       by false is =
           ap (send_read_trailer e id fields) (list_malformed h any token untaken is)
           ∙ sym (ap (λ t. trailer_sent (rule t) (has_pseudo h)) is
-          ∙ malformed_third e.closed (not (is_open e id)) (not (takes_body (outgoing_at e id))) (pseudo (has_pseudo h)) e (after_trailer e id fields))
+          ∙ malformed_third Value e.closed (not (is_open e id)) (not (takes_body (outgoing_at e id))) (pseudo (has_pseudo h)) e (after_trailer e id fields))

@@ -98,6 +98,8 @@ module _ (setup : Setup) (Known : List Event → List Answer → Type 0)
 takes_early : (setup : Setup) (ends : Ends) (e : Event) → JudgesStrictly setup → is_early ends e ≡ true → IsTaken setup e (answered ends e).0
 takes_early setup ends (event.Head side id head) strict early = λ done limit. let none = (strict (other side)).1 in absurd (cc)
 takes_early setup ends (event.Trailer side id trailer) strict early = λ done limit. let none = (strict (other side)).1 in absurd (cc)
+takes_early setup ends (event.Fields side id fields) strict early = λ done limit. let none = (strict (other side)).1 in absurd (cc)
+takes_early setup ends (event.TrailerFields side id fields) strict early = λ done limit. let none = (strict (other side)).1 in absurd (cc)
 takes_early setup ends e strict early = absurd (cc)
 
 pub takes_all : (setup : Setup) (ends : Ends) (events : List Event) → JudgesStrictly setup → EarlyAreTaken setup ends events

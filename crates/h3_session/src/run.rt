@@ -16,6 +16,7 @@ ghost use Rattle.h3_session.specs.Running.{AnswersEach, RunsTo};
 
 mod acting;
 mod carrying;
+mod listing;
 mod typed;
 
 use self::acting::act;

@@ -25,7 +25,9 @@ use Rattle.h3_connection.specs.declared.event.Pull.TheVariants as pull
 use Rattle.h3_connection.specs.declared.event.Refusal.{Refusal}
 use Rattle.h3_connection.specs.declared.event.Refusal.TheVariants as refusal
 use Rattle.h3_world.specs.Delivering.{reset_code}
-use Rattle.h3_world.specs.Ends.{Ends, answered, answers_of_ends, done, end_at, ends_after, new_ends, was_offered, was_pulled}
+use Rattle.h3_connection.specs.Coming.{fields_behind}
+use Rattle.h3_world.specs.EndLists.{send_fields, send_trailer_fields}
+use Rattle.h3_world.specs.Ends.{Ends, answered, answers_of_ends, done, end_at, ends_after, new_ends, was_listed, was_offered, was_pulled}
 use Rattle.h3_world.specs.Headline.{is_connection_fault}
 use Rattle.h3_world.specs.Sendable.{IsSendable}
 use Rattle.h3_world.specs.Setup.{IsMadeSetup}
@@ -37,6 +39,7 @@ use Rattle.h3_world.specs.declared.setup.Setup.{Setup}
 use Rattle.h3_strict.specs.PlainEnds.{NoneJudges, finds_fault, judges}
 use Rattle.h3_strict.specs.Plainly.{exceeds, is_judged, judged_as, judged_at, judged_open, tells_malformed}
 use Rattle.h3_strict.proofs.PlainHeadlines.{RunInWorlds, runs_in_a_world}
+use Rattle.h3_strict.proofs.PlainLists.{faults_same, tells_same}
 use Rattle.h3_strict.proofs.PlainRuns.{neither, none_more, runs_plainly}
 
 -- what does not pull finds none
@@ -143,6 +146,11 @@ module _ (e : EndpointHistory) (id : ℕ) where
 was_pulled_finds : (ends : Ends) (side : Side) (x : Pull × EndpointHistory) → FindsNone x → is_connection_fault (was_pulled ends side x).0 ≡ false → finds_fault (was_pulled ends side x).0 ≡ false
 was_pulled_finds ends side (p, e) h fault = h fault
 
+was_listed_finds : (ends : Ends) (side : Side) (id : ℕ) (x : Pull × EndpointHistory) → FindsNone x → is_connection_fault (was_listed ends side id x).0 ≡ false → finds_fault (was_listed ends side id x).0 ≡ false
+was_listed_finds ends side id (p, e) h fault =
+    let o = fields_behind (end_at ends side).kept (end_at ends side) id in
+    tells_same o p ∙ h (sym (faults_same o p) ∙ fault)
+
 -- any event at ends that keep nothing
 module _ (ends : Ends) (kept : (side : Side) → (end_at ends side).kept ≡ []) where
   told_event : (b c : Bool) (reader : Side) (x : Option Refusal × EndpointHistory) → NoFault (if b then (answer.NoStream, ends) else (if c then (answer.Early, ends) else done ends reader answer.Done x)).0
@@ -151,8 +159,10 @@ module _ (ends : Ends) (kept : (side : Side) → (end_at ends side).kept ≡ [])
   step_finds : (e : Event) → judges ends e ≡ false → is_connection_fault (answered ends e).0 ≡ false → finds_fault (answered ends e).0 ≡ false
   step_finds (event.OpenRequest side) none h = done_finds ends side (answer.Opened (end_at ends side).next_id) (sender.open_request (end_at ends side)) refl h
   step_finds (event.Head side id head) none h = done_finds ends side answer.Done (sender.send_head (end_at ends side) id head) refl h
+  step_finds (event.Fields side id fields) none h = done_finds ends side answer.Done (send_fields (end_at ends side) id fields) refl h
   step_finds (event.Body side id bytes) none h = done_finds ends side answer.Done (sender.send_body (end_at ends side) id bytes) refl h
   step_finds (event.Trailer side id trailer) none h = done_finds ends side answer.Done (sender.send_trailer (end_at ends side) id trailer) refl h
+  step_finds (event.TrailerFields side id fields) none h = done_finds ends side answer.Done (send_trailer_fields (end_at ends side) id fields) refl h
   step_finds (event.Finish side id) none h = done_finds ends side answer.Done (sender.finish (end_at ends side) id) refl h
   step_finds (event.Reset side id) none h = done_finds ends side answer.Done (sender.reset (end_at ends side) id) refl h
   step_finds (event.Cancel side id) none h = done_finds ends side answer.Done (sender.cancel (end_at ends side) id) refl h
@@ -168,6 +178,7 @@ module _ (ends : Ends) (kept : (side : Side) → (end_at ends side).kept ≡ [])
       let e = end_at ends side in
       told_event (not (has_outgoing e id)) (not (is_reset e id)) (other side) (arrives (end_at ends (other side)) (ResetCame id reset_code)) h
   step_finds (event.Pull side id) none h = was_pulled_finds ends side (pulls (end_at ends side) id) (pulls_finds (end_at ends side) id (kept side) none) h
+  step_finds (event.PullFields side id) none h = was_listed_finds ends side id (pulls (end_at ends side) id) (pulls_finds (end_at ends side) id (kept side) none) h
   step_finds (event.Show side) none h = refl
 
 -- over a schedule: ends that stand in a world keep nothing

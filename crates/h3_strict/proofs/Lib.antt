@@ -15,6 +15,7 @@ mod KeepsCounts
 mod SentLaws
 mod PlainRuns
 mod BoundedEnds
+mod PlainLists
 mod PlainMessages
 mod PlainSetups
 mod PlainHeadlines

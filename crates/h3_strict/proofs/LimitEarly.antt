@@ -11,12 +11,16 @@ use Rattle.h3_connection.specs.Announcing.{section_of}
 use Rattle.h3_connection.specs.Endpoint.{EndpointHistory}
 use Rattle.h3_connection.specs.OwnIds.{other}
 use Rattle.h3_connection.specs.Refusals.{is_too_large}
-use Rattle.h3_connection.specs.Sending as sender
+use Rattle.h3_connection.specs.StrictSending.{broken_protocol}
+use Rattle.h3_connection.specs.declared.event.Malformation.{Malformation}
+use Rattle.h3_header.specs.Reads.{head_of_fields}
+use Rattle.h3_world.specs.EndLists.{after_fields, after_trailer_fields}
+use Rattle.h3_world.specs.Lists.{unreadable}
 use Rattle.h3_connection.specs.Sending.{does}
 use Rattle.h3_connection.specs.declared.event.Refusal.{Refusal}
 use Rattle.h3_world.specs.Ends.{Ends, answered, answers_of_ends, done, end_at, ends_after, new_ends}
 use Rattle.h3_world.specs.Sendable.{IsSendable}
-use Rattle.h3_world.specs.Setup.{IsMadeSetup, announced_at}
+use Rattle.h3_world.specs.Setup.{IsMadeSetup, announced_at, takes_any}
 use Rattle.h3_world.specs.World.{World, party}
 use Rattle.h3_world.specs.declared.event.Answer.TheVariants as answer
 use Rattle.h3_world.specs.declared.event.Event.{Event}
@@ -34,7 +38,7 @@ use Rattle.h3_strict.proofs.LimitSetups.{setup_unlimited, unlimited_strictly}
 use Rattle.h3_strict.proofs.LimitWorlds.{RunStrictly, knows_front, loose_limits, loose_unlimited, sendable_front, strict_limits, strict_unlimited}
 use Rattle.h3_strict.proofs.PlainHeadlines.{RunInWorlds}
 use Rattle.h3_strict.proofs.SameWorlds.{ends_more}
-use Rattle.h3_strict.proofs.SentLaws.{head_rules, trailer_rules}
+use Rattle.h3_strict.proofs.SentLaws.{head_judged, head_rules, trailer_judged, trailer_rules}
 use Rattle.h3_strict.proofs.TakenWorlds.{SectionsAreShort}
 use Rattle.h3_strict.specs.Limits.{AreTaken, AsksForNone, AsksForStrict, EarlyAreTaken, IsTaken, TakesSection, is_early, limit_at, unlimited_ends, unlimited_setup}
 use Rattle.h3_strict.specs.PlainEnds.{plain_ends, plain_setup}
@@ -73,25 +77,35 @@ module _ (setup : Setup) (made : IsMadeSetup setup) where
   taken_by : (side : Side) (fields : List Field) → section_size fields ≤ section_of (announced_at setup side) → TakesSection setup side fields
   taken_by side fields within limited = omega (arith, within, (limits_made setup made side).0, (limits_made setup made side).1 limited)
 
-  head_taken : (ends : Ends) (side : Side) (id : ℕ) (head : Head) → KnowsSettings setup ends → (b : Bool) → is_none (end_at ends side).peer.settings ≡ b → (b ≡ true → IsTaken setup (event.Head side id head) (answered ends (event.Head side id head)).0)
-      → IsTaken setup (event.Head side id head) (answered ends (event.Head side id head)).0
-  head_taken ends side id head knows true is early accepted = early refl accepted
-  head_taken ends side id head knows false is early accepted =
-      let e = end_at ends side in
-      let rules = head_rules e id head (was_accepted ends side (sender.head_refusal e id head) e _ accepted) in
-      taken_by (other side) (head_fields head) (known_within setup (other side) e.peer.settings (head_fields head) (knows side) is rules.small)
+  -- a head, or a trailer, that goes out as these fields
+  abbrev Taken : Ends → Side → Option Refusal → EndpointHistory → List Field → Type 0
+  Taken ends side rule after fields = is_done (done ends side answer.Done (does rule (end_at ends side) after)).0 ≡ true → TakesSection setup (other side) fields
 
-  trailer_taken : (ends : Ends) (side : Side) (id : ℕ) (trailer : Head) → KnowsSettings setup ends → (b : Bool) → is_none (end_at ends side).peer.settings ≡ b
-      → (b ≡ true → IsTaken setup (event.Trailer side id trailer) (answered ends (event.Trailer side id trailer)).0) → IsTaken setup (event.Trailer side id trailer) (answered ends (event.Trailer side id trailer)).0
-  trailer_taken ends side id trailer knows true is early accepted = early refl accepted
-  trailer_taken ends side id trailer knows false is early accepted =
+  head_taken : (ends : Ends) (side : Side) (id : ℕ) (told : Option Malformation) (head : Head) (fields : List Field) (after : EndpointHistory) → KnowsSettings setup ends → (b : Bool) → is_none (end_at ends side).peer.settings ≡ b
+      → (b ≡ true → Taken ends side (head_judged (end_at ends side) id told head fields) after fields) → Taken ends side (head_judged (end_at ends side) id told head fields) after fields
+  head_taken ends side id told head fields after knows true is early accepted = early refl accepted
+  head_taken ends side id told head fields after knows false is early accepted =
       let e = end_at ends side in
-      let rules = trailer_rules e id trailer (was_accepted ends side (sender.trailer_refusal e id trailer) e _ accepted) in
-      taken_by (other side) (head_fields trailer) (known_within setup (other side) e.peer.settings (head_fields trailer) (knows side) is rules.small)
+      let rules = head_rules e id told head fields (was_accepted ends side (head_judged e id told head fields) e after accepted) in
+      taken_by (other side) fields (known_within setup (other side) e.peer.settings fields (knows side) is rules.small)
+
+  trailer_taken : (ends : Ends) (side : Side) (id : ℕ) (told : Option Malformation) (trailer : Head) (fields : List Field) (after : EndpointHistory) → KnowsSettings setup ends → (b : Bool) → is_none (end_at ends side).peer.settings ≡ b
+      → (b ≡ true → Taken ends side (trailer_judged (end_at ends side) id told trailer fields) after fields) → Taken ends side (trailer_judged (end_at ends side) id told trailer fields) after fields
+  trailer_taken ends side id told trailer fields after knows true is early accepted = early refl accepted
+  trailer_taken ends side id told trailer fields after knows false is early accepted =
+      let e = end_at ends side in
+      let rules = trailer_rules e id told trailer fields (was_accepted ends side (trailer_judged e id told trailer fields) e after accepted) in
+      taken_by (other side) fields (known_within setup (other side) e.peer.settings fields (knows side) is rules.small)
 
   event_taken : (ends : Ends) (e : Event) → Sends setup ends → (is_early ends e ≡ true → IsTaken setup e (answered ends e).0) → IsTaken setup e (answered ends e).0
-  event_taken ends (event.Head side id head) sends early = head_taken ends side id head sends.knows (is_none (end_at ends side).peer.settings) refl early
-  event_taken ends (event.Trailer side id trailer) sends early = trailer_taken ends side id trailer sends.knows (is_none (end_at ends side).peer.settings) refl early
+  event_taken ends (event.Head side id head) sends early =
+      head_taken ends side id (broken_protocol (end_at ends side).announced head) head (head_fields head) _ sends.knows (is_none (end_at ends side).peer.settings) refl early
+  event_taken ends (event.Fields side id fields) sends early =
+      head_taken ends side id (unreadable (takes_any (end_at ends side).announced) fields) (head_of_fields fields) fields (after_fields (end_at ends side) id fields) sends.knows (is_none (end_at ends side).peer.settings) refl early
+  event_taken ends (event.Trailer side id trailer) sends early =
+      trailer_taken ends side id (broken_protocol (end_at ends side).announced trailer) trailer (head_fields trailer) _ sends.knows (is_none (end_at ends side).peer.settings) refl early
+  event_taken ends (event.TrailerFields side id fields) sends early =
+      trailer_taken ends side id (unreadable (takes_any (end_at ends side).announced) fields) (head_of_fields fields) fields (after_trailer_fields (end_at ends side) id fields) sends.knows (is_none (end_at ends side).peer.settings) refl early
   event_taken ends (event.OpenRequest side) sends early = tt
   event_taken ends (event.Body side id bytes) sends early = tt
   event_taken ends (event.Finish side id) sends early = tt
@@ -102,6 +116,7 @@ module _ (setup : Setup) (made : IsMadeSetup setup) where
   event_taken ends (event.DeliverEnd side id) sends early = let c = sends.carries side in end_delivery_fits ends side (announced_at setup side) (limit_at setup (other side)) c.0 c.1 id
   event_taken ends (event.DeliverReset side id) sends early = let c = sends.carries side in reset_delivery_fits ends side (announced_at setup side) (limit_at setup (other side)) c.0 c.1 id
   event_taken ends (event.Pull side id) sends early = tt
+  event_taken ends (event.PullFields side id) sends early = tt
   event_taken ends (event.Show side) sends early = tt
 
   taken_more : (ends : Ends) (past : List Event) (e : Event) → AreTaken setup past (answers_of_ends ends past) → IsTaken setup e (answered (ends_after ends past) e).0 → AreTaken setup (past ++ e ∷ []) (answers_of_ends ends (past ++ e ∷ []))

@@ -67,6 +67,10 @@ module _ (setup : Setup) where
   own_alike : (ends : Ends) (e : Event) → EndsWithin setup (unlimited_ends ends) → IsTaken setup e (answered ends e).0 → StepsAlike (limits_of ends) ends e
   own_alike ends (event.Pull Client id) within taken = record { nothing_kept = (within Client).nothing_kept; looks = λ i is alive over none whole. refl }
   own_alike ends (event.Pull Server id) within taken = record { nothing_kept = (within Server).nothing_kept; looks = λ i is alive over none whole. refl }
+  own_alike ends (event.PullFields Client id) within taken = record { nothing_kept = (within Client).nothing_kept; looks = λ i is alive over none whole. refl }
+  own_alike ends (event.PullFields Server id) within taken = record { nothing_kept = (within Server).nothing_kept; looks = λ i is alive over none whole. refl }
+  own_alike ends (event.Fields side id fields) within taken = tt
+  own_alike ends (event.TrailerFields side id fields) within taken = tt
   own_alike ends (event.OpenRequest side) within taken = tt
   own_alike ends (event.Head side id head) within taken = tt
   own_alike ends (event.Body side id bytes) within taken = tt
@@ -100,6 +104,9 @@ module _ (setup : Setup) where
 
   steps_alike : (ends : Ends) (e : Event) → ((s : Side) → limits_of ends s ≡ limit_at setup s) → EndsWithin setup (unlimited_ends ends) → IsTaken setup e (answered ends e).0 → StepsAlike (λ side. 2 ^ 62 - 1) ends e
   steps_alike ends (event.Pull side id) limits within taken = pulls_alike ends side id limits within
+  steps_alike ends (event.PullFields side id) limits within taken = pulls_alike ends side id limits within
+  steps_alike ends (event.Fields side id fields) limits within taken = tt
+  steps_alike ends (event.TrailerFields side id fields) limits within taken = tt
   steps_alike ends (event.OpenRequest side) limits within taken = tt
   steps_alike ends (event.Head side id head) limits within taken = tt
   steps_alike ends (event.Body side id bytes) limits within taken = tt

@@ -4,7 +4,12 @@ use Rattle.std.specs.Prelude.{◌==◌, ◌&&◌, not, nat_lt}
 use Rattle.h3_proto.specs.Config.{is_limit}
 use Rattle.h3_proto.specs.declared.stream.Side.{Side}
 use Rattle.h3_proto.specs.declared.stream.Side.TheVariants.{Client, Server}
-use Rattle.h3_connection.specs.Endpoint.{EndpointHistory, bytes_waiting, limit_of}
+use Rattle.h3_connection.specs.Endpoint.{EndpointHistory, Kind, bytes_waiting, kind_of, limit_of}
+use Rattle.h3_connection.specs.Endpoint.Kind.{OwnUnidirectional, PeerUnidirectional, Request, ServerOpened}
+use Rattle.h3_field.specs.Field.{Field}
+use Rattle.h3_connection.specs.Coming.{fields_behind, fields_of_kind}
+use Rattle.h3_world.specs.EndLists.{fields_refusal, send_fields, send_trailer_fields, trailer_fields_refusal}
+use Rattle.h3_world.specs.Lists.{listed_pull}
 use Rattle.h3_connection.specs.Incoming.{Incoming}
 use Rattle.h3_connection.specs.Keeping.{arrives, pulls}
 use Rattle.h3_connection.specs.Outgoing.{Outgoing}
@@ -18,7 +23,7 @@ use Rattle.h3_connection.specs.declared.arrival.Arrival.TheVariants.{BytesCame, 
 use Rattle.h3_connection.specs.declared.event.Pull.{Pull}
 use Rattle.h3_connection.specs.declared.event.Refusal.{Refusal}
 use Rattle.h3_world.specs.Delivering.{reset_code}
-use Rattle.h3_world.specs.Ends.{Ends, answered, delivery, done, end_at, end_delivery, reset_delivery, was_offered, was_pulled, with_end}
+use Rattle.h3_world.specs.Ends.{Ends, answered, delivery, done, end_at, end_delivery, reset_delivery, was_listed, was_offered, was_pulled, with_end}
 use Rattle.h3_world.specs.declared.event.Answer.{Answer}
 use Rattle.h3_world.specs.declared.event.Answer.TheVariants as answer
 use Rattle.h3_world.specs.declared.event.Event.{Event}
@@ -62,6 +67,16 @@ advance_same most e id count = by_stream (stream_at e.outgoing id)
     by_stream None = refl
     by_stream (Some o) = refl
 
+-- the list that comes next has no part in a limit
+lists_same : (most : ℕ) (e : EndpointHistory) (id : ℕ) → e.kept ≡ [] → fields_behind (limited_end most e).kept (limited_end most e) id ≡ fields_behind e.kept e id
+lists_same most e id none = ap (λ k. fields_behind k (limited_end most e) id) none ∙ by_kind (kind_of e.side id) ∙ sym (ap (λ k. fields_behind k e id) none)
+  where
+    by_kind : (k : Kind) → fields_of_kind (limited_end most e) id k ≡ fields_of_kind e id k
+    by_kind Request = refl
+    by_kind ServerOpened = refl
+    by_kind OwnUnidirectional = refl
+    by_kind PeerUnidirectional = refl
+
 module _ (most : Side → ℕ) where
   -- either end
   at_end : (ends : Ends) (side : Side) → end_at (limited_ends most ends) side ≡ limited_end (most side) (end_at ends side)
@@ -93,6 +108,20 @@ module _ (most : Side → ℕ) where
       where
         by_pulled : (x : Pull × EndpointHistory) → was_pulled (limited_ends most ends) side (limited_result (most side) x) ≡ limited_answer most (was_pulled ends side x)
         by_pulled (a, e) = ap (λ v. let z : Answer × Ends = (answer.Pulled a, v) in z) (sets_end ends side e)
+
+    -- with lists
+    list_same : (id : ℕ) → (end_at ends side).kept ≡ [] → pulls (limited_end (most side) (end_at ends side)) id ≡ limited_result (most side) (pulls (end_at ends side) id)
+        → answered (limited_ends most ends) (event.PullFields side id) ≡ limited_answer most (answered ends (event.PullFields side id))
+    list_same id none same =
+        ap (λ f. was_listed (limited_ends most ends) side id (pulls f id)) (at_end ends side) ∙ ap (was_listed (limited_ends most ends) side id) same ∙ by_pulled (pulls (end_at ends side) id)
+      where
+        of : EndpointHistory → Option (List Field)
+        of f = fields_behind f.kept f id
+
+        by_pulled : (x : Pull × EndpointHistory) → was_listed (limited_ends most ends) side id (limited_result (most side) x) ≡ limited_answer most (was_listed ends side id x)
+        by_pulled (a, e) =
+            ap (λ o. let z : Answer × Ends = (answer.Listed (listed_pull o a), with_end (limited_ends most ends) side (limited_end (most side) e)) in z) (ap of (at_end ends side) ∙ lists_same (most side) (end_at ends side) id none)
+            ∙ ap (λ v. let z : Answer × Ends = (answer.Listed (listed_pull (of (end_at ends side)) a), v) in z) (sets_end ends side e)
 
   -- a test with the same branches
   if_within : (b : Bool) (x y v w : Answer × Ends) → (IsWithin x.0 → v ≡ limited_answer most x) → (IsWithin y.0 → w ≡ limited_answer most y) → IsWithin (if b then x else y).0
@@ -160,6 +189,7 @@ pub record PullsAlike (most : ℕ) (e : EndpointHistory) (id : ℕ) : Type 0 whe
 
 abbrev pub StepsAlike : (Side → ℕ) → Ends → Event → Type 0
 StepsAlike most ends (event.Pull side id) = PullsAlike (most side) (end_at ends side) id
+StepsAlike most ends (event.PullFields side id) = PullsAlike (most side) (end_at ends side) id
 StepsAlike most ends (event.Deliver side id count) = IsWithin (delivery ends side id count).0
 StepsAlike most ends (event.DeliverEnd side id) = IsWithin (end_delivery ends side id).0
 StepsAlike most ends (event.DeliverReset side id) = IsWithin (reset_delivery ends side id).0
@@ -169,8 +199,10 @@ StepsAlike most ends _ = Unit {0}
 pub step_same : (most : Side → ℕ) (ends : Ends) (e : Event) → ArriveWithin most ends → StepsAlike most ends e → answered (limited_ends most ends) e ≡ limited_answer most (answered ends e)
 step_same most ends (event.OpenRequest side) arrive alike = calls most ends side (λ e. answer.Opened e.next_id) sender.open_request refl (λ n e. does_same n (sender.open_refusal e) e _)
 step_same most ends (event.Head side id head) arrive alike = calls most ends side (λ e. answer.Done) (λ e. sender.send_head e id head) refl (λ n e. does_same n (sender.head_refusal e id head) e _)
+step_same most ends (event.Fields side id fields) arrive alike = calls most ends side (λ e. answer.Done) (λ e. send_fields e id fields) refl (λ n e. does_same n (fields_refusal e id fields) e _)
 step_same most ends (event.Body side id bytes) arrive alike = calls most ends side (λ e. answer.Done) (λ e. sender.send_body e id bytes) refl (λ n e. body_same n e id bytes)
 step_same most ends (event.Trailer side id trailer) arrive alike = calls most ends side (λ e. answer.Done) (λ e. sender.send_trailer e id trailer) refl (λ n e. does_same n (sender.trailer_refusal e id trailer) e _)
+step_same most ends (event.TrailerFields side id fields) arrive alike = calls most ends side (λ e. answer.Done) (λ e. send_trailer_fields e id fields) refl (λ n e. does_same n (trailer_fields_refusal e id fields) e _)
 step_same most ends (event.Finish side id) arrive alike = calls most ends side (λ e. answer.Done) (λ e. sender.finish e id) refl (λ n e. does_same n (sender.finish_refusal e id) e _)
 step_same most ends (event.Reset side id) arrive alike = calls most ends side (λ e. answer.Done) (λ e. sender.reset e id) refl (λ n e. does_same n (sender.reset_refusal e id) e _)
 step_same most ends (event.Cancel side id) arrive alike = calls most ends side (λ e. answer.Done) (λ e. sender.cancel e id) refl (λ n e. does_same n (sender.cancel_refusal e id) e _)
@@ -179,6 +211,7 @@ step_same most ends (event.Deliver side id count) arrive alike = delivery_same m
 step_same most ends (event.DeliverEnd side id) arrive alike = end_same most ends id arrive side alike
 step_same most ends (event.DeliverReset side id) arrive alike = reset_same most ends id arrive side alike
 step_same most ends (event.Pull side id) arrive alike = pull_same most ends side id (pulls_same (most side) (end_at ends side) id alike.nothing_kept alike.looks)
+step_same most ends (event.PullFields side id) arrive alike = list_same most ends side id alike.nothing_kept (pulls_same (most side) (end_at ends side) id alike.nothing_kept alike.looks)
 step_same most ends (event.Show side) arrive alike = shows_same most ends side
 
 -- what is not too long with one limit is not with the other
@@ -192,6 +225,9 @@ within_judged most ends e reader same fits =
 -- and it judges a message or not.
 pub judged_alike : (most : Side → ℕ) (ends : Ends) (e : Event) → ArriveWithin most ends → StepsAlike most ends e → judges (limited_ends most ends) e ≡ judges ends e
 judged_alike most ends (event.Pull side id) arrive alike = ap (λ f. is_judged f id) (at_end most ends side) ∙ judges_same (most side) (end_at ends side) id alike.nothing_kept alike.looks
+judged_alike most ends (event.PullFields side id) arrive alike = ap (λ f. is_judged f id) (at_end most ends side) ∙ judges_same (most side) (end_at ends side) id alike.nothing_kept alike.looks
+judged_alike most ends (event.Fields side id fields) arrive alike = refl
+judged_alike most ends (event.TrailerFields side id fields) arrive alike = refl
 judged_alike most ends (event.OpenRequest side) arrive alike = refl
 judged_alike most ends (event.Head side id head) arrive alike = refl
 judged_alike most ends (event.Body side id bytes) arrive alike = refl

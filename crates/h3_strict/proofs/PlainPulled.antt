@@ -20,6 +20,10 @@ use Rattle.h3_connection.specs.declared.event.Item.TheVariants as item
 use Rattle.h3_connection.specs.declared.event.Pull.{Pull}
 use Rattle.h3_connection.specs.declared.event.Pull.TheVariants as answer
 use Rattle.h3_connection.specs.declared.event.StreamFault.{StreamFault}
+use Rattle.h3_connection.specs.Coming.{fields_behind, fields_in, fields_item, fields_of_kind, fields_there, next_section}
+use Rattle.h3_world.specs.Lists.{listed_pull}
+use Rattle.h3_connection.specs.Coming.{HasNoHeader}
+use Rattle.h3_headline.specs.ListEventLaws.{any_list}
 use Rattle.h3_strict.specs.PlainEnds.{FewWait, FewWaitBehind, FewWaitIn}
 use Rattle.h3_strict.specs.Plainly.{exceeds, is_judged, judged_as, judged_at, judged_open, plain, plain_incoming, plainly, tells_malformed}
 use Rattle.h3_strict.proofs.PlainCalls.{plain_result}
@@ -211,3 +215,53 @@ kept_plain (k ∷ kept) e id = open_plain few e.closed (exceeds e (read_all (k �
 -- what comes next on a stream
 pub pulls_plainly : (e : EndpointHistory) (id : ℕ) → PulledPlainly (FewWaitBehind e) (is_judged e id) (pulls e id) (pulls (plainly e) id)
 pulls_plainly e id = kept_plain e.kept e id
+
+-- The list that comes next is the same, where the answer has a header.
+section_plain : (i : Incoming) (o : Option (List ℕ)) → next_section (plain_incoming i) o ≡ next_section i o
+section_plain i None = refl
+section_plain i (Some bytes) = refl
+
+items_plain : (e : EndpointHistory) (id : ℕ) → fields_item (plainly e) id ≡ fields_item e id
+items_plain e id = by_kind (kind_of e.side id)
+  where
+    at_stream : (o : Option Incoming) → fields_there e.decoding.decoder (option_map plain_incoming o) ≡ fields_there e.decoding.decoder o
+    at_stream None = refl
+    at_stream (Some i) = ap (fields_in e.decoding.decoder) (section_plain i i.section)
+
+    by_kind : (k : Kind) → fields_of_kind (plainly e) id k ≡ fields_of_kind e id k
+    by_kind Request = ap (fields_there e.decoding.decoder) (at_each plain_incoming e.incoming id) ∙ at_stream (stream_at e.incoming id)
+    by_kind ServerOpened = refl
+    by_kind OwnUnidirectional = refl
+    by_kind PeerUnidirectional = refl
+
+unless_none : (closed : Option ℕ) (e : EndpointHistory) (later : Pull × EndpointHistory) → HasNoHeader later.0 → HasNoHeader (pull_unless closed e later).0
+unless_none (Some code) e later none = tt
+unless_none None e later none = none
+
+long_none : (id : ℕ) (x : Found) → x.1 ≡ Some excessive_load → HasNoHeader (pulled_after x id).0
+long_none id (f, fault) is = subst (λ o. HasNoHeader (pulled_after (let x : Found = (f, o) in x) id).0) (sym is) tt
+
+pub lists_plain : (kept : List Arrival) (e : EndpointHistory) (id : ℕ) → listed_pull (fields_behind kept (plainly e) id) (pulls_behind kept e id).0 ≡ listed_pull (fields_behind kept e id) (pulls_behind kept e id).0
+lists_plain [] e id = ap (λ o. listed_pull o (pulls_behind [] e id).0) (items_plain e id)
+lists_plain (k ∷ kept) e id =
+    ap (λ b. listed_pull (if b then fields_item (plainly e) id else fields_item y.0 id) (pulls_behind (k ∷ kept) e id).0) (settles_alike e id kind) ∙ by_test (settles e id)
+  where
+    kind : Kind
+    kind = kind_of e.side id
+
+    x : Found
+    x = read_all (k ∷ kept) (unkept e)
+
+    y : Found
+    y = read_all (k ∷ kept) (unkept (plainly e))
+
+    given : Bool → Pull
+    given b = (pull_unless e.closed e (if b then pull_at e id kind else pulled_after x id)).0
+
+    by_reading : ReadsPlainly (limit_of (unkept e)) x y → listed_pull (fields_item y.0 id) (given false) ≡ listed_pull (fields_item x.0 id) (given false)
+    by_reading (IsTooLong limit long) = any_list (fields_item y.0 id) (fields_item x.0 id) (given false) (unless_none e.closed e (pulled_after x id) (long_none id x long))
+    by_reading (ReadsAlike same) = ap (λ (z : Found). listed_pull (fields_item z.0 id) (given false)) same ∙ ap (λ o. listed_pull o (given false)) (items_plain x.0 id)
+
+    by_test : (b : Bool) → listed_pull (if b then fields_item (plainly e) id else fields_item y.0 id) (given b) ≡ listed_pull (if b then fields_item e id else fields_item x.0 id) (given b)
+    by_test true = ap (λ o. listed_pull o (given true)) (items_plain e id)
+    by_test false = by_reading (all_plain (k ∷ kept) (unkept e))

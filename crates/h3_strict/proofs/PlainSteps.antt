@@ -18,8 +18,11 @@ use Rattle.h3_connection.specs.declared.arrival.Arrival.TheVariants.{BytesCame, 
 use Rattle.h3_connection.specs.declared.event.Pull.{Pull}
 use Rattle.h3_connection.specs.declared.event.Refusal.{Refusal}
 use Rattle.h3_connection.specs.declared.event.Refusal.TheVariants as refusal
+use Rattle.h3_connection.specs.Coming.{fields_behind}
+use Rattle.h3_world.specs.EndLists.{send_fields, send_trailer_fields}
+use Rattle.h3_world.specs.Lists.{listed_pull}
 use Rattle.h3_world.specs.Delivering.{reset_code}
-use Rattle.h3_world.specs.Ends.{Ends, answered, delivery, done, end_at, end_delivery, reset_delivery, was_offered, was_pulled, with_end}
+use Rattle.h3_world.specs.Ends.{Ends, answered, delivery, done, end_at, end_delivery, reset_delivery, was_listed, was_offered, was_pulled, with_end}
 use Rattle.h3_world.specs.declared.event.Answer.{Answer}
 use Rattle.h3_world.specs.declared.event.Answer.TheVariants as answer
 use Rattle.h3_world.specs.declared.event.Event.{Event}
@@ -27,9 +30,10 @@ use Rattle.h3_world.specs.declared.event.Event.TheVariants as event
 use Rattle.h3_strict.specs.PlainEnds.{FewWaitBehind, StepsPlainly, Alike, Judges, RefusesMalformed, finds_fault, is_malformed_refusal, judges, plain_ends, refused_by, was_too_long}
 use Rattle.h3_strict.specs.Plainly.{exceeds, is_excess, is_judged, plain_outgoing, plainly}
 use Rattle.h3_strict.proofs.PlainCalls.{CallsPlainly, Malforms, Does, tells}
-use Rattle.h3_strict.proofs.PlainPulled.{IsAlike, IsJudged, PulledPlainly, pulls_plainly}
+use Rattle.h3_strict.proofs.PlainLists.{tells_same}
+use Rattle.h3_strict.proofs.PlainPulled.{IsAlike, IsJudged, PulledPlainly, lists_plain, pulls_plainly}
 use Rattle.h3_strict.proofs.PlainReading.{ArrivesPlainly, Exceeds, Otherwise, arrives_plainly}
-use Rattle.h3_strict.proofs.PlainSends.{advances_plainly, bodies_plainly, cancels_plainly, ends_plainly, goaways_plainly, heads_plainly, opens_plainly, resets_plainly, trailers_plainly}
+use Rattle.h3_strict.proofs.PlainSends.{advances_plainly, bodies_plainly, cancels_plainly, ends_plainly, goaways_plainly, heads_plainly, opens_plainly, resets_plainly, trailers_plainly, fields_plainly, trailer_fields_plainly}
 use Rattle.h3_strict.proofs.PlainStreams.{at_each, count_each}
 
 -- an answer and the ends after it, beside these without strict messages
@@ -91,6 +95,25 @@ module _ (ends : Ends) (side : Side) where
       pulled_steps id (pulls (end_at ends side) id) (pulls (plainly (end_at ends side)) id) refl (ap (λ f. was_pulled (plain_ends ends) side (pulls f id)) (at_end ends side))
       (pulls_plainly (end_at ends side) id)
 
+  -- with lists
+  listed_steps : (id : ℕ) (x y : Pull × EndpointHistory) → answered ends (event.PullFields side id) ≡ was_listed ends side id x → answered (plain_ends ends) (event.PullFields side id) ≡ was_listed (plain_ends ends) side id y
+      → listed_pull (fields_behind (end_at ends side).kept (plainly (end_at ends side)) id) x.0 ≡ listed_pull (fields_behind (end_at ends side).kept (end_at ends side) id) x.0
+      → PulledPlainly (FewWaitBehind (end_at ends side)) (is_judged (end_at ends side) id) x y → StepsPlainly ends (event.PullFields side id)
+  listed_steps id (a, e) y is plain_is same_list (IsJudged judged told) =
+      Judges judged (λ few. ap (λ z. finds_fault z.0) is ∙ tells_same (fields_behind (end_at ends side).kept (end_at ends side) id) a ∙ told (few side))
+  listed_steps id (a, e) y is plain_is same_list (IsAlike same) =
+      Alike (ap (λ z. is_malformed_refusal z.0) is)
+      (plain_is ∙ ap (was_listed (plain_ends ends) side id) same
+      ∙ ap (λ (f : EndpointHistory). let z : Answer × Ends = (answer.Listed (listed_pull (fields_behind f.kept f id) a), with_end (plain_ends ends) side (plainly e)) in z) (at_end ends side)
+      ∙ ap (λ l. let z : Answer × Ends = (answer.Listed l, with_end (plain_ends ends) side (plainly e)) in z) same_list
+      ∙ ap (λ v. let z : Answer × Ends = (answer.Listed (listed_pull (fields_behind (end_at ends side).kept (end_at ends side) id) a), v) in z) (sets_end ends side e)
+      ∙ sym (ap (λ z. let w : Answer × Ends = (z.0, plain_ends z.1) in w) is))
+
+  list_steps : (id : ℕ) → StepsPlainly ends (event.PullFields side id)
+  list_steps id =
+      listed_steps id (pulls (end_at ends side) id) (pulls (plainly (end_at ends side)) id) refl (ap (λ f. was_listed (plain_ends ends) side id (pulls f id)) (at_end ends side))
+      (lists_plain (end_at ends side).kept (end_at ends side) id) (pulls_plainly (end_at ends side) id)
+
 -- what is shown of an end
 module _ (e : EndpointHistory) (id : ℕ) where
   pub waits : bytes_waiting (plainly e) id ≡ bytes_waiting e id
@@ -131,6 +154,7 @@ data Delivers (ends : Ends) (reader : Side) (x y : Answer × Ends) : Type 0 wher
 
 excess_told : (a : Answer) → is_excess (refused_by a) ≡ true → finds_fault a ≡ true
 excess_told (answer.Pulled p) is = absurd (cc)
+excess_told (answer.Listed l) is = absurd (cc)
 excess_told a is = is
 
 delivers_steps : (ends : Ends) (reader : Side) (e : Event) → judges ends e ≡ was_too_long ends reader (answered ends e).0 → Delivers ends reader (answered ends e) (answered (plain_ends ends) e) → StepsPlainly ends e
@@ -250,8 +274,10 @@ shows ends side = Goes refl (ap (λ a. let z : Answer × Ends = (a, plain_ends e
 pub every_step : (ends : Ends) (e : Event) → StepsPlainly ends e
 every_step ends (event.OpenRequest side) = steps ends _ (calls ends side (λ e. answer.Opened e.next_id) sender.open_request refl refl opens_plainly)
 every_step ends (event.Head side id head) = steps ends _ (calls ends side (λ e. answer.Done) (λ e. sender.send_head e id head) refl refl (λ e. heads_plainly e id head))
+every_step ends (event.Fields side id fields) = steps ends _ (calls ends side (λ e. answer.Done) (λ e. send_fields e id fields) refl refl (λ e. fields_plainly e id fields))
 every_step ends (event.Body side id bytes) = steps ends _ (calls ends side (λ e. answer.Done) (λ e. sender.send_body e id bytes) refl refl (λ e. bodies_plainly e id bytes))
 every_step ends (event.Trailer side id trailer) = steps ends _ (calls ends side (λ e. answer.Done) (λ e. sender.send_trailer e id trailer) refl refl (λ e. trailers_plainly e id trailer))
+every_step ends (event.TrailerFields side id fields) = steps ends _ (calls ends side (λ e. answer.Done) (λ e. send_trailer_fields e id fields) refl refl (λ e. trailer_fields_plainly e id fields))
 every_step ends (event.Finish side id) = steps ends _ (calls ends side (λ e. answer.Done) (λ e. sender.finish e id) refl refl (λ e. ends_plainly e id))
 every_step ends (event.Reset side id) = steps ends _ (calls ends side (λ e. answer.Done) (λ e. sender.reset e id) refl refl (λ e. resets_plainly e id))
 every_step ends (event.Cancel side id) = steps ends _ (calls ends side (λ e. answer.Done) (λ e. sender.cancel e id) refl refl (λ e. cancels_plainly e id))
@@ -260,4 +286,5 @@ every_step ends (event.Deliver side id count) = delivers_steps ends (other side)
 every_step ends (event.DeliverEnd side id) = delivers_steps ends (other side) (event.DeliverEnd side id) refl (delivers_end ends id side)
 every_step ends (event.DeliverReset side id) = delivers_steps ends (other side) (event.DeliverReset side id) refl (delivers_reset ends id side)
 every_step ends (event.Pull side id) = pull_steps ends side id
+every_step ends (event.PullFields side id) = list_steps ends side id
 every_step ends (event.Show side) = steps ends _ (shows ends side)

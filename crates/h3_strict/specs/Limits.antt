@@ -54,6 +54,8 @@ TakesSection setup side fields = is_limit (limit_at setup side) ≡ true → mos
 abbrev pub IsTaken : Setup → Event → Answer → Type 0
 IsTaken setup (event.Head side id head) a = is_done a ≡ true → TakesSection setup (other side) (head_fields head)
 IsTaken setup (event.Trailer side id trailer) a = is_done a ≡ true → TakesSection setup (other side) (head_fields trailer)
+IsTaken setup (event.Fields side id fields) a = is_done a ≡ true → TakesSection setup (other side) fields
+IsTaken setup (event.TrailerFields side id fields) a = is_done a ≡ true → TakesSection setup (other side) fields
 IsTaken setup (event.Deliver side id count) a = is_excess (refused_by a) ≡ false
 IsTaken setup (event.DeliverEnd side id) a = is_excess (refused_by a) ≡ false
 IsTaken setup (event.DeliverReset side id) a = is_excess (refused_by a) ≡ false
@@ -91,6 +93,8 @@ LimitsTakeWhatIsSent setup = (side : Side) →
 abbrev pub is_early : Ends → Event → Bool
 is_early ends (event.Head side id head) = is_none (end_at ends side).peer.settings
 is_early ends (event.Trailer side id trailer) = is_none (end_at ends side).peer.settings
+is_early ends (event.Fields side id fields) = is_none (end_at ends side).peer.settings
+is_early ends (event.TrailerFields side id fields) = is_none (end_at ends side).peer.settings
 is_early ends _ = false
 
 -- what is sent so early is taken too

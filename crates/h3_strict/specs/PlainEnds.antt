@@ -8,6 +8,7 @@ use Rattle.h3_connection.specs.Keeping.{read_all, unkept}
 use Rattle.h3_connection.specs.OwnIds.{other}
 use Rattle.h3_connection.specs.declared.event.Refusal.TheVariants as refusal
 use Rattle.h3_world.specs.Ends.{Ends, answered, answers_of_ends, delivery, end_at, end_delivery, ends_after, reset_delivery}
+use Rattle.h3_world.specs.Lists.{pull_of}
 use Rattle.h3_world.specs.declared.event.Answer.{Answer}
 use Rattle.h3_world.specs.declared.event.Answer.TheVariants as answer
 use Rattle.h3_world.specs.declared.event.Event.{Event}
@@ -48,6 +49,7 @@ was_too_long ends reader a = exceeds (end_at ends reader) (refused_by a)
 -- is answered so, at an end that limits what is unfinished.
 abbrev pub judges : Ends → Event → Bool
 judges ends (event.Pull side id) = is_judged (end_at ends side) id
+judges ends (event.PullFields side id) = is_judged (end_at ends side) id
 judges ends (event.Deliver writer id count) = was_too_long ends (other writer) (delivery ends writer id count).0
 judges ends (event.DeliverEnd writer id) = was_too_long ends (other writer) (end_delivery ends writer id).0
 judges ends (event.DeliverReset writer id) = was_too_long ends (other writer) (reset_delivery ends writer id).0
@@ -62,6 +64,7 @@ NoneJudges ends (e ∷ events) = (judges ends e ≡ false) × NoneJudges (answer
 -- long. No other fault of the connection is one
 abbrev pub finds_fault : Answer → Bool
 finds_fault (answer.Pulled p) = tells_malformed p
+finds_fault (answer.Listed l) = tells_malformed (pull_of l)
 finds_fault a = is_excess (refused_by a)
 
 -- no more streams of it wait for insertions than it announced (RFC 9204, section 2.1.2)

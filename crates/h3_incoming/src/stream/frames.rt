@@ -9,7 +9,7 @@ ghost use Rattle.h3_connection.specs.declared.event.Fault.TheVariants.{Connectio
 ghost use Rattle.h3_connection.specs.declared.event.Pull.TheVariants as pull;
 ghost use Rattle.h3_connection.specs.Pulling.{is_memory, next_frame, between_frames};
 ghost use Rattle.h3_incoming.specs.Answering.{Lists};
-ghost use Rattle.h3_incoming.specs.Coming.{fields_next};
+ghost use Rattle.h3_connection.specs.Coming.{fields_next};
 ghost use Rattle.h3_incoming.specs.Gives.{Gives};
 ghost use Rattle.h3_incoming.specs.Resuming.{Resumes};
 ghost use Rattle.h3_incoming.specs.Placing.{is_session};

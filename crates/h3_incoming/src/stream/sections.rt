@@ -12,7 +12,7 @@ ghost use Rattle.h3_connection.specs.Incoming.{given_up};
 ghost use Rattle.h3_connection.specs.Pulling.{is_memory, malformed, at_section, decoded, read_section, past_section, acknowledgment, just};
 ghost use Rattle.h3_connection.specs.declared.event.Pull.TheVariants as pull;
 ghost use Rattle.h3_incoming.specs.Answering.{Lists};
-ghost use Rattle.h3_incoming.specs.Coming.{fields_in};
+ghost use Rattle.h3_connection.specs.Coming.{fields_in};
 ghost use Rattle.h3_incoming.specs.Judging.{HasItem, HasList, judged_as};
 ghost use Rattle.h3_incoming.specs.Gives.{Gives};
 

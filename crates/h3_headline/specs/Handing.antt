@@ -1,0 +1,27 @@
+-- What is handed out, beside what was sent.
+use Rattle.std.specs.Prelude.{◌≡◌, List, [], ◌∷◌, ◌++◌, Option, Some, None}
+use Rattle.h3_world.specs.Flow.{Part, Section}
+use Rattle.h3_world.specs.Order.{section_of_part}
+use Rattle.h3_world.specs.declared.event.Answer.{Answer}
+use Rattle.h3_world.specs.declared.event.Answer.TheVariants as answer
+use Rattle.h3_connection.specs.declared.event.Item.{Item}
+use Rattle.h3_connection.specs.declared.event.Pull.{Pull}
+use Rattle.h3_connection.specs.declared.event.Pull.TheVariants as pull
+use Rattle.h3_headline.specs.Messages.{IsAllOf, MessageContent, Reader, SectionKind, contents_of, is_end_of, item_contents}
+use Rattle.h3_headline.specs.Messages.MessageContent.{Listed}
+
+-- some contents are the beginning of others
+pub record Begins (front all : List MessageContent) : Type 0 where
+  pub rest : List MessageContent
+  pub is : all ≡ front ++ rest
+
+-- What an item hands out, as a pull or as one with lists: of a section it is the section, and else the same.
+pub record GivesItem (r : Reader) (part : Option Part) (i : Item) (given : List MessageContent) : Type 0 where
+  pub section : (k : SectionKind) (s : Section) → section_of_part part ≡ Some s → IsAllOf r (item_contents i) (Listed k s.fields ∷ []) → IsAllOf r given (Listed k s.fields ∷ [])
+  pub others : section_of_part part ≡ None → given ≡ item_contents i
+
+-- What an answer hands out: this of an item, and nothing where the pull does.
+pub record GivesAs (r : Reader) (part : Option Part) (p : Pull) (a : Answer) : Type 0 where
+  pub item : (i : Item) → p ≡ pull.Item i → GivesItem r part i (contents_of a)
+  pub nothing : contents_of (answer.Pulled p) ≡ [] → contents_of a ≡ []
+  pub ends : is_end_of a ≡ is_end_of (answer.Pulled p)
