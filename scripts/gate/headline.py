@@ -15,6 +15,7 @@ import sys
 
 sys.path.insert(0, os.path.dirname(os.path.abspath(__file__)))
 import code_types  # noqa: E402
+import rules  # noqa: E402
 
 TOP = os.path.dirname(os.path.dirname(os.path.dirname(os.path.abspath(__file__))))
 CRATES = f"{TOP}/crates"
@@ -90,6 +91,8 @@ class Module:
             text = line[2:] if inside else line
             if not text.strip():
                 comment, current = [], None
+            elif rules.MARK.match(text):  # of a rule: it counts for no definition
+                current = None
             elif text.startswith("--"):
                 comment, current = comment + [number], None
             elif not text[0].isspace():

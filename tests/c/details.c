@@ -83,10 +83,32 @@ static void of_refusals(void) {
   TELLS(h3_goaway(&server, 1, &detail), H3_NOT_REQUEST_ID, 0);
 }
 
+/* The index of the field that is refused: the first that is invalid by itself; if none is, the first with white space around its value
+ * (RFC 9114, sections 4.2 and 10.3). Further fields with faults change nothing. */
+static void of_indexes(uint64_t id) {
+  static field_list list;
+  uint64_t detail;
+  begin_request(&list, "GET");
+  add_field(&list, "x-spaced", "a ");
+  add_field(&list, "x-good", "a");
+  add_field(&list, "x-tab", "\ta");
+  TELLS(h3_send_head(&client, id, list.sizes, NULL, list.count, list.bytes, list.len, &detail), H3_FIELD_VALUE, 4);
+  add_field(&list, "x-line", "a\n");
+  add_field(&list, "X-Upper", "a");
+  TELLS(h3_send_head(&client, id, list.sizes, NULL, list.count, list.bytes, list.len, &detail), H3_FIELD_VALUE, 7);
+  begin_request(&list, "GET");
+  add_field(&list, "X-Upper", "a\n");
+  add_field(&list, "x-line", "a\n");
+  TELLS(h3_send_head(&client, id, list.sizes, NULL, list.count, list.bytes, list.len, &detail), H3_FIELD_NAME, 4);
+  begin_request(&list, "GE T");
+  TELLS(h3_send_head(&client, id, list.sizes, NULL, list.count, list.bytes, list.len, &detail), H3_FIELD_VALUE, 0);
+}
+
 /* and what it names */
 static void of_numbers(void) {
   uint64_t detail, id;
   TELLS(h3_open_request(&client, &id, &detail), H3_OK, 0);
+  of_indexes(id);
   TELLS(h3_deliver(&client, 3, "\0\4\3\6\x40\x64", 6, &detail), H3_OK, 0); /* SETTINGS that take sections of 100 bytes */
   TELLS(h3_send_head(&client, id, request.sizes, NULL, request.count, request.bytes, request.len, &detail), H3_TOO_LARGE, size_of(&request));
   TELLS(h3_send_head(&client, id, request.sizes, NULL, 1, request.bytes, 10, &detail), H3_MALFORMED, H3_MISSING_PSEUDO_FIELD);

@@ -126,6 +126,7 @@ static size_t insertion(char *to, size_t len) {
   return len;
 }
 
+/* RFC 9114 10.5: unfinished_limit of instructions */
 /* Insertions are read, also if more of them come at once than the limit, and one increment counts those of a delivery. An insertion as long
  * as the limit is kept until it is whole, and is invalid then, since the table has no room for it. One byte more is refused by its length. */
 static void of_the_limit(void) {

@@ -11,7 +11,6 @@ use Rattle.h3_connection.specs.declared.event.Refusal.{Refusal}
 use Rattle.h3_session.specs.Copied.{CopiesTo}
 use Rattle.h3_session.specs.NextRequest.{next_request}
 use Rattle.h3_connection.specs.Shutdown.{is_rejected_in}
-use Rattle.h3_session.specs.declared.endpoint.lists.FieldsError.{FieldsError}
 use Rattle.h3_c.specs.declared.items.PulledItem.{PulledItem}
 use Rattle.h3_c.specs.declared.numbers.Told.{Told}
 use Rattle.h3_incoming.specs.FieldsPulls.{list_of, pull_of}
@@ -60,9 +59,9 @@ DeliversOn told id n v w does = OnStream id n v w (UnlessRejected id n v w (Call
 
 -- The list that C gave is sent; or its sizes are not those of its bytes or a flag is not known; or there was no memory for it, where `place` tells that no rule of
 -- the stream refuses each list there.
-abbrev pub SendsCut : Option (List Field) → (EndpointHistory → Option Refusal) → Told → Seen → Seen → (List Field → Result Unit FieldsError → Type 0) → Type 0
+abbrev pub SendsCut : Option (List Field) → (EndpointHistory → Option Refusal) → Told → Seen → Seen → (List Field → Result Unit Refusal → Type 0) → Type 0
 SendsCut None place n v w does = (n ≡ argument) × (w ≡ v)
-SendsCut (Some fields) place n v w does = LacksList place fields n v w ⊎ Calls list_told n v w (does fields)
+SendsCut (Some fields) place n v w does = LacksList place fields n v w ⊎ Calls (λ call. list_told call w.endpoint.announced.choices fields) n v w (does fields)
 
 -- A pull: its answer stays until the next one, and C gets what it is. Of a header or trailer section it is the list of fields that came.
 pub record Pulls (id : ℕ) (n : Told) (v w : Seen) (given : PulledItem) : Type 0 where

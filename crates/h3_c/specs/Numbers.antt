@@ -1,5 +1,6 @@
 -- The numbers of `include/h3.h`.
-use Rattle.std.specs.Prelude.{ℕ, List, Option, Some, None, Result, Ok, Err}
+use Rattle.std.specs.Prelude.{ℕ, List, Option, Some, None, unwrap_or, Result, Ok, Err}
+use Rattle.h3_field.specs.Field.{Field}
 use Rattle.h3_proto.specs.declared.frame.SettingsError.{SettingsError}
 use Rattle.h3_proto.specs.declared.frame.SettingsError.TheVariants as settings_error
 use Rattle.h3_connection.specs.declared.event.DeliverError.{DeliverError}
@@ -10,10 +11,10 @@ use Rattle.h3_connection.specs.declared.event.Refusal.{Refusal}
 use Rattle.h3_connection.specs.declared.event.Refusal.TheVariants as refusal
 use Rattle.h3_connection.specs.declared.setup.NewError.{NewError}
 use Rattle.h3_connection.specs.declared.setup.NewError.TheVariants as new_error
+use Rattle.h3_proto.specs.declared.config.Choices.{Choices}
+use Rattle.h3_messages.specs.InvalidField.{invalid_field}
 use Rattle.h3_session.specs.declared.endpoint.datagrams.DatagramError.{DatagramError}
 use Rattle.h3_session.specs.declared.endpoint.datagrams.DatagramError.TheVariants as datagram_error
-use Rattle.h3_session.specs.declared.endpoint.lists.FieldsError.{FieldsError}
-use Rattle.h3_session.specs.declared.endpoint.lists.FieldsError.TheVariants as fields_error
 use Rattle.h3_c.specs.Items.{malformation_number}
 use Rattle.h3_c.specs.declared.numbers.Told.{Told}
 
@@ -110,18 +111,20 @@ new_told (new_error.Settings e) = number 21 (setting_of e)
 new_told new_error.UnfinishedLimit = number 28 0
 new_told new_error.OutOfMemory = memory
 
--- why a list that is to be sent is malformed: by a field's name or value, by their count, or by the rule of strict messages that it breaks
-abbrev pub malformed_told : Malformation → Told
-malformed_told malformation.Name = number 22 0
-malformed_told malformation.Value = number 23 0
-malformed_told malformation.TooMany = number 24 0
-malformed_told why = number 27 (malformation_number why)
+-- why a list that is to be sent is malformed: by the name or value of the field of this index, by their count, or by the rule of strict messages that it
+-- breaks
+abbrev pub malformed_told : Malformation → ℕ → Told
+malformed_told malformation.Name index = number 22 index
+malformed_told malformation.Value index = number 23 index
+malformed_told malformation.TooMany index = number 24 0
+malformed_told why index = number 27 (malformation_number why)
 
--- what a call tells that sends a list
-abbrev pub list_told : {X : Type 0} → Result X FieldsError → Told
-list_told (Ok done) = ok
-list_told (Err (fields_error.Refused r)) = refusal_told r
-list_told (Err (fields_error.Malformed why)) = malformed_told why
+-- what a call tells that sends a list, with these choices
+abbrev pub list_told : {X : Type 0} → Result X Refusal → Choices → List Field → Told
+list_told (Ok done) choices fields = ok
+list_told (Err (refusal.Malformed why)) choices fields =
+    malformed_told why (unwrap_or (invalid_field choices.extensions.any_protocol choices.strict_messages fields) 0)
+list_told (Err r) choices fields = refusal_told r
 
 -- `H3_NO_DATAGRAMS`
 abbrev pub no_datagrams : Told

@@ -6,8 +6,9 @@ use crate::items::malformation_number;
 use bytes::Bytes;
 use h3_connection::event::{DeliverError, Malformation, Refusal};
 use h3_connection::setup::NewError;
+use h3_field::HeaderField;
 use h3_proto::frame::SettingsError;
-use h3_session::endpoint::{DatagramError, FieldsError};
+use h3_session::endpoint::{DatagramError, Endpoint};
 
 /// What a call answers: a number, and the code, id or size that it names, else 0.
 #[derive(Clone, Copy)]
@@ -133,24 +134,31 @@ pub(crate) fn sent(call: &Result<(), (Refusal, Bytes)>) -> Told
     }
 }
 
-/// What a call tells that sends a list.
-pub(crate) fn listed(call: &Result<(), FieldsError>) -> Told
-    ensures { result ≡ list_told call.now }
+/// What a call of this endpoint tells that sends a list.
+pub(crate) fn listed(
+    call: &Result<(), Refusal>,
+    endpoint: &Endpoint,
+    fields: &[HeaderField],
+) -> Told
+    ensures { result ≡ list_told call.now endpoint.now.announced.choices fields.now }
 {
     match call {
         Ok(()) => OK,
-        Err(FieldsError::Refused(refusal)) => refused(*refusal),
-        Err(FieldsError::Malformed(why)) => malformed(*why),
+        Err(Refusal::Malformed(why)) => {
+            malformed(*why, endpoint.invalid_field(fields).unwrap_or(0) as u64)
+        }
+        Err(refusal) => refused(*refusal),
     }
 }
 
-// A list that its own fields refuse has the numbers of a list that C passes. A rule of strict messages has its number beside.
-fn malformed(why: Malformation) -> Told
-    ensures { result ≡ malformed_told why }
+// A list that its own fields refuse has the number of an answer, with the index of that field beside. A rule of strict messages has its
+// number beside.
+fn malformed(why: Malformation, index: u64) -> Told
+    ensures { result ≡ malformed_told why index }
 {
     match why {
-        Malformation::Name => plain(22),
-        Malformation::Value => plain(23),
+        Malformation::Name => with(22, index),
+        Malformation::Value => with(23, index),
         Malformation::TooMany => plain(24),
         Malformation::WrongSide
         | Malformation::PseudoInTrailer

@@ -81,6 +81,7 @@ abbrev pub unless_second : Bool → EndpointHistory → Found → Found
 unless_second true e found = (e, Some stream_creation_error)
 unless_second false e found = found
 
+-- RFC 9114 6.2.1: a second control stream
 abbrev pub only_one : Option ℕ → ℕ → EndpointHistory → Found → Found
 only_one first id e found = unless_second (is_second first id) e found
 
@@ -114,6 +115,7 @@ bytes_at e id bytes PeerUnidirectional = read_unidirectional e id (unidirectiona
 abbrev pub deliver : EndpointHistory → ℕ → List ℕ → Option Refusal × EndpointHistory
 deliver e id bytes = taken e.closed (delivery_refusal e id) e (bytes_at e id bytes (kind_of e.side id))
 
+-- RFC 9114 6.2.1: a critical stream closed by the peer
 abbrev pub closing : EndpointHistory → ℕ → Unidirectional → Found
 closing e id o = (with_unidirectional e id o, if is_critical o.role then Some closed_critical_stream else None)
 

@@ -42,16 +42,20 @@ abbrev pub is_no_goaway : Side → ℕ → Bool
 is_no_goaway Client id = not (id % 4 == 0)
 is_no_goaway Server id = false
 
+-- RFC 9114 5.2: GOAWAY raised, received
 abbrev pub read_goaway : Side → Peer → ℕ → PeerFound
 read_goaway side p id =
     if is_no_goaway side id || is_above id (last_id p.goaways) then (p, Some id_error)
     else (record p { goaways = p.goaways ++ id ∷ [] }, None)
 
+-- RFC 9114 7.2.7: MAX_PUSH_ID lowered
 abbrev pub read_max_push : Side → Peer → ℕ → PeerFound
 read_max_push Client p id = (p, Some frame_unexpected)
 read_max_push Server p id =
     if is_below id p.most_pushes then (p, Some id_error) else (record p { most_pushes = Some id }, None)
 
+-- RFC 9114 7.2: frames out of place on a control stream
+-- RFC 9114 6.2.1: SETTINGS first
 -- a frame: the first has to be the settings, and no later one may
 abbrev pub read_frame : Side → Peer → Option (List (ℕ × ℕ)) → Frame PayloadLen → PeerFound
 read_frame side p None (frame.Settings pairs) = (record p { settings = Some pairs }, None)

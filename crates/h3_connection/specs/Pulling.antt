@@ -53,6 +53,7 @@ just answer i = record { answer = answer; incoming = i; replies = [] }
 abbrev pub connection_fault : ℕ → Incoming → Pulled
 connection_fault code i = just (pull.Fault (Connection code)) i
 
+-- RFC 9114 4.1.2: a malformed message ends its stream alone
 abbrev pub malformed : ℕ → Malformation → Incoming → List DecoderInstruction → Pulled
 malformed id m i replies =
     record {
@@ -97,12 +98,14 @@ abbrev pub unless_broken : ℕ → Incoming → List DecoderInstruction → Opti
 unless_broken id i replies None p = p
 unless_broken id i replies (Some why) p = malformed id why i replies
 
+-- RFC 9110 15.2: interim responses, as 103, received
 abbrev pub whole_head : Side → ℕ → Incoming → List DecoderInstruction → Option Malformation → Head → Pulled
 whole_head side id i replies broken h =
     if not (is_for side h) then malformed id malformation.WrongSide i replies else unless_broken id i replies broken (
     if is_client side && is_interim h.status then record { answer = pull.Item (item.Interim h); incoming = i; replies = replies } else
     record { answer = pull.Item (item.Head h); incoming = record i { place = InBody }; replies = replies })
 
+-- RFC 9114 4.3: pseudo-header fields in a trailer section
 abbrev pub whole_trailer : ℕ → Incoming → List DecoderInstruction → Option Malformation → Head → Pulled
 whole_trailer id i replies broken h =
     if has_pseudo h then malformed id malformation.PseudoInTrailer i replies else unless_broken id i replies broken
@@ -116,6 +119,7 @@ abbrev pub judged : Side → ℕ → Incoming → List DecoderInstruction → Op
 judged side id i replies broken (IsNone why) = malformed id (malformation_of why) i replies
 judged side id i replies broken (IsHead h) = head_or_trailer side id i replies broken i.place h
 
+-- RFC 9204 2.2.2.1: section acknowledgment, written
 abbrev pub acknowledgment : ℕ → ℕ → List DecoderInstruction
 acknowledgment id count = if count == 0 then [] else Acknowledge id ∷ []
 
@@ -178,12 +182,14 @@ abbrev pub raw : Incoming → Pulled
 raw i = raw_of i (first_of i.unread)
 
 module _ (side : Side) (own : Announced) (id : ℕ) (r : DecoderState) where
+  -- RFC 9114 4.2.2: size of a section, received
   abbrev pub read_section : Incoming → List DecoderInstruction → List Field → Pulled
   read_section i replies fields =
       if nat_lt (section_of own) (told_size fields)
       then record { answer = pull.Item (item.TooLarge (told_size fields)); incoming = past_large side own i fields; replies = replies }
       else judged side id (with_content side own i fields) replies (if_whole i.content (broken_rule side own i.place fields)) (head_by own.choices.extensions.any_protocol fields)
 
+  -- RFC 9204 2.2.3: a section that cannot be decoded
   -- A section was tried. One that is bad, or that misses entries a second time, is a fault of the connection, and no more tried.
   abbrev pub decoded : Incoming → DecodedSection → Pulled
   decoded i (Fields fields count) = read_section (past_section i) (acknowledgment id count) fields
@@ -192,6 +198,7 @@ module _ (side : Side) (own : Announced) (id : ℕ) (r : DecoderState) where
       else connection_fault decompression_failed (past_section i)
   decoded i BadSection = connection_fault decompression_failed (past_section i)
 
+  -- RFC 9204 2.2.1: missing insertions
   -- the section that is next
   abbrev pub at_section : Incoming → List ℕ → Pulled
   at_section i bytes =
@@ -211,6 +218,8 @@ module _ (side : Side) (own : Announced) (id : ℕ) (r : DecoderState) where
   at_end i BeforeHead = malformed id malformation.NoHead i []
   at_end i _ = if may_end i.content then just (pull.Item item.End) (record i { unread = []; is_over = true }) else malformed id malformation.ContentLength i []
 
+  -- RFC 9114 7.2: frames out of place on a request stream
+  -- RFC 9114 4.1: DATA before the header section
   -- a frame that was read, at its place (RFC 9114, sections 4.1 and 7.2)
   abbrev pub at_frame : Side → Incoming → Place → Frame PayloadLen → Pulled
   at_frame _ i BeforeHead (frame.Headers bytes) = new_section i bytes

@@ -107,6 +107,7 @@ encoded e id fields =
       own = record e.own { instructions = e.own.instructions ++ own_instructions e.encoder id fields };
     }
 
+-- RFC 9110 15.2: interim responses, as 103, sent
 -- a head with a status from 100 to 199 is not the last one
 abbrev pub head_part : Head → List ℕ → OwnPart
 head_part head section = if is_interim head.status then OwnInterim section else OwnHead section
@@ -215,6 +216,7 @@ abbrev pub if_too_many : Bool → Pulled → Pulled
 if_too_many true p = record p { answer = answer.Fault (fault.Connection decompression_failed); incoming = record p.incoming { waits_for = 0 } }
 if_too_many false p = p
 
+-- RFC 9204 2.1.2: limit of blocked streams, at the decoder
 abbrev pub within_limit : EndpointHistory → ℕ → Pulled → Pulled
 within_limit e id p = if_too_many (nat_lt e.announced.limits.blocked (heads_waiting e.decoding.decoder (set_stream e.incoming id p.incoming))) p
 

@@ -5,5 +5,6 @@ pub mod Messages
 pub mod OwnMessageLaws
 pub mod OwnMessages
 pub mod FlagLaws
+pub mod InvalidField
 pub mod ResponseSaid
 pub mod Survey

@@ -21,8 +21,7 @@ use Rattle.h3_connection.specs.declared.event.Malformation.{Malformation}
 use Rattle.h3_connection.specs.declared.event.Malformation.TheVariants as malformation
 use Rattle.h3_connection.specs.declared.event.Refusal.{Refusal}
 use Rattle.h3_connection.specs.declared.event.Refusal.TheVariants as refusal
-use Rattle.h3_session.specs.declared.endpoint.lists.FieldsError.{FieldsError}
-use Rattle.h3_session.specs.SendingLists.{as_error, error_after, malformed, after_head, after_trailer, send_fields, send_trailer_fields, send_read_head, send_read_trailer}
+use Rattle.h3_session.specs.SendingLists.{refusal_after, malformed, after_head, after_trailer, send_fields, send_trailer_fields, send_read_head, send_read_trailer}
 
 same_for : (side : Side) (h : Head) → is_for side (as_read h) ≡ is_for side h
 same_for Client h = refl
@@ -47,8 +46,8 @@ list_malformed h false token untaken not_taken = untaken not_taken
 
 -- and so is the header
 malformed_third : (closed : Option ℕ) (a b : Bool) (rules : List (Bool × Refusal)) (e new : EndpointHistory)
-    → as_error (does (closed_or closed (first_of ((a, refusal.NotOpen) ∷ (b, refusal.OutOfOrder) ∷ (true, refusal.Malformed malformation.Value) ∷ rules))) e new)
-    ≡ (Some (error_after (closed_or closed (first_of ((a, refusal.NotOpen) ∷ (b, refusal.OutOfOrder) ∷ []))) (malformed Value)), e)
+    → does (closed_or closed (first_of ((a, refusal.NotOpen) ∷ (b, refusal.OutOfOrder) ∷ (true, refusal.Malformed malformation.Value) ∷ rules))) e new
+    ≡ (Some (refusal_after (closed_or closed (first_of ((a, refusal.NotOpen) ∷ (b, refusal.OutOfOrder) ∷ []))) (malformed Value)), e)
 malformed_third (Some code) a b rules e new = refl
 malformed_third None true b rules e new = refl
 malformed_third None false true rules e new = refl
@@ -67,15 +66,15 @@ module _ (h : Head) (back : ReadsAsTaken h) (token : takes_protocol true h.proto
   abbrev sides : Bool → List (Bool × Refusal)
   sides b = (not b, refusal.WrongSide) ∷ unless_malformed (broken_head e.side e.announced e.peer.settings fields) ((is_too_large e.peer.settings fields, refusal.TooLarge (section_size fields)) ∷ [])
 
-  abbrev head_sent : Option Malformation → Bool → Option FieldsError × EndpointHistory
+  abbrev head_sent : Option Malformation → Bool → Option Refusal × EndpointHistory
   head_sent protocol b =
-      as_error (does (unless_closed e (first_of (
-      (not (is_open e id), refusal.NotOpen) ∷ (not (takes_head (outgoing_at e id)), refusal.OutOfOrder) ∷ unless_malformed protocol (sides b)))) e (after_head e id h fields))
+      does (unless_closed e (first_of (
+      (not (is_open e id), refusal.NotOpen) ∷ (not (takes_head (outgoing_at e id)), refusal.OutOfOrder) ∷ unless_malformed protocol (sides b)))) e (after_head e id h fields)
 
-  pub head_as_list : send_fields e id fields ≡ as_error (send_head e id h)
+  pub head_as_list : send_fields e id fields ≡ send_head e id h
   head_as_list = by (takes_protocol any h.protocol) refl
     where
-      by : (taken : Bool) → takes_protocol any h.protocol ≡ taken → send_fields e id fields ≡ as_error (send_head e id h)
+      by : (taken : Bool) → takes_protocol any h.protocol ≡ taken → send_fields e id fields ≡ send_head e id h
       by true is =
           ap (send_read_head e id fields) (list_reads h any back read law is) ∙ ap (head_sent (broken_protocol e.announced h)) (same_for (other e.side) h)
       by false is =
@@ -88,15 +87,15 @@ module _ (h : Head) (back : ReadsAsTaken h) (token : takes_protocol true h.proto
       (b, refusal.PseudoInTrailer) ∷
       unless_malformed (early_trailer (outgoing_at e id).content) (unless_malformed (broken_trailer e.announced fields) ((is_too_large e.peer.settings fields, refusal.TooLarge (section_size fields)) ∷ []))
 
-  abbrev trailer_sent : Option Malformation → Bool → Option FieldsError × EndpointHistory
+  abbrev trailer_sent : Option Malformation → Bool → Option Refusal × EndpointHistory
   trailer_sent protocol b =
-      as_error (does (unless_closed e (first_of (
-      (not (is_open e id), refusal.NotOpen) ∷ (not (takes_body (outgoing_at e id)), refusal.OutOfOrder) ∷ unless_malformed protocol (pseudo b)))) e (after_trailer e id fields))
+      does (unless_closed e (first_of (
+      (not (is_open e id), refusal.NotOpen) ∷ (not (takes_body (outgoing_at e id)), refusal.OutOfOrder) ∷ unless_malformed protocol (pseudo b)))) e (after_trailer e id fields)
 
-  pub trailer_as_list : send_trailer_fields e id fields ≡ as_error (send_trailer e id h)
+  pub trailer_as_list : send_trailer_fields e id fields ≡ send_trailer e id h
   trailer_as_list = by (takes_protocol any h.protocol) refl
     where
-      by : (taken : Bool) → takes_protocol any h.protocol ≡ taken → send_trailer_fields e id fields ≡ as_error (send_trailer e id h)
+      by : (taken : Bool) → takes_protocol any h.protocol ≡ taken → send_trailer_fields e id fields ≡ send_trailer e id h
       by true is =
           ap (send_read_trailer e id fields) (list_reads h any back read law is) ∙ ap (trailer_sent (broken_protocol e.announced h)) (same_has_pseudo h)
       by false is =

@@ -19,6 +19,7 @@ use h3_proto::stream::{Side, StreamId};
 use h3_unidirectional::stream::Received;
 use std::alloc::{AllocError, Global};
 
+// RFC 9114 6.2.1: a critical stream closed by the peer
 /// The fault of an end or a reset.
 fn closing_fault(is_critical: bool) -> Option<Code>
     ensures { result ≡ closing_code is_critical }

@@ -19,6 +19,7 @@ use h3_proto::error::Code;
 use h3_proto::stream::{Side, StreamId};
 use std::alloc::Global;
 
+// RFC 9114 6.2.1: a second control stream
 /// Whether some other stream is read as such already.
 fn is_second(first: Option<StreamId>, id: StreamId) -> bool
     ensures { result ≡ Rattle.h3_connection.specs.Endpoint.is_second first id }

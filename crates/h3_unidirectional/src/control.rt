@@ -91,6 +91,7 @@ fn is_no_goaway(side: Side, id: u64) -> bool
     }
 }
 
+// RFC 9114 6.2.1: SETTINGS first
 /// The first frame has to be the settings.
 fn judge_first(frame: Frame<PayloadLen>) -> Judged
     ensures { (side : Side) (p : Peer) → read_frame side p None frame ≡ done p result }
@@ -175,6 +176,7 @@ impl PeerControl {
         self.unread.push(bytes)
     }
 
+    // RFC 9114 5.2: GOAWAY raised, received
     fn judge_goaway(&self, side: Side, id: VarInt) -> Judged
         ensures { read_goaway side self.now id ≡ done self.now result }
     {
@@ -190,6 +192,7 @@ impl PeerControl {
         Judged::Goaway(id)
     }
 
+    // RFC 9114 7.2.7: MAX_PUSH_ID lowered
     fn judge_max_push(&self, side: Side, id: PushId) -> Judged
         ensures { read_max_push side self.now id ≡ done self.now result }
     {
@@ -206,6 +209,7 @@ impl PeerControl {
         }
     }
 
+    // RFC 9114 7.2: frames out of place on a control stream
     fn judge_later(&self, side: Side, frame: Frame<PayloadLen>) -> Judged
         ensures { (pairs : List (ℕ × ℕ)) → read_frame side self.now (Some pairs) frame ≡ done self.now result }
     {

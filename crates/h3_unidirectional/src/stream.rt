@@ -80,6 +80,7 @@ impl Model for UnidirectionalStream {
     ghost invariant = { λ s. IsUnfinished s.kind s.front.items };
 }
 
+// RFC 9114 6.2: type of a unidirectional stream
 /// Reads what a stream begins with: its type, and the id after it if it is a push stream (RFC 9114, section 4.6) or one of a
 /// WebTransport session. `None` if that is not whole.
 pub(crate) fn read_kind<B: Buf>(buf: &mut B) -> Option<Kind>

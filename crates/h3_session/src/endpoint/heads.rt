@@ -241,6 +241,7 @@ impl Endpoint {
         }
     }
 
+    // RFC 9114 4.2.2: size of a section, sent
     // Whether fields of this size are more than the peer's settings allow. Before these came every size is allowed.
     fn is_too_large(&self, size: u64) -> bool
         ensures { (fields : List Field) → size ≡ section_size fields → result ≡ is_too_large self.now.peer.settings fields }
@@ -425,6 +426,7 @@ fn place_behind(head: &Header) -> SendPlace
     place_of(head.status())
 }
 
+// RFC 9110 15.2: interim responses, as 103, sent
 /// The place of the message after one with this status: one from 100 to 199 (RFC 9110, section 15.2) is not that of the final header
 /// section.
 pub(super) fn place_of(status: Option<StatusCode>) -> SendPlace

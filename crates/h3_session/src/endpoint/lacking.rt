@@ -36,7 +36,7 @@ impl Endpoint {
     }
 
     /// Why `send_fields` refuses each list on a stream. `None`: a list is judged by its fields.
-    #[tactic(auto, using(crate::proofs::Lacking::heads_closed, crate::proofs::Lacking::heads_refused))]
+    #[tactic(auto, using(crate::proofs::Lacking::heads_refused))]
     pub fn head_refusal(&self, id: StreamId) -> Option<Refusal>
         ensures { RefusesHeads self.now id result }
     {
@@ -47,7 +47,7 @@ impl Endpoint {
     }
 
     /// Why `send_trailer_fields` refuses each list on a stream. `None`: a list is judged by its fields.
-    #[tactic(auto, using(crate::proofs::Lacking::trailers_closed, crate::proofs::Lacking::trailers_refused))]
+    #[tactic(auto, using(crate::proofs::Lacking::trailers_refused))]
     pub fn trailer_refusal(&self, id: StreamId) -> Option<Refusal>
         ensures { RefusesTrailers self.now id result }
     {
