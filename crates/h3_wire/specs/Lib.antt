@@ -13,6 +13,7 @@ pub mod ReadsOn
 pub mod Elements
 pub mod Encoded
 pub mod StreamHeaders
+pub mod MessageFrames
 pub mod Outgoing
 pub mod Lent
 pub mod ReadBack

@@ -30,7 +30,7 @@ mod payload_left;
 mod sparing;
 
 pub use buffer::FrameBuffer;
-pub use decoder::FrameDecoder;
+pub use decoder::{FrameDecoder, MessageFrame};
 pub use errors::{FrameProtocolError, FrameStreamError};
 pub use payload_left::PayloadLeft;
 

@@ -6,7 +6,7 @@ ghost use Rattle.h3_wire.specs.UnreadFrames.{AreBetween};
 ghost use Rattle.h3_connection.specs.Incoming.{is_body};
 ghost use Rattle.h3_incoming.specs.Finding.{Finds, GivesBegun, IsWithin, LeavesBetween, PassesFrames};
 
-use super::begun::{Begun, begun_by, is_empty};
+use super::begun::{Begun, begun_by, begun_by_message, is_empty};
 use h3_connection::place::Place;
 use h3_messages::Content;
 use h3_proto::stream::Side;
@@ -106,7 +106,7 @@ fn next_begun(
     ensures between { IfOk result (λ o. IfSome o (λ b. AreBetween unread.new)) }
     ensures pieces { unread.new.pieces ≡ ending (length (concat unread.new.pieces)) unread.old.pieces }
 {
-    match first_begun(unread, side, place, content) {
+    match first_begun(unread, place, content) {
         Some(begun) => Ok(begun),
         None => begun_anywhere(unread, alloc, side, place, content),
     }
@@ -114,19 +114,14 @@ fn next_begun(
 
 // The same, if `FrameBuffer::next_first` reads it. `None` changes nothing.
 #[inline(always)]
-fn first_begun(
-    unread: &mut FrameBuffer,
-    side: Side,
-    place: Place,
-    content: Content,
-) -> Option<Option<Begun>>
-    ensures gives { IfSome result (λ o. GivesBegun side place content (Ok o) (concat unread.old.pieces) (concat unread.new.pieces)) }
+fn first_begun(unread: &mut FrameBuffer, place: Place, content: Content) -> Option<Option<Begun>>
+    ensures gives { (side : Side) → IfSome result (λ o. GivesBegun side place content (Ok o) (concat unread.old.pieces) (concat unread.new.pieces)) }
     ensures between { IfSome result (λ o. IfSome o (λ b. AreBetween unread.new)) }
     ensures same { IsNone result → unread.new ≡ unread.old }
     ensures pieces { unread.new.pieces ≡ ending (length (concat unread.new.pieces)) unread.old.pieces }
 {
     match unread.next_first() {
-        Some(Some(frame)) => Some(Some(begun_by(side, place, content, frame))),
+        Some(Some(frame)) => Some(Some(begun_by_message(place, content, frame))),
         Some(None) => Some(None),
         None => None,
     }

@@ -4,11 +4,12 @@ ghost use Rattle.std.specs.List.{concat};
 ghost use Rattle.h3_proto.specs.Config.{is_limit};
 ghost use Rattle.h3_wire.specs.ExcessiveFrames.{begins_section, is_excessive};
 ghost use Rattle.h3_wire.specs.Known.{Gives, known};
+ghost use Rattle.h3_wire.specs.MessageFrames.{any_frame};
 ghost use Rattle.h3_wire.specs.Pieces.{IsRest, chunk_of, ending, first_of, with_piece};
 ghost use Rattle.h3_wire.specs.Tries.{Counts, Expects};
 ghost use Rattle.h3_wire.specs.UnknownSize.{AreLetGo, IsSpared, is_known_type, is_longer, is_under_way, unknown_size};
 
-use super::decoder::FrameDecoder;
+use super::decoder::{FrameDecoder, MessageFrame};
 use super::errors::FrameStreamError;
 use super::excess;
 use super::let_go::LetGo;
@@ -122,7 +123,6 @@ impl FrameBytes {
     }
 
     /// `FrameDecoder::decode`, when no unknown frame is under way.
-    #[inline(always)]
     pub(super) fn decode(
         &mut self,
         alloc: Global,
@@ -145,13 +145,13 @@ impl FrameBytes {
     pub(super) fn decode_first(
         &mut self,
         decoder: &mut FrameDecoder,
-    ) -> Option<Option<Frame<PayloadLen>>>
+    ) -> Option<Option<MessageFrame>>
         requires none { self.old.passing ≡ 0 }
         requires expects { Expects decoder.old (concat self.old.pieces) }
-        ensures gives { IfSome result (λ o. Gives (Ok o) (concat self.old.pieces) (concat self.new.pieces)) }
+        ensures gives { IfSome result (λ o. Gives (Ok (any_frame o)) (concat self.old.pieces) (concat self.new.pieces)) }
         ensures expects { Expects decoder.new (concat self.new.pieces) }
         ensures fresh { IfSome result (λ o. IfSome o (λ f. decoder.new.expected ≡ None)) }
-        ensures counts { IfSome result (λ o. Counts decoder.old (concat self.old.pieces) (Ok o) decoder.new) }
+        ensures counts { IfSome result (λ o. Counts decoder.old (concat self.old.pieces) (Ok (any_frame o)) decoder.new) }
         ensures decoder { IsNone result → decoder.new ≡ decoder.old }
         ensures same { IsNone result → self.new.pieces ≡ self.old.pieces }
         ensures rest { IsRest self.old.pieces self.new.pieces }
