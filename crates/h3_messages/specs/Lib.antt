@@ -6,5 +6,6 @@ pub mod OwnMessageLaws
 pub mod OwnMessages
 pub mod FlagLaws
 pub mod InvalidField
+pub mod InvalidFieldLaws
 pub mod ResponseSaid
 pub mod Survey
