@@ -31,7 +31,7 @@ pub(crate) struct StreamsUnderWay {
     row: Row,
     // those that found their place taken
     others: Others,
-    // the block of a stream that went
+    // the blocks of streams that went
     spare: Spare,
 }
 
@@ -56,7 +56,7 @@ impl StreamsUnderWay {
         StreamsUnderWay {
             row: Row::new(alloc),
             others: Others::new(alloc),
-            spare: Spare::new(),
+            spare: Spare::new(alloc),
         }
     }
 
