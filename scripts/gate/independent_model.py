@@ -71,6 +71,9 @@ def unsure():
     raise Unsure
 
 
+MOST_NAMES = 24576  # so many names has a `Header` room for (this project's choice)
+
+
 def head_of(fields):
     """The head that a field list stands for: pseudo fields in their order, the last of each name, then the plain ones, those of one name
     together. Late and repeated pseudo fields pass (this project's choice)."""
@@ -84,6 +87,8 @@ def head_of(fields):
             pseudo[name] = value
         else:
             plain.setdefault(name, []).append(value)
+        if len(plain) > MOST_NAMES:
+            raise Malformed("TooMany")
     return [(n, pseudo[n]) for n in PSEUDO if n in pseudo] + [(n, v) for n, values in plain.items() for v in values]
 
 
@@ -266,14 +271,25 @@ class Endpoint:
 
     def send_head(self, id, head):
         """RFC 9114, 4.1: interim responses may go ahead of the final one. The head is the list that the caller's `Header` gives."""
+        return self.not_sent(id, "head") or self.send_head_as(id, head, head)
+
+    def send_fields(self, id, fields):
+        """A head as a list that is no `Header`: it goes out as it stands, and is judged as the head that it stands for, if it is one."""
         refused = self.not_sent(id, "head")
         if refused:
             return refused
+        try:
+            return self.send_head_as(id, head_of(fields), fields)
+        except Malformed as malformed:
+            return ("Malformed", malformed.args[0])
+
+    def send_head_as(self, id, head, fields):
+        """the head, which is written as these fields"""
         if not (is_request(head) if self.side == CLIENT else is_response(head)):
             return ("WrongSide",)
-        if self.too_large(head):
-            return ("TooLarge", total(head))
-        self.send_section(id, head)
+        if self.too_large(fields):
+            return ("TooLarge", total(fields))
+        self.send_section(id, fields)
         if self.side == CLIENT or value_of(head, b":status")[:1] != b"1":
             self.outgoing_streams[id].place = "body"
         return ("done",)
@@ -287,15 +303,25 @@ class Endpoint:
         return ("done",)
 
     def send_trailer(self, id, head):
-        """RFC 9114, 4.3: no pseudo-header fields in it"""
+        return self.not_sent(id, "trailer") or self.send_trailer_as(id, head, head)
+
+    def send_trailer_fields(self, id, fields):
+        """a trailer as a list"""
         refused = self.not_sent(id, "trailer")
         if refused:
             return refused
+        try:
+            return self.send_trailer_as(id, head_of(fields), fields)
+        except Malformed as malformed:
+            return ("Malformed", malformed.args[0])
+
+    def send_trailer_as(self, id, head, fields):
+        """RFC 9114, 4.3: no pseudo-header fields in it"""
         if has_pseudo(head):
             return ("PseudoInTrailer",)
-        if self.too_large(head):
-            return ("TooLarge", total(head))
-        self.send_section(id, head)
+        if self.too_large(fields):
+            return ("TooLarge", total(fields))
+        self.send_section(id, fields)
         self.outgoing_streams[id].place = "done"
         return ("done",)
 
@@ -545,6 +571,11 @@ class Endpoint:
         except Fault as fault:
             self.fault = fault.args[0]
             return ("Fault", "Connection", self.fault)
+
+    def pull_fields(self, id, other=None):
+        """a pull that answers a head or a trailer by the list that came, in its order"""
+        answer = self.pull(id, other)
+        return (answer[0], self.incoming[id].listed) if answer[0] in ("Head", "Interim", "Trailer") else answer
 
     def next_item(self, id, s, wanted):
         if s.place == "session":
