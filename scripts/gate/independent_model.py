@@ -6,7 +6,7 @@ choice. scripts/gate/hostile_calls.py asks it and the program the same questions
 A call is answered by a tuple: `("done",)`, `("opened", id)`, `("waits", bytes)`, `("shown", limits, sending, receiving, waiting)`, the name
 of a refusal with what it carries, or what a pull hands out.
 """
-from independent_qpack import Bad, Missing, Reader, Receiver, Sender, Short, integer, size, varint
+from independent_qpack import Bad, Missing, NeverIndexed, Reader, Receiver, Sender, Short, integer, size, varint
 
 CLIENT, SERVER = "Client", "Server"
 
@@ -108,6 +108,12 @@ def has_pseudo(head):
     return any(name in PSEUDO for name, _ in head)
 
 
+def is_secret(field):
+    """RFC 9204, 7.1.3: the names are this project's choice, and that a long cookie can't be guessed"""
+    name, value = field
+    return name in (b"authorization", b"proxy-authorization") or name in (b"cookie", b"set-cookie") and len(value) < 20
+
+
 def total(fields):
     """RFC 9114, 4.2.2"""
     return sum(size(field) for field in fields)
@@ -201,10 +207,11 @@ class Incoming:
 
 
 class Endpoint:
-    """The calls of one side. `section`, `capacity` and `blocked` are what it announces (RFC 9114, 7.2.4.1; RFC 9204, 5)."""
+    """The calls of one side. `section`, `capacity` and `blocked` are what it announces (RFC 9114, 7.2.4.1; RFC 9204, 5). If it `guards`, it sends
+    each field that is a secret as one that is never indexed."""
 
-    def __init__(self, side, section, capacity, blocked):
-        self.side, self.section, self.blocked = side, section, blocked
+    def __init__(self, side, section, capacity, blocked, guards=False):
+        self.side, self.section, self.blocked, self.guards = side, section, blocked, guards
         self.bit = 0 if side == CLIENT else 1
         self.ids = [2 + self.bit, 6 + self.bit, 10 + self.bit]
         pairs = [(SECTION_SIZE, section), (8, 0), (0x2B603742, 0), (0x33, 0), (0x2B603743, 0), (CAPACITY, capacity), (BLOCKED, blocked)]
@@ -265,7 +272,8 @@ class Endpoint:
         return self.settings is not None and total(fields) > self.settings.get(SECTION_SIZE, GREATEST)
 
     def send_section(self, id, head):
-        section, instructions = self.sender.encode(id, head)
+        guarded = [NeverIndexed(field) if self.guards and is_secret(field) else field for field in head]
+        section, instructions = self.sender.encode(id, guarded)
         self.own[self.ids[1]] += instructions
         self.outgoing_streams[id].waits += varint(HEADERS) + varint(len(section)) + section
 

@@ -144,10 +144,15 @@ def handed(ends, kind, side, id, count=0):
     return of_call(answer)
 
 
+def named(answer):
+    """the code of a connection fault by its name"""
+    return tuple(CODES.get(word, word) if k and answer[k - 1] in ("Connection", "Closed") else word for k, word in enumerate(answer))
+
+
 def of_call(answer):
     if answer[0] in ("done", "opened", "early", "shown"):
         return printed(answer)
-    return " ".join(["refused"] + [str(word) for word in answer])
+    return " ".join(["refused"] + [str(word) for word in named(answer)])
 
 
 def printed(answer):
@@ -204,18 +209,18 @@ def talk(script):
 # ---- the wider language
 
 # of h3_config_default, what a peer of the model can see
-WIDE_DEFAULT = {"max_field_section_size": 65536, "table": 4096, "blocked": 16}
-HIDDEN = {"strict", "count_acknowledgments", "encoder_table", "economical_table", "unfinished_limit", "kept_ids", "reject_requests", "any_protocol", "guard_secrets", "shortest_strings"}
+WIDE_DEFAULT = {"max_field_section_size": 65536, "table": 4096, "blocked": 16, "guard_secrets": 1}
+HIDDEN = {"strict", "count_acknowledgments", "encoder_table", "economical_table", "unfinished_limit", "kept_ids", "reject_requests", "any_protocol", "shortest_strings"}
 
 
 def chosen(words):
-    limits = {"max_field_section_size": GREATEST, "table": 0, "blocked": 0}
+    limits = {"max_field_section_size": GREATEST, "table": 0, "blocked": 0, "guard_secrets": 0}
     for word in words:
         name, _, value = word.partition("=")
         if name == "default":
             limits.update(WIDE_DEFAULT)
         elif name not in HIDDEN:
-            limits[name] = int(value)
+            limits[name] = int(value or 1)
     return list(limits.values())
 
 
@@ -230,11 +235,6 @@ def wide_list(words):
         times = re.fullmatch(r"([^*]*)\*([0-9]+)", value)
         fields.append((unescaped(name), unescaped(times[1]) * int(times[2]) if times else unescaped(value)))
     return fields
-
-
-def named(answer):
-    """the code of a connection fault by its name"""
-    return tuple(CODES.get(word, word) if k and answer[k - 1] in ("Connection", "Closed") else word for k, word in enumerate(answer))
 
 
 def wide_value(value):
@@ -263,7 +263,18 @@ def carried(ends, side, id):
             answer = other.deliver_reset(id, CANCELLED)
         elif own.is_finished(id):
             answer = other.deliver_end(id)
-    return of_call(named(answer))
+    return of_call(answer)
+
+
+def wide_call(end, command, id, *rest):
+    """the calls that have no other end: `waits`, `deliver`, `end` and `gone`"""
+    if command == "waits":
+        return f"waits {end.outgoing(int(id))[1].hex() or '-'}"
+    if command == "end":
+        return of_call(end.deliver_end(int(id)))
+    if command == "gone":
+        return of_call(end.deliver_reset(int(id), int(rest[0])))
+    return of_call(end.deliver(int(id), bytes.fromhex(rest[0].replace("-", ""))))
 
 
 def wide_answer(ends, line):
@@ -273,9 +284,9 @@ def wide_answer(ends, line):
         return " ".join(carried(ends, side, id) for id in ([int(rest[0])] if rest else ends[side].ids))
     if command in ("fields", "trailers"):
         send = ends[side].send_fields if command == "fields" else ends[side].send_trailer_fields
-        return of_call(named(send(int(rest[0]), wide_list(rest[1:]))))
-    if command == "call":  # deliver, alone
-        return of_call(named(ends[side].deliver(int(rest[1]), bytes.fromhex(rest[2].replace("-", "")))))
+        return of_call(send(int(rest[0]), wide_list(rest[1:])))
+    if command == "call":
+        return wide_call(ends[side], *rest)
     if command in PULLS:
         ask = ends[side].pull if command == "pull" else ends[side].pull_fields
         return wide_item(named(ask(int(rest[0]))))
