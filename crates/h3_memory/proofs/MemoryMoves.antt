@@ -16,7 +16,7 @@ use Rattle.h3_world.specs.declared.event.Answer.{Answer}
 use Rattle.h3_world.specs.declared.event.Answer.TheVariants as answer
 use Rattle.h3_world.specs.declared.lists.ListPull.TheVariants as list
 use Rattle.h3_world.specs.Delivering.{delivery, end_delivery, reset_delivery}
-use Rattle.h3_world.specs.Headline.{is_memory}
+use Rattle.h3_world.specs.Headline.{is_out_of_memory}
 use Rattle.h3_world.specs.Refusals.{fields_refusal, head_refusal, trailer_fields_refusal, trailer_refusal, reset_refusal}
 use Rattle.h3_world.specs.Sending.{cut_off}
 use Rattle.h3_world.specs.Step.{Does}
@@ -261,7 +261,7 @@ quietly setup w v e a writer id says keeps =
 
 -- **What each step changes of each flow.**
 pub step_moves : (q : KeptLaws) (setup : Setup) (k new : KeepingWorld) (e : Event) (a : Answer) (writer : Side) (id : ℕ) → IsSoundKeeping setup k → StepWithMemory setup k e a new → MovesSo setup k e writer id a new
-step_moves q setup k new e a writer id h step = by_memory (is_memory a) refl step
+step_moves q setup k new e a writer id h step = by_memory (is_out_of_memory a) refl step
   where
     lacks : LacksIt a → LacksMemory setup k e a new → MovesSo setup k e writer id a new
     lacks (LacksRoom is) step =
@@ -277,6 +277,6 @@ step_moves q setup k new e a writer id h step = by_memory (is_memory a) refl ste
         subst (λ x. MovesSo setup k e writer id x new) (sym is)
         (quietly setup k.world new.world e (answer.Listed (list.Fault fault.Memory)) writer id (says_nothing e (answer.Listed (list.Fault fault.Memory)) list_nothing writer id) (no_list q setup k new e h (subst (λ x. LacksMemory setup k e x new) is step)))
 
-    by_memory : (b : Bool) → is_memory a ≡ b → StepOf b setup k e a new → MovesSo setup k e writer id a new
+    by_memory : (b : Bool) → is_out_of_memory a ≡ b → StepOf b setup k e a new → MovesSo setup k e writer id a new
     by_memory true e_memory step = lacks (lacks_it a e_memory) step
     by_memory false e_memory step = answers_move q setup k new e a writer id h step
