@@ -1,5 +1,5 @@
 -- What a side announces is what the other side keeps of it.
-use Rattle.std.proofs.Common.{◌≡◌, Result, Ok, ℕ, ◌<◌, nat_le, false, arith, ◌≤◌, nat_lt, ◌+◌, ◌^◌, Bool, true, if◌then◌else◌, List, ◌++◌, Err, sym, [], ◌∷◌, refl, ap, ◌∙◌, ◌*◌, length, length-append, ◌==◌, not, min, subst, append_assoc}
+use Rattle.std.proofs.Common.{◌≡◌, Ok, ℕ, ◌<◌, nat_le, false, arith, ◌≤◌, nat_lt, ◌+◌, ◌^◌, Bool, true, if◌then◌else◌, List, ◌++◌, Err, sym, [], ◌∷◌, refl, ap, ◌∙◌, ◌*◌, length, length-append, ◌==◌, not, min, subst, append_assoc}
 use Rattle.std.proofs.lemmas.Grind.{common_steps}
 use Rattle.h3_proto.specs.Config.{announced, grease_pairs, own_pairs, table_pairs}
 use Rattle.h3_proto.specs.declared.config.Config.{Config}

@@ -1,15 +1,12 @@
 -- What is handed out exactly has the names and values that were sent, and a header that was sent is handed out as that header.
 use Rattle.std.proofs.Common.{◌≡◌, ℕ, Bool, true, false, if◌then◌else◌, List, [], ◌∷◌, ◌++◌, length, refl, ap, ◌∙◌}
-use Rattle.std.specs.Prelude.{map, None}
+use Rattle.std.specs.Prelude.{map}
 use Rattle.std.specs.List.{AllByRecursion}
 use Rattle.h3_field.specs.Field.{Field, flagged, plain_field}
 use Rattle.h3_field.specs.Secret.{guarded, is_secret}
-use Rattle.h3_header.specs.Head.{Head as Fields, head_fields}
-use Rattle.h3_header.specs.Reads.{head_of_fields}
-use Rattle.h3_connection.specs.Pulling.{is_interim}
 use Rattle.h3_proto.specs.declared.stream.Side.{Side}
 use Rattle.h3_world.specs.Lists.{as_flagged}
-use Rattle.h3_world.specs.Sendable.{IsSendable, IsSendableHead}
+use Rattle.h3_world.specs.Sendable.{IsSendable}
 use Rattle.h3_world.specs.Setup.{both_take_any}
 use Rattle.h3_world.specs.declared.event.Answer.{Answer}
 use Rattle.h3_world.specs.declared.event.Answer.TheVariants as answer

@@ -1,6 +1,5 @@
 -- Setups without limits.
-use Rattle.std.proofs.Common.{◌≡◌, refl, sym, ap, ◌∙◌}
-use Rattle.std.specs.Prelude.{◌^◌, ◌-◌, Ok}
+use Rattle.std.proofs.Common.{◌≡◌, refl}
 use Rattle.h3_proto.specs.declared.stream.Side.{Side}
 use Rattle.h3_proto.specs.declared.stream.Side.TheVariants.{Client, Server}
 use Rattle.h3_connection.specs.Announcing.{section_of}
