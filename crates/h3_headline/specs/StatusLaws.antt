@@ -97,10 +97,10 @@ interim_by_last any fields accepts = told_as _ _ (status_of any (trailer_head []
 
 -- the status of a list, field by field
 told_after : (h : Head) (f : Field) → (with_field h f).status ≡ status_after h.status f
+unfolding kind_of
 told_after h f = by_name (bytes_eq f.name (codes ":status")) refl
   where
     found : (with_kind (kind_of (codes ":status")) h f).status ≡ Some (status_number f.value)
-    unfolding kind_of
     found = refl
 
     by_name : (b : Bool) → bytes_eq f.name (codes ":status") ≡ b → (with_kind (kind_of f.name) h f).status ≡ (if b then Some (status_number f.value) else h.status)

@@ -21,26 +21,22 @@ at_most : (a b : ℕ) → nat_lt a b ≡ false → b ≤ a
 at_most a b e = grind (arith, common_steps, e)
 
 -- the pairs of a configuration, and that no number is too large
-record Configured (c : Config) (grease : ℕ) (pairs : List (ℕ × ℕ)) : Type 0 where
-  are : pairs ≡ grease_pairs c.send_grease grease ++ own_pairs c.settings
-  section : c.settings.max_field_section_size < 2 ^ 62
-  sessions : c.settings.max_webtransport_sessions < 2 ^ 62
-
-configured : (c : Config) (grease : ℕ) (pairs : List (ℕ × ℕ)) → announced c grease ≡ Ok pairs → Configured c grease pairs
+configured : (c : Config) (grease : ℕ) (pairs : List (ℕ × ℕ)) → announced c grease ≡ Ok pairs
+    → (pairs ≡ grease_pairs c.send_grease grease ++ own_pairs c.settings) × (c.settings.max_field_section_size < 2 ^ 62) × (c.settings.max_webtransport_sessions < 2 ^ 62)
 configured c grease pairs h = by_tests (nat_le (2 ^ 62) c.settings.max_field_section_size) refl (nat_le (2 ^ 62) c.settings.max_webtransport_sessions) refl h
   where
     by_tests : (wide : Bool) → nat_le (2 ^ 62) c.settings.max_field_section_size ≡ wide → (many : Bool) → nat_le (2 ^ 62) c.settings.max_webtransport_sessions ≡ many
         → ◌≡◌ {A = Result (List (ℕ × ℕ)) SettingsError} (if wide then Err (InvalidSettingValue 6 c.settings.max_field_section_size)
         else (if many then Err (InvalidSettingValue 0x2b603743 c.settings.max_webtransport_sessions)
         else Ok (grease_pairs c.send_grease grease ++ own_pairs c.settings))) (Ok pairs)
-        → Configured c grease pairs
+        → (pairs ≡ grease_pairs c.send_grease grease ++ own_pairs c.settings) × (c.settings.max_field_section_size < 2 ^ 62) × (c.settings.max_webtransport_sessions < 2 ^ 62)
     by_tests true w many m h = absurd (cc)
     by_tests false w true m h = absurd (cc)
-    by_tests false w false m h = record {
-      are = sym (same_ok (grease_pairs c.send_grease grease ++ own_pairs c.settings) pairs h);
-      section = not_above (2 ^ 62) c.settings.max_field_section_size w;
-      sessions = not_above (2 ^ 62) c.settings.max_webtransport_sessions m;
-    }
+    by_tests false w false m h = (
+      sym (same_ok (grease_pairs c.send_grease grease ++ own_pairs c.settings) pairs h),
+      not_above (2 ^ 62) c.settings.max_field_section_size w,
+      not_above (2 ^ 62) c.settings.max_webtransport_sessions m,
+    )
 
 -- **What `Announced::new` returns is made.**
 pub is_made : (config : Config) (limits : Limits) (grease : ℕ) (a : Announced) → grease < 0x210842108421083 → announced_by (announced config grease) limits config.choices ≡ Ok a → IsMade a
@@ -54,10 +50,10 @@ is_made config limits grease a small e =
       sends_grease = config.send_grease;
       grease = grease;
       small = small;
-      section = c.section;
-      sessions = c.sessions;
+      section = c.1;
+      sessions = c.2;
       are =
-          ap (λ (x : Announced). x.settings) is.announced ∙ ap (λ ps. ps ++ table_pairs limits.table limits.blocked) c.are
+          ap (λ (x : Announced). x.settings) is.announced ∙ ap (λ ps. ps ++ table_pairs limits.table limits.blocked) c.0
           ∙ ap (λ (l : Limits). (grease_pairs config.send_grease grease ++ own_pairs config.settings) ++ table_pairs l.table l.blocked) (sym same);
       table = subst (λ (l : Limits). l.table < 2 ^ 30) (sym same) (not_above (2 ^ 30) limits.table is.table);
       blocked = subst (λ (l : Limits). l.blocked < 2 ^ 16) (sym same) (omega (arith, few));
