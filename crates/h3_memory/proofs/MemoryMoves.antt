@@ -212,7 +212,7 @@ record SaysNothing (e : Event) (a : Answer) (writer : Side) (id : ℕ) : Type 0 
   ends : ended_in (other writer) id e a ≡ false
 
 record TellsNothing (a : Answer) : Type 0 where
-  sends : (l : List MessageContent) → if_done a l ≡ []
+  sends : (on : Bool) (l : List MessageContent) → if_done a on l ≡ []
   done : is_done a ≡ false
   hands : contents_of a ≡ []
   ends : is_end_of a ≡ false
@@ -234,23 +234,23 @@ says_nothing (event.Deliver side i count) a t writer id = record { sends = refl;
 says_nothing (event.DeliverEnd side i) a t writer id = record { sends = refl; finishes = refl; hands = refl; ends = refl }
 says_nothing (event.DeliverReset side i) a t writer id = record { sends = refl; finishes = refl; hands = refl; ends = refl }
 says_nothing (event.Show side) a t writer id = record { sends = refl; finishes = refl; hands = refl; ends = refl }
-says_nothing (event.Head side i head) a t writer id = record { sends = t.sends _; finishes = refl; hands = refl; ends = refl }
-says_nothing (event.Fields side i fields) a t writer id = record { sends = t.sends _; finishes = refl; hands = refl; ends = refl }
-says_nothing (event.Body side i bytes) a t writer id = record { sends = t.sends _; finishes = refl; hands = refl; ends = refl }
-says_nothing (event.Trailer side i trailer) a t writer id = record { sends = t.sends _; finishes = refl; hands = refl; ends = refl }
-says_nothing (event.TrailerFields side i fields) a t writer id = record { sends = t.sends _; finishes = refl; hands = refl; ends = refl }
+says_nothing (event.Head side i head) a t writer id = record { sends = t.sends _ _; finishes = refl; hands = refl; ends = refl }
+says_nothing (event.Fields side i fields) a t writer id = record { sends = t.sends _ _; finishes = refl; hands = refl; ends = refl }
+says_nothing (event.Body side i bytes) a t writer id = record { sends = t.sends _ _; finishes = refl; hands = refl; ends = refl }
+says_nothing (event.Trailer side i trailer) a t writer id = record { sends = t.sends _ _; finishes = refl; hands = refl; ends = refl }
+says_nothing (event.TrailerFields side i fields) a t writer id = record { sends = t.sends _ _; finishes = refl; hands = refl; ends = refl }
 says_nothing (event.Finish side i) a t writer id = record { sends = refl; finishes = ap (λ b. b && is_on writer id side i) t.done; hands = refl; ends = refl }
 says_nothing (event.Pull side i) a t writer id = record { sends = refl; finishes = refl; hands = none_there a t (is_on (other writer) id side i); ends = no_end a t (is_on (other writer) id side i) }
 says_nothing (event.PullFields side i) a t writer id = record { sends = refl; finishes = refl; hands = none_there a t (is_on (other writer) id side i); ends = no_end a t (is_on (other writer) id side i) }
 
 refused_nothing : (r : Refusal) → TellsNothing (answer.Refused r)
-refused_nothing r = record { sends = λ l. refl; done = refl; hands = refl; ends = refl }
+refused_nothing r = record { sends = λ on l. refl; done = refl; hands = refl; ends = refl }
 
 fault_nothing : TellsNothing (answer.Pulled (pull.Fault fault.Memory))
-fault_nothing = record { sends = λ l. refl; done = refl; hands = refl; ends = refl }
+fault_nothing = record { sends = λ on l. refl; done = refl; hands = refl; ends = refl }
 
 list_nothing : TellsNothing (answer.Listed (list.Fault fault.Memory))
-list_nothing = record { sends = λ l. refl; done = refl; hands = refl; ends = refl }
+list_nothing = record { sends = λ on l. refl; done = refl; hands = refl; ends = refl }
 
 quietly : (setup : Setup) (w v : World) (e : Event) (a : Answer) (writer : Side) (id : ℕ) → SaysNothing e a writer id → KeepsParts w v → MovesBy setup w e writer id a v
 quietly setup w v e a writer id says keeps =
