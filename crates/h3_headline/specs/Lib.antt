@@ -32,6 +32,8 @@ pub mod ListeningLaws
 pub mod Messages
 pub mod Exactly
 pub mod MovedLaws
+pub mod Values
+pub mod ValuesLaws
 pub mod PlainlyLaws
 pub mod MovesLaws
 pub mod OpeningLaws

@@ -1,5 +1,5 @@
 -- What is handed out exactly has the names and values that were sent, and a header that was sent is handed out as that header.
-use Rattle.std.proofs.Common.{◌≡◌, ℕ, Bool, true, false, if◌then◌else◌, List, [], ◌∷◌, ◌++◌, length, refl, ap, ◌∙◌}
+use Rattle.std.proofs.Common.{◌≡◌, ℕ, suc, Bool, true, false, if◌then◌else◌, List, [], ◌∷◌, ◌++◌, length, refl, ap, ◌∙◌}
 use Rattle.std.specs.Prelude.{map}
 use Rattle.std.specs.List.{AllByRecursion}
 use Rattle.h3_field.specs.Field.{Field, flagged, plain_field}
@@ -14,8 +14,9 @@ use Rattle.h3_world.specs.declared.event.Event.{Event}
 use Rattle.h3_world.specs.declared.event.Event.TheVariants as event
 use Rattle.h3_world.specs.declared.setup.Setup.{Setup}
 use Rattle.h3_headline.specs.Exactly.{IsAllOf, IsExactly, IsReadBack, Reader}
-use Rattle.h3_headline.specs.Messages.{Is, IsFrontOf, MessageContent, if_done, is_on, plainly, sent, sent_in}
+use Rattle.h3_headline.specs.Messages.{Is, IsFrontOf, MessageContent, if_done, is_on, plainly, sent, sent_in, values_of}
 use Rattle.h3_headline.specs.Messages.MessageContent.{Byte, FieldSection, Foreign, TooLarge}
+use Rattle.h3_headline.specs.ValuesLaws.{values_read}
 
 -- flags are no part of names and values
 plain_guarded : (guards : Bool) (f : Field) → plain_field (guarded guards f).name (guarded guards f).value ≡ plain_field f.name f.value
@@ -34,7 +35,8 @@ plainly_flagged guards (f ∷ fields) = ap (λ g. g ∷ plainly (as_flagged guar
 is_plainly : (r : Reader) (c d : MessageContent) → IsReadBack d → IsExactly r c d → Is r.most c d
 is_plainly r (FieldSection kind true given) (FieldSection k true fields) back is = (is.0, ap plainly is.1 ∙ plainly_flagged r.guards fields, is.2)
 is_plainly r (FieldSection kind true given) (FieldSection k false fields) back is = (is.0, ap plainly is.1 ∙ plainly_flagged r.guards fields, is.2)
-is_plainly r (FieldSection kind false given) (FieldSection k true fields) back is = (is.0, tt, is.2)
+is_plainly r (FieldSection kind false given) (FieldSection k true fields) back is =
+    (is.0, λ name valid. ap (values_of name) is.1 ∙ values_read name valid fields, is.2)
 is_plainly r (FieldSection kind false given) (FieldSection k false fields) back is = (is.0, ap plainly (is.1 ∙ back), is.2)
 is_plainly r (TooLarge size) (FieldSection k l fields) back is = is
 is_plainly r (Byte b) (Byte c) back is = is
@@ -67,7 +69,7 @@ front_plainly r (c ∷ given) [] back is = absurd is
 -- **All of it is as long.**
 pub all_as_long : (r : Reader) (given sending : List MessageContent) → IsAllOf (IsExactly r) given sending → length given ≡ length sending
 all_as_long r [] [] is = refl
-all_as_long r (c ∷ given) (d ∷ sending) is = ap (λ n. n + 1) (all_as_long r given sending is.1)
+all_as_long r (c ∷ given) (d ∷ sending) is = ap suc (all_as_long r given sending is.1)
 all_as_long r [] (d ∷ sending) is = absurd is
 all_as_long r (c ∷ given) [] is = absurd is
 
