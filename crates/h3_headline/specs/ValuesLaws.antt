@@ -158,16 +158,21 @@ joined_none n a b none later = flat_map-append (λ f. if bytes_eq f.name n then 
 pseudo_none : (n : List ℕ) → IsHeaderName n → (h : Head) → values_of n (pseudo_fields h.method h.scheme h.authority h.path h.status h.protocol) ≡ []
 pseudo_none n valid h =
     let t = valid.0.0 in
-    let protocol = optional_field (codes ":protocol") h.protocol in
-    let status = optional_field (codes ":status") (option_map code_digits h.status) in
-    let path = optional_field (codes ":path") (option_map or_slash h.path) in
-    let authority = optional_field (codes ":authority") h.authority in
+    let method = optional_field (codes ":method") h.method in
     let scheme = optional_field (codes ":scheme") h.scheme in
-    joined_none n (optional_field (codes ":method") h.method) (scheme ++ authority ++ path ++ status ++ protocol) (optional_none n (codes ":method") h.method (no_pseudo n _ t))
-    (joined_none n scheme (authority ++ path ++ status ++ protocol) (optional_none n (codes ":scheme") h.scheme (no_pseudo n _ t))
-    (joined_none n authority (path ++ status ++ protocol) (optional_none n (codes ":authority") h.authority (no_pseudo n _ t))
-    (joined_none n path (status ++ protocol) (optional_none n (codes ":path") (option_map or_slash h.path) (no_pseudo n _ t))
-    (joined_none n status protocol (optional_none n (codes ":status") (option_map code_digits h.status) (no_pseudo n _ t)) (optional_none n (codes ":protocol") h.protocol (no_pseudo n _ t))))))
+    let authority = optional_field (codes ":authority") h.authority in
+    let path = optional_field (codes ":path") (option_map or_slash h.path) in
+    let status = optional_field (codes ":status") (option_map code_digits h.status) in
+    let protocol = optional_field (codes ":protocol") h.protocol in
+    joined_none n (method ++ scheme ++ authority ++ path ++ status) protocol
+    (joined_none n (method ++ scheme ++ authority ++ path) status
+    (joined_none n (method ++ scheme ++ authority) path
+    (joined_none n (method ++ scheme) authority
+    (joined_none n method scheme (optional_none n (codes ":method") h.method (no_pseudo n _ t)) (optional_none n (codes ":scheme") h.scheme (no_pseudo n _ t)))
+    (optional_none n (codes ":authority") h.authority (no_pseudo n _ t)))
+    (optional_none n (codes ":path") (option_map or_slash h.path) (no_pseudo n _ t)))
+    (optional_none n (codes ":status") (option_map code_digits h.status) (no_pseudo n _ t)))
+    (optional_none n (codes ":protocol") h.protocol (no_pseudo n _ t))
 
 -- **The values of each name of a regular field.**
 pub values_read : (n : List ℕ) → IsHeaderName n → (fields : List Field) → values_of n (head_fields (head_of_fields fields)) ≡ values_of n fields
