@@ -23,11 +23,14 @@ use Rattle.h3_headline.specs.Cited.{WorldLaws}
 use Rattle.h3_headline.specs.ContentLaws.{moves_then, stays}
 use Rattle.h3_headline.specs.Contents.{Carried, Carries, IsAll, Moves, RunMoves, reader_of}
 use Rattle.h3_headline.specs.FlowLaws.{other-other, same_both}
+use Rattle.h3_header.specs.Head.{head_fields}
 use Rattle.h3_header.specs.Reads.{head_of_fields}
 use Rattle.h3_world.specs.ListLaws.{read_flagged}
-use Rattle.h3_headline.specs.Messages.MessageContent.{Byte, Foreign, Listed, Read, TooLarge}
-use Rattle.h3_headline.specs.Messages.{Is, IsAllOf, IsFrontOf, IsTakenWhole, MessageContent, Reader, header_of, reader_at, ended_in, finished_in, has_finished, has_pulled_end, pulled, pulled_in, sent, sent_in}
+use Rattle.h3_headline.specs.Messages.MessageContent.{Byte, FieldSection, Foreign, TooLarge}
+use Rattle.h3_headline.specs.Exactly.{IsReadBack, IsAllOf, IsExactly, IsTakenWhole, Reader, header_of, reader_at}
+use Rattle.h3_headline.specs.Messages.{IsFrontOf, MessageContent, ended_in, finished_in, has_finished, has_pulled_end, pulled, pulled_in, sent, sent_in}
 use Rattle.h3_headline.specs.MovedLaws.{moved}
+use Rattle.h3_headline.specs.PlainlyLaws.{all_read_back}
 use Rattle.h3_headline.specs.PulledAndSentLaws.{differ, is_all, is_complete, is_front}
 
 -- and it keeps the world sound
@@ -64,7 +67,7 @@ carries : (r : Reader) (f g : Flow) (sending : List MessageContent) (finishing :
     → Carries r g sending finishing handing ending
 carries r f g sending finishing handing ending none m =
     let n = subst (λ x. Moves r x g sending finishing handing ending) none m in
-    record { sent_is = n.sent_is; end_is = n.end_is; handed_is = subst (IsAllOf r handing) (sym n.hands.more) n.hands.is; over_is = n.over_is }
+    record { sent_is = n.sent_is; end_is = n.end_is; handed_is = subst (IsAllOf (IsExactly r) handing) (sym n.hands.more) n.hands.is; over_is = n.over_is }
 
 pub run_carries : (laws : WorldLaws) (setup : Setup) (w : World) (events : List Event) (answers : List Answer) (writer : Side) (id : ℕ) → AllByRecursion (IsSendable setup) events
     → Run (Happens setup) (empty_world setup) events answers w → Carried setup w events answers writer id
@@ -86,11 +89,11 @@ reads_it setup Server = refl
 
 -- The same for a reader.
 pub front_at : (laws : WorldLaws) (setup : Setup) (events : List Event) (answers : List Answer) (w : World) (side : Side) (id : ℕ) → AllByRecursion (IsSendable setup) events → Run (Happens setup) (empty_world setup) events answers w
-    → IsFrontOf (reader_at setup side) (pulled side id events answers) (sent (other side) id events answers)
+    → IsFrontOf (IsExactly (reader_at setup side)) (pulled side id events answers) (sent (other side) id events answers)
 front_at laws setup events answers w side id sendable run =
     let c = run_carries laws setup w events answers (other side) id sendable run in
-    subst (λ r. IsFrontOf r (pulled side id events answers) (sent (other side) id events answers)) (reads_it setup side)
-    (subst (λ s. IsFrontOf (reader_of setup (other side)) (pulled s id events answers) (sent (other side) id events answers)) (other-other side)
+    subst (λ r. IsFrontOf (IsExactly r) (pulled side id events answers) (sent (other side) id events answers)) (reads_it setup side)
+    (subst (λ s. IsFrontOf (IsExactly (reader_of setup (other side))) (pulled s id events answers) (sent (other side) id events answers)) (other-other side)
     (is_front (reader_of setup (other side)) (flow w (other side) id) (sent (other side) id events answers) (has_finished (other side) id events answers)
     (pulled (other (other side)) id events answers) (has_pulled_end (other (other side)) id events answers) c.carried))
 
@@ -105,53 +108,55 @@ all_at laws setup events answers w side id sendable run ended =
 
 -- and where no part is left
 pub left_none_at : (laws : WorldLaws) (setup : Setup) (events : List Event) (answers : List Answer) (w : World) (side : Side) (id : ℕ) → AllByRecursion (IsSendable setup) events → Run (Happens setup) (empty_world setup) events answers w
-    → next_part (flow w (other side) id) ≡ None → IsAllOf (reader_at setup side) (pulled side id events answers) (sent (other side) id events answers)
+    → next_part (flow w (other side) id) ≡ None → IsAllOf (IsExactly (reader_at setup side)) (pulled side id events answers) (sent (other side) id events answers)
 left_none_at laws setup events answers w side id sendable run none =
     let c = run_carries laws setup w events answers (other side) id sendable run in
-    subst (λ r. IsAllOf r (pulled side id events answers) (sent (other side) id events answers)) (reads_it setup side)
-    (subst (λ s. IsAllOf (reader_of setup (other side)) (pulled s id events answers) (sent (other side) id events answers)) (other-other side)
+    subst (λ r. IsAllOf (IsExactly r) (pulled side id events answers) (sent (other side) id events answers)) (reads_it setup side)
+    (subst (λ s. IsAllOf (IsExactly (reader_of setup (other side))) (pulled s id events answers) (sent (other side) id events answers)) (other-other side)
     (is_all (reader_of setup (other side)) (flow w (other side) id) (sent (other side) id events answers) (has_finished (other side) id events answers)
     (pulled (other (other side)) id events answers) (has_pulled_end (other (other side)) id events answers) c.carried none))
 
 -- With no section above the limit, as headers it is what was sent.
-as_header : (r : Reader) (c d : MessageContent) → IsTakenWhole r.most d → Is r c d → header_of c ≡ header_of d
-as_header r (Listed kind given) (Listed k fields) fits is = ap (λ x. Read x (head_of_fields given)) is.0 ∙ ap (Read k) (ap head_of_fields is.1 ∙ read_flagged r.guards fields)
-as_header r (Read kind head) (Listed k fields) fits is = ap (λ x. Read x head) is.0 ∙ ap (Read k) is.1
-as_header r (TooLarge size) (Listed k fields) fits is = absurd (omega (arith, fits, is.1))
-as_header r (Byte b) (Byte c) fits is = ap Byte is
-as_header r Foreign d fits is = absurd (no_foreign d is)
+as_header : (r : Reader) (c d : MessageContent) → IsReadBack d → IsTakenWhole r.most d → IsExactly r c d → header_of c ≡ header_of d
+as_header r (FieldSection kind true given) (FieldSection k true fields) back fits is =
+    ap (λ x. FieldSection x false (head_fields (head_of_fields given))) is.0 ∙ ap (λ h. FieldSection k false (head_fields h)) (ap head_of_fields is.1 ∙ read_flagged r.guards fields)
+as_header r (FieldSection kind true given) (FieldSection k false fields) back fits is =
+    ap (λ x. FieldSection x false (head_fields (head_of_fields given))) is.0
+    ∙ ap (FieldSection k false) (ap head_fields (ap head_of_fields is.1 ∙ read_flagged r.guards fields) ∙ back)
+as_header r (FieldSection kind false given) (FieldSection k true fields) back fits is = ap (λ x. FieldSection x false given) is.0 ∙ ap (FieldSection k false) is.1
+as_header r (FieldSection kind false given) (FieldSection k false fields) back fits is = ap (λ x. FieldSection x false given) is.0 ∙ ap (FieldSection k false) (is.1 ∙ back)
+as_header r (TooLarge size) (FieldSection k l fields) back fits is = absurd (omega (arith, fits, is.1))
+as_header r (Byte b) (Byte c) back fits is = ap Byte is
+as_header r Foreign d back fits is = absurd (no_foreign d is)
   where
-    no_foreign : (d : MessageContent) → Is r Foreign d → ⊥
-    no_foreign (Listed k fields) is = is
-    no_foreign (Read k head) is = is
+    no_foreign : (d : MessageContent) → IsExactly r Foreign d → ⊥
+    no_foreign (FieldSection k l fields) is = is
     no_foreign (Byte c) is = is
     no_foreign (TooLarge size) is = is
     no_foreign Foreign is = is
-as_header r (Listed kind given) (Read k head) fits is = absurd is
-as_header r (Listed kind given) (Byte c) fits is = absurd is
-as_header r (Listed kind given) (TooLarge size) fits is = absurd is
-as_header r (Listed kind given) Foreign fits is = absurd is
-as_header r (Read kind head) (Read k h) fits is = absurd is
-as_header r (Read kind head) (Byte c) fits is = absurd is
-as_header r (Read kind head) (TooLarge size) fits is = absurd is
-as_header r (Read kind head) Foreign fits is = absurd is
-as_header r (TooLarge n) (Read k head) fits is = absurd is
-as_header r (TooLarge n) (Byte c) fits is = absurd is
-as_header r (TooLarge n) (TooLarge size) fits is = absurd is
-as_header r (TooLarge n) Foreign fits is = absurd is
-as_header r (Byte b) (Listed k fields) fits is = absurd is
-as_header r (Byte b) (Read k head) fits is = absurd is
-as_header r (Byte b) (TooLarge size) fits is = absurd is
-as_header r (Byte b) Foreign fits is = absurd is
+as_header r (FieldSection kind true given) (Byte c) back fits is = absurd is
+as_header r (FieldSection kind true given) (TooLarge size) back fits is = absurd is
+as_header r (FieldSection kind true given) Foreign back fits is = absurd is
+as_header r (FieldSection kind false given) (Byte c) back fits is = absurd is
+as_header r (FieldSection kind false given) (TooLarge size) back fits is = absurd is
+as_header r (FieldSection kind false given) Foreign back fits is = absurd is
+as_header r (TooLarge n) (Byte c) back fits is = absurd is
+as_header r (TooLarge n) (TooLarge size) back fits is = absurd is
+as_header r (TooLarge n) Foreign back fits is = absurd is
+as_header r (Byte b) (FieldSection k l fields) back fits is = absurd is
+as_header r (Byte b) (TooLarge size) back fits is = absurd is
+as_header r (Byte b) Foreign back fits is = absurd is
 
-as_headers : (r : Reader) (given sending : List MessageContent) → AllByRecursion (IsTakenWhole r.most) sending → IsAllOf r given sending → map header_of given ≡ map header_of sending
-as_headers r [] [] fits is = refl
-as_headers r (c ∷ given) (d ∷ sending) fits is = ap₂ (λ x l. x ∷ l) (as_header r c d fits.0 is.0) (as_headers r given sending fits.1 is.1)
-as_headers r [] (d ∷ sending) fits is = absurd is
-as_headers r (c ∷ given) [] fits is = absurd is
+as_headers : (r : Reader) (given sending : List MessageContent) → AllByRecursion IsReadBack sending → AllByRecursion (IsTakenWhole r.most) sending → IsAllOf (IsExactly r) given sending
+    → map header_of given ≡ map header_of sending
+as_headers r [] [] back fits is = refl
+as_headers r (c ∷ given) (d ∷ sending) back fits is = ap₂ (λ x l. x ∷ l) (as_header r c d back.0 fits.0 is.0) (as_headers r given sending back.1 fits.1 is.1)
+as_headers r [] (d ∷ sending) back fits is = absurd is
+as_headers r (c ∷ given) [] back fits is = absurd is
 
 pub whole_at : (laws : WorldLaws) (setup : Setup) (events : List Event) (answers : List Answer) (w : World) (side : Side) (id : ℕ) → AllByRecursion (IsSendable setup) events → Run (Happens setup) (empty_world setup) events answers w
     → has_pulled_end side id events answers ≡ true → AllByRecursion (IsTakenWhole (section_of (announced_at setup side))) (sent (other side) id events answers)
     → map header_of (pulled side id events answers) ≡ map header_of (sent (other side) id events answers)
 whole_at laws setup events answers w side id sendable run ended whole =
-    as_headers (reader_at setup side) (pulled side id events answers) (sent (other side) id events answers) whole (all_at laws setup events answers w side id sendable run ended).all
+    as_headers (reader_at setup side) (pulled side id events answers) (sent (other side) id events answers) (all_read_back setup (other side) id events answers sendable) whole
+    (all_at laws setup events answers w side id sendable run ended).all

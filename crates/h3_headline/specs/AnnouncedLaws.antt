@@ -1,11 +1,9 @@
 -- What a side announces is what the other side keeps of it.
-use Rattle.std.proofs.Common.{◌≡◌, Result, Ok, ℕ, ◌<◌, nat_le, false, arith, ◌≤◌, nat_lt, ◌+◌, ◌^◌, Bool, true, if◌then◌else◌, List, ◌++◌, Err, sym, [], ◌∷◌, refl, ap, ◌∙◌, ◌*◌, length, length-append, ◌==◌, not, min, subst, append_assoc}
+use Rattle.std.proofs.Common.{◌≡◌, Ok, ℕ, ◌<◌, nat_le, false, arith, ◌≤◌, nat_lt, ◌+◌, ◌^◌, Bool, true, if◌then◌else◌, List, ◌++◌, Err, sym, [], ◌∷◌, refl, ap, ◌∙◌, ◌*◌, length, length-append, ◌==◌, not, min, subst, append_assoc}
 use Rattle.std.proofs.lemmas.Grind.{common_steps}
 use Rattle.h3_proto.specs.Config.{announced, grease_pairs, own_pairs, table_pairs}
 use Rattle.h3_proto.specs.declared.config.Config.{Config}
-use Rattle.h3_proto.specs.declared.frame.SettingsError.{SettingsError}
 use Rattle.h3_proto.specs.declared.frame.SettingsError.TheVariants.{InvalidSettingValue}
-use Rattle.h3_connection.specs.AnnouncingLaws.{announced_as}
 use Rattle.h3_connection.specs.declared.setup.Announced.{Announced}
 use Rattle.h3_world.specs.Setup.{IsMade, IsMadeSetup, announced_at}
 use Rattle.std.proofs.lemmas.Bool.{ne_eqb}
@@ -25,46 +23,35 @@ use Rattle.h3_proto.specs.ReceivedLaws.{announced_received_with_table}
 use Rattle.h3_proto.specs.declared.stream.Side.{Side}
 use Rattle.h3_proto.specs.declared.stream.Side.TheVariants.{Client, Server}
 use Rattle.h3_world.specs.declared.setup.Setup.{Setup}
-use Rattle.h3_headline.specs.PeerStreams.{Announces, Configured, Parts}
+use Rattle.h3_headline.specs.PeerStreams.{Announces, Parts}
 use Rattle.h3_headline.specs.Standing.{with_meaning}
 
-same_ok : {X E : Type 0} (x y : X) → ◌≡◌ {A = Result X E} (Ok x) (Ok y) → x ≡ y
-same_ok x y e = cc
+not_above : (a b : ℕ) → a < b → nat_le b a ≡ false
+not_above a b h = grind (arith, common_steps, h)
 
-not_above : (a b : ℕ) → nat_le a b ≡ false → b < a
-not_above a b e = grind (arith, common_steps, e)
-
-not_below : (a b : ℕ) → nat_lt a b ≡ false → b ≤ a
-not_below a b e = grind (arith, common_steps, e)
-
-configured : (c : Config) (grease : ℕ) (pairs : List (ℕ × ℕ)) → announced c grease ≡ Ok pairs → Configured c grease pairs
-configured c grease pairs h = by_tests (nat_le (2 ^ 62) c.settings.max_field_section_size) (nat_le (2 ^ 62) c.settings.max_webtransport_sessions) h
-  where
-    by_tests : (wide many : Bool)
-        → ◌≡◌ {A = Result (List (ℕ × ℕ)) SettingsError} (if wide then Err (InvalidSettingValue 6 c.settings.max_field_section_size)
-        else (if many then Err (InvalidSettingValue 0x2b603743 c.settings.max_webtransport_sessions)
-        else Ok (grease_pairs c.send_grease grease ++ own_pairs c.settings))) (Ok pairs)
-        → Configured c grease pairs
-    by_tests true many h = absurd (cc)
-    by_tests false true h = absurd (cc)
-    by_tests false false h = record { are = sym (same_ok (grease_pairs c.send_grease grease ++ own_pairs c.settings) pairs h) }
+-- some configuration announces it
+configured : (c : Config) (grease : ℕ) → c.settings.max_field_section_size < 2 ^ 62 → c.settings.max_webtransport_sessions < 2 ^ 62 → announced c grease ≡ Ok (grease_pairs c.send_grease grease ++ own_pairs c.settings)
+configured c grease section sessions =
+    ap (λ b. if b then Err (InvalidSettingValue 6 c.settings.max_field_section_size)
+    else (if nat_le (2 ^ 62) c.settings.max_webtransport_sessions then Err (InvalidSettingValue 0x2b603743 c.settings.max_webtransport_sessions)
+    else Ok (grease_pairs c.send_grease grease ++ own_pairs c.settings))) (not_above c.settings.max_field_section_size (2 ^ 62) section)
+    ∙ ap (λ b. if b then Err (InvalidSettingValue 0x2b603743 c.settings.max_webtransport_sessions) else Ok (grease_pairs c.send_grease grease ++ own_pairs c.settings))
+    (not_above c.settings.max_webtransport_sessions (2 ^ 62) sessions)
 
 parts_of : (a : Announced) → IsMade a → Parts a
 parts_of a made =
-    let is = announced_as (announced made.config made.grease) a.limits made.config.choices a made.made in
-    let c = configured made.config made.grease is.pairs is.is in
-    let few = not_below 65535 a.limits.blocked is.blocked in
+    let config : Config = record { send_grease = made.sends_grease; settings = made.settings; choices = a.choices } in
     record {
-      send = made.config.send_grease;
+      send = made.sends_grease;
       grease = made.grease;
-      own = made.config.settings;
-      config = made.config;
+      own = made.settings;
+      config = config;
       low = made.small;
-      made = is.is ∙ ap (λ ps. Ok ps) c.are;
+      made = configured config made.grease made.section made.sessions;
       own_is = refl;
-      settings = ap (λ (x : Announced). x.settings) is.announced ∙ ap (λ ps. ps ++ table_pairs a.limits.table a.limits.blocked) c.are;
-      table = not_above (2 ^ 30) a.limits.table is.table;
-      blocked = omega (arith, few);
+      settings = made.are;
+      table = made.table;
+      blocked = made.blocked;
     }
 
 -- a reserved setting has no meaning

@@ -3,7 +3,7 @@ use Rattle.std.proofs.Common.{◌≡◌, [], refl, Option, Some, None, ℕ, ◌-
 use Rattle.h3_world.specs.Flow.{Part, Flow}
 use Rattle.h3_world.specs.Flow.Part.{Interim, Head, Body, Trailer, End}
 use Rattle.std.specs.Prelude.{map, take, slice_get, ◌||◌, ◌&&◌, nat_lt}
-use Rattle.std.proofs.lemmas.List.{take-append-le}
+use Rattle.std.proofs.lemmas.List.{map-append, take-append-le}
 use Rattle.h3_world.specs.Order.{is_over, is_end, next_part}
 use Rattle.h3_world.specs.Sound.{OutOfNext}
 use Rattle.std.proofs.lemmas.Grind.{flat_map-append}
@@ -11,7 +11,8 @@ use Rattle.std.proofs.lemmas.List.Folds.{list_any-append}
 use Rattle.h3_world.specs.Sending.{appended}
 use Rattle.h3_headline.specs.Contents.{HasSameParts, Moves, contents, has_end, out, out_of, part_contents, piece_of}
 use Rattle.h3_headline.specs.Handing.{Begins}
-use Rattle.h3_headline.specs.Messages.{IsAllOf, IsFrontOf, MessageContent, Reader}
+use Rattle.h3_headline.specs.Exactly.{IsAllOf, IsExactly, Reader, as_listed}
+use Rattle.h3_headline.specs.Messages.{IsFrontOf, MessageContent}
 use Rattle.h3_headline.specs.Messages.MessageContent.{Byte}
 
 pub none_of_piece : (o : Option Part) → piece_of 0 o ≡ []
@@ -23,19 +24,24 @@ none_of_piece (Some (Trailer s)) = refl
 none_of_piece (Some End) = refl
 
 -- bytes are what they are
-pub bytes_are : (r : Reader) (bytes : List ℕ) → IsAllOf r (map Byte bytes) (map Byte bytes)
+pub bytes_are : (r : Reader) (bytes : List ℕ) → IsAllOf (IsExactly r) (map Byte bytes) (map Byte bytes)
 bytes_are r [] = tt
 bytes_are r (b ∷ bytes) = (refl, bytes_are r bytes)
 
+-- and they go out as they are
+pub bytes_listed : (bytes : List ℕ) → map Byte bytes ≡ map as_listed (map Byte bytes)
+bytes_listed [] = refl
+bytes_listed (b ∷ bytes) = ap (λ l. Byte b ∷ l) (bytes_listed bytes)
+
 -- one after the other
-pub all_joined : (r : Reader) (given sent more others : List MessageContent) → IsAllOf r given sent → IsAllOf r more others → IsAllOf r (given ++ more) (sent ++ others)
+pub all_joined : (r : Reader) (given sent more others : List MessageContent) → IsAllOf (IsExactly r) given sent → IsAllOf (IsExactly r) more others → IsAllOf (IsExactly r) (given ++ more) (sent ++ others)
 all_joined r [] [] more others h k = k
 all_joined r (c ∷ given) (d ∷ sent) more others h k = (h.0, all_joined r given sent more others h.1 k)
 all_joined r [] (d ∷ sent) more others h k = absurd h
 all_joined r (c ∷ given) [] more others h k = absurd h
 
 -- all of a front is a front
-pub front_of_all : (r : Reader) (given front rest : List MessageContent) → IsAllOf r given front → IsFrontOf r given (front ++ rest)
+pub front_of_all : (r : Reader) (given front rest : List MessageContent) → IsAllOf (IsExactly r) given front → IsFrontOf (IsExactly r) given (front ++ rest)
 front_of_all r [] [] rest h = tt
 front_of_all r (c ∷ given) (d ∷ front) rest h = (h.0, front_of_all r given front rest h.1)
 front_of_all r [] (d ∷ front) rest h = absurd h
@@ -92,7 +98,9 @@ pub moves_then : (r : Reader) (f g h : Flow) (s t : List MessageContent) (a b : 
     → Moves r f h (s ++ t) (a || b) (p ++ q) (c || d)
 moves_then r f g h s t a b p q c d first later =
     record {
-      sent_is = later.sent_is ∙ ap (λ l. l ++ t) first.sent_is ∙ append_assoc (contents f.sent) s t;
+      sent_is =
+          later.sent_is ∙ ap (λ l. l ++ map as_listed t) first.sent_is ∙ append_assoc (contents f.sent) (map as_listed s) (map as_listed t)
+          ∙ ap (λ l. contents f.sent ++ l) (sym (map-append as_listed s t));
       end_is = later.end_is ∙ ap (λ x. x || b) first.end_is ∙ or_assoc (has_end f.sent) a b;
       hands = record {
         came = first.hands.came ++ later.hands.came;
@@ -145,7 +153,7 @@ none_out f (inl h) e = h
 none_out f (inr h) e = absurd (subst (OutOfNext f) e h)
 
 -- One more part.
-pub grows : (r : Reader) (f : Flow) (part : Part) (s : List MessageContent) (a : Bool) → f.parts_out ≤ length f.sent → (f.body_out ≡ 0) ⊎ OutOfNext f (next_part f) → part_contents part ≡ s → is_end (Some part) ≡ a
+pub grows : (r : Reader) (f : Flow) (part : Part) (s : List MessageContent) (a : Bool) → f.parts_out ≤ length f.sent → (f.body_out ≡ 0) ⊎ OutOfNext f (next_part f) → part_contents part ≡ map as_listed s → is_end (Some part) ≡ a
     → Moves r f (appended f part) s a [] false
 grows r f part s a within body is end =
     record {

@@ -15,15 +15,16 @@ use Rattle.h3_world.specs.declared.setup.Setup.{Setup}
 use Rattle.h3_world.specs.Setup.{announced_at, flags_secrets}
 use Rattle.h3_world.specs.declared.event.Event.{Event}
 use Rattle.h3_world.specs.Sound.{IsSoundWorld}
-use Rattle.h3_headline.specs.Messages.{IsAllOf, MessageContent, Reader, contents_of, ended_in, finished_in, has_finished, has_pulled_end, is_end_of, is_on, pulled, pulled_in, sent, sent_in}
-use Rattle.h3_headline.specs.Messages.MessageContent.{Byte, Listed}
+use Rattle.h3_headline.specs.Exactly.{IsAllOf, IsExactly, Reader, as_listed}
+use Rattle.h3_headline.specs.Messages.{MessageContent, contents_of, ended_in, finished_in, has_finished, has_pulled_end, is_end_of, is_on, pulled, pulled_in, sent, sent_in}
+use Rattle.h3_headline.specs.Messages.MessageContent.{Byte, FieldSection}
 use Rattle.h3_headline.specs.Messages.SectionKind.{OfHead, OfInterim, OfTrailer}
 
 abbrev pub part_contents : Part → List MessageContent
-part_contents (Interim s) = Listed OfInterim s.fields ∷ []
-part_contents (Head s) = Listed OfHead s.fields ∷ []
+part_contents (Interim s) = FieldSection OfInterim true s.fields ∷ []
+part_contents (Head s) = FieldSection OfHead true s.fields ∷ []
 part_contents (Body bytes own) = map Byte bytes
-part_contents (Trailer s) = Listed OfTrailer s.fields ∷ []
+part_contents (Trailer s) = FieldSection OfTrailer true s.fields ∷ []
 part_contents End = []
 
 abbrev pub contents : List Part → List MessageContent
@@ -48,11 +49,11 @@ out f = out_of f.sent f.parts_out f.body_out
 pub record Hands (r : Reader) (before after handing : List MessageContent) : Type 0 where
   pub came : List MessageContent
   pub more : after ≡ before ++ came
-  pub is : IsAllOf r handing came
+  pub is : IsAllOf (IsExactly r) handing came
 
 -- What a step changes of a flow, as it is seen by this reader: what is sent, and whether the end; what is handed out, and whether the end.
 pub record Moves (r : Reader) (f g : Flow) (sending : List MessageContent) (finishing : Bool) (handing : List MessageContent) (ending : Bool) : Type 0 where
-  pub sent_is : contents g.sent ≡ contents f.sent ++ sending
+  pub sent_is : contents g.sent ≡ contents f.sent ++ map as_listed sending
   pub end_is : has_end g.sent ≡ (has_end f.sent || finishing)
   pub hands : Hands r (out f) (out g) handing
   pub over_is : (is_over f || ending) ≡ true → is_over g ≡ true
@@ -95,9 +96,9 @@ RunMoves setup w new events answers writer id =
 
 -- A run from the beginning: what was sent, and what was handed out.
 pub record Carries (r : Reader) (g : Flow) (sending : List MessageContent) (finishing : Bool) (handing : List MessageContent) (ending : Bool) : Type 0 where
-  pub sent_is : contents g.sent ≡ sending
+  pub sent_is : contents g.sent ≡ map as_listed sending
   pub end_is : has_end g.sent ≡ finishing
-  pub handed_is : IsAllOf r handing (out g)
+  pub handed_is : IsAllOf (IsExactly r) handing (out g)
   pub over_is : ending ≡ true → is_over g ≡ true
 
 pub record Carried (setup : Setup) (w : World) (events : List Event) (answers : List Answer) (writer : Side) (id : ℕ) : Type 0 where
@@ -110,5 +111,5 @@ pub record IsLastEnd (parts : List Part) (n : ℕ) : Type 0 where
 
 -- **Once the end is out, all is.**
 pub record IsAll (r : Reader) (sending : List MessageContent) (finishing : Bool) (handing : List MessageContent) : Type 0 where
-  pub all : IsAllOf r handing sending
+  pub all : IsAllOf (IsExactly r) handing sending
   pub has_finished : finishing ≡ true

@@ -8,7 +8,7 @@ use Rattle.h3_world.specs.Order.{next_part, is_end, is_over, section_of_part}
 use Rattle.h3_world.specs.declared.lists.ListItem.{ListItem}
 use Rattle.h3_world.specs.declared.lists.ListItem.TheVariants as listed
 use Rattle.h3_field.specs.Field.{Field, section_size}
-use Rattle.h3_header.specs.Head.{Head as Fields}
+use Rattle.h3_header.specs.Head.{Head as Fields, head_fields}
 use Rattle.h3_header.specs.Reads.{head_of_fields}
 use Rattle.h3_connection.specs.declared.event.Item.{Item}
 use Rattle.h3_connection.specs.declared.event.Item.TheVariants as item
@@ -19,9 +19,10 @@ use Rattle.h3_world.specs.Sound.{OutOfNext}
 use Rattle.h3_headline.specs.ContentLaws.{bytes_are, none_of_piece}
 use Rattle.h3_headline.specs.Contents.{Moves, contents, has_end, out, out_of, part_contents, piece_of}
 use Rattle.h3_headline.specs.FlowLaws.{same_number}
-use Rattle.h3_headline.specs.Handing.{GivesItem}
-use Rattle.h3_headline.specs.Messages.{IsAllOf, MessageContent, Reader, SectionKind, is_end_item, item_contents, listed_contents}
-use Rattle.h3_headline.specs.Messages.MessageContent.{Byte, Listed, Read}
+use Rattle.h3_headline.specs.Handing.{GivesItem, is_end_item}
+use Rattle.h3_headline.specs.Exactly.{IsAllOf, IsExactly, Reader}
+use Rattle.h3_headline.specs.Messages.{MessageContent, SectionKind, item_contents, listed_contents}
+use Rattle.h3_headline.specs.Messages.MessageContent.{Byte, FieldSection}
 use Rattle.h3_headline.specs.Messages.SectionKind.{OfHead, OfInterim, OfTrailer}
 
 -- the next of some parts
@@ -65,7 +66,7 @@ last_out n parts part next is =
 
 -- The rest of the next part goes out, and this is handed out of it.
 part_out : (r : Reader) (f g : Flow) (part : Part) (came given : List MessageContent) (ending : Bool) → next_part f ≡ Some part → is_over f ≡ false
-    → g.sent ≡ f.sent → g.parts_out ≡ f.parts_out + 1 → g.body_out ≡ 0 → part_contents part ≡ piece_of f.body_out (next_part f) ++ came → IsAllOf r given came → (ending ≡ true → is_end (Some part) ≡ true)
+    → g.sent ≡ f.sent → g.parts_out ≡ f.parts_out + 1 → g.body_out ≡ 0 → part_contents part ≡ piece_of f.body_out (next_part f) ++ came → IsAllOf (IsExactly r) given came → (ending ≡ true → is_end (Some part) ≡ true)
     → Moves r f g [] false given ending
 part_out r f g part came given ending next over sent parts body rest is ends =
     record {
@@ -115,14 +116,14 @@ gives_list r part (listed.Raw bytes) is = record { section = λ k s e h. h; othe
 gives_list r part listed.End is = record { section = λ k s e h. h; others = λ e. refl }
 
 -- a section within the limit
-section_whole : (kind : Fields → Item) (k : SectionKind) (r : Reader) (fields : List Field) (i : Item) → ((h : Fields) → item_contents (kind h) ≡ Read k h ∷ [])
-    → (i ≡ kind (head_of_fields fields)) × (section_size fields ≤ r.most) → IsAllOf r (item_contents i) (Listed k fields ∷ [])
+section_whole : (kind : Fields → Item) (k : SectionKind) (r : Reader) (fields : List Field) (i : Item) → ((h : Fields) → item_contents (kind h) ≡ FieldSection k false (head_fields h) ∷ [])
+    → (i ≡ kind (head_of_fields fields)) × (section_size fields ≤ r.most) → IsAllOf (IsExactly r) (item_contents i) (FieldSection k true fields ∷ [])
 section_whole kind k r fields i of h =
-    subst (λ l. IsAllOf r l (Listed k fields ∷ [])) (sym (ap item_contents h.0 ∙ of (head_of_fields fields))) ((refl, refl, h.1), tt)
+    subst (λ l. IsAllOf (IsExactly r) l (FieldSection k true fields ∷ [])) (sym (ap item_contents h.0 ∙ of (head_of_fields fields))) ((refl, refl, h.1), tt)
 
 -- The item of a section is the section, as the reader takes it.
-section_item : (kind : Fields → Item) (k : SectionKind) (r : Reader) (fields : List Field) (i : Item) → ((h : Fields) → item_contents (kind h) ≡ Read k h ∷ [])
-    → IsSectionItem kind r.most fields i → IsAllOf r (item_contents i) (Listed k fields ∷ [])
+section_item : (kind : Fields → Item) (k : SectionKind) (r : Reader) (fields : List Field) (i : Item) → ((h : Fields) → item_contents (kind h) ≡ FieldSection k false (head_fields h) ∷ [])
+    → IsSectionItem kind r.most fields i → IsAllOf (IsExactly r) (item_contents i) (FieldSection k true fields ∷ [])
 section_item kind k r fields (item.TooLarge size) of h = (h, tt)
 section_item kind k r fields (item.Interim head) of h = section_whole kind k r fields (item.Interim head) of h
 section_item kind k r fields (item.Head head) of h = section_whole kind k r fields (item.Head head) of h
@@ -202,11 +203,11 @@ section_ends kind most fields (item.Raw bytes) of h = refl
 section_ends kind most fields item.End of h = ap is_end_item h.0 ∙ of (head_of_fields fields)
 
 section_out : (r : Reader) (f : Flow) (part : Part) (kind : Fields → Item) (k : SectionKind) (s : Section) (i : Item) (given : List MessageContent) → next_part f ≡ Some part → is_over f ≡ false → f.body_out ≡ 0
-    → part_contents part ≡ Listed k s.fields ∷ [] → section_of_part (Some part) ≡ Some s → ((h : Fields) → item_contents (kind h) ≡ Read k h ∷ []) → ((h : Fields) → is_end_item (kind h) ≡ false)
+    → part_contents part ≡ FieldSection k true s.fields ∷ [] → section_of_part (Some part) ≡ Some s → ((h : Fields) → item_contents (kind h) ≡ FieldSection k false (head_fields h) ∷ []) → ((h : Fields) → is_end_item (kind h) ≡ false)
     → IsSectionItem kind r.most s.fields i → GivesItem r (Some part) i given → Moves r f (record f { parts_out = f.parts_out + 1; waits_for = 0 }) [] false given (is_end_item i)
 section_out r f part kind k s i given next over none contents_are section of ends h gives =
-    part_out r f (record f { parts_out = f.parts_out + 1; waits_for = 0 }) part (Listed k s.fields ∷ []) given (is_end_item i) next over refl refl none
-    (contents_are ∙ ap (λ l. l ++ Listed k s.fields ∷ []) (sym (none_of_piece (next_part f)) ∙ ap (λ b. piece_of b (next_part f)) (sym none)))
+    part_out r f (record f { parts_out = f.parts_out + 1; waits_for = 0 }) part (FieldSection k true s.fields ∷ []) given (is_end_item i) next over refl refl none
+    (contents_are ∙ ap (λ l. l ++ FieldSection k true s.fields ∷ []) (sym (none_of_piece (next_part f)) ∙ ap (λ b. piece_of b (next_part f)) (sym none)))
     (gives.section k s section (section_item kind k r s.fields i of h))
     (λ e. absurd (differ (sym (section_ends kind r.most s.fields i ends h) ∙ e)))
 

@@ -30,7 +30,11 @@ pub mod ListComesLaws
 pub mod ListEventLaws
 pub mod ListeningLaws
 pub mod Messages
+pub mod Exactly
 pub mod MovedLaws
+pub mod Values
+pub mod ValuesLaws
+pub mod PlainlyLaws
 pub mod MovesLaws
 pub mod OpeningLaws
 pub mod OwnDeliveredLaws

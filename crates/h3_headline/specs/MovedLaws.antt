@@ -13,7 +13,7 @@ use Rattle.h3_world.specs.Step.{Does, Step}
 use Rattle.h3_connection.specs.Refusals.{first_of, is_too_large, of_list, with_pseudo, wrong_side}
 use Rattle.h3_connection.specs.StrictSending.{unless_malformed}
 use Rattle.h3_connection.specs.declared.event.Refusal.TheVariants as refusal
-use Rattle.std.specs.Prelude.{if◌then◌else◌, map, ◌||◌, is_some, IfSome, option_map}
+use Rattle.std.specs.Prelude.{if◌then◌else◌, map, fold, ◌||◌, is_some, IfSome, option_map}
 use Rattle.h3_world.specs.Order.{is_end, outgoing_of, is_sent_off, is_over, next_part, section_of_part}
 use Rattle.h3_world.specs.Sending.{appended, finished, having_encoded, section_sent, sent_head, sent_fields, sent_body, sent_trailer, sent_trailer_fields, cut_off, given_up, opened, with_goaway}
 use Rattle.h3_world.specs.Sound.{IsSoundWorld}
@@ -32,6 +32,7 @@ use Rattle.h3_connection.specs.declared.event.StreamFault.TheVariants.{Canceled}
 use Rattle.h3_proto.specs.declared.stream.Side.TheVariants.{Client, Server}
 use Rattle.h3_connection.specs.Announcing.{section_of}
 use Rattle.h3_connection.specs.declared.event.Item.{Item}
+use Rattle.h3_connection.specs.declared.event.Item.TheVariants as item
 use Rattle.h3_connection.specs.declared.event.Pull.TheVariants as pull
 use Rattle.h3_world.specs.Items.{HasCome, handed_out, acknowledgment_of, after_item}
 use Rattle.h3_world.specs.Setup.{announced_at, takes_any}
@@ -46,15 +47,17 @@ use Rattle.h3_world.specs.Pulling.{settled, PullsNext, Pulls}
 use Rattle.h3_world.specs.Delivering.{delivery, end_delivery, reset_delivery}
 use Rattle.h3_world.specs.declared.event.Event.{Event}
 use Rattle.h3_headline.specs.ComingLaws.{sound_flow}
-use Rattle.h3_headline.specs.ContentLaws.{grows, stays}
+use Rattle.h3_headline.specs.ContentLaws.{bytes_listed, grows, stays}
 use Rattle.h3_headline.specs.Contents.{Goes, HasSameParts, KeepsParts, Moves, MovesBy, PullMoves, part_contents, reader_of}
 use Rattle.h3_headline.specs.FlowLaws.{flow-with_party, open_there, same_both, there-with_party}
-use Rattle.h3_headline.specs.Handing.{GivesAs, GivesItem}
+use Rattle.h3_headline.specs.Handing.{GivesAs, GivesItem, is_end_item}
 use Rattle.h3_headline.specs.HandingLaws.{gives_itself, gives_list, hands}
 use Rattle.h3_headline.specs.KeepsPartsLaws.{flow_at, keeps_delivery, keeps_end, keeps_flows, keeps_given_up, keeps_reset, keeps_same, keeps_with_flow, keeps_with_party, same_flow}
-use Rattle.h3_headline.specs.Messages.{MessageContent, Reader, contents_of, head_content, is_end_item, is_end_of, is_on, reader_at}
-use Rattle.h3_headline.specs.Messages.MessageContent.{Byte, Listed}
+use Rattle.h3_headline.specs.Exactly.{Reader, as_listed, reader_at}
+use Rattle.h3_headline.specs.Messages.{MessageContent, contents_of, head_section, status_after, is_end_of, is_on}
+use Rattle.h3_headline.specs.Messages.MessageContent.{Byte, FieldSection}
 use Rattle.h3_headline.specs.Messages.SectionKind.{OfHead, OfInterim, OfTrailer}
+use Rattle.h3_headline.specs.StatusLaws.{status_told}
 use Rattle.h3_headline.specs.OpeningLaws.{flow_opened}
 use Rattle.h3_headline.specs.SettledLaws.{settled_none, settled_says}
 use Rattle.h3_headline.specs.Steps.{IsThere}
@@ -85,7 +88,7 @@ not_critical false there rules e = not_refused there rules e
 
 -- A part is sent on a stream of a world, which is otherwise as another one.
 part_on : (setup : Setup) (w v : World) (s : Side) (i : ℕ) (part : Part) (sending : List MessageContent) (finishing : Bool) (writer : Side) (id : ℕ) → IsSoundWorld setup w → IsThere w i → IsThere v i
-    → ((x : Side) (j : ℕ) → flow v x j ≡ flow w x j) → part_contents part ≡ sending → is_end (Some part) ≡ finishing
+    → ((x : Side) (j : ℕ) → flow v x j ≡ flow w x j) → part_contents part ≡ map as_listed sending → is_end (Some part) ≡ finishing
     → Moves (reader_of setup writer) (flow w writer id) (flow (with_flow v s i (appended (flow w s i) part)) writer id)
     (if is_on writer id s i then sending else []) (if is_on writer id s i then finishing else false) [] false
 part_on setup w v s i part sending finishing writer id h there still same is end =
@@ -104,7 +107,7 @@ part_on setup w v s i part sending finishing writer id h there still same is end
     by_on false e = kept most (flow w writer id) (flow w writer id) (keeps_same w writer id)
 
 content_on : (setup : Setup) (w v : World) (s : Side) (i : ℕ) (part : Part) (sending : List MessageContent) (writer : Side) (id : ℕ) → IsSoundWorld setup w → IsThere w i → IsThere v i
-    → ((x : Side) (j : ℕ) → flow v x j ≡ flow w x j) → part_contents part ≡ sending → is_end (Some part) ≡ false
+    → ((x : Side) (j : ℕ) → flow v x j ≡ flow w x j) → part_contents part ≡ map as_listed sending → is_end (Some part) ≡ false
     → Moves (reader_of setup writer) (flow w writer id) (flow (with_flow v s i (appended (flow w s i) part)) writer id) (if is_on writer id s i then sending else []) false [] false
 content_on setup w v s i part sending writer id h there still same is end =
     subst (λ b. Moves (reader_of setup writer) (flow w writer id) (flow (with_flow v s i (appended (flow w s i) part)) writer id) (if is_on writer id s i then sending else []) b [] false)
@@ -122,7 +125,7 @@ end_on setup w s i writer id h there =
     itself false = refl
 
 -- what a head is sent as
-head_is : (interim : Bool) (s : Section) → part_contents ((if interim then Interim else Head) s) ≡ Listed (if interim then OfInterim else OfHead) s.fields ∷ []
+head_is : (interim : Bool) (s : Section) → part_contents ((if interim then Interim else Head) s) ≡ FieldSection (if interim then OfInterim else OfHead) true s.fields ∷ []
 head_is true s = refl
 head_is false s = refl
 
@@ -132,7 +135,7 @@ no_end false s = refl
 
 -- A section is written by the encoder, and sent.
 section_on : (setup : Setup) (w : World) (s : Side) (i : ℕ) (p : Party) (part : Part) (sending : List MessageContent) (writer : Side) (id : ℕ) → IsSoundWorld setup w → IsThere w i
-    → part_contents part ≡ sending → is_end (Some part) ≡ false
+    → part_contents part ≡ map as_listed sending → is_end (Some part) ≡ false
     → Moves (reader_of setup writer) (flow w writer id) (flow (with_flow (with_party w s p) s i (appended (flow w s i) part)) writer id) (if is_on writer id s i then sending else []) false [] false
 section_on setup w s i p part sending writer id h there is end =
     content_on setup w (with_party w s p) s i part sending writer id h there (there-with_party w s p i there) (λ x j. flow-with_party w s x p j) is end
@@ -147,7 +150,7 @@ head_moves setup w new side i head a writer id h step =
     (is_too_large (settings_known setup w side) (head_fields head), refusal.TooLarge (section_size (head_fields head))) ∷ []) none) in
     let s = section_sent (party w side) i (head_fields head) (flow w side i) in
     let interim = is_interim head.status in
-    section_on setup w side i (having_encoded (party w side) i (head_fields head)) ((if interim then Interim else Head) s) (head_content head (head_fields head) ∷ []) writer id h there (head_is interim s) (no_end interim s)) step
+    section_on setup w side i (having_encoded (party w side) i (head_fields head)) ((if interim then Interim else Head) s) (head_section head.status false (head_fields head) ∷ []) writer id h there (head_is interim s) (no_end interim s)) step
 
 body_moves : (setup : Setup) (w new : World) (side : Side) (i : ℕ) (bytes : List ℕ) (a : Answer) (writer : Side) (id : ℕ) → IsSoundWorld setup w → Step setup w (event.Body side i bytes) a new → MovesBy setup w (event.Body side i bytes) writer id a new
 body_moves setup w new side i bytes a writer id h step =
@@ -158,7 +161,7 @@ body_moves setup w new side i bytes a writer id h step =
     goes [] there =
         subst (λ l. Moves (reader_of setup writer) (flow w writer id) (flow w writer id) l false [] false) (sym (same_both (is_on writer id side i) [] [] (λ e. refl))) (kept_at setup w w writer id (keeps_same w))
     goes (b ∷ bs) there =
-        content_on setup w w side i (Body (b ∷ bs) (length (flow_bytes (flow w side i)) + length (frame_encoding 0 (b ∷ bs)))) (map Byte (b ∷ bs)) writer id h there there (λ x j. refl) refl refl
+        content_on setup w w side i (Body (b ∷ bs) (length (flow_bytes (flow w side i)) + length (frame_encoding 0 (b ∷ bs)))) (map Byte (b ∷ bs)) writer id h there there (λ x j. refl) (bytes_listed (b ∷ bs)) refl
 
 trailer_moves : (setup : Setup) (w new : World) (side : Side) (i : ℕ) (trailer : Fields) (a : Answer) (writer : Side) (id : ℕ) → IsSoundWorld setup w → Step setup w (event.Trailer side i trailer) a new
     → MovesBy setup w (event.Trailer side i trailer) writer id a new
@@ -168,7 +171,7 @@ trailer_moves setup w new side i trailer a writer id h step =
     let there = open_there w side i (not_refused (is_open w side i) (
     (not (takes_body (outgoing_of (flow w side i))), refusal.OutOfOrder) ∷ (has_pseudo trailer, refusal.PseudoInTrailer) ∷
     (is_too_large (settings_known setup w side) (head_fields trailer), refusal.TooLarge (section_size (head_fields trailer))) ∷ []) none) in
-    section_on setup w side i (having_encoded (party w side) i (head_fields trailer)) (Trailer (section_sent (party w side) i (head_fields trailer) (flow w side i))) (Listed OfTrailer (head_fields trailer) ∷ []) writer id h there refl refl) step
+    section_on setup w side i (having_encoded (party w side) i (head_fields trailer)) (Trailer (section_sent (party w side) i (head_fields trailer) (flow w side i))) (FieldSection OfTrailer false (head_fields trailer) ∷ []) writer id h there refl refl) step
 
 -- The same of lists.
 fields_moves : (setup : Setup) (w new : World) (side : Side) (i : ℕ) (fields : List Field) (a : Answer) (writer : Side) (id : ℕ) → IsSoundWorld setup w → Step setup w (event.Fields side i fields) a new
@@ -182,7 +185,8 @@ fields_moves setup w new side i fields a writer id h step =
     unless_malformed (unreadable (takes_any (announced_at setup side)) fields) (wrong_side side head ∷ of_list None (settings_known setup w side) fields)) none) in
     let s = section_sent (party w side) i fields (flow w side i) in
     let interim = is_interim head.status in
-    section_on setup w side i (having_encoded (party w side) i fields) ((if interim then Interim else Head) s) (head_content head fields ∷ []) writer id h there (head_is interim s) (no_end interim s)) step
+    section_on setup w side i (having_encoded (party w side) i fields) ((if interim then Interim else Head) s) (head_section (fold status_after None fields) true fields ∷ []) writer id h there
+    (head_is interim s ∙ ap (λ status. FieldSection (if is_interim status then OfInterim else OfHead) true fields ∷ []) (status_told fields)) (no_end interim s)) step
 
 trailer_fields_moves : (setup : Setup) (w new : World) (side : Side) (i : ℕ) (fields : List Field) (a : Answer) (writer : Side) (id : ℕ) → IsSoundWorld setup w → Step setup w (event.TrailerFields side i fields) a new
     → MovesBy setup w (event.TrailerFields side i fields) writer id a new
@@ -192,7 +196,7 @@ trailer_fields_moves setup w new side i fields a writer id h step =
     let there = open_there w side i (not_refused (is_open w side i) (
     (not (takes_body (outgoing_of (flow w side i))), refusal.OutOfOrder) ∷
     unless_malformed (unreadable (takes_any (announced_at setup side)) fields) (with_pseudo (head_of_fields fields) ∷ of_list None (settings_known setup w side) fields)) none) in
-    section_on setup w side i (having_encoded (party w side) i fields) (Trailer (section_sent (party w side) i fields (flow w side i))) (Listed OfTrailer fields ∷ []) writer id h there refl refl) step
+    section_on setup w side i (having_encoded (party w side) i fields) (Trailer (section_sent (party w side) i fields (flow w side i))) (FieldSection OfTrailer true fields ∷ []) writer id h there refl refl) step
 
 finish_moves : (setup : Setup) (w new : World) (side : Side) (i : ℕ) (a : Answer) (writer : Side) (id : ℕ) → IsSoundWorld setup w → Step setup w (event.Finish side i) a new → MovesBy setup w (event.Finish side i) writer id a new
 finish_moves setup w new side i a writer id h step =
@@ -294,6 +298,17 @@ item_moves setup w side i it a writer id h there over has gives ends =
         (subst (λ b. Moves (reader_at setup side) f new [] false (contents_of a) b) (sym ends) (hands (reader_at setup side) f (next_part f) it (contents_of a) sound.body_out over refl has gives)))
     by_on false e = kept (reader_of setup writer) (flow w writer id) (flow w writer id) (keeps_same w writer id)
 
+-- the end, as an answer and as an item
+end_told : (i : Item) → is_end_of (answer.Pulled (pull.Item i)) ≡ is_end_item i
+end_told (item.Interim head) = refl
+end_told (item.Head head) = refl
+end_told (item.Body bytes) = refl
+end_told (item.Trailer trailer) = refl
+end_told (item.TooLarge size) = refl
+end_told (item.Session id) = refl
+end_told (item.Raw bytes) = refl
+end_told item.End = refl
+
 -- a pull that hands out nothing
 nothing_moves : (r : Reader) (w new : World) (side : Side) (i : ℕ) (a : Answer) (writer : Side) (id : ℕ) → KeepsParts w new → contents_of a ≡ [] → (is_end_of a ≡ true → is_over (flow w (other side) i) ≡ true)
     → PullMoves r (flow w writer id) (flow new writer id) (is_on writer id (other side) i) a
@@ -325,7 +340,7 @@ pull_moves setup w new side i p a writer id h step gives = by_settled (settled w
 
     next : (q : Pull) → p ≡ q → IsThere w i → is_over (flow w (other side) i) ≡ false → PullsNext setup w side i q new → Goes setup w side i writer id a new
     next (pull.Item it) e there over step =
-        subst (Goes setup w side i writer id a) (sym step.1) (item_moves setup w side i it a writer id h there over step.0 (gives.item it e) (gives.ends ∙ ap (λ q. is_end_of (answer.Pulled q)) e))
+        subst (Goes setup w side i writer id a) (sym step.1) (item_moves setup w side i it a writer id h there over step.0 (gives.item it e) (gives.ends ∙ ap (λ q. is_end_of (answer.Pulled q)) e ∙ end_told it))
     next pull.Pending e there over step = pausing 0 there (ap (λ q. contents_of (answer.Pulled q)) e) (ap (λ q. is_end_of (answer.Pulled q)) e) step
     next (pull.Waiting count) e there over step = pausing count there (ap (λ q. contents_of (answer.Pulled q)) e) (ap (λ q. is_end_of (answer.Pulled q)) e) step
     next (pull.Fault fault) e there over step = absurd step

@@ -46,10 +46,6 @@ pub record Parts (a : Announced) : Type 0 where
   pub table : a.limits.table < 2 ^ 30
   pub blocked : a.limits.blocked < 2 ^ 16
 
--- the pairs of a configuration
-pub record Configured (c : Config) (grease : ℕ) (pairs : List (ℕ × ℕ)) : Type 0 where
-  pub are : pairs ≡ grease_pairs c.send_grease grease ++ own_pairs c.settings
-
 -- What the other side makes of the announced settings.
 pub record Announces (a : Announced) : Type 0 where
   pub received : settings_of (payload_of a.settings) ≡ Ok (with_meaning a.settings)

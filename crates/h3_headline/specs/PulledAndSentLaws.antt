@@ -1,7 +1,7 @@
 -- Over a whole run, what is handed out of a flow is a front of what is sent on it.
 use Rattle.std.proofs.Common.{◌≡◌, true, false, arith, ℕ, ◌+◌, ◌-◌, Bool, List, ◌++◌, sym, ap, ◌∙◌, zero, suc, [], ◌∷◌, refl, None, append_assoc, Some, length, Option, ◌≤◌, ◌<◌, subst}
 use Rattle.std.proofs.lemmas.Grind.{common_steps}
-use Rattle.std.specs.Prelude.{take, slice_get, ◌||◌, nat_lt, unwrap_or, if◌then◌else◌}
+use Rattle.std.specs.Prelude.{map, take, slice_get, ◌||◌, nat_lt, unwrap_or, if◌then◌else◌}
 use Rattle.h3_world.specs.Flow.{Flow, Part, part_bytes}
 use Rattle.h3_world.specs.Order.{next_part, is_end, is_over}
 use Rattle.h3_world.specs.Flow.Part.{Interim, Head, Body, Trailer, End}
@@ -20,18 +20,42 @@ use Rattle.h3_headline.specs.ComingLaws.{sound_flow}
 use Rattle.h3_headline.specs.ContentLaws.{front_of_all, out_front}
 use Rattle.h3_headline.specs.Contents.{Carried, Carries, IsAll, IsLastEnd, contents, has_end, out, out_of, part_contents, piece_of, reader_of}
 use Rattle.h3_headline.specs.FlowLaws.{and_first, and_second, same_both}
-use Rattle.h3_headline.specs.Messages.{IsAllOf, IsFrontOf, MessageContent, Reader, has_finished, has_pulled_end, pulled, sent}
+use Rattle.h3_headline.specs.Exactly.{as_listed, IsAllOf, IsExactly, Reader}
+use Rattle.h3_headline.specs.Messages.{IsFrontOf, MessageContent, has_finished, has_pulled_end, pulled, sent}
+use Rattle.h3_headline.specs.Messages.MessageContent.{Byte, FieldSection, Foreign, TooLarge}
 use Rattle.h3_headline.specs.PartLaws.{end_last}
 use Rattle.h3_headline.specs.Steps.{IsThere}
 
 pub differ : false ≡ true → ⊥
 differ h = grind (arith, common_steps, h)
 
+-- However it was sent, it is handed out as what went out.
+as_sent : (r : Reader) (c d : MessageContent) → IsExactly r c (as_listed d) → IsExactly r c d
+as_sent r (FieldSection kind true given) (FieldSection k l fields) h = h
+as_sent r (FieldSection kind false given) (FieldSection k l fields) h = h
+as_sent r (TooLarge size) (FieldSection k l fields) h = h
+as_sent r (Byte b) (FieldSection k l fields) h = h
+as_sent r Foreign (FieldSection k l fields) h = h
+as_sent r c (Byte b) h = h
+as_sent r c (TooLarge size) h = h
+as_sent r c Foreign h = h
+
+front_as_sent : (r : Reader) (given sending : List MessageContent) → IsFrontOf (IsExactly r) given (map as_listed sending) → IsFrontOf (IsExactly r) given sending
+front_as_sent r [] sending h = tt
+front_as_sent r (c ∷ given) (d ∷ sending) h = (as_sent r c d h.0, front_as_sent r given sending h.1)
+front_as_sent r (c ∷ given) [] h = absurd h
+
+all_as_sent : (r : Reader) (given sending : List MessageContent) → IsAllOf (IsExactly r) given (map as_listed sending) → IsAllOf (IsExactly r) given sending
+all_as_sent r [] [] h = tt
+all_as_sent r (c ∷ given) (d ∷ sending) h = (as_sent r c d h.0, all_as_sent r given sending h.1)
+all_as_sent r [] (d ∷ sending) h = absurd h
+all_as_sent r (c ∷ given) [] h = absurd h
+
 -- **A front.**
-pub is_front : (r : Reader) (g : Flow) (sending : List MessageContent) (finishing : Bool) (handing : List MessageContent) (ending : Bool) → Carries r g sending finishing handing ending → IsFrontOf r handing sending
+pub is_front : (r : Reader) (g : Flow) (sending : List MessageContent) (finishing : Bool) (handing : List MessageContent) (ending : Bool) → Carries r g sending finishing handing ending → IsFrontOf (IsExactly r) handing sending
 is_front r g sending finishing handing ending c =
     let front = out_front g.parts_out g.body_out g.sent in
-    subst (IsFrontOf r handing) (sym front.is ∙ c.sent_is) (front_of_all r handing (out g) front.rest c.handed_is)
+    front_as_sent r handing sending (subst (IsFrontOf (IsExactly r) handing) (sym front.is ∙ c.sent_is) (front_of_all r handing (out g) front.rest c.handed_is))
 
 -- with no part left, all is handed out
 all_of_parts : (parts : List Part) (n b : ℕ) → slice_get parts n ≡ None → out_of parts n b ≡ contents parts
@@ -41,8 +65,9 @@ all_of_parts (p ∷ ps) zero b e = cc
 all_of_parts (p ∷ ps) (suc n) b e =
     append_assoc (part_contents p) (contents (take n ps)) (piece_of b (slice_get ps n)) ∙ ap (λ l. part_contents p ++ l) (all_of_parts ps n b e)
 
-pub is_all : (r : Reader) (g : Flow) (sending : List MessageContent) (finishing : Bool) (handing : List MessageContent) (ending : Bool) → Carries r g sending finishing handing ending → next_part g ≡ None → IsAllOf r handing sending
-is_all r g sending finishing handing ending c none = subst (IsAllOf r handing) (all_of_parts g.sent g.parts_out g.body_out none ∙ c.sent_is) c.handed_is
+pub is_all : (r : Reader) (g : Flow) (sending : List MessageContent) (finishing : Bool) (handing : List MessageContent) (ending : Bool) → Carries r g sending finishing handing ending → next_part g ≡ None → IsAllOf (IsExactly r) handing sending
+is_all r g sending finishing handing ending c none =
+    all_as_sent r handing sending (subst (IsAllOf (IsExactly r) handing) (all_of_parts g.sent g.parts_out g.body_out none ∙ c.sent_is) c.handed_is)
 
 -- the end is the last part
 end_of : (q : Part) → is_end (Some q) ≡ true → q ≡ End

@@ -27,7 +27,8 @@ ghost use Rattle.h3_world.specs.Setup.{IsMadeSetup, JudgesPlainly, announced_at}
 ghost use Rattle.h3_world.specs.Streams.{flow};
 ghost use Rattle.h3_world.specs.World.{World, empty_world, party};
 ghost use Rattle.h3_headline.specs.InOrder.{IsInOrder};
-ghost use Rattle.h3_headline.specs.Messages.{IsAllOf, IsFrontOf, IsTakenWhole, has_finished, has_pulled_end, header_of, pulled, reader_at, sent};
+ghost use Rattle.h3_headline.specs.Exactly.{IsAllOf, IsExactly, IsTakenWhole, header_of, reader_at};
+ghost use Rattle.h3_headline.specs.Messages.{IsFrontOf, has_finished, has_pulled_end, pulled, sent};
 ghost use Rattle.h3_headline.specs.RunCut.{IsCutAt};
 ghost use Rattle.h3_headline.specs.TableReading.{HasReadTable};
 
@@ -58,7 +59,7 @@ pub fn everything_comes_out()
         IsDelivered setup w (other side) id → settled w side id ≡ None → is_none (pause_of (pull_of l)) ≡ false → next_part (flow w (other side) id) ≡ None }
     ensures all { (setup : Setup) (before : List Event) (given : List Answer) (w new : World) (side : Side) (id : ℕ) (p : PullAnswer) → AllByRecursion (IsSendable setup) before → Run (Happens setup) (empty_world setup) before given w →
         Happens setup w (Pull side id) (Pulled p) new → IsDelivered setup w (other side) id → settled w side id ≡ None → is_none (pause_of p) ≡ false →
-        IsAllOf (reader_at setup side) (pulled side id before given) (sent (other side) id before given) }
+        IsAllOf (IsExactly (reader_at setup side)) (pulled side id before given) (sent (other side) id before given) }
 {
     what_is_cited_holds();
 }
@@ -68,10 +69,10 @@ pub fn everything_comes_out()
 /// that is all, and the other side has finished.
 pub fn what_is_pulled_is_what_was_sent()
     ensures front { (setup : Setup) (events : List Event) (answers : List Answer) (w : World) (side : Side) (id : ℕ) → AllByRecursion (IsSendable setup) events → Run (Happens setup) (empty_world setup) events answers w →
-        IsFrontOf (reader_at setup side) (pulled side id events answers) (sent (other side) id events answers) }
+        IsFrontOf (IsExactly (reader_at setup side)) (pulled side id events answers) (sent (other side) id events answers) }
     ensures end { (setup : Setup) (events : List Event) (answers : List Answer) (w : World) (side : Side) (id : ℕ) → AllByRecursion (IsSendable setup) events → Run (Happens setup) (empty_world setup) events answers w →
         has_pulled_end side id events answers ≡ true →
-        IsAllOf (reader_at setup side) (pulled side id events answers) (sent (other side) id events answers) × (has_finished (other side) id events answers ≡ true) }
+        IsAllOf (IsExactly (reader_at setup side)) (pulled side id events answers) (sent (other side) id events answers) × (has_finished (other side) id events answers ≡ true) }
 {
     what_is_cited_holds();
 }
@@ -115,10 +116,10 @@ pub fn no_instruction_is_refused()
 pub fn endpoints_hand_out_what_was_sent()
     ensures fault { (setup : Setup) (events : List Event) → IsMadeSetup setup → JudgesPlainly setup → AllByRecursion (IsSendable setup) events → list_any is_connection_fault (answers_of_ends (new_ends setup) events) ≡ false }
     ensures front { (setup : Setup) (events : List Event) (side : Side) (id : ℕ) → IsMadeSetup setup → JudgesPlainly setup → AllByRecursion (IsSendable setup) events →
-        IsFrontOf (reader_at setup side) (pulled side id events (answers_of_ends (new_ends setup) events)) (sent (other side) id events (answers_of_ends (new_ends setup) events)) }
+        IsFrontOf (IsExactly (reader_at setup side)) (pulled side id events (answers_of_ends (new_ends setup) events)) (sent (other side) id events (answers_of_ends (new_ends setup) events)) }
     ensures end { (setup : Setup) (events : List Event) (side : Side) (id : ℕ) → IsMadeSetup setup → JudgesPlainly setup → AllByRecursion (IsSendable setup) events →
         has_pulled_end side id events (answers_of_ends (new_ends setup) events) ≡ true →
-        IsAllOf (reader_at setup side) (pulled side id events (answers_of_ends (new_ends setup) events)) (sent (other side) id events (answers_of_ends (new_ends setup) events))
+        IsAllOf (IsExactly (reader_at setup side)) (pulled side id events (answers_of_ends (new_ends setup) events)) (sent (other side) id events (answers_of_ends (new_ends setup) events))
         × (has_finished (other side) id events (answers_of_ends (new_ends setup) events) ≡ true) }
 {
     what_is_cited_holds();

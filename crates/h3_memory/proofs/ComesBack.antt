@@ -16,7 +16,7 @@ use Rattle.h3_world.specs.declared.event.Answer.{Answer}
 use Rattle.h3_world.specs.declared.event.Answer.TheVariants as answer
 use Rattle.h3_world.specs.declared.lists.ListPull.{ListPull}
 use Rattle.h3_world.specs.Delivering.{delivery, end_delivery, reset_delivery}
-use Rattle.h3_world.specs.Headline.{ComesOut, IsDelivered, PullComesOut, is_memory}
+use Rattle.h3_world.specs.Headline.{ComesOut, IsDelivered, PullComesOut, is_out_of_memory}
 use Rattle.h3_world.specs.Lists.{pull_of}
 use Rattle.h3_world.specs.Order.{next_part}
 use Rattle.h3_world.specs.Pauses.{pause_of}
@@ -26,7 +26,8 @@ use Rattle.h3_world.specs.Refused.{with_insertions}
 use Rattle.h3_world.specs.Sendable.{IsSendable}
 use Rattle.h3_world.specs.Streams.{flow}
 use Rattle.h3_world.specs.World.{World, empty_world}
-use Rattle.h3_headline.specs.Messages.{IsAllOf, pulled, reader_at, sent}
+use Rattle.h3_headline.specs.Exactly.{IsAllOf, IsExactly, reader_at}
+use Rattle.h3_headline.specs.Messages.{pulled, sent}
 use Rattle.h3_memory.specs.Kept.{KeepingWorld, kept_at, with_kept, caught_up, is_settled, nothing_kept}
 use Rattle.h3_memory.specs.MemoryStep.{HappensWithMemory, Pulls, StepOf, StepWithMemory, UnlessMemory, read_behind}
 use Rattle.h3_memory.proofs.Cuts.{left_holds, list_left, section_left}
@@ -44,11 +45,11 @@ pulls_all setup k new side e a true is step = absurd (cc)
 pulls_all setup k new side e a false is step = ap (λ x. kept_at x side) step.1 ∙ none_kept k side new.world
 
 -- **A pull that is answered and not settled has read all,** with lists or without.
-pub pull_catches_up : (setup : Setup) (k new : KeepingWorld) (side : Side) (id : ℕ) (a : Answer) → is_memory a ≡ false → is_settled k.world side id ≡ false → StepWithMemory setup k (event.Pull side id) a new → kept_at new side ≡ []
+pub pull_catches_up : (setup : Setup) (k new : KeepingWorld) (side : Side) (id : ℕ) (a : Answer) → is_out_of_memory a ≡ false → is_settled k.world side id ≡ false → StepWithMemory setup k (event.Pull side id) a new → kept_at new side ≡ []
 pull_catches_up setup k new side id a goes unsettled step =
     pulls_all setup k new side (event.Pull side id) a (is_settled k.world side id) unsettled (subst (λ b. StepOf b setup k (event.Pull side id) a new) goes step)
 
-pub listed_catches_up : (setup : Setup) (k new : KeepingWorld) (side : Side) (id : ℕ) (a : Answer) → is_memory a ≡ false → is_settled k.world side id ≡ false → StepWithMemory setup k (event.PullFields side id) a new → kept_at new side ≡ []
+pub listed_catches_up : (setup : Setup) (k new : KeepingWorld) (side : Side) (id : ℕ) (a : Answer) → is_out_of_memory a ≡ false → is_settled k.world side id ≡ false → StepWithMemory setup k (event.PullFields side id) a new → kept_at new side ≡ []
 listed_catches_up setup k new side id a goes unsettled step =
     pulls_all setup k new side (event.PullFields side id) a (is_settled k.world side id) unsettled (subst (λ b. StepOf b setup k (event.PullFields side id) a new) goes step)
 
@@ -93,7 +94,7 @@ nothing_left k client server = ap (λ l. record k { at_client = l }) client ∙ 
 -- **With everything handed over and pulled, everything sent came out.**
 out_of_it : (q : KeptLaws) (setup : Setup) (before : List Event) (given : List Answer) (k : KeepingWorld) (side : Side) (id : ℕ) (p : Pull) → AllByRecursion (IsSendable setup) before → FromNothing setup before given k
     → PullComesOut setup (caught_up setup k side) side id p → IsDelivered setup (caught_up setup k side) (other side) id → settled (caught_up setup k side) side id ≡ None → is_none (pause_of p) ≡ false
-    → IsAllOf (reader_at setup side) (pulled side id before given) (sent (other side) id before given)
+    → IsAllOf (IsExactly (reader_at setup side)) (pulled side id before given) (sent (other side) id before given)
 out_of_it q setup before given k side id p sendable run out delivered unsettled pauses =
     let u = caught_up setup k side in
     let sound = (run_moves q q.worlds setup (nothing_kept (empty_world setup)) k before given side id sendable (begins_sound q.worlds setup) run).sound in
@@ -103,15 +104,15 @@ out_of_it q setup before given k side id p sendable run out delivered unsettled 
     left_none_at q q.worlds setup before given k side id sendable run (sym (ap (λ n. slice_get (flow u (other side) id).sent n) same.parts_out ∙ ap (λ l. slice_get l (flow k.world (other side) id).parts_out) same.sent) ∙ none)
 
 pub everything_out : (q : KeptLaws) (setup : Setup) (before : List Event) (given : List Answer) (k new : KeepingWorld) (side : Side) (id : ℕ) (p : Pull) → AllByRecursion (IsSendable setup) before → FromNothing setup before given k
-    → HappensWithMemory setup k (event.Pull side id) (answer.Pulled p) new → is_memory (answer.Pulled p) ≡ false → IsDelivered setup (caught_up setup k side) (other side) id → settled (caught_up setup k side) side id ≡ None → is_none (pause_of p) ≡ false
-    → IsAllOf (reader_at setup side) (pulled side id before given) (sent (other side) id before given)
+    → HappensWithMemory setup k (event.Pull side id) (answer.Pulled p) new → is_out_of_memory (answer.Pulled p) ≡ false → IsDelivered setup (caught_up setup k side) (other side) id → settled (caught_up setup k side) side id ≡ None → is_none (pause_of p) ≡ false
+    → IsAllOf (IsExactly (reader_at setup side)) (pulled side id before given) (sent (other side) id before given)
 everything_out q setup before given k new side id p sendable run happens goes delivered unsettled pauses =
     let out = subst (λ b. UnlessMemory b (ComesOut setup (caught_up setup k side) (event.Pull side id) (answer.Pulled p))) goes happens.comes_out in
     out_of_it q setup before given k side id p sendable run out delivered unsettled pauses
 
 pub everything_listed : (q : KeptLaws) (setup : Setup) (before : List Event) (given : List Answer) (k new : KeepingWorld) (side : Side) (id : ℕ) (l : ListPull) → AllByRecursion (IsSendable setup) before → FromNothing setup before given k
-    → HappensWithMemory setup k (event.PullFields side id) (answer.Listed l) new → is_memory (answer.Listed l) ≡ false → IsDelivered setup (caught_up setup k side) (other side) id → settled (caught_up setup k side) side id ≡ None
-    → is_none (pause_of (pull_of l)) ≡ false → IsAllOf (reader_at setup side) (pulled side id before given) (sent (other side) id before given)
+    → HappensWithMemory setup k (event.PullFields side id) (answer.Listed l) new → is_out_of_memory (answer.Listed l) ≡ false → IsDelivered setup (caught_up setup k side) (other side) id → settled (caught_up setup k side) side id ≡ None
+    → is_none (pause_of (pull_of l)) ≡ false → IsAllOf (IsExactly (reader_at setup side)) (pulled side id before given) (sent (other side) id before given)
 everything_listed q setup before given k new side id l sendable run happens goes delivered unsettled pauses =
     let out = subst (λ b. UnlessMemory b (ComesOut setup (caught_up setup k side) (event.PullFields side id) (answer.Listed l))) goes happens.comes_out in
     out_of_it q setup before given k side id (pull_of l) sendable run out delivered unsettled pauses

@@ -8,7 +8,7 @@ use Rattle.h3_world.specs.declared.setup.Setup.{Setup}
 use Rattle.h3_world.specs.declared.event.Answer.TheVariants as answer
 use Rattle.h3_world.specs.declared.event.Event.TheVariants as event
 use Rattle.h3_world.specs.Ends.{Ends}
-use Rattle.h3_world.specs.Headline.{is_memory}
+use Rattle.h3_world.specs.Headline.{is_out_of_memory}
 use Rattle.h3_world.specs.Setup.{IsMadeSetup}
 use Rattle.h3_headline.specs.Cited.{Laws}
 use Rattle.h3_headline.specs.ComingLaws.{kind_is}
@@ -112,7 +112,7 @@ module _ (qpack : KeptLaws) (laws : Laws) (setup : Setup) (made : IsMadeSetup se
 
   -- **Bytes.**
   pub deliver_step : (writer : Side) (id count : ℕ) → StepsOn setup (event.Deliver writer id count)
-  deliver_step writer id count k ends new a sendable h step = by_memory (is_memory a) refl
+  deliver_step writer id count k ends new a sendable h step = by_memory (is_out_of_memory a) refl
     where
       lacks : LacksIt a → LacksMemory ends (event.Deliver writer id count) a new → StandsOn setup k (event.Deliver writer id count) a new
       lacks (LacksRoom is) l =
@@ -122,14 +122,14 @@ module _ (qpack : KeptLaws) (laws : Laws) (setup : Setup) (made : IsMadeSetup se
       lacks (HandsNothing is) l = absurd (subst (λ x. LacksMemory ends (event.Deliver writer id count) x new) is l)
       lacks (HandsNoList is) l = absurd (subst (λ x. LacksMemory ends (event.Deliver writer id count) x new) is l)
 
-      by_memory : (b : Bool) → is_memory a ≡ b → StandsOn setup k (event.Deliver writer id count) a new
+      by_memory : (b : Bool) → is_out_of_memory a ≡ b → StandsOn setup k (event.Deliver writer id count) a new
       by_memory false plain =
           plain_bytes setup k ends new writer id count a (bytes_agree qpack laws setup made k ends h writer id count) plain (subst (λ b. AnswerOf b ends (event.Deliver writer id count) a new) plain step)
       by_memory true memory = lacks (lacks_it a memory) (subst (λ b. AnswerOf b ends (event.Deliver writer id count) a new) memory step)
 
   -- **The end.**
   pub end_step : (writer : Side) (id : ℕ) → StepsOn setup (event.DeliverEnd writer id)
-  end_step writer id k ends new a sendable h step = by_memory (is_memory a) refl
+  end_step writer id k ends new a sendable h step = by_memory (is_out_of_memory a) refl
     where
       lacks : LacksIt a → LacksMemory ends (event.DeliverEnd writer id) a new → StandsOn setup k (event.DeliverEnd writer id) a new
       lacks (LacksRoom is) l = subst (λ x. LacksMemory ends (event.DeliverEnd writer id) x new → StandsOn setup k (event.DeliverEnd writer id) x new) (sym is) (end_refused writer id k ends new h) l
@@ -137,13 +137,13 @@ module _ (qpack : KeptLaws) (laws : Laws) (setup : Setup) (made : IsMadeSetup se
       lacks (HandsNothing is) l = absurd (subst (λ x. LacksMemory ends (event.DeliverEnd writer id) x new) is l)
       lacks (HandsNoList is) l = absurd (subst (λ x. LacksMemory ends (event.DeliverEnd writer id) x new) is l)
 
-      by_memory : (b : Bool) → is_memory a ≡ b → StandsOn setup k (event.DeliverEnd writer id) a new
+      by_memory : (b : Bool) → is_out_of_memory a ≡ b → StandsOn setup k (event.DeliverEnd writer id) a new
       by_memory false plain = plain_end setup k ends new writer id a (end_agrees qpack laws setup made k ends h writer id) plain (subst (λ b. AnswerOf b ends (event.DeliverEnd writer id) a new) plain step)
       by_memory true memory = lacks (lacks_it a memory) (subst (λ b. AnswerOf b ends (event.DeliverEnd writer id) a new) memory step)
 
   -- **The reset.**
   pub gone_step : (writer : Side) (id : ℕ) → StepsOn setup (event.DeliverReset writer id)
-  gone_step writer id k ends new a sendable h step = by_memory (is_memory a) refl
+  gone_step writer id k ends new a sendable h step = by_memory (is_out_of_memory a) refl
     where
       lacks : LacksIt a → LacksMemory ends (event.DeliverReset writer id) a new → StandsOn setup k (event.DeliverReset writer id) a new
       lacks (LacksRoom is) l = subst (λ x. LacksMemory ends (event.DeliverReset writer id) x new → StandsOn setup k (event.DeliverReset writer id) x new) (sym is) (reset_refused writer id k ends new h) l
@@ -151,6 +151,6 @@ module _ (qpack : KeptLaws) (laws : Laws) (setup : Setup) (made : IsMadeSetup se
       lacks (HandsNothing is) l = absurd (subst (λ x. LacksMemory ends (event.DeliverReset writer id) x new) is l)
       lacks (HandsNoList is) l = absurd (subst (λ x. LacksMemory ends (event.DeliverReset writer id) x new) is l)
 
-      by_memory : (b : Bool) → is_memory a ≡ b → StandsOn setup k (event.DeliverReset writer id) a new
+      by_memory : (b : Bool) → is_out_of_memory a ≡ b → StandsOn setup k (event.DeliverReset writer id) a new
       by_memory false plain = plain_reset setup k ends new writer id a (reset_agrees qpack laws setup made k ends h writer id) plain (subst (λ b. AnswerOf b ends (event.DeliverReset writer id) a new) plain step)
       by_memory true memory = lacks (lacks_it a memory) (subst (λ b. AnswerOf b ends (event.DeliverReset writer id) a new) memory step)

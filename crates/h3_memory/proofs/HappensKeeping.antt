@@ -13,7 +13,7 @@ use Rattle.h3_world.specs.declared.event.Answer.TheVariants as answer
 use Rattle.h3_world.specs.Came.{insertions_came}
 use Rattle.h3_world.specs.Delivering.{delivery, end_delivery, reset_delivery}
 use Rattle.h3_world.specs.Ends.{Ends}
-use Rattle.h3_world.specs.Headline.{ComesOut, Happens, is_connection_fault, is_memory}
+use Rattle.h3_world.specs.Headline.{ComesOut, Happens, is_connection_fault, is_out_of_memory}
 use Rattle.h3_world.specs.Lists.{pull_of}
 use Rattle.h3_world.specs.Order.{next_part}
 use Rattle.h3_world.specs.Pauses.{pause_before, pause_of}
@@ -208,8 +208,8 @@ pub record HappensSoundly (setup : Setup) (k : KeepingWorld) (e : Event) (a : An
   pub sound : IsSoundKeeping setup new
 
 pub step_happens : (q : KeptLaws) (laws : WorldLaws) (setup : Setup) (k new : KeepingWorld) (e : Event) (a : Answer) → IsSendable setup e → IsSoundKeeping setup k → StepWithMemory setup k e a new
-    → UnlessMemory (is_memory a) (IsExact (reader_world setup k e) e a) → HappensSoundly setup k e a new
-step_happens q laws setup k new e a sendable h step exact = by_memory (is_memory a) refl
+    → UnlessMemory (is_out_of_memory a) (IsExact (reader_world setup k e) e a) → HappensSoundly setup k e a new
+step_happens q laws setup k new e a sendable h step exact = by_memory (is_out_of_memory a) refl
   where
     after : IsSoundKeeping setup new
     after = step_keeps q laws setup k new e a sendable h step exact
@@ -218,13 +218,13 @@ step_happens q laws setup k new e a sendable h step exact = by_memory (is_memory
     memory_or true P e = tt
     memory_or false P e = absurd (cc)
 
-    by_memory : (b : Bool) → is_memory a ≡ b → HappensSoundly setup k e a new
+    by_memory : (b : Bool) → is_out_of_memory a ≡ b → HappensSoundly setup k e a new
     by_memory true told =
         record {
           happens = record {
             step = step;
             exact = exact;
-            comes_out = memory_or (is_memory a) (ComesOut setup (reader_world setup k e) e a) told;
+            comes_out = memory_or (is_out_of_memory a) (ComesOut setup (reader_world setup k e) e a) told;
             no_connection_fault = lacks_well a (lacks_it a told);
             within_limits = within laws setup new.world after.sound;
           };

@@ -16,7 +16,7 @@ use Rattle.h3_world.specs.declared.event.Answer.{Answer}
 use Rattle.h3_world.specs.declared.event.Answer.TheVariants as answer
 use Rattle.h3_world.specs.declared.lists.ListPull.TheVariants as list
 use Rattle.h3_world.specs.Delivering.{delivery, end_delivery, reset_delivery}
-use Rattle.h3_world.specs.Headline.{is_memory}
+use Rattle.h3_world.specs.Headline.{is_out_of_memory}
 use Rattle.h3_world.specs.Refusals.{fields_refusal, head_refusal, trailer_fields_refusal, trailer_refusal, reset_refusal}
 use Rattle.h3_world.specs.Sending.{cut_off}
 use Rattle.h3_world.specs.Step.{Does}
@@ -212,7 +212,7 @@ record SaysNothing (e : Event) (a : Answer) (writer : Side) (id : ℕ) : Type 0 
   ends : ended_in (other writer) id e a ≡ false
 
 record TellsNothing (a : Answer) : Type 0 where
-  sends : (l : List MessageContent) → if_done a l ≡ []
+  sends : (on : Bool) (l : List MessageContent) → if_done a on l ≡ []
   done : is_done a ≡ false
   hands : contents_of a ≡ []
   ends : is_end_of a ≡ false
@@ -234,23 +234,23 @@ says_nothing (event.Deliver side i count) a t writer id = record { sends = refl;
 says_nothing (event.DeliverEnd side i) a t writer id = record { sends = refl; finishes = refl; hands = refl; ends = refl }
 says_nothing (event.DeliverReset side i) a t writer id = record { sends = refl; finishes = refl; hands = refl; ends = refl }
 says_nothing (event.Show side) a t writer id = record { sends = refl; finishes = refl; hands = refl; ends = refl }
-says_nothing (event.Head side i head) a t writer id = record { sends = t.sends _; finishes = refl; hands = refl; ends = refl }
-says_nothing (event.Fields side i fields) a t writer id = record { sends = t.sends _; finishes = refl; hands = refl; ends = refl }
-says_nothing (event.Body side i bytes) a t writer id = record { sends = t.sends _; finishes = refl; hands = refl; ends = refl }
-says_nothing (event.Trailer side i trailer) a t writer id = record { sends = t.sends _; finishes = refl; hands = refl; ends = refl }
-says_nothing (event.TrailerFields side i fields) a t writer id = record { sends = t.sends _; finishes = refl; hands = refl; ends = refl }
+says_nothing (event.Head side i head) a t writer id = record { sends = t.sends _ _; finishes = refl; hands = refl; ends = refl }
+says_nothing (event.Fields side i fields) a t writer id = record { sends = t.sends _ _; finishes = refl; hands = refl; ends = refl }
+says_nothing (event.Body side i bytes) a t writer id = record { sends = t.sends _ _; finishes = refl; hands = refl; ends = refl }
+says_nothing (event.Trailer side i trailer) a t writer id = record { sends = t.sends _ _; finishes = refl; hands = refl; ends = refl }
+says_nothing (event.TrailerFields side i fields) a t writer id = record { sends = t.sends _ _; finishes = refl; hands = refl; ends = refl }
 says_nothing (event.Finish side i) a t writer id = record { sends = refl; finishes = ap (λ b. b && is_on writer id side i) t.done; hands = refl; ends = refl }
 says_nothing (event.Pull side i) a t writer id = record { sends = refl; finishes = refl; hands = none_there a t (is_on (other writer) id side i); ends = no_end a t (is_on (other writer) id side i) }
 says_nothing (event.PullFields side i) a t writer id = record { sends = refl; finishes = refl; hands = none_there a t (is_on (other writer) id side i); ends = no_end a t (is_on (other writer) id side i) }
 
 refused_nothing : (r : Refusal) → TellsNothing (answer.Refused r)
-refused_nothing r = record { sends = λ l. refl; done = refl; hands = refl; ends = refl }
+refused_nothing r = record { sends = λ on l. refl; done = refl; hands = refl; ends = refl }
 
 fault_nothing : TellsNothing (answer.Pulled (pull.Fault fault.Memory))
-fault_nothing = record { sends = λ l. refl; done = refl; hands = refl; ends = refl }
+fault_nothing = record { sends = λ on l. refl; done = refl; hands = refl; ends = refl }
 
 list_nothing : TellsNothing (answer.Listed (list.Fault fault.Memory))
-list_nothing = record { sends = λ l. refl; done = refl; hands = refl; ends = refl }
+list_nothing = record { sends = λ on l. refl; done = refl; hands = refl; ends = refl }
 
 quietly : (setup : Setup) (w v : World) (e : Event) (a : Answer) (writer : Side) (id : ℕ) → SaysNothing e a writer id → KeepsParts w v → MovesBy setup w e writer id a v
 quietly setup w v e a writer id says keeps =
@@ -261,7 +261,7 @@ quietly setup w v e a writer id says keeps =
 
 -- **What each step changes of each flow.**
 pub step_moves : (q : KeptLaws) (setup : Setup) (k new : KeepingWorld) (e : Event) (a : Answer) (writer : Side) (id : ℕ) → IsSoundKeeping setup k → StepWithMemory setup k e a new → MovesSo setup k e writer id a new
-step_moves q setup k new e a writer id h step = by_memory (is_memory a) refl step
+step_moves q setup k new e a writer id h step = by_memory (is_out_of_memory a) refl step
   where
     lacks : LacksIt a → LacksMemory setup k e a new → MovesSo setup k e writer id a new
     lacks (LacksRoom is) step =
@@ -277,6 +277,6 @@ step_moves q setup k new e a writer id h step = by_memory (is_memory a) refl ste
         subst (λ x. MovesSo setup k e writer id x new) (sym is)
         (quietly setup k.world new.world e (answer.Listed (list.Fault fault.Memory)) writer id (says_nothing e (answer.Listed (list.Fault fault.Memory)) list_nothing writer id) (no_list q setup k new e h (subst (λ x. LacksMemory setup k e x new) is step)))
 
-    by_memory : (b : Bool) → is_memory a ≡ b → StepOf b setup k e a new → MovesSo setup k e writer id a new
+    by_memory : (b : Bool) → is_out_of_memory a ≡ b → StepOf b setup k e a new → MovesSo setup k e writer id a new
     by_memory true e_memory step = lacks (lacks_it a e_memory) step
     by_memory false e_memory step = answers_move q setup k new e a writer id h step

@@ -19,7 +19,8 @@ use Rattle.h3_headline.specs.Cited.{WorldLaws}
 use Rattle.h3_headline.specs.ContentLaws.{moves_then, stays}
 use Rattle.h3_headline.specs.Contents.{Moves, reader_of, Carried, Carries, IsAll, RunMoves}
 use Rattle.h3_headline.specs.FlowLaws.{other-other, same_both}
-use Rattle.h3_headline.specs.Messages.{MessageContent, IsAllOf, IsFrontOf, Reader, reader_at, sent, has_finished, pulled, has_pulled_end, sent_in, finished_in, pulled_in, ended_in}
+use Rattle.h3_headline.specs.Exactly.{IsAllOf, IsExactly, Reader, reader_at}
+use Rattle.h3_headline.specs.Messages.{MessageContent, IsFrontOf, sent, has_finished, pulled, has_pulled_end, sent_in, finished_in, pulled_in, ended_in}
 use Rattle.h3_headline.specs.PulledAndSentLaws.{is_all, is_complete, is_front}
 use Rattle.h3_memory.specs.Kept.{KeepingWorld, nothing_kept}
 use Rattle.h3_memory.specs.MemoryStep.{HappensWithMemory}
@@ -41,7 +42,7 @@ carries : (r : Reader) (f g : Flow) (sending : List MessageContent) (finishing :
     → Carries r g sending finishing handing ending
 carries r f g sending finishing handing ending none m =
     let n = subst (λ x. Moves r x g sending finishing handing ending) none m in
-    record { sent_is = n.sent_is; end_is = n.end_is; handed_is = subst (IsAllOf r handing) (sym n.hands.more) n.hands.is; over_is = n.over_is }
+    record { sent_is = n.sent_is; end_is = n.end_is; handed_is = subst (IsAllOf (IsExactly r) handing) (sym n.hands.more) n.hands.is; over_is = n.over_is }
 
 -- What a run changes of a flow; and it keeps a world sound.
 pub record Ran (setup : Setup) (k new : KeepingWorld) (events : List Event) (answers : List Answer) (writer : Side) (id : ℕ) : Type 0 where
@@ -89,11 +90,11 @@ reads_it setup Server = refl
 
 -- **A front of what was sent; with the end all of it; and where no part is left.**
 pub front_at : (q : KeptLaws) (laws : WorldLaws) (setup : Setup) (events : List Event) (answers : List Answer) (k : KeepingWorld) (side : Side) (id : ℕ) → AllByRecursion (IsSendable setup) events → FromNothing setup events answers k
-    → IsFrontOf (reader_at setup side) (pulled side id events answers) (sent (other side) id events answers)
+    → IsFrontOf (IsExactly (reader_at setup side)) (pulled side id events answers) (sent (other side) id events answers)
 front_at q laws setup events answers k side id sendable run =
     let c = run_carries q laws setup events answers k (other side) id sendable run in
-    subst (λ r. IsFrontOf r (pulled side id events answers) (sent (other side) id events answers)) (reads_it setup side)
-    (subst (λ s. IsFrontOf (reader_of setup (other side)) (pulled s id events answers) (sent (other side) id events answers)) (other-other side)
+    subst (λ r. IsFrontOf (IsExactly r) (pulled side id events answers) (sent (other side) id events answers)) (reads_it setup side)
+    (subst (λ s. IsFrontOf (IsExactly (reader_of setup (other side))) (pulled s id events answers) (sent (other side) id events answers)) (other-other side)
     (is_front (reader_of setup (other side)) (flow k.world (other side) id) (sent (other side) id events answers) (has_finished (other side) id events answers)
     (pulled (other (other side)) id events answers) (has_pulled_end (other (other side)) id events answers) c.carried))
 
@@ -107,11 +108,11 @@ all_at q laws setup events answers k side id sendable run ended =
     (is_complete setup k.world events answers (other side) id c) ended)
 
 pub left_none_at : (q : KeptLaws) (laws : WorldLaws) (setup : Setup) (events : List Event) (answers : List Answer) (k : KeepingWorld) (side : Side) (id : ℕ) → AllByRecursion (IsSendable setup) events → FromNothing setup events answers k
-    → next_part (flow k.world (other side) id) ≡ None → IsAllOf (reader_at setup side) (pulled side id events answers) (sent (other side) id events answers)
+    → next_part (flow k.world (other side) id) ≡ None → IsAllOf (IsExactly (reader_at setup side)) (pulled side id events answers) (sent (other side) id events answers)
 left_none_at q laws setup events answers k side id sendable run none =
     let c = run_carries q laws setup events answers k (other side) id sendable run in
-    subst (λ r. IsAllOf r (pulled side id events answers) (sent (other side) id events answers)) (reads_it setup side)
-    (subst (λ s. IsAllOf (reader_of setup (other side)) (pulled s id events answers) (sent (other side) id events answers)) (other-other side)
+    subst (λ r. IsAllOf (IsExactly r) (pulled side id events answers) (sent (other side) id events answers)) (reads_it setup side)
+    (subst (λ s. IsAllOf (IsExactly (reader_of setup (other side))) (pulled s id events answers) (sent (other side) id events answers)) (other-other side)
     (is_all (reader_of setup (other side)) (flow k.world (other side) id) (sent (other side) id events answers) (has_finished (other side) id events answers)
     (pulled (other (other side)) id events answers) (has_pulled_end (other (other side)) id events answers) c.carried none))
 

@@ -13,7 +13,7 @@ use Rattle.h3_world.specs.declared.event.Event.TheVariants as event
 use Rattle.h3_world.specs.declared.event.Answer.{Answer}
 use Rattle.h3_world.specs.declared.event.Answer.TheVariants as answer
 use Rattle.h3_world.specs.Delivering.{delivery, end_delivery, reset_delivery, delivered, delivered_end, delivered_reset, is_closed, may_end}
-use Rattle.h3_world.specs.Headline.{Happens, is_memory, ComesOut}
+use Rattle.h3_world.specs.Headline.{Happens, is_out_of_memory, ComesOut}
 use Rattle.h3_memory.specs.Kept.{KeepingWorld, Bytes, End, Reset, nothing_kept, caught_up, with_kept, is_settled}
 use Rattle.h3_memory.specs.MemoryStep.{HappensWithMemory, StepOf, Answers, Pulls, UnlessMemory, offered, read_behind, reader_world}
 use Rattle.h3_world.specs.Refusals.{reset_refusal}
@@ -133,7 +133,7 @@ pub record HappensPlainly (setup : Setup) (w : World) (e : Event) (a : Answer) (
   pub happens : Happens setup w e a new.world
   pub none : new ≡ nothing_kept new.world
 
-pub happens_plainly : (setup : Setup) (w : World) (e : Event) (a : Answer) (new : KeepingWorld) → is_memory a ≡ false → HappensWithMemory setup (nothing_kept w) e a new → HappensPlainly setup w e a new
+pub happens_plainly : (setup : Setup) (w : World) (e : Event) (a : Answer) (new : KeepingWorld) → is_out_of_memory a ≡ false → HappensWithMemory setup (nothing_kept w) e a new → HappensPlainly setup w e a new
 happens_plainly setup w e a new not_memory h =
     let p = plain setup w e a new (subst (λ b. StepOf b setup (nothing_kept w) e a new) not_memory h.step) in
     record {
@@ -156,11 +156,11 @@ neither : (first rest : Bool) → (first || rest) ≡ false → (first ≡ false
 neither true rest h = absurd (cc)
 neither false rest h = (refl, h)
 
-pub runs_plainly : (setup : Setup) (w : World) (events : List Event) (answers : List Answer) (new : KeepingWorld) → list_any is_memory answers ≡ false
+pub runs_plainly : (setup : Setup) (w : World) (events : List Event) (answers : List Answer) (new : KeepingWorld) → list_any is_out_of_memory answers ≡ false
     → Run (HappensWithMemory setup) (nothing_kept w) events answers new → RunsPlainly setup w events answers new
 runs_plainly setup w [] [] new none run = record { run = ap (λ k. k.world) run; none = run ∙ sym (ap (λ k. nothing_kept k.world) run) }
 runs_plainly setup w (e ∷ events) (a ∷ answers) new none run =
-    let parts = neither (is_memory a) (list_any is_memory answers) none in
+    let parts = neither (is_out_of_memory a) (list_any is_out_of_memory answers) none in
     let first = happens_plainly setup w e a run.0 parts.0 run.1 in
     let rest = runs_plainly setup run.0.world events answers new parts.1 (subst (λ k. Run (HappensWithMemory setup) k events answers new) first.none run.2) in
     record { run = (run.0.world, first.happens, rest.run); none = rest.none }

@@ -6,7 +6,7 @@ use Rattle.h3_world.specs.declared.setup.Setup.{Setup}
 use Rattle.h3_world.specs.declared.event.Event.TheVariants as event
 use Rattle.h3_world.specs.declared.event.Answer.{Answer}
 use Rattle.h3_world.specs.Ends.{Ends, end_at}
-use Rattle.h3_world.specs.Headline.{is_memory}
+use Rattle.h3_world.specs.Headline.{is_out_of_memory}
 use Rattle.h3_world.specs.Setup.{IsMadeSetup, JudgesPlainly}
 use Rattle.h3_world.specs.Step.{IsExact}
 use Rattle.h3_headline.specs.Cited.{Laws}
@@ -40,9 +40,9 @@ nothing_handed qpack laws setup made frames notices k ends new h side id l =
     loses_nothing setup k ends new h side id notices l p
 
 pub pull_step : (qpack : KeptLaws) (laws : Laws) (setup : Setup) (made : IsMadeSetup setup) (plain : JudgesPlainly setup) (frames : ReadsFramesOn setup) (notices : Notices setup) (side : Side) (id : ℕ) → StepsOn setup (event.Pull side id)
-pull_step qpack laws setup made plain frames notices side id k ends new a sendable h s = by_test (is_memory a) refl s
+pull_step qpack laws setup made plain frames notices side id k ends new a sendable h s = by_test (is_out_of_memory a) refl s
   where
-    refused_memory : (a : Answer) → TellsMemory a → is_memory a ≡ true → refused.LacksMemory ends (event.Pull side id) a new → StandsOn setup k (event.Pull side id) a new
+    refused_memory : (a : Answer) → TellsMemory a → is_out_of_memory a ≡ true → refused.LacksMemory ends (event.Pull side id) a new → StandsOn setup k (event.Pull side id) a new
     refused_memory a Lacks m l = absurd l
     refused_memory a IsKept m l = absurd l
     refused_memory a ListLacks m l = absurd l
@@ -50,7 +50,7 @@ pull_step qpack laws setup made plain frames notices side id k ends new a sendab
         let x = nothing_handed qpack laws setup made frames notices k ends new h side id l in
         record { new = x.next; step = x.hands; exact = tt; stands = x.stands }
 
-    by_test : (b : Bool) → is_memory a ≡ b → refused.AnswerOf b ends (event.Pull side id) a new → StandsOn setup k (event.Pull side id) a new
+    by_test : (b : Bool) → is_out_of_memory a ≡ b → refused.AnswerOf b ends (event.Pull side id) a new → StandsOn setup k (event.Pull side id) a new
     by_test false m s =
         let p = pull_answered qpack laws setup made plain k ends h side id in
         record {
@@ -63,9 +63,9 @@ pull_step qpack laws setup made plain frames notices side id k ends new a sendab
 
 -- **And so is one with lists.**
 pub listed_step : (qpack : KeptLaws) (laws : Laws) (setup : Setup) (made : IsMadeSetup setup) (plain : JudgesPlainly setup) (frames : ReadsFramesOn setup) (notices : Notices setup) (side : Side) (id : ℕ) → StepsOn setup (event.PullFields side id)
-listed_step qpack laws setup made plain frames notices side id k ends new a sendable h s = by_test (is_memory a) refl s
+listed_step qpack laws setup made plain frames notices side id k ends new a sendable h s = by_test (is_out_of_memory a) refl s
   where
-    refused_memory : (a : Answer) → TellsMemory a → is_memory a ≡ true → refused.LacksMemory ends (event.PullFields side id) a new → StandsOn setup k (event.PullFields side id) a new
+    refused_memory : (a : Answer) → TellsMemory a → is_out_of_memory a ≡ true → refused.LacksMemory ends (event.PullFields side id) a new → StandsOn setup k (event.PullFields side id) a new
     refused_memory a Lacks m l = absurd l
     refused_memory a IsKept m l = absurd l
     refused_memory a PullLacks m l = absurd l
@@ -73,7 +73,7 @@ listed_step qpack laws setup made plain frames notices side id k ends new a send
         let x = nothing_handed qpack laws setup made frames notices k ends new h side id l in
         record { new = x.next; step = x.hands; exact = tt; stands = x.stands }
 
-    by_test : (b : Bool) → is_memory a ≡ b → refused.AnswerOf b ends (event.PullFields side id) a new → StandsOn setup k (event.PullFields side id) a new
+    by_test : (b : Bool) → is_out_of_memory a ≡ b → refused.AnswerOf b ends (event.PullFields side id) a new → StandsOn setup k (event.PullFields side id) a new
     by_test false m s =
         let p = listed_answered setup k ends side id (unsettled_lists qpack laws setup made plain k ends h side id) (pull_answered qpack laws setup made plain k ends h side id) in
         record {

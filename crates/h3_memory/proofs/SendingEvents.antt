@@ -18,7 +18,7 @@ use Rattle.h3_world.specs.declared.event.Answer.TheVariants as answer
 use Rattle.h3_world.specs.declared.lists.ListPull.TheVariants as list
 use Rattle.h3_world.specs.Delivering.{is_closed}
 use Rattle.h3_world.specs.Ends.{Ends, end_at, with_end, done}
-use Rattle.h3_world.specs.Headline.{is_memory}
+use Rattle.h3_world.specs.Headline.{is_out_of_memory}
 use Rattle.h3_world.specs.World.{World}
 use Rattle.h3_headline.specs.Standing.{Stands}
 use Rattle.h3_memory.specs.Kept.{Delivery, KeepingWorld, kept_at, with_world}
@@ -132,7 +132,7 @@ pub data TellsMemory : Answer → Type 0 where
   PullLacks : TellsMemory (answer.Pulled (pull.Fault fault.Memory))
   ListLacks : TellsMemory (answer.Listed (list.Fault fault.Memory))
 
-pub tells_memory : (a : Answer) → is_memory a ≡ true → TellsMemory a
+pub tells_memory : (a : Answer) → is_out_of_memory a ≡ true → TellsMemory a
 tells_memory (answer.Refused refusal.OutOfMemory) e = Lacks
 tells_memory (answer.Refused refusal.Kept) e = IsKept
 tells_memory (answer.Pulled (pull.Fault fault.Memory)) e = PullLacks

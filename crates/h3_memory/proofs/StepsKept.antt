@@ -10,7 +10,7 @@ use Rattle.h3_world.specs.declared.event.Event.TheVariants as event
 use Rattle.h3_world.specs.declared.event.Answer.{Answer}
 use Rattle.h3_world.specs.declared.event.Answer.TheVariants as answer
 use Rattle.h3_world.specs.declared.lists.ListPull.TheVariants as list
-use Rattle.h3_world.specs.Headline.{is_memory}
+use Rattle.h3_world.specs.Headline.{is_out_of_memory}
 use Rattle.h3_world.specs.Refusals.{fields_refusal, head_refusal, trailer_fields_refusal, trailer_refusal}
 use Rattle.h3_world.specs.Sendable.{IsSendable}
 use Rattle.h3_world.specs.Step.{IsExact}
@@ -137,8 +137,8 @@ no_list q setup k new (event.DeliverReset writer id) h step = absurd step
 no_list q setup k new (event.Show side) h step = absurd step
 
 pub step_keeps : (q : KeptLaws) (laws : WorldLaws) (setup : Setup) (k new : KeepingWorld) (e : Event) (a : Answer) → IsSendable setup e → IsSoundKeeping setup k → StepWithMemory setup k e a new
-    → UnlessMemory (is_memory a) (IsExact (reader_world setup k e) e a) → IsSoundKeeping setup new
-step_keeps q laws setup k new e a sendable h step exact = by_memory (is_memory a) refl step exact
+    → UnlessMemory (is_out_of_memory a) (IsExact (reader_world setup k e) e a) → IsSoundKeeping setup new
+step_keeps q laws setup k new e a sendable h step exact = by_memory (is_out_of_memory a) refl step exact
   where
     lacks : LacksIt a → LacksMemory setup k e a new → IsSoundKeeping setup new
     lacks (LacksRoom is) step = no_room q setup k new e h (subst (λ x. LacksMemory setup k e x new) is step)
@@ -146,6 +146,6 @@ step_keeps q laws setup k new e a sendable h step exact = by_memory (is_memory a
     lacks (HandsNothing is) step = nothing_out q setup k new e h (subst (λ x. LacksMemory setup k e x new) is step)
     lacks (HandsNoList is) step = no_list q setup k new e h (subst (λ x. LacksMemory setup k e x new) is step)
 
-    by_memory : (b : Bool) → is_memory a ≡ b → StepOf b setup k e a new → UnlessMemory b (IsExact (reader_world setup k e) e a) → IsSoundKeeping setup new
+    by_memory : (b : Bool) → is_out_of_memory a ≡ b → StepOf b setup k e a new → UnlessMemory b (IsExact (reader_world setup k e) e a) → IsSoundKeeping setup new
     by_memory true e_memory step exact = lacks (lacks_it a e_memory) step
     by_memory false e_memory step exact = answers_kept q laws setup k new e a sendable h step exact

@@ -16,7 +16,7 @@ use Rattle.h3_world.specs.declared.event.Answer.{Answer}
 use Rattle.h3_world.specs.declared.event.Answer.TheVariants as answer
 use Rattle.h3_world.specs.declared.lists.ListPull.TheVariants as list
 use Rattle.h3_world.specs.Delivering.{delivery, end_delivery, reset_delivery}
-use Rattle.h3_world.specs.Headline.{is_memory, is_connection_fault, ComesOut}
+use Rattle.h3_world.specs.Headline.{is_out_of_memory, is_connection_fault, ComesOut}
 use Rattle.h3_memory.specs.Kept.{Delivery, Bytes, End, Reset, KeepingWorld, kept_at, with_world, with_kept, stream_of, caught_up, noticed_all, ReadsPart, is_settled}
 use Rattle.h3_world.specs.Refused.{with_insertions}
 use Rattle.h3_world.specs.Refusals.{open_refusal, head_refusal, fields_refusal, trailer_refusal, trailer_fields_refusal, reset_refusal, cancel_refusal, goaway_refusal}
@@ -125,7 +125,7 @@ StepOf false = Answers
 
 -- What may come of an event: as in `Step`, which it is where nothing is kept and no memory is refused.
 abbrev pub StepWithMemory : Setup → KeepingWorld → Event → Answer → KeepingWorld → Type 0
-StepWithMemory setup k e given new = StepOf (is_memory given) setup k e given new
+StepWithMemory setup k e given new = StepOf (is_out_of_memory given) setup k e given new
 
 -- Where a pull stands that is not refused memory: behind all that its side keeps.
 abbrev pub reader_world : Setup → KeepingWorld → Event → World
@@ -140,7 +140,7 @@ UnlessMemory false said = said
 -- one step, with all that is said of it
 pub record HappensWithMemory (setup : Setup) (k : KeepingWorld) (e : Event) (a : Answer) (new : KeepingWorld) : Type 0 where
   pub step : StepWithMemory setup k e a new
-  pub exact : UnlessMemory (is_memory a) (IsExact (reader_world setup k e) e a)
-  pub comes_out : UnlessMemory (is_memory a) (ComesOut setup (reader_world setup k e) e a)
+  pub exact : UnlessMemory (is_out_of_memory a) (IsExact (reader_world setup k e) e a)
+  pub comes_out : UnlessMemory (is_out_of_memory a) (ComesOut setup (reader_world setup k e) e a)
   pub no_connection_fault : is_connection_fault a ≡ false
   pub within_limits : IsWithinLimits setup new.world

@@ -32,7 +32,7 @@ use Rattle.h3_world.specs.EndLists.{send_fields, send_trailer_fields}
 use Rattle.h3_world.specs.Run.{Run}
 use Rattle.h3_world.specs.Delivering.{reset_code}
 use Rattle.h3_world.specs.Ends.{Ends, end_at, with_end, answered}
-use Rattle.h3_world.specs.Headline.{is_memory}
+use Rattle.h3_world.specs.Headline.{is_out_of_memory}
 use Rattle.h3_connection.specs.Shown.{waiting, has_outgoing, is_finished, is_reset}
 
 -- Nothing was sent, but the insertions for a front of the fields were made.
@@ -117,7 +117,7 @@ AnswerOf false ends e given new = (given ≡ (answered ends e).0) × (new ≡ (a
 
 -- The event is answered so, and leaves the endpoints so.
 abbrev pub EndsStep : Ends → Event → Answer → Ends → Type 0
-EndsStep ends e given new = AnswerOf (is_memory given) ends e given new
+EndsStep ends e given new = AnswerOf (is_out_of_memory given) ends e given new
 
 -- They answer the events so, each as the events before it left them.
 abbrev pub EndsRun : Ends → List Event → List Answer → Ends → Type 0

@@ -1,5 +1,5 @@
 -- The setup of a script is one that `Setup::new` makes, and asks for no strict messages.
-use Rattle.std.proofs.Common.{◌≡◌, ℕ, Bool, true, false, List, [], ◌∷◌, codes, bytes_eq, Option, Some, None, Result, Ok, Err, sym, ap, subst, arith, if◌then◌else◌}
+use Rattle.std.proofs.Common.{◌≡◌, ℕ, Bool, true, false, List, [], ◌∷◌, codes, bytes_eq, Option, Some, None, Result, Ok, Err, ap, arith, if◌then◌else◌}
 use Rattle.std.specs.Result.{result_ok}
 use Rattle.h3_proto.specs.Config.{announced, is_limit, no_choices}
 use Rattle.h3_proto.specs.declared.config.Choices.{Choices}
@@ -10,6 +10,7 @@ use Rattle.h3_connection.specs.AnnouncingLaws.{announced_as}
 use Rattle.h3_connection.specs.declared.setup.Announced.{Announced}
 use Rattle.h3_connection.specs.declared.setup.Limits.{Limits}
 use Rattle.h3_connection.specs.declared.setup.NewError.{NewError}
+use Rattle.h3_world.specs.MadeLaws.{is_made}
 use Rattle.h3_world.specs.Setup.{both, announced_at, IsMade, IsMadeSetup, IsPlain, JudgesPlainly}
 use Rattle.h3_world.specs.declared.setup.Setup.{Setup}
 use Rattle.h3_world.specs.declared.event.Event.{Event}
@@ -24,14 +25,8 @@ IsSide a = IsMade a × IsPlain a
 side_by : (section : ℕ) (limits : Limits) (a : Announced) → announced_by (announced (config_of section) 0) limits no_choices ≡ Ok a → IsSide a
 side_by section limits a h =
     let made = announced_as (announced (config_of section) 0) limits no_choices a h in
-    let same : a.limits ≡ limits = ap (λ (x : Announced). x.limits) made.announced in
     let chosen : a.choices ≡ no_choices = ap (λ (x : Announced). x.choices) made.announced in (
-      record {
-        config = config_of section;
-        grease = 0;
-        small = omega arith;
-        made = subst (λ l. announced_by (announced (config_of section) 0) l no_choices ≡ Ok a) (sym same) h;
-      },
+      is_made (config_of section) limits 0 a (omega arith) h,
       (ap (λ (c : Choices). c.strict_messages) chosen, ap (λ (c : Choices). is_limit c.unfinished_limit) chosen),
     )
 

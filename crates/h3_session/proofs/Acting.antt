@@ -6,7 +6,7 @@ use Rattle.h3_connection.specs.SendingContracts.{Opens, SendsHead, SendsBody, Se
 use Rattle.h3_connection.specs.ReceivingContracts.{PullsNext}
 use Rattle.h3_connection.specs.State.{EndpointState}
 use Rattle.h3_connection.specs.declared.event.Refusal.TheVariants as refusal
-use Rattle.h3_world.specs.Headline.{is_memory}
+use Rattle.h3_world.specs.Headline.{is_out_of_memory}
 use Rattle.h3_world.specs.declared.event.Answer.{Answer}
 use Rattle.h3_world.specs.declared.event.Answer.TheVariants as answer
 use Rattle.h3_world.specs.declared.event.Event.{Event}
@@ -49,7 +49,7 @@ not_shared Server id bytes client server = (inr (refl, refl), refl)
 
 -- of which nothing is said where memory is not refused
 unshared : (e : Event) (client server : EndpointState) (given : Answer) (client_after server_after : EndpointState) → given ≡ answer.Refused refusal.OutOfMemory → AnswersEvent e client server given client_after server_after
-unshared e client server given client_after server_after is ends c s not_memory = absurd (cc (subst (λ a. is_memory a ≡ false) is not_memory))
+unshared e client server given client_after server_after is ends c s not_memory = absurd (cc (subst (λ a. is_out_of_memory a ≡ false) is not_memory))
 
 client_shares : (id : ℕ) (bytes : List ℕ) (client server : EndpointState) (given : Answer) (client_after server_after : EndpointState) → SendsShared id bytes client client_after given → server_after ≡ server
     → AnswersEvent (event.Body Client id bytes) client server given client_after server_after

@@ -11,7 +11,7 @@ use Rattle.h3_connection.specs.declared.event.Fault.TheVariants as fault
 use Rattle.h3_connection.specs.declared.event.Pull.{Pull}
 use Rattle.h3_connection.specs.declared.event.Pull.TheVariants as pull
 use Rattle.h3_world.specs.Ends.{Ends, end_at, with_end}
-use Rattle.h3_world.specs.Headline.{is_memory}
+use Rattle.h3_world.specs.Headline.{is_out_of_memory}
 use Rattle.h3_world.specs.declared.event.Answer.{Answer}
 use Rattle.h3_world.specs.declared.event.Answer.TheVariants as answer
 use Rattle.h3_world.specs.declared.event.Event.TheVariants as event
@@ -56,16 +56,16 @@ module _ (ends : Ends) (side : Side) (id : ℕ) (old new : EndpointState) where
             };
           }
 
-  pulled_lacks : StandsFor old (end_at ends side) → (p : Pull) → PullsNext old new id p → is_memory (answer.Pulled p) ≡ true → OneLacks ends side (event.Pull side id) (answer.Pulled p) new
+  pulled_lacks : StandsFor old (end_at ends side) → (p : Pull) → PullsNext old new id p → is_out_of_memory (answer.Pulled p) ≡ true → OneLacks ends side (event.Pull side id) (answer.Pulled p) new
   pulled_lacks stands (pull.Fault fault.Memory) h memory = let x = fault_lacks stands h in record { after = x.after; stands = x.stands; lacks = x.lacks }
   pulled_lacks stands p h memory = absurd (cc)
 
-  pub pull_lacks : (a : Answer) → Tells answer.Pulled (λ s t p. PullsNext s t id p) old new a → StandsFor old (end_at ends side) → is_memory a ≡ true → OneLacks ends side (event.Pull side id) a new
+  pub pull_lacks : (a : Answer) → Tells answer.Pulled (λ s t p. PullsNext s t id p) old new a → StandsFor old (end_at ends side) → is_out_of_memory a ≡ true → OneLacks ends side (event.Pull side id) a new
   pull_lacks a h stands memory = tells_lacks answer.Pulled (λ s t p. PullsNext s t id p) ends side (event.Pull side id) old new a h memory (pulled_lacks stands)
 
-  listed_lacks : StandsFor old (end_at ends side) → (l : ListPull) → PullsNext old new id (pull_of l) → is_memory (answer.Listed l) ≡ true → OneLacks ends side (event.PullFields side id) (answer.Listed l) new
+  listed_lacks : StandsFor old (end_at ends side) → (l : ListPull) → PullsNext old new id (pull_of l) → is_out_of_memory (answer.Listed l) ≡ true → OneLacks ends side (event.PullFields side id) (answer.Listed l) new
   listed_lacks stands (list.Fault fault.Memory) h memory = let x = fault_lacks stands h in record { after = x.after; stands = x.stands; lacks = x.lacks }
   listed_lacks stands l h memory = absurd (cc)
 
-  pub lists_lack : (a : Answer) → Tells answer.Listed (λ s t l. PullsList s t id l) old new a → StandsFor old (end_at ends side) → is_memory a ≡ true → OneLacks ends side (event.PullFields side id) a new
+  pub lists_lack : (a : Answer) → Tells answer.Listed (λ s t l. PullsList s t id l) old new a → StandsFor old (end_at ends side) → is_out_of_memory a ≡ true → OneLacks ends side (event.PullFields side id) a new
   lists_lack a h stands memory = tells_lacks answer.Listed (λ s t l. PullsList s t id l) ends side (event.PullFields side id) old new a h memory (λ l called. listed_lacks stands l called.pulls)

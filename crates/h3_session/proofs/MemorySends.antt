@@ -17,7 +17,7 @@ use Rattle.h3_connection.specs.State.{EndpointState, StandsFor}
 use Rattle.h3_connection.specs.declared.event.Refusal.{Refusal}
 use Rattle.h3_connection.specs.declared.event.Refusal.TheVariants as refusal
 use Rattle.h3_world.specs.Ends.{Ends, end_at, with_end}
-use Rattle.h3_world.specs.Headline.{is_memory}
+use Rattle.h3_world.specs.Headline.{is_out_of_memory}
 use Rattle.h3_world.specs.declared.event.Answer.{Answer}
 use Rattle.h3_world.specs.declared.event.Answer.TheVariants as answer
 use Rattle.h3_world.specs.declared.event.Event.{Event}
@@ -50,14 +50,14 @@ pub one_unchanged : (ends : Ends) (side : Side) (e : Event) (a : Answer) (new : 
 one_unchanged ends side e a new stands lacks = record { after = end_at ends side; stands = stands; lacks = subst (λ v. LacksMemory ends e a v) (sym (with_same ends side)) lacks }
 
 -- The answer, by the result.
-pub tells_lacks : {R : Type 0} (told : R → Answer) (call : EndpointState → EndpointState → R → Type 0) (ends : Ends) (side : Side) (e : Event) (old new : EndpointState) (a : Answer) → Tells told call old new a → is_memory a ≡ true
-    → ((r : R) → call old new r → is_memory (told r) ≡ true → OneLacks ends side e (told r) new) → OneLacks ends side e a new
+pub tells_lacks : {R : Type 0} (told : R → Answer) (call : EndpointState → EndpointState → R → Type 0) (ends : Ends) (side : Side) (e : Event) (old new : EndpointState) (a : Answer) → Tells told call old new a → is_out_of_memory a ≡ true
+    → ((r : R) → call old new r → is_out_of_memory (told r) ≡ true → OneLacks ends side e (told r) new) → OneLacks ends side e a new
 tells_lacks told call ends side e old new a h memory lacks =
-    subst (λ v. OneLacks ends side e v new) (sym h.given_is) (lacks h.result h.called (subst (λ v. is_memory v ≡ true) h.given_is memory))
+    subst (λ v. OneLacks ends side e v new) (sym h.given_is) (lacks h.result h.called (subst (λ v. is_out_of_memory v ≡ true) h.given_is memory))
 
 -- An answer of refused memory is the refusal `OutOfMemory`, since the rules have none.
-by_refusal : (ends : Ends) (side : Side) (e : Event) (new : EndpointState) (success : Answer) (refused rules : Option Refusal) → is_memory success ≡ false → TellsNoMemory rules → (refused ≢ Some refusal.OutOfMemory → refused ≡ rules)
-    → (refused ≡ Some refusal.OutOfMemory → OneLacks ends side e (answer.Refused refusal.OutOfMemory) new) → is_memory (answer_of success refused) ≡ true → OneLacks ends side e (answer_of success refused) new
+by_refusal : (ends : Ends) (side : Side) (e : Event) (new : EndpointState) (success : Answer) (refused rules : Option Refusal) → is_out_of_memory success ≡ false → TellsNoMemory rules → (refused ≢ Some refusal.OutOfMemory → refused ≡ rules)
+    → (refused ≡ Some refusal.OutOfMemory → OneLacks ends side e (answer.Refused refusal.OutOfMemory) new) → is_out_of_memory (answer_of success refused) ≡ true → OneLacks ends side e (answer_of success refused) new
 by_refusal ends side e new success None rules plain tells by_rules lacks memory = absurd (cc)
 by_refusal ends side e new success (Some r) rules plain tells by_rules lacks memory = by (memory_refusals r memory)
   where
@@ -114,8 +114,8 @@ list_cut_off ends side old new id fields (Some r) may short cut same stands = ab
 
 module _ (act : EndpointHistory → Option Refusal × EndpointHistory) (ends : Ends) (side : Side) (e : Event) (old new : EndpointState) (success : Answer) (refused : Option Refusal) where
   -- a list that goes out as it is
-  list_lacks : (id : ℕ) (fields : List Field) → SendsList act old new id fields refused → StandsFor old (end_at ends side) → is_memory success ≡ false → TellsNoMemory (act (end_at ends side)).0
-      → ((after : Ends) → CutsList (act (end_at ends side)).0 ends side id fields after → LacksMemory ends e (answer.Refused refusal.OutOfMemory) after) → is_memory (answer_of success refused) ≡ true
+  list_lacks : (id : ℕ) (fields : List Field) → SendsList act old new id fields refused → StandsFor old (end_at ends side) → is_out_of_memory success ≡ false → TellsNoMemory (act (end_at ends side)).0
+      → ((after : Ends) → CutsList (act (end_at ends side)).0 ends side id fields after → LacksMemory ends e (answer.Refused refusal.OutOfMemory) after) → is_out_of_memory (answer_of success refused) ≡ true
       → OneLacks ends side e (answer_of success refused) new
   list_lacks id fields h stands plain tells lacks =
       by_refusal ends side e new success refused (act (end_at ends side)).0 plain tells (λ other. (h.done (end_at ends side) stands other).0)
@@ -124,20 +124,20 @@ module _ (act : EndpointHistory → Option Refusal × EndpointHistory) (ends : E
       record { after = x.after; stands = x.stands; lacks = lacks (with_end ends side x.after) x.cuts })
 
   -- a call that changes nothing where memory is refused
-  does_or_lacks : DoesOrRefuses act old new refused → StandsFor old (end_at ends side) → is_memory success ≡ false → TellsNoMemory (act (end_at ends side)).0
-      → ((act (end_at ends side)).0 ≡ None → LacksMemory ends e (answer.Refused refusal.OutOfMemory) ends) → is_memory (answer_of success refused) ≡ true → OneLacks ends side e (answer_of success refused) new
+  does_or_lacks : DoesOrRefuses act old new refused → StandsFor old (end_at ends side) → is_out_of_memory success ≡ false → TellsNoMemory (act (end_at ends side)).0
+      → ((act (end_at ends side)).0 ≡ None → LacksMemory ends e (answer.Refused refusal.OutOfMemory) ends) → is_out_of_memory (answer_of success refused) ≡ true → OneLacks ends side e (answer_of success refused) new
   does_or_lacks h stands plain tells lacks =
       by_refusal ends side e new success refused (act (end_at ends side)).0 plain tells (λ other. (h.done (end_at ends side) stands other).0)
       (λ out. one_unchanged ends side e (answer.Refused refusal.OutOfMemory) new (stands_unchanged old new (end_at ends side) (h.same (λ none. absurd (cc))) stands) (lacks (h.memory (end_at ends side) stands out)))
 
   -- a call that takes no memory
-  does_always : DoesAlways act old new refused → StandsFor old (end_at ends side) → is_memory success ≡ false → TellsNoMemory (act (end_at ends side)).0 → is_memory (answer_of success refused) ≡ true → OneLacks ends side e (answer_of success refused) new
+  does_always : DoesAlways act old new refused → StandsFor old (end_at ends side) → is_out_of_memory success ≡ false → TellsNoMemory (act (end_at ends side)).0 → is_out_of_memory (answer_of success refused) ≡ true → OneLacks ends side e (answer_of success refused) new
   does_always h stands plain tells =
       by_refusal ends side e new success refused (act (end_at ends side)).0 plain tells (λ other. (h.done (end_at ends side) stands).0) (λ out. absurd (h.memory out))
 
   -- a section, of which insertions may be left
-  section_lacks : (id : ℕ) (fields : List Field) → SendsSection act old new id fields refused → StandsFor old (end_at ends side) → is_memory success ≡ false → TellsNoMemory (act (end_at ends side)).0
-      → ((after : Ends) → CutsSection (act (end_at ends side)).0 ends side id fields after → LacksMemory ends e (answer.Refused refusal.OutOfMemory) after) → is_memory (answer_of success refused) ≡ true
+  section_lacks : (id : ℕ) (fields : List Field) → SendsSection act old new id fields refused → StandsFor old (end_at ends side) → is_out_of_memory success ≡ false → TellsNoMemory (act (end_at ends side)).0
+      → ((after : Ends) → CutsSection (act (end_at ends side)).0 ends side id fields after → LacksMemory ends e (answer.Refused refusal.OutOfMemory) after) → is_out_of_memory (answer_of success refused) ≡ true
       → OneLacks ends side e (answer_of success refused) new
   section_lacks id fields h stands plain tells lacks =
       by_refusal ends side e new success refused (act (end_at ends side)).0 plain tells (λ other. (h.done (end_at ends side) stands other).0)
@@ -147,14 +147,14 @@ module _ (act : EndpointHistory → Option Refusal × EndpointHistory) (ends : E
 
 module _ (ends : Ends) (side : Side) (old new : EndpointState) (a : Answer) where
   abbrev Lacks : Event → Type 0
-  Lacks e = StandsFor old (end_at ends side) → is_memory a ≡ true → OneLacks ends side e a new
+  Lacks e = StandsFor old (end_at ends side) → is_out_of_memory a ≡ true → OneLacks ends side e a new
 
   pub open_lacks : Tells opened_answer Opens old new a → Lacks (event.OpenRequest side)
   open_lacks h stands memory =
       tells_lacks opened_answer Opens ends side (event.OpenRequest side) old new a h memory by_result
     where
       -- the answer is that of another call which would have had success
-      by_result : (r : Result ℕ Refusal) → Opens old new r → is_memory (opened_answer r) ≡ true → OneLacks ends side (event.OpenRequest side) (opened_answer r) new
+      by_result : (r : Result ℕ Refusal) → Opens old new r → is_out_of_memory (opened_answer r) ≡ true → OneLacks ends side (event.OpenRequest side) (opened_answer r) new
       by_result (Ok id) called tells = absurd (cc)
       by_result (Err e) called tells =
           does_or_lacks sender.open_request ends side (event.OpenRequest side) old new answer.Done (Some e) called.opens stands refl (open_tells (end_at ends side)) (λ none. (none, refl)) tells

@@ -5,7 +5,7 @@ use Rattle.h3_proto.specs.declared.stream.Side.TheVariants.{Client, Server}
 use Rattle.h3_connection.specs.OwnIds.{other}
 use Rattle.h3_connection.specs.State.{EndpointState, StandsFor}
 use Rattle.h3_world.specs.Ends.{Ends, end_at, with_end, answered}
-use Rattle.h3_world.specs.Headline.{is_memory}
+use Rattle.h3_world.specs.Headline.{is_out_of_memory}
 use Rattle.h3_world.specs.declared.event.Answer.{Answer}
 use Rattle.h3_world.specs.declared.event.Event.{Event}
 use Rattle.h3_world.specs.declared.event.Event.TheVariants as event
@@ -64,13 +64,13 @@ module _ (ends : Ends) (e : Event) (a : Answer) (client server c s : EndpointSta
       record { new = with_end ends Client x.1.after; lacks = x.1.lacks; client_stands = x.1.stands; server_stands = subst (λ v. StandsFor v ends.server) (sym x.0) server_stands }
 
 -- what an end shows never tells of refused memory
-shown_lacks : (ends : Ends) (side : Side) (old new : EndpointState) (a : Answer) → StandsFor old (end_at ends side) → Shown old a → is_memory a ≡ true → OneLacks ends side (event.Show side) a new
+shown_lacks : (ends : Ends) (side : Side) (old new : EndpointState) (a : Answer) → StandsFor old (end_at ends side) → Shown old a → is_out_of_memory a ≡ true → OneLacks ends side (event.Show side) a new
 shown_lacks ends side old new a stands shown memory =
-    let none : false ≡ true = subst (λ v. is_memory v ≡ true) (shown (end_at ends side) stands) memory in
+    let none : false ≡ true = subst (λ v. is_out_of_memory v ≡ true) (shown (end_at ends side) stands) memory in
     absurd (cc)
 
 -- where memory was refused
-acts_lack : (ends : Ends) (e : Event) (client server : EndpointState) (a : Answer) (c s : EndpointState) → Acts e client server a c s → StandsFor client ends.client → StandsFor server ends.server → is_memory a ≡ true → Lacks ends e a c s
+acts_lack : (ends : Ends) (e : Event) (client server : EndpointState) (a : Answer) (c s : EndpointState) → Acts e client server a c s → StandsFor client ends.client → StandsFor server ends.server → is_out_of_memory a ≡ true → Lacks ends e a c s
 acts_lack ends (event.OpenRequest side) client server a c s h hc hs memory = by_one ends (event.OpenRequest side) a client server c s hc hs side _ h (λ old new stands called. open_lacks ends side old new a called stands memory)
 acts_lack ends (event.Head side id head) client server a c s h hc hs memory = by_one ends (event.Head side id head) a client server c s hc hs side _ h (λ old new stands called. head_lacks ends side old new a id head called stands memory)
 acts_lack ends (event.Fields side id fields) client server a c s h hc hs memory = by_one ends (event.Fields side id fields) a client server c s hc hs side _ h (λ old new stands called. fields_lack ends side old new a id fields called stands memory)
@@ -95,9 +95,9 @@ acts_lack ends (event.PullFields side id) client server a c s h hc hs memory = b
 acts_lack ends (event.Show side) client server a c s h hc hs memory = by_one ends (event.Show side) a client server c s hc hs side _ h (λ old new stands called. shown_lacks ends side old new a stands called.1 memory)
 
 pub acts_step : (ends : Ends) (e : Event) (client server : EndpointState) (a : Answer) (c s : EndpointState) → Acts e client server a c s → StandsFor client ends.client → StandsFor server ends.server → Steps ends e a c s
-acts_step ends e client server a c s h hc hs = by (is_memory a) refl
+acts_step ends e client server a c s h hc hs = by (is_out_of_memory a) refl
   where
-    by : (b : Bool) → is_memory a ≡ b → Steps ends e a c s
+    by : (b : Bool) → is_out_of_memory a ≡ b → Steps ends e a c s
     by false is =
         let x = acts_answers e client server a c s h ends hc hs is in
         record { new = (answered ends e).1; step = subst (λ b. AnswerOf b ends e a (answered ends e).1) (sym is) (x.0, refl); client_stands = x.1; server_stands = x.2 }

@@ -29,14 +29,14 @@ use Rattle.h3_connection.specs.declared.event.Malformation.TheVariants as malfor
 use Rattle.h3_connection.specs.declared.event.Refusal.{Refusal}
 use Rattle.h3_connection.specs.declared.event.Refusal.TheVariants as refusal
 use Rattle.h3_world.specs.EndLists as lists
-use Rattle.h3_world.specs.Headline.{is_memory}
+use Rattle.h3_world.specs.Headline.{is_out_of_memory}
 use Rattle.h3_world.specs.Lists.{unreadable}
 use Rattle.h3_world.specs.Setup.{takes_any}
 use Rattle.h3_world.specs.declared.event.Answer.TheVariants as answer
 
 abbrev pub TellsNoMemory : Option Refusal → Type 0
 TellsNoMemory None = Unit {0}
-TellsNoMemory (Some r) = is_memory (answer.Refused r) ≡ false
+TellsNoMemory (Some r) = is_out_of_memory (answer.Refused r) ≡ false
 
 -- what comes
 closed_tells : (b : Bool) → TellsNoMemory (closed_refusal b)
@@ -224,13 +224,13 @@ goaway_tells e id =
     (unless_closed_tells e.closed _ (if_tells (not (is_client e.side) && not (id % 4 == 0)) (Some refusal.NotRequestId) _ refl (raised_tells id (last_id e.own.goaways))))
 
 -- So a refusal that tells of refused memory is none of the rules'.
-pub not_by_rules : {X : Type 0} (r : Refusal) (o : Option Refusal) → TellsNoMemory o → Some r ≡ o → is_memory (answer.Refused r) ≡ true → X
+pub not_by_rules : {X : Type 0} (r : Refusal) (o : Option Refusal) → TellsNoMemory o → Some r ≡ o → is_out_of_memory (answer.Refused r) ≡ true → X
 not_by_rules r o h is memory =
-    let told : is_memory (answer.Refused r) ≡ false = subst TellsNoMemory (sym is) h in
+    let told : is_out_of_memory (answer.Refused r) ≡ false = subst TellsNoMemory (sym is) h in
     absurd (cc)
 
 -- Two refusals tell of refused memory.
-pub memory_refusals : (r : Refusal) → is_memory (answer.Refused r) ≡ true → (r ≡ refusal.OutOfMemory) ⊎ (r ≡ refusal.Kept)
+pub memory_refusals : (r : Refusal) → is_out_of_memory (answer.Refused r) ≡ true → (r ≡ refusal.OutOfMemory) ⊎ (r ≡ refusal.Kept)
 memory_refusals refusal.OutOfMemory h = inl refl
 memory_refusals refusal.Kept h = inr refl
 memory_refusals r h = absurd (cc)

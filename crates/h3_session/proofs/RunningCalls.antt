@@ -21,7 +21,7 @@ use Rattle.h3_connection.specs.Keeping.{pulls}
 use Rattle.h3_incoming.specs.Answering.{Lists}
 use Rattle.h3_world.specs.EndLists as lists
 use Rattle.h3_world.specs.Ends.{Ends, done}
-use Rattle.h3_world.specs.Headline.{is_memory}
+use Rattle.h3_world.specs.Headline.{is_out_of_memory}
 use Rattle.h3_world.specs.Lists.{list_of, listed_pull, pull_of}
 use Rattle.h3_world.specs.declared.lists.ListItem.TheVariants as listed
 use Rattle.h3_world.specs.declared.lists.ListPull.{ListPull}
@@ -39,17 +39,17 @@ use Rattle.h3_session.proofs.Running.{AnswersEvent, Ended, client_done, server_d
 abbrev Acts : (EndpointHistory → Option Refusal × EndpointHistory) → EndpointState → EndpointState → Option Refusal → Type 0
 Acts act old new refused = (e : EndpointHistory) → StandsFor old e → refused ≢ Some refusal.OutOfMemory → (refused ≡ (act e).0) × StandsFor new (act e).1
 
-no_memory : (success : Answer) (refused : Option Refusal) → is_memory (answer_of success refused) ≡ false → refused ≢ Some refusal.OutOfMemory
-no_memory success refused not_memory is = absurd (cc (subst (λ r. is_memory (answer_of success r) ≡ false) is not_memory))
+no_memory : (success : Answer) (refused : Option Refusal) → is_out_of_memory (answer_of success refused) ≡ false → refused ≢ Some refusal.OutOfMemory
+no_memory success refused not_memory is = absurd (cc (subst (λ r. is_out_of_memory (answer_of success r) ≡ false) is not_memory))
 
 client_acts : (act : EndpointHistory → Option Refusal × EndpointHistory) (client after server : EndpointState) (success : Answer) (refused : Option Refusal) → Acts act client after refused
-    → (ends : Ends) → StandsFor client ends.client → StandsFor server ends.server → is_memory (answer_of success refused) ≡ false
+    → (ends : Ends) → StandsFor client ends.client → StandsFor server ends.server → is_out_of_memory (answer_of success refused) ≡ false
     → Ended (answer_of success refused) after server (done ends Client success (act ends.client))
 client_acts act client after server success refused acts ends c s not_memory =
     let x = acts ends.client c (no_memory success refused not_memory) in client_done ends after server success refused (act ends.client) x.0 x.1 s
 
 server_acts : (act : EndpointHistory → Option Refusal × EndpointHistory) (client server after : EndpointState) (success : Answer) (refused : Option Refusal) → Acts act server after refused
-    → (ends : Ends) → StandsFor client ends.client → StandsFor server ends.server → is_memory (answer_of success refused) ≡ false
+    → (ends : Ends) → StandsFor client ends.client → StandsFor server ends.server → is_out_of_memory (answer_of success refused) ≡ false
     → Ended (answer_of success refused) client after (done ends Server success (act ends.server))
 server_acts act client server after success refused acts ends c s not_memory =
     let x = acts ends.server s (no_memory success refused not_memory) in server_done ends client after success refused (act ends.server) x.0 c x.1
@@ -130,17 +130,17 @@ client_open client after server r h ends c s not_memory =
     let success : Answer = answer.Opened ends.client.next_id in
     let is : opened_answer r ≡ answer_of success (call_refused r) = opened_is success ends.client.next_id r refl (λ id ok. h.id id ok ∙ c.next_id) in
     subst (λ a. Ended a after server (done ends Client success (sender.open_request ends.client))) (sym is)
-    (client_acts (λ e. sender.open_request e) client after server success (call_refused r) h.opens.done ends c s (subst (λ a. is_memory a ≡ false) is not_memory))
+    (client_acts (λ e. sender.open_request e) client after server success (call_refused r) h.opens.done ends c s (subst (λ a. is_out_of_memory a ≡ false) is not_memory))
 
 pub server_open : (client server after : EndpointState) (r : Result ℕ Refusal) → Opens server after r → AnswersEvent (does.OpenRequest Server) client server (opened_answer r) client after
 server_open client server after r h ends c s not_memory =
     let success : Answer = answer.Opened ends.server.next_id in
     let is : opened_answer r ≡ answer_of success (call_refused r) = opened_is success ends.server.next_id r refl (λ id ok. h.id id ok ∙ s.next_id) in
     subst (λ a. Ended a client after (done ends Server success (sender.open_request ends.server))) (sym is)
-    (server_acts (λ e. sender.open_request e) client server after success (call_refused r) h.opens.done ends c s (subst (λ a. is_memory a ≡ false) is not_memory))
+    (server_acts (λ e. sender.open_request e) client server after success (call_refused r) h.opens.done ends c s (subst (λ a. is_out_of_memory a ≡ false) is not_memory))
 
 -- The next item.
-pulled_by : (p : Pull) → is_memory (answer.Pulled p) ≡ false → pull_lacks p ≡ false
+pulled_by : (p : Pull) → is_out_of_memory (answer.Pulled p) ≡ false → pull_lacks p ≡ false
 pulled_by (pull.Item i) h = refl
 pulled_by pull.Pending h = refl
 pulled_by (pull.Waiting count) h = refl
@@ -172,7 +172,7 @@ listed_as came (list.Waiting count) h = refl
 listed_as came (list.Fault fault) h = refl
 listed_as came list.NoMessages h = refl
 
-listed_by : (s new : EndpointState) (id : ℕ) (l : ListPull) → PullsList s new id l → is_memory (answer.Listed l) ≡ false → (e : EndpointHistory) → StandsFor s e
+listed_by : (s new : EndpointState) (id : ℕ) (l : ListPull) → PullsList s new id l → is_out_of_memory (answer.Listed l) ≡ false → (e : EndpointHistory) → StandsFor s e
     → (l ≡ listed_pull (fields_behind e.kept e id) (pulls e id).0) × StandsFor new (pulls e id).1
 listed_by s new id l h not_memory e stands =
     let x = h.pulls.done e stands (pulled_by (pull_of l) not_memory) in

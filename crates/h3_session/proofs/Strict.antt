@@ -8,7 +8,7 @@ use Rattle.h3_world.specs.declared.event.Event.TheVariants as event
 use Rattle.h3_world.specs.declared.setup.Setup.{Setup}
 use Rattle.h3_world.specs.Ends.{Ends, answered, answers_of_ends, ends_after, new_ends}
 use Rattle.h3_world.specs.Few.{AreFew}
-use Rattle.h3_world.specs.Headline.{Happens, is_memory}
+use Rattle.h3_world.specs.Headline.{Happens, is_out_of_memory}
 use Rattle.h3_world.specs.Run.{Run}
 use Rattle.h3_world.specs.Sendable.{IsSendable}
 use Rattle.h3_world.specs.World.{World, empty_world}
@@ -86,7 +86,7 @@ module _ (setup : Setup) (Known : List Event → List Answer → Type 0)
   by_ends events answers sendable is known = subst (λ given. list_any finds_fault given ≡ false) (sym is) (finds_none events sendable (subst (Known events) is known))
 
   pub front_finds_none : (events : List Event) (answers : List Answer) → AllByRecursion IsTyped events → AnswersEach (new_ends setup) events answers → AreFew setup events
-      → (n : ℕ) → list_any is_memory (take n answers) ≡ false → Known (take n events) (take n answers) → list_any finds_fault (take n answers) ≡ false
+      → (n : ℕ) → list_any is_out_of_memory (take n answers) ≡ false → Known (take n events) (take n answers) → list_any finds_fault (take n answers) ≡ false
   front_finds_none events answers typed h few = λ n not_memory known.
       by_ends (take n events) (take n answers) (front_of_all (IsSendable setup) n events (few_are_sendable setup events typed few)) (h.until_memory n not_memory) known
 

@@ -17,7 +17,7 @@ use Rattle.h3_world.specs.declared.event.Answer.TheVariants as answer
 use Rattle.h3_world.specs.declared.lists.ListPull.{ListPull}
 use Rattle.h3_world.specs.Delivering.{reset_code}
 use Rattle.h3_world.specs.Ends.{Ends}
-use Rattle.h3_world.specs.Headline.{is_memory}
+use Rattle.h3_world.specs.Headline.{is_out_of_memory}
 use Rattle.h3_world.specs.Lists.{list_of, pull_of}
 use Rattle.h3_session.specs.Listing.{ListsNext}
 use Rattle.h3_session.specs.SendingLists.{SendsFieldList, SendsTrailerList}
@@ -75,16 +75,16 @@ HasReset id w = is_reset w id ≡ true
 -- Bytes go over. Memory is refused where so many wait: for a copy of them, and then nothing has changed, or by the delivery.
 pub record CarriesBytes (id count : ℕ) (writer reader : EndpointState) (given : Answer) (writer_after reader_after : EndpointState) : Type 0 where
   pub goes : Carries (λ w r. bytes_go w r id count) writer reader given writer_after reader_after
-  pub there : is_memory given ≡ true → (w : EndpointHistory) → StandsFor writer w → HasBytes id count w
-  pub lacks : is_memory given ≡ true
+  pub there : is_out_of_memory given ≡ true → (w : EndpointHistory) → StandsFor writer w → HasBytes id count w
+  pub lacks : is_out_of_memory given ≡ true
       → OffersFront id count writer reader given writer_after reader_after ⊎ ((given ≡ answer.Refused refusal.OutOfMemory) × (writer_after ≡ writer) × (reader_after ≡ reader))
 
 -- An end or a reset goes over, and the writer is as it was. Memory is refused by the delivery alone, of what is there.
 pub record CarriesTold (goes_over : EndpointHistory → EndpointHistory → Carried) (has : EndpointHistory → Type 0) (delivery : EndpointState → EndpointState → Result Unit DeliverError → Type 0) (writer reader : EndpointState) (given : Answer) (writer_after reader_after : EndpointState) : Type 0 where
   pub goes : Carries goes_over writer reader given writer_after reader_after
   pub same : writer_after ≡ writer
-  pub there : is_memory given ≡ true → (w : EndpointHistory) → StandsFor writer w → has w
-  pub lacks : is_memory given ≡ true → Tells told_answer delivery reader reader_after given
+  pub there : is_out_of_memory given ≡ true → (w : EndpointHistory) → StandsFor writer w → has w
+  pub lacks : is_out_of_memory given ≡ true → Tells told_answer delivery reader reader_after given
 
 abbrev pub CarriesEnd : ℕ → EndpointState → EndpointState → Answer → EndpointState → EndpointState → Type 0
 CarriesEnd id writer reader given writer_after reader_after = CarriesTold (λ w r. end_goes w r id) (HasEnd id) (λ s t r. DeliversEnd s t id r) writer reader given writer_after reader_after

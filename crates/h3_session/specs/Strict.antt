@@ -6,7 +6,7 @@ use Rattle.h3_world.specs.declared.event.Answer.{Answer}
 use Rattle.h3_world.specs.declared.event.Event.{Event}
 use Rattle.h3_world.specs.declared.setup.Setup.{Setup}
 use Rattle.h3_world.specs.Ends.{Ends, new_ends}
-use Rattle.h3_world.specs.Headline.{Happens, is_memory}
+use Rattle.h3_world.specs.Headline.{Happens, is_out_of_memory}
 use Rattle.h3_world.specs.Run.{Run}
 use Rattle.h3_world.specs.World.{World, empty_world}
 use Rattle.h3_headline.specs.Standing.{Stands}
@@ -25,7 +25,7 @@ pub record RunsWithoutMalformed (setup : Setup) (events : List Event) (answers :
 -- So it is up to the first answer that tells of refused memory, or that a message was found malformed, a frame at the wrong place or too long.
 abbrev pub RunsUntilFault : Setup → List Event → List Answer → Type 0
 RunsUntilFault setup events answers =
-    (n : ℕ) → list_any is_memory (take n answers) ≡ false → list_any finds_fault (take n answers) ≡ false → RunsWithoutMalformed setup (take n events) (take n answers)
+    (n : ℕ) → list_any is_out_of_memory (take n answers) ≡ false → list_any finds_fault (take n answers) ≡ false → RunsWithoutMalformed setup (take n events) (take n answers)
 
 -- So it is of all events, and these endpoints stand for ends that, without strict messages, stand in the world that the run leads to.
 pub record RunsFaultless (setup : Setup) (events : List Event) (answers : List Answer) (client server : EndpointState) : Type 0 where
@@ -39,5 +39,5 @@ pub record RunsFaultless (setup : Setup) (events : List Event) (answers : List A
 -- what was sent before the reader's settings came is within its limit.
 abbrev pub FindsNoFault : Setup → List Event → List Answer → Type 0
 FindsNoFault setup events answers =
-    (n : ℕ) → list_any is_memory (take n answers) ≡ false → ServerKnows (take n events) (take n answers) → EarlyAreTaken setup (new_ends setup) (take n events) →
+    (n : ℕ) → list_any is_out_of_memory (take n answers) ≡ false → ServerKnows (take n events) (take n answers) → EarlyAreTaken setup (new_ends setup) (take n events) →
     (list_any finds_fault (take n answers) ≡ false) × RunsWithoutMalformed setup (take n events) (take n answers)

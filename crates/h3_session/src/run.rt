@@ -3,7 +3,7 @@ ghost use Rattle.std.specs.Prelude.{◌≡◌, ◌<◌, false, Ok, IfOk};
 ghost use Rattle.std.specs.List.{list_any};
 ghost use Rattle.h3_world.specs.Ends.{new_ends};
 ghost use Rattle.h3_world.specs.Few.{AreFew};
-ghost use Rattle.h3_world.specs.Headline.{is_memory};
+ghost use Rattle.h3_world.specs.Headline.{is_out_of_memory};
 ghost use Rattle.h3_world.specs.Setup.{IsMadeSetup, JudgesPlainly};
 ghost use Rattle.h3_session.specs.Headlines.{RunsInKeepingWorld, RunsInWorld, RunsUntilMemory};
 ghost use Rattle.h3_session.specs.Messages.{HandsOutAlways};
@@ -137,15 +137,15 @@ pub fn run(alloc: Global, setup: Setup, events: &[Event]) -> Result<Outcome, All
     ensures messages { IfOk result (λ out. AreFew setup events.now → JudgesPlainly setup → HandsOutAlways setup events.now out.answers.items) }
     ensures front { IfOk result (λ out. AreFew setup events.now → JudgesPlainly setup → RunsUntilMemory setup events.now out.answers.items) }
     ensures memory { IfOk result (λ out. AreFew setup events.now → JudgesPlainly setup → RunsInKeepingWorld setup events.now out.answers.items out.client out.server) }
-    ensures runs { IfOk result (λ out. list_any is_memory out.answers.items ≡ false →
+    ensures runs { IfOk result (λ out. list_any is_out_of_memory out.answers.items ≡ false →
         RunsTo (new_ends setup) events.now out.answers.items out.client out.server) }
-    ensures headline { IfOk result (λ out. list_any is_memory out.answers.items ≡ false → AreFew setup events.now → JudgesPlainly setup →
+    ensures headline { IfOk result (λ out. list_any is_out_of_memory out.answers.items ≡ false → AreFew setup events.now → JudgesPlainly setup →
         RunsInWorld setup events.now out.answers.items out.client out.server) }
     ensures faultless_front { IfOk result (λ out. AreFew setup events.now → RunsUntilFault setup events.now out.answers.items) }
-    ensures faultless { IfOk result (λ out. list_any is_memory out.answers.items ≡ false → list_any finds_fault out.answers.items ≡ false → AreFew setup events.now →
+    ensures faultless { IfOk result (λ out. list_any is_out_of_memory out.answers.items ≡ false → list_any finds_fault out.answers.items ≡ false → AreFew setup events.now →
         RunsFaultless setup events.now out.answers.items out.client out.server) }
     ensures strict_front { IfOk result (λ out. AreFew setup events.now → AsksForStrict setup → FindsNoFault setup events.now out.answers.items) }
-    ensures strict { IfOk result (λ out. list_any is_memory out.answers.items ≡ false → AreFew setup events.now → AsksForStrict setup → ServerKnows events.now out.answers.items →
+    ensures strict { IfOk result (λ out. list_any is_out_of_memory out.answers.items ≡ false → AreFew setup events.now → AsksForStrict setup → ServerKnows events.now out.answers.items →
         EarlyAreTaken setup (new_ends setup) events.now → (list_any finds_fault out.answers.items ≡ false) × RunsFaultless setup events.now out.answers.items out.client out.server) }
 {
     two_endpoints_run_in_a_world();

@@ -13,7 +13,8 @@ use Rattle.h3_world.specs.World.{World, empty_world}
 use Rattle.h3_world.specs.declared.event.Answer.{Answer}
 use Rattle.h3_world.specs.declared.event.Event.{Event}
 use Rattle.h3_world.specs.declared.setup.Setup.{Setup}
-use Rattle.h3_headline.specs.Messages.{IsAllOf, IsFrontOf, Reader, has_finished, has_pulled_end, pulled, reader_at, sent}
+use Rattle.h3_headline.specs.Exactly.{IsAllOf, IsExactly, Reader, reader_at}
+use Rattle.h3_headline.specs.Messages.{IsFrontOf, has_finished, has_pulled_end, pulled, sent}
 use Rattle.h3_headline.specs.Standing.{Stands}
 use Rattle.h3_strict.proofs.LimitSetups.{setup_unlimited, unlimited_plainly, unlimited_strictly}
 use Rattle.h3_strict.proofs.PlainHeadlines.{RunInWorlds}
@@ -29,11 +30,11 @@ same_reader setup Server = refl
 
 -- what a side is handed out of a stream, as its answers tell
 abbrev pub HandsFront : Reader → Side → ℕ → List Event → List Answer → Type 0
-HandsFront r side id events answers = IsFrontOf r (pulled side id events answers) (sent (other side) id events answers)
+HandsFront r side id events answers = IsFrontOf (IsExactly r) (pulled side id events answers) (sent (other side) id events answers)
 
 abbrev pub HandsAll : Reader → Side → ℕ → List Event → List Answer → Type 0
 HandsAll r side id events answers =
-    has_pulled_end side id events answers ≡ true → IsAllOf r (pulled side id events answers) (sent (other side) id events answers) × (has_finished (other side) id events answers ≡ true)
+    has_pulled_end side id events answers ≡ true → IsAllOf (IsExactly r) (pulled side id events answers) (sent (other side) id events answers) × (has_finished (other side) id events answers ≡ true)
 
 -- h3_headline's laws
 abbrev pub NoFaults : Type 0

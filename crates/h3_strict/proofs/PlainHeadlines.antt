@@ -13,7 +13,8 @@ use Rattle.h3_world.specs.World.{World, empty_world}
 use Rattle.h3_world.specs.declared.event.Answer.{Answer}
 use Rattle.h3_world.specs.declared.event.Event.{Event}
 use Rattle.h3_world.specs.declared.setup.Setup.{Setup}
-use Rattle.h3_headline.specs.Messages.{IsAllOf, IsFrontOf, MessageContent, Reader, has_finished, has_pulled_end, pulled, reader_at, sent}
+use Rattle.h3_headline.specs.Exactly.{IsAllOf, IsExactly, Reader, reader_at}
+use Rattle.h3_headline.specs.Messages.{IsFrontOf, MessageContent, has_finished, has_pulled_end, pulled, sent}
 use Rattle.h3_headline.specs.Standing.{Stands}
 use Rattle.h3_strict.specs.PlainEnds.{RunsPlainly, answers_without_malformed, plain_ends, plain_setup, without_malformed}
 use Rattle.h3_strict.proofs.PlainMessages.{same_ended, same_faults, same_finished, same_pulled, same_sent, sendable_left}
@@ -68,15 +69,15 @@ module _ (setup : Setup) (events : List Event) (made : IsMadeSetup setup) (senda
         subst (λ r. P r (pulled side id events given) (sent (other side) id events given)) (same_reader setup side)
         (subst (λ l. P (reader_at (plain_setup setup) side) l (sent (other side) id events given)) same_front (subst (λ l. P (reader_at (plain_setup setup) side) (pulled side id left plain_answers) l) same_all h))
 
-    pub hands_out_a_front : IsFrontOf (reader_at (plain_setup setup) side) (pulled side id left plain_answers) (sent (other side) id left plain_answers)
-        → IsFrontOf (reader_at setup side) (pulled side id events (answers_of_ends (new_ends setup) events)) (sent (other side) id events (answers_of_ends (new_ends setup) events))
-    hands_out_a_front h = same_messages (λ r handed all. IsFrontOf r handed all) h
+    pub hands_out_a_front : IsFrontOf (IsExactly (reader_at (plain_setup setup) side)) (pulled side id left plain_answers) (sent (other side) id left plain_answers)
+        → IsFrontOf (IsExactly (reader_at setup side)) (pulled side id events (answers_of_ends (new_ends setup) events)) (sent (other side) id events (answers_of_ends (new_ends setup) events))
+    hands_out_a_front h = same_messages (λ r handed all. IsFrontOf (IsExactly r) handed all) h
 
     pub hands_out_all : (has_pulled_end side id left plain_answers ≡ true
-        → IsAllOf (reader_at (plain_setup setup) side) (pulled side id left plain_answers) (sent (other side) id left plain_answers) × (has_finished (other side) id left plain_answers ≡ true))
+        → IsAllOf (IsExactly (reader_at (plain_setup setup) side)) (pulled side id left plain_answers) (sent (other side) id left plain_answers) × (has_finished (other side) id left plain_answers ≡ true))
         → has_pulled_end side id events (answers_of_ends (new_ends setup) events) ≡ true
-        → IsAllOf (reader_at setup side) (pulled side id events (answers_of_ends (new_ends setup) events)) (sent (other side) id events (answers_of_ends (new_ends setup) events))
+        → IsAllOf (IsExactly (reader_at setup side)) (pulled side id events (answers_of_ends (new_ends setup) events)) (sent (other side) id events (answers_of_ends (new_ends setup) events))
         × (has_finished (other side) id events (answers_of_ends (new_ends setup) events) ≡ true)
     hands_out_all h ended =
         let all = h (ap (has_pulled_end side id left) (sym runs.answers) ∙ same_ended side id events given ∙ ended) in
-        (same_messages (λ r handed all. IsAllOf r handed all) all.0, sym (same_finished (other side) id events given) ∙ ap (has_finished (other side) id left) runs.answers ∙ all.1)
+        (same_messages (λ r handed all. IsAllOf (IsExactly r) handed all) all.0, sym (same_finished (other side) id events given) ∙ ap (has_finished (other side) id left) runs.answers ∙ all.1)

@@ -3,6 +3,7 @@
 use Rattle.std.proofs.Common.{◌≡◌, List, Option, refl}
 use Rattle.h3_field.specs.Field.{Field}
 use Rattle.h3_connection.specs.declared.event.Item.TheVariants as item
+use Rattle.h3_connection.specs.declared.event.Fault.TheVariants as fault
 use Rattle.h3_connection.specs.declared.event.Pull.{Pull}
 use Rattle.h3_connection.specs.declared.event.Pull.TheVariants as pull
 use Rattle.h3_world.specs.Headline.{is_connection_fault}
@@ -50,5 +51,7 @@ faults_same o (pull.Item (item.Raw bytes)) = refl
 faults_same o (pull.Item item.End) = refl
 faults_same o pull.Pending = refl
 faults_same o (pull.Waiting count) = refl
-faults_same o (pull.Fault fault) = refl
+faults_same o (pull.Fault (fault.Connection code)) = refl
+faults_same o (pull.Fault (fault.Stream why)) = refl
+faults_same o (pull.Fault fault.Memory) = refl
 faults_same o pull.NoMessages = refl

@@ -74,17 +74,18 @@ pub fn strict_endpoints_run_in_a_world()
 ghost use Rattle.std.specs.Prelude.{ℕ, true};
 ghost use Rattle.h3_connection.specs.OwnIds.{other};
 ghost use Rattle.h3_world.specs.Headline.{is_connection_fault};
-ghost use Rattle.h3_headline.specs.Messages.{IsAllOf, IsFrontOf, has_finished, has_pulled_end, pulled, reader_at, sent};
+ghost use Rattle.h3_headline.specs.Exactly.{IsAllOf, IsExactly, reader_at};
+ghost use Rattle.h3_headline.specs.Messages.{IsFrontOf, has_finished, has_pulled_end, pulled, sent};
 
 /// By their own answers, with no world in view: in such a schedule no answer tells of a connection fault. What a side pulled from a stream
 /// is a front of what the other side sent on it, and all of that with the end.
 pub fn strict_endpoints_hand_out_what_was_sent()
     ensures fault { (setup : Setup) (events : List Event) → IsMadeSetup setup → AllByRecursion (IsSendable setup) events → RunsPlainly (new_ends setup) events → list_any is_connection_fault (answers_of_ends (new_ends setup) events) ≡ false }
     ensures front { (setup : Setup) (events : List Event) (side : Side) (id : ℕ) → IsMadeSetup setup → AllByRecursion (IsSendable setup) events → RunsPlainly (new_ends setup) events →
-        IsFrontOf (reader_at setup side) (pulled side id events (answers_of_ends (new_ends setup) events)) (sent (other side) id events (answers_of_ends (new_ends setup) events)) }
+        IsFrontOf (IsExactly (reader_at setup side)) (pulled side id events (answers_of_ends (new_ends setup) events)) (sent (other side) id events (answers_of_ends (new_ends setup) events)) }
     ensures end { (setup : Setup) (events : List Event) (side : Side) (id : ℕ) → IsMadeSetup setup → AllByRecursion (IsSendable setup) events → RunsPlainly (new_ends setup) events →
         has_pulled_end side id events (answers_of_ends (new_ends setup) events) ≡ true →
-        IsAllOf (reader_at setup side) (pulled side id events (answers_of_ends (new_ends setup) events)) (sent (other side) id events (answers_of_ends (new_ends setup) events))
+        IsAllOf (IsExactly (reader_at setup side)) (pulled side id events (answers_of_ends (new_ends setup) events)) (sent (other side) id events (answers_of_ends (new_ends setup) events))
         × (has_finished (other side) id events (answers_of_ends (new_ends setup) events) ≡ true) }
 {
     h3_headline::parts::endpoints_hand_out_what_was_sent();

@@ -6,7 +6,7 @@ use Rattle.h3_script.specs.Inputs.{HasRead, ReadsScript, LosesInput}
 use Rattle.h3_script.specs.Lines.{printed}
 use Rattle.h3_script.specs.Script.{IsScript}
 use Rattle.h3_world.specs.Ends.{new_ends, answers_of_ends}
-use Rattle.h3_world.specs.Headline.{Happens, is_memory}
+use Rattle.h3_world.specs.Headline.{Happens, is_out_of_memory}
 use Rattle.h3_world.specs.Run.{Run}
 use Rattle.h3_world.specs.World.{World, empty_world}
 use Rattle.h3_world.specs.declared.setup.Setup.{Setup}
@@ -33,7 +33,7 @@ pub record AnswersTo (setup : Setup) (events : List Event) (answers : List Answe
   pub each : AnswersEach (new_ends setup) events answers
   pub front : RunsUntilMemory setup events answers
   pub messages : HandsOutAlways setup events answers
-  pub whole : list_any is_memory answers ≡ false → AreAnswers setup events answers
+  pub whole : list_any is_out_of_memory answers ≡ false → AreAnswers setup events answers
   pub world : KeepingWorld
   pub run : Run (HappensWithMemory setup) (nothing_kept (empty_world setup)) events answers world
 

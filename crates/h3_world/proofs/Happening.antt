@@ -28,6 +28,7 @@ use Rattle.h3_world.specs.declared.event.Event.TheVariants as event
 use Rattle.h3_world.specs.declared.event.Answer.{Answer}
 use Rattle.h3_world.specs.declared.event.Answer.TheVariants as answer
 use Rattle.h3_world.specs.Setup.{announced_at, takes_any}
+use Rattle.h3_world.specs.ListLaws.{fault_listed}
 use Rattle.h3_world.specs.Lists.{pull_of, unreadable}
 use Rattle.h3_world.specs.Flow.{Flow, Part, flow_bytes, bytes_waiting}
 use Rattle.h3_world.specs.World.{World, Party, party}
@@ -306,7 +307,7 @@ step_well setup w new (event.Pull side id) answer.Early step = absurd step
 step_well setup w new (event.Pull side id) (answer.Shown l t n) step = absurd step
 step_well setup w new (event.Pull side id) (answer.Refused r) step = absurd step
 step_well setup w new (event.Pull side id) (answer.Listed l) step = absurd step
-step_well setup w new (event.PullFields side id) (answer.Listed l) step = pull_well setup w side id (pull_of l) new step.0
+step_well setup w new (event.PullFields side id) (answer.Listed l) step = fault_listed l ∙ pull_well setup w side id (pull_of l) new step.0
 step_well setup w new (event.PullFields side id) (answer.Pulled p) step = absurd step
 step_well setup w new (event.PullFields side id) (answer.Opened n) step = absurd step
 step_well setup w new (event.PullFields side id) answer.Done step = absurd step

@@ -13,6 +13,7 @@ use Rattle.h3_world.specs.declared.event.Event.TheVariants as event
 use Rattle.h3_world.specs.declared.event.Answer.{Answer}
 use Rattle.h3_world.specs.declared.event.Answer.TheVariants as answer
 use Rattle.h3_world.specs.Lists.{pull_of}
+use Rattle.h3_world.specs.declared.lists.ListPull.TheVariants as list
 use Rattle.h3_world.specs.World.{World}
 use Rattle.h3_world.specs.Streams.{flow, waiting}
 use Rattle.h3_world.specs.Order.{next_part, is_finished}
@@ -38,24 +39,20 @@ ComesOut setup w (event.Pull side id) (answer.Pulled p) = PullComesOut setup w s
 ComesOut setup w (event.PullFields side id) (answer.Listed l) = PullComesOut setup w side id (pull_of l)
 ComesOut setup w _ _ = Unit {0}
 
-abbrev pub tells_connection_fault : Pull → Bool
-tells_connection_fault (pull.Fault (fault.Connection code)) = true
-tells_connection_fault _ = false
-
 abbrev pub is_connection_fault : Answer → Bool
-is_connection_fault (answer.Pulled p) = tells_connection_fault p
-is_connection_fault (answer.Listed l) = tells_connection_fault (pull_of l)
+is_connection_fault (answer.Pulled (pull.Fault (fault.Connection code))) = true
+is_connection_fault (answer.Listed (list.Fault (fault.Connection code))) = true
 is_connection_fault (answer.Refused (refusal.Closed code)) = true
 is_connection_fault (answer.Refused (refusal.Connection code)) = true
 is_connection_fault _ = false
 
 -- the answer tells that memory was refused
-abbrev pub is_memory : Answer → Bool
-is_memory (answer.Refused refusal.OutOfMemory) = true
-is_memory (answer.Refused refusal.Kept) = true
-is_memory (answer.Pulled p) = tells_memory p
-is_memory (answer.Listed l) = tells_memory (pull_of l)
-is_memory _ = false
+abbrev pub is_out_of_memory : Answer → Bool
+is_out_of_memory (answer.Refused refusal.OutOfMemory) = true
+is_out_of_memory (answer.Refused refusal.Kept) = true
+is_out_of_memory (answer.Pulled p) = tells_memory p
+is_out_of_memory (answer.Listed l) = tells_memory (pull_of l)
+is_out_of_memory _ = false
 
 -- one step, with all that is said of it
 pub record Happens (setup : Setup) (w : World) (e : Event) (a : Answer) (new : World) : Type 0 where

@@ -24,6 +24,7 @@ pub mod Sound
 pub mod Sendable
 pub mod Few
 pub mod ListLaws
+pub mod MadeLaws
 pub mod Ends
 pub mod WorkedHeads
 pub mod WorkedResponses

@@ -16,15 +16,18 @@ use Rattle.h3_connection.specs.declared.event.Item.{Item}
 use Rattle.h3_connection.specs.declared.event.Item.TheVariants as item
 use Rattle.h3_connection.specs.declared.event.Pull.{Pull}
 use Rattle.h3_connection.specs.declared.event.Pull.TheVariants as pull
+use Rattle.h3_connection.specs.declared.event.Fault.TheVariants as fault
 use Rattle.h3_connection.specs.declared.event.StreamFault.{StreamFault}
 use Rattle.h3_world.specs.declared.setup.Setup.{Setup}
 use Rattle.h3_world.specs.declared.event.Event.TheVariants as event
 use Rattle.h3_world.specs.declared.event.Answer.TheVariants as answer
+use Rattle.h3_world.specs.declared.lists.ListPull.{ListPull}
+use Rattle.h3_world.specs.declared.lists.ListPull.TheVariants as list
 use Rattle.h3_world.specs.Flow.{Flow, Part, Section}
 use Rattle.h3_world.specs.Flow.Part.{Interim, Head, Body, Trailer, End}
-use Rattle.h3_world.specs.Headline.{Happens, PullComesOut, tells_connection_fault}
+use Rattle.h3_world.specs.Headline.{Happens, PullComesOut, is_connection_fault}
 use Rattle.h3_world.specs.Items.{HasCome, IsSectionItem}
-use Rattle.h3_world.specs.Lists.{IsListedAs, as_flagged, listed_pull}
+use Rattle.h3_world.specs.Lists.{IsListedAs, as_flagged, listed_pull, pull_of}
 use Rattle.h3_world.specs.Order.{is_over, next_part, section_of_part}
 use Rattle.h3_world.specs.Pulling.{PausesExactly, Pulls, PullsNext, fault_or, list_next, own_delivered, settled}
 use Rattle.h3_world.specs.Setup.{announced_at, flags_secrets}
@@ -119,6 +122,16 @@ pulls_listed setup w new side id p pulls = by_settled (settled w side id) (settl
     by_settled None none next = by_pull p next
     by_settled (Some q) is next = subst (IsListedAs fields) (sym next.0) is
 
+-- It tells of a connection error where the pull does.
+pub fault_listed : (l : ListPull) → is_connection_fault (answer.Listed l) ≡ is_connection_fault (answer.Pulled (pull_of l))
+fault_listed (list.Item i) = refl
+fault_listed list.Pending = refl
+fault_listed (list.Waiting count) = refl
+fault_listed (list.Fault (fault.Connection code)) = refl
+fault_listed (list.Fault (fault.Stream why)) = refl
+fault_listed (list.Fault fault.Memory) = refl
+fault_listed list.NoMessages = refl
+
 -- **A pull with lists happens where the pull does.**
 pub listed_happens : (setup : Setup) (w new : World) (side : Side) (id : ℕ) (p : Pull) → Happens setup w (event.Pull side id) (answer.Pulled p) new
     → Happens setup w (event.PullFields side id) (answer.Listed (listed_pull (list_next setup w side id) p)) new
@@ -128,6 +141,7 @@ listed_happens setup w new side id p h =
       step = (subst (λ q. Pulls setup w side id q new) (sym is.stands) h.step, is.has);
       exact = subst (λ q. PausesExactly w side id q) (sym is.stands) h.exact;
       comes_out = subst (λ q. PullComesOut setup w side id q) (sym is.stands) h.comes_out;
-      no_connection_fault = ap tells_connection_fault is.stands ∙ h.no_connection_fault;
+      no_connection_fault =
+          fault_listed (listed_pull (list_next setup w side id) p) ∙ ap (λ q. is_connection_fault (answer.Pulled q)) is.stands ∙ h.no_connection_fault;
       within_limits = h.within_limits;
     }

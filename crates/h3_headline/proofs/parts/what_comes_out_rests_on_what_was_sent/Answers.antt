@@ -1,6 +1,6 @@
 use Rattle.std.proofs.Common.{sym, ap, ◌∙◌}
 use Rattle.std.specs.Prelude.{map}
-use Rattle.h3_headline.specs.Messages.{header_of}
+use Rattle.h3_headline.specs.Exactly.{header_of}
 use Rattle.h3_headline.proofs.PulledAndSentLaws.{whole_at}
 use Rattle.h3_headline.proofs.parts.what_comes_out_rests_on_what_was_sent.Goals as goal
 
