@@ -29,7 +29,7 @@ pub record HasInvalidPart (any strict : Bool) (fields : List Field) (bad : BadPa
   pub first : IsFirst (λ f. bad_part any f ≡ None) (λ f. bad_part any f ≡ Some bad) fields index
 
 -- the first field with white space around its value, of a list in which no field is invalid
-pub record HasSpacedValue (any : Bool) (fields : List Field) : Type 0 where
+pub record HasSpacedValue (any strict : Bool) (fields : List Field) : Type 0 where
   pub index : ℕ
-  pub told : invalid_field any true fields ≡ Some index
+  pub told : invalid_field any strict fields ≡ Some index
   pub first : IsFirst (λ f. has_space_around f ≡ false) (λ f. has_space_around f ≡ true) fields index

@@ -1,16 +1,17 @@
 -- A list that is refused for a name or a value has a field that is invalid by itself.
-use Rattle.std.proofs.Common.{◌≡◌, bytes_eq, codes, ℕ, zero, suc, ◌+◌, ◌<◌, Bool, true, false, not, ◌&&◌, ◌||◌, List, [], ◌∷◌, length, take, get_or, Option, Some, None, refl, ap, sym, ◌∙◌, arith, if◌then◌else◌, nat_lt, inl, inr}
+use Rattle.std.proofs.Common.{◌≡◌, bytes_eq, codes, ℕ, zero, suc, ◌+◌, Bool, true, false, not, ◌&&◌, ◌||◌, List, [], ◌∷◌, length, take, Option, Some, None, refl, ap, sym, ◌∙◌, arith, if◌then◌else◌, nat_lt, inl, inr}
 use Rattle.std.specs.Prelude.{All, is_some, ◌⊎◌}
 use Rattle.std.specs.List.{list_any, position, position_or_len}
 use Rattle.std.specs.Option.{option_or}
 use Rattle.std.proofs.lemmas.Bool.{le-ltb, lt-ltb}
 use Rattle.h3_field.specs.Field.{Field}
-use Rattle.h3_header.specs.BadPart.{bad_part, bad_part_at, refusal_of}
+use Rattle.h3_header.specs.BadPart.{bad_part, refusal_of}
 use Rattle.h3_header.specs.Head.{Head, trailer_head}
 use Rattle.h3_header.specs.HeadRead.{HeadRead, HeadRefusal, IsHead, IsNone, Name, Value, TooMany, head_by, head_of, head_of_any, is_full_at, is_name_at, is_value_at, read_from, refusal_at, unless_refused}
 use Rattle.h3_header.specs.Reads.{kind_of, with_field}
 use Rattle.h3_header.specs.declared.headers.judge.BadPart.{BadPart}
 use Rattle.h3_header.specs.declared.headers.judge.BadPart.TheVariants as part
+use Rattle.h3_messages.specs.FirstInvalid.{Finds, FindsBad, FindsSpaced, breaks_value, is_value}
 use Rattle.h3_messages.specs.InvalidField.{is_invalid, invalid_field, IsFirst, HasInvalidPart, HasSpacedValue}
 use Rattle.h3_messages.specs.Messages.{first_broken, has_connection_field, has_space_around, holds, is_authority_wrong, is_connect_wrong, is_length_misplaced, is_length_wrong, is_path_wrong, is_protocol_wrong, is_pseudo, is_scheme_wrong, is_te_wrong, misses_pseudo, only_pseudo_of, pseudo_first, repeats, repeats_pseudo, request_names, response_names, value_of, violation_of_request, violation_of_response, violation_of_trailer}
 use Rattle.h3_messages.specs.OwnMessages.{has_no_trailer_field, is_own_length_misplaced, is_trace, or_broken, says_content, violation_of_own_request, violation_of_own_response, violation_of_own_trailer}
@@ -28,12 +29,6 @@ module _ (keeps breaks : Field → Type 0) (f : Field) (fields : List Field) whe
       before : All keeps (take (suc index) (f ∷ fields))
       before zero d less = is
       before (suc k) d less = first.before k d (omega (arith, less))
-
--- A test finds a field first here.
-record Finds (test : Field → Bool) (keeps breaks : Field → Type 0) (fields : List Field) : Type 0 where
-  pub index : ℕ
-  pub at : position_or_len test fields ≡ index
-  pub first : IsFirst keeps breaks fields index
 
 found : (test : Field → Bool) (keeps breaks : Field → Type 0) (fields : List Field) (h : Finds test keeps breaks fields) → position test fields ≡ Some h.index
 found test keeps breaks fields h =
@@ -66,9 +61,6 @@ module _ (any : Bool) where
   good_at : (h : Head) (f : Field) → refusal_at any (kind_of f.name) h f ≡ None → bad_part any f ≡ None
   good_at h f is = good_by (is_name_at (kind_of f.name) f.name) (is_value_at any (kind_of f.name) f.value) (is_full_at (kind_of f.name) h f) is
 
-  abbrev FindsBad : BadPart → List Field → Type 0
-  FindsBad bad = Finds (is_invalid any) (λ f. bad_part any f ≡ None) (λ f. bad_part any f ≡ Some bad)
-
   here_or_later : (o : Option HeadRefusal) (later : HeadRead) (why : HeadRefusal) → unless_refused o later ≡ IsNone why → (o ≡ Some why) ⊎ ((o ≡ None) × (later ≡ IsNone why))
   here_or_later None later why is = inr (refl, is)
   here_or_later (Some other) later why is = let same : other ≡ why = cc in inl (ap Some same)
@@ -84,7 +76,7 @@ module _ (any : Bool) where
   good_position : (f : Field) (fields : List Field) → bad_part any f ≡ None → position_or_len (is_invalid any) (f ∷ fields) ≡ suc (position_or_len (is_invalid any) fields)
   good_position f fields is = ap (λ (p : Option BadPart). if not (is_some p) then 1 + position_or_len (is_invalid any) fields else 0) is ∙ (omega arith)
 
-  finds_bad : (h : Head) (fields : List Field) (bad : BadPart) → read_from any h fields ≡ IsNone (refusal_of bad) → FindsBad bad fields
+  finds_bad : (h : Head) (fields : List Field) (bad : BadPart) → read_from any h fields ≡ IsNone (refusal_of bad) → FindsBad any bad fields
   finds_bad h [] bad is = absurd (cc)
   finds_bad h (f ∷ fields) bad is =
       elim (here_or_later (refusal_at any (kind_of f.name) h f) (read_from any (with_field h f) fields) (refusal_of bad) is) [
@@ -133,10 +125,7 @@ module _ (any : Bool) where
   pub no_invalid_of_head : (fields : List Field) (head : Head) → head_by any fields ≡ IsHead head → invalid_field any false fields ≡ None
   no_invalid_of_head fields head is = ap (λ (o : Option ℕ). option_or o None) (none_of_head fields head is)
 
--- A value with white space around it
-abbrev FindsSpaced : List Field → Type 0
-FindsSpaced = Finds has_space_around (λ f. has_space_around f ≡ false) (λ f. has_space_around f ≡ true)
-
+-- a value with white space around it
 finds_spaced : (fields : List Field) → list_any has_space_around fields ≡ true → FindsSpaced fields
 finds_spaced [] is = absurd (cc)
 finds_spaced (f ∷ fields) is = by (has_space_around f) refl is (λ some. finds_spaced fields some)
@@ -153,15 +142,7 @@ finds_spaced (f ∷ fields) is = by (has_space_around f) refl is (λ some. finds
         let next = rest some in
         record { index = suc next.index; at = later at ∙ ap suc next.at; first = first_later _ _ f fields at next.index next.first }
 
--- The rule on that white space is the last, and the one alone that is told as a value.
-abbrev is_value : Violation → Bool
-is_value violation.Value = true
-is_value _ = false
-
-abbrev breaks_value : List (Bool × Violation) → Bool
-breaks_value [] = false
-breaks_value (rule ∷ rules) = (is_value rule.1 && rule.0) || breaks_value rules
-
+-- The rule on that white space is the last.
 told_value : (rules : List (Bool × Violation)) → first_broken rules ≡ Some violation.Value → breaks_value rules ≡ true
 told_value [] is = absurd (cc)
 told_value ((true, v) ∷ rules) is =
@@ -220,7 +201,7 @@ spaced_trailer fields is = last_alone (list_any has_space_around fields) (told_v
     (list_any has_space_around fields, violation.Value) ∷ []) is)
 
 module _ (any : Bool) (fields : List Field) (head : Head) (reads : head_by any fields ≡ IsHead head) where
-  spaced_of : list_any has_space_around fields ≡ true → HasSpacedValue any fields
+  spaced_of : list_any has_space_around fields ≡ true → HasSpacedValue any true fields
   spaced_of is =
       let h = finds_spaced fields is in
       record {
@@ -229,12 +210,12 @@ module _ (any : Bool) (fields : List Field) (head : Head) (reads : head_by any f
         first = h.first;
       }
 
-  pub spaced_of_request : (extended : Bool) → violation_of_own_request extended fields ≡ Some violation.Value → HasSpacedValue any fields
+  pub spaced_of_request : (extended : Bool) → violation_of_own_request extended fields ≡ Some violation.Value → HasSpacedValue any true fields
   spaced_of_request extended is =
       spaced_of (spaced_request extended fields (of_reader (violation_of_request extended fields) (is_trace fields && says_content fields) violation.ContentLength refl is))
 
-  pub spaced_of_response : violation_of_own_response fields ≡ Some violation.Value → HasSpacedValue any fields
+  pub spaced_of_response : violation_of_own_response fields ≡ Some violation.Value → HasSpacedValue any true fields
   spaced_of_response is = spaced_of (spaced_response fields (of_reader (violation_of_response fields) (is_own_length_misplaced fields) violation.ContentLength refl is))
 
-  pub spaced_of_trailer : violation_of_own_trailer fields ≡ Some violation.Value → HasSpacedValue any fields
+  pub spaced_of_trailer : violation_of_own_trailer fields ≡ Some violation.Value → HasSpacedValue any true fields
   spaced_of_trailer is = spaced_of (spaced_trailer fields (of_reader (violation_of_trailer fields) (has_no_trailer_field fields) violation.TrailerField refl is))

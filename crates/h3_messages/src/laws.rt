@@ -1,5 +1,5 @@
 //! Laws on the rules of messages, each the contract of a function.
-ghost use Rattle.std.specs.Prelude.{◌≡◌, Bool, false, List, None, Some};
+ghost use Rattle.std.specs.Prelude.{◌≡◌, Bool, true, false, List, None, Some};
 ghost use Rattle.h3_field.specs.Field.{Field, with_flags};
 ghost use Rattle.h3_header.specs.BadPart.{refusal_of};
 ghost use Rattle.h3_header.specs.Head.{Head};
@@ -35,7 +35,7 @@ pub fn rules_see_no_flags()
 pub fn refused_lists_have_an_invalid_field()
     ensures read { (any strict : Bool) (fields : List Field) (bad : BadPart) → head_by any fields ≡ IsNone (refusal_of bad) → HasInvalidPart any strict fields bad }
     ensures head { (any : Bool) (fields : List Field) (head : Head) → head_by any fields ≡ IsHead head → invalid_field any false fields ≡ None }
-    ensures request { (any : Bool) (fields : List Field) (head : Head) → head_by any fields ≡ IsHead head → (extended : Bool) → violation_of_own_request extended fields ≡ Some violation.Value → HasSpacedValue any fields }
-    ensures response { (any : Bool) (fields : List Field) (head : Head) → head_by any fields ≡ IsHead head → violation_of_own_response fields ≡ Some violation.Value → HasSpacedValue any fields }
-    ensures trailer { (any : Bool) (fields : List Field) (head : Head) → head_by any fields ≡ IsHead head → violation_of_own_trailer fields ≡ Some violation.Value → HasSpacedValue any fields }
+    ensures request { (any : Bool) (fields : List Field) (head : Head) → head_by any fields ≡ IsHead head → (extended : Bool) → violation_of_own_request extended fields ≡ Some violation.Value → HasSpacedValue any true fields }
+    ensures response { (any : Bool) (fields : List Field) (head : Head) → head_by any fields ≡ IsHead head → violation_of_own_response fields ≡ Some violation.Value → HasSpacedValue any true fields }
+    ensures trailer { (any : Bool) (fields : List Field) (head : Head) → head_by any fields ≡ IsHead head → violation_of_own_trailer fields ≡ Some violation.Value → HasSpacedValue any true fields }
 {}
