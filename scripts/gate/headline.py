@@ -23,11 +23,11 @@ CONTRACT = f"{CRATES}/h3_session/src/run.rt"
 # The parts: their headings, and from which names each part goes on. The last one takes what is left.
 PARTS = (
     ("## All that it rests on", ("HandsOutAlways", "AreFew", "JudgesPlainly", "IsMadeSetup")),
-    ("## What is answered", ("RunsUntilMemory", "Run", "Happens", "empty_world")),
+    ("## What is answered", ("Run", "Happens", "empty_world")),
     ("## The endpoints that are returned", ("RunsInWorld",)),
     ("## The same answers by two endpoints", ("RunsTo", "AnswersEach", "new_ends")),
     ("## What each call leaves", ("RunsByCalls",)),
-    ("## If a side is strict", ("RunsUntilFault", "RunsFaultless", "FindsNoFault", "ServerKnows", "AsksForStrict", "EarlyAreTaken")),
+    ("## If a side is strict", ("RunsUntilMemory", "RunsToEnd", "TakesWhatIsSent", "one_judges_more")),
     ("## If allocations fail", None),
 )
 # Behind these the values of the code: a heading, and from which types of the signature its rows come, and from those that which parts list.

@@ -45,6 +45,7 @@ pub mod Carrying
 pub mod Sendables
 pub mod Headlines
 pub mod Messages
+mod Between
 pub mod Strict
 pub mod LentFrames
 pub mod WellSentLists
