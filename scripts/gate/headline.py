@@ -24,11 +24,11 @@ CONTRACT = f"{CRATES}/h3_session/src/run.rt"
 PARTS = (
     ("## All that it rests on", ("HandsOutAlways", "AreFew", "JudgesPlainly", "IsMadeSetup")),
     ("## How a list of fields is read", tuple(f"h3_world.specs.Lists.{name}" for name in ("unreadable", "as_flagged", "pull_of", "list_of"))),
-    ("## What is answered", ("RunsUntilMemory", "Run", "Happens", "empty_world")),
+    ("## What is answered", ("Run", "Happens", "empty_world")),
     ("## The endpoints that are returned", ("RunsInWorld",)),
     ("## The same answers by two endpoints", ("RunsTo", "AnswersEach", "new_ends")),
     ("## What each call leaves", ("RunsByCalls",)),
-    ("## If a side is strict", ("RunsUntilFault", "RunsFaultless", "FindsNoFault", "ServerKnows", "AsksForStrict", "EarlyAreTaken")),
+    ("## If a side is strict", ("RunsUntilMemory", "RunsToEnd", "TakesWhatIsSent", "one_judges_more")),
     ("## If allocations fail", None),
 )
 # Behind these the values of the code: a heading, and from which types of the signature its rows come, and from those that which parts list.

@@ -46,6 +46,7 @@ pub mod Carrying
 pub mod Sendables
 pub mod Headlines
 pub mod Messages
+mod Between
 pub mod Strict
 pub mod LentFrames
 pub mod WellSentLists

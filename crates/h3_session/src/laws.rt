@@ -34,7 +34,8 @@
 //! - Limits on what is unfinished: if each takes what is sent to it they change nothing (`limits_that_take_what_is_sent_change_nothing`). A
 //!   limit takes it if it is at least four times what its side announces (`limits_above_what_is_announced_take_what_is_sent`). So two such
 //!   sides run in a world (`two_limited_endpoints_run_in_a_world`, `two_strict_limited_endpoints_run_in_a_world`). A side without a limit
-//!   takes every list (`sides_without_limits_take_all`).
+//!   takes every list (`sides_without_limits_take_all`). Sides that are not strict and have none refuse nothing more than the world of a
+//!   connection (`plain_sides_refuse_nothing_more`).
 //! - What `Setup::new` answers may be given to `run` (`setups_are_made`).
 //! - Lists: a header section and a trailer are sent as the lists of their fields are (`heads_are_sent_as_their_lists`).
 //! - Datagrams: what is written in front of a payload reads back as the id of its stream (`datagrams_read_back`).
@@ -159,6 +160,18 @@ ghost use Rattle.h3_strict.specs.Tallies.{JudgesStrictly};
 /// what is sent before the settings came.
 pub fn sides_without_limits_take_all()
     ensures { (setup : Setup) (ends : Ends) (events : List Event) → JudgesStrictly setup → EarlyAreTaken setup ends events }
+{}
+
+ghost use Rattle.h3_world.specs.Headline.{Happens};
+ghost use Rattle.h3_world.specs.Run.{Run};
+ghost use Rattle.h3_world.specs.Setup.{JudgesPlainly};
+ghost use Rattle.h3_world.specs.World.{World, empty_world};
+ghost use Rattle.h3_session.specs.Strict.{RunsBetween};
+
+/// Between two sides that are not strict and limit nothing, each step of a run that `run` promises (`front`) happens in the world of a
+/// connection: no send is refused as malformed beside it.
+pub fn plain_sides_refuse_nothing_more()
+    ensures { (setup : Setup) (events : List Event) (answers : List Answer) → JudgesPlainly setup → RunsBetween setup events answers → (w : World) × Run (Happens setup) (empty_world setup) events answers w }
 {}
 
 ghost use Rattle.std.specs.Prelude.{is_some, true, Some, None};
