@@ -61,13 +61,13 @@ returns-clause-front c = λ few.
     let laws : LawsOfEnds setup = record {
       plain_world = λ front plain sendable. c.two_endpoints_run_in_a_world.ensures setup front c.requires plain sendable;
       plain_messages = λ front plain sendable. hands_out setup front _ sendable (c.endpoints_hand_out_what_was_sent.ensures.fault setup front c.requires plain sendable)
-      (λ side id. c.endpoints_hand_out_what_was_sent.ensures.front setup front side id c.requires plain sendable)
-      (λ side id ended. c.endpoints_hand_out_what_was_sent.ensures.end setup front side id c.requires plain sendable ended);
+          (λ side id. c.endpoints_hand_out_what_was_sent.ensures.front setup front side id c.requires plain sendable)
+          (λ side id ended. c.endpoints_hand_out_what_was_sent.ensures.end setup front side id c.requires plain sendable ended);
       plainly = λ front. c.whole_runs_are_plain.ensures.faultless (new_ends setup) front (c.ends_stay_bounded.ensures.made setup);
       world = λ front sendable plainly. c.strict_endpoints_run_in_a_world.ensures setup front c.requires sendable plainly;
       messages = λ front sendable plainly. hands_out setup front _ sendable (c.strict_endpoints_hand_out_what_was_sent.ensures.fault setup front c.requires sendable plainly)
-      (λ side id. c.strict_endpoints_hand_out_what_was_sent.ensures.front setup front side id c.requires sendable plainly)
-      (λ side id ended. c.strict_endpoints_hand_out_what_was_sent.ensures.end setup front side id c.requires sendable plainly ended);
+          (λ side id. c.strict_endpoints_hand_out_what_was_sent.ensures.front setup front side id c.requires sendable plainly)
+          (λ side id ended. c.strict_endpoints_hand_out_what_was_sent.ensures.end setup front side id c.requires sendable plainly ended);
       strict = λ front sendable strict knows early.
           c.schedules_that_judge_nothing_find_no_fault.ensures setup front c.requires sendable (c.two_strict_limited_endpoints_run_in_a_world.ensures.none setup front c.requires strict sendable knows early);
     } in
@@ -82,13 +82,13 @@ returns-clause-judged c = λ whole few more takes.
     let laws : LawsOfEnds setup = record {
       plain_world = λ front plain sendable. c.two_endpoints_run_in_a_world.ensures setup front c.requires plain sendable;
       plain_messages = λ front plain sendable. hands_out setup front _ sendable (c.endpoints_hand_out_what_was_sent.ensures.fault setup front c.requires plain sendable)
-      (λ side id. c.endpoints_hand_out_what_was_sent.ensures.front setup front side id c.requires plain sendable)
-      (λ side id ended. c.endpoints_hand_out_what_was_sent.ensures.end setup front side id c.requires plain sendable ended);
+          (λ side id. c.endpoints_hand_out_what_was_sent.ensures.front setup front side id c.requires plain sendable)
+          (λ side id ended. c.endpoints_hand_out_what_was_sent.ensures.end setup front side id c.requires plain sendable ended);
       plainly = λ front. c.whole_runs_are_plain.ensures.faultless (new_ends setup) front (c.ends_stay_bounded.ensures.made setup);
       world = λ front sendable plainly. c.strict_endpoints_run_in_a_world.ensures setup front c.requires sendable plainly;
       messages = λ front sendable plainly. hands_out setup front _ sendable (c.strict_endpoints_hand_out_what_was_sent.ensures.fault setup front c.requires sendable plainly)
-      (λ side id. c.strict_endpoints_hand_out_what_was_sent.ensures.front setup front side id c.requires sendable plainly)
-      (λ side id ended. c.strict_endpoints_hand_out_what_was_sent.ensures.end setup front side id c.requires sendable plainly ended);
+          (λ side id. c.strict_endpoints_hand_out_what_was_sent.ensures.front setup front side id c.requires sendable plainly)
+          (λ side id ended. c.strict_endpoints_hand_out_what_was_sent.ensures.end setup front side id c.requires sendable plainly ended);
       strict = λ front sendable strict knows early.
           c.schedules_that_judge_nothing_find_no_fault.ensures setup front c.requires sendable (c.two_strict_limited_endpoints_run_in_a_world.ensures.none setup front c.requires strict sendable knows early);
     } in
