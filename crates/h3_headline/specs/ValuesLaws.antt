@@ -168,11 +168,11 @@ pseudo_none n valid h =
     (joined_none n (method ++ scheme ++ authority ++ path) status
     (joined_none n (method ++ scheme ++ authority) path
     (joined_none n (method ++ scheme) authority
-    (joined_none n method scheme (optional_none n (codes ":method") h.method (no_pseudo n _ t)) (optional_none n (codes ":scheme") h.scheme (no_pseudo n _ t)))
-    (optional_none n (codes ":authority") h.authority (no_pseudo n _ t)))
-    (optional_none n (codes ":path") (option_map or_slash h.path) (no_pseudo n _ t)))
-    (optional_none n (codes ":status") (option_map code_digits h.status) (no_pseudo n _ t)))
-    (optional_none n (codes ":protocol") h.protocol (no_pseudo n _ t))
+    (joined_none n method scheme (optional_none n (codes ":method") h.method (no_pseudo n (codes "method") t)) (optional_none n (codes ":scheme") h.scheme (no_pseudo n (codes "scheme") t)))
+    (optional_none n (codes ":authority") h.authority (no_pseudo n (codes "authority") t)))
+    (optional_none n (codes ":path") (option_map or_slash h.path) (no_pseudo n (codes "path") t)))
+    (optional_none n (codes ":status") (option_map code_digits h.status) (no_pseudo n (codes "status") t)))
+    (optional_none n (codes ":protocol") h.protocol (no_pseudo n (codes "protocol") t))
 
 -- **The values of each name of a regular field.**
 pub values_read : (n : List ℕ) → IsHeaderName n → (fields : List Field) → values_of n (head_fields (head_of_fields fields)) ≡ values_of n fields
