@@ -17,6 +17,7 @@ pub mod SendingSections
 pub mod SendingHeads
 pub mod Remembering
 pub mod JudgedLists
+pub mod InvalidFields
 pub mod Lists
 pub mod ReadLists
 pub mod Costs

@@ -1,11 +1,13 @@
 //! Lists of fields that an endpoint sends as they are, with no header made of them.
 ghost use Rattle.std.specs.Prelude.{◌≡◌, ◌≢◌, ◌<◌, ◌≤◌, true, false, None, Some, IfOk, IfErr, IfSome, OnErr, OnOk, length, if◌then◌else◌};
 ghost use Rattle.h3_header.specs.Head.{Head};
-ghost use Rattle.h3_header.specs.HeadRead.{head_by};
+ghost use Rattle.h3_header.specs.HeadRead.{IsHead, head_by};
+ghost use Rattle.h3_connection.specs.Answers.{call_refused};
 ghost use Rattle.h3_connection.specs.Pulling.{is_interim};
 ghost use Rattle.h3_connection.specs.State.{kept_at};
 ghost use Rattle.h3_connection.specs.declared.event.Refusal.TheVariants as refusal;
 ghost use Rattle.h3_requests.specs.Refused.{head_refused_at, body_refused_at};
+ghost use Rattle.h3_session.specs.InvalidFields.{NamesField};
 ghost use Rattle.h3_session.specs.Refused.{own_head_refused, own_trailer_refused};
 ghost use Rattle.h3_session.specs.SendingLists.{IsJudgedOr, SendsFieldList, SendsTrailerList, SendsJudgedHead, SendsJudgedTrailer, refusal_after};
 ghost use Rattle.h3_incoming.specs.Outline.{is_sent_outline, list_read};
@@ -39,7 +41,8 @@ impl Endpoint {
     /// If an allocation fails, the encoder stream may have gained whole instructions, and the stream is as it was. A list of more than 24,576
     /// fields takes memory to be judged.
     pub fn send_fields(&mut self, id: StreamId, fields: &[HeaderField]) -> Result<(), Refusal>
-        ensures { SendsFieldList self.old self.new id fields.now result }
+        ensures sends { SendsFieldList self.old self.new id fields.now result }
+        ensures names { NamesField (call_refused result) self.new.announced.choices fields.now }
     {
         if let Some(code) = self.closed {
             return Err(Refusal::Closed(code));
@@ -61,7 +64,8 @@ impl Endpoint {
         id: StreamId,
         fields: &[HeaderField],
     ) -> Result<(), Refusal>
-        ensures { SendsTrailerList self.old self.new id fields.now result }
+        ensures sends { SendsTrailerList self.old self.new id fields.now result }
+        ensures names { NamesField (call_refused result) self.new.announced.choices fields.now }
     {
         if let Some(code) = self.closed {
             return Err(Refusal::Closed(code));
@@ -75,7 +79,7 @@ impl Endpoint {
 
     /// The index of the field for which a list is refused as `Refusal::Malformed` of `Name` or `Value`: the first whose name or value
     /// may be in no message (RFC 9114, 4.2 and 4.3). If there is none and the endpoint asks for strict messages, it is the first with white
-    /// space around its value (RFC 9114, 10.3). It takes no memory.
+    /// space around its value (RFC 9114, 10.3). After such a refusal there always is one. It takes no memory.
     pub fn invalid_field(&self, fields: &[HeaderField]) -> Option<usize>
         ensures { result ≡ invalid_field self.now.announced.choices.extensions.any_protocol self.now.announced.choices.strict_messages fields.now }
     {
@@ -162,7 +166,8 @@ impl Endpoint {
     ) -> Result<(), Refusal>
         requires open { self.old.closed ≡ None }
         requires read { IfSome read (IsReadOf self.old.side self.old.peer.settings fields.now) }
-        ensures { (head : Head) → own_head_refused self.old.announced self.old.side head ≡ None → place ≡ (if is_interim head.status then SendPlace.NothingSent else SendPlace.HeadSent) → SendsJudgedHead self.old self.new id head fields.now result }
+        ensures sends { (head : Head) → own_head_refused self.old.announced self.old.side head ≡ None → place ≡ (if is_interim head.status then SendPlace.NothingSent else SendPlace.HeadSent) → SendsJudgedHead self.old self.new id head fields.now result }
+        ensures names { (head : Head) → head_by self.old.announced.choices.extensions.any_protocol fields.now ≡ IsHead head → place ≢ SendPlace.TrailerSent → NamesField (call_refused result) self.old.announced.choices fields.now }
     {
         let room = match self.reserve_head(id, None) {
             Ok(room) => room,
@@ -174,7 +179,8 @@ impl Endpoint {
     // A list that reads as a trailer goes out.
     fn send_trailer_list(&mut self, id: StreamId, fields: &[HeaderField]) -> Result<(), Refusal>
         requires { self.old.closed ≡ None }
-        ensures { (trailer : Head) → own_trailer_refused self.old.announced trailer ≡ None → SendsJudgedTrailer self.old self.new id trailer fields.now result }
+        ensures sends { (trailer : Head) → own_trailer_refused self.old.announced trailer ≡ None → SendsJudgedTrailer self.old self.new id trailer fields.now result }
+        ensures names { (trailer : Head) → head_by self.old.announced.choices.extensions.any_protocol fields.now ≡ IsHead trailer → NamesField (call_refused result) self.old.announced.choices fields.now }
     {
         let room = match self.reserve_trailer(id, None) {
             Ok(room) => room,
