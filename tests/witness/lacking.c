@@ -107,7 +107,7 @@ static int unseen(long after) {
     id += 4;
   }
   int was = was_refused();
-  HOLDS(answer == H3_OK || (was && answer == H3_MEMORY)); /* the room for blocks that are used again may be refused, and nothing tells of it */
+  HOLDS(answer == H3_OK || (was && answer == H3_MEMORY)); /* no call tells that room for spare blocks was refused */
   if (answer == H3_MEMORY) {
     IS(h3_goaway(&end, id + 4, NULL), H3_OK);
     IS(h3_outgoing(&end, h3_control_id(1), bytes, sizeof bytes, &n, NULL, NULL), H3_OK);
