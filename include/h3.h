@@ -297,7 +297,8 @@ enum h3_answer {
   /* of a list of fields: the first field that is refused decides */
   H3_FIELD_NAME = 22,        /* a name is empty, not in lower case, or an unknown one with ':';
                                 detail: the field's index in the list, from 0 */
-  H3_FIELD_VALUE = 23,       /* a value is not in the grammar of its name; detail: the index */
+  H3_FIELD_VALUE = 23,       /* a value is not in the grammar of its name, or has white space around
+                                it at a strict endpoint; detail: the field's index, from 0 */
   H3_FIELD_COUNT = 24,       /* there are more different names than fit (24,576) */
   /* of what is read */
   H3_NONE = 25,              /* there is no such stream, field or setting */

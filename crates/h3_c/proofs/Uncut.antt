@@ -15,7 +15,7 @@ use Rattle.h3_session.specs.Lacking.{RefusesBodies, RefusesDeliveries, delivery_
 use Rattle.h3_session.specs.SendingLists.{NotMalformed}
 use Rattle.h3_c.specs.Exported.{Calls, DeliversOn, OnStream, SendsCut}
 use Rattle.h3_c.specs.Giving.{RefusesFields}
-use Rattle.h3_c.specs.Numbers.{body_told, delivery_told, list_told, refusal_told, told_or_memory}
+use Rattle.h3_c.specs.Numbers.{TellsList, body_told, delivery_told, refusal_told, told_or_memory}
 use Rattle.h3_c.specs.Reads.{is_kept, StopsAt}
 use Rattle.h3_c.specs.Seen.{Seen}
 use Rattle.h3_c.specs.declared.connection.reading.Stop.{Stop}
@@ -71,9 +71,9 @@ read_lacks s id bytes o stop refuses is taken some = record {
 }
 
 -- what no rule of messages refuses is told of a list as of any call
-plainly_told : (r : Refusal) (choices : Choices) (fields : List Field) → NotMalformed (Some r) → refusal_told r ≡ (let call : Result Unit Refusal = Err r in list_told call choices fields)
-plainly_told (refusal.Malformed why) choices fields rules = absurd rules
-plainly_told _ choices fields rules = refl
+plainly_told : (r : Refusal) (choices : Choices) (fields : List Field) (n : Told) → NotMalformed (Some r) → n ≡ refusal_told r → TellsList (Err r) choices fields n
+plainly_told (refusal.Malformed why) choices fields n rules is = absurd rules
+plainly_told _ choices fields n rules is = is
 
 -- A list: the sizes are not those of the bytes,
 module _ (v : Seen) (place : EndpointHistory → Option Refusal) (does : List Field → Result Unit Refusal → Type 0) (told : Told) where
@@ -85,7 +85,7 @@ module _ (v : Seen) (place : EndpointHistory → Option Refusal) (does : List Fi
   pub not_taken : (n : Told) (r : Refusal) → told.number ≢ 32 → NotMalformed (Some r) → ((fields : List Field) → does fields (Err r)) → n ≡ refusal_told r
       → (cut : Option (List Field)) → RefusesFields cut told → SendsCut cut place n v v does
   not_taken n r differs plain refuses is None h = absurd (differs (ap (λ (n : Told). n.number) h))
-  not_taken n r differs plain refuses is (Some fields) h = inr (record { answer = Err r; is = is ∙ plainly_told r v.endpoint.announced.choices fields plain; done = refuses fields; last = refl; events = refl })
+  not_taken n r differs plain refuses is (Some fields) h = inr (record { answer = Err r; is = plainly_told r v.endpoint.announced.choices fields n plain is; done = refuses fields; last = refl; events = refl })
 
   -- or there is no memory for it
   pub no_room : told.number ≢ 32 → ((e : EndpointHistory) → StandsFor v.endpoint e → place e ≡ None) → (cut : Option (List Field)) → RefusesFields cut told → SendsCut cut place told v v does

@@ -18,7 +18,7 @@ use Rattle.h3_session.specs.Listing.{ListsNext}
 use Rattle.h3_c.specs.Items.{bytes_of, fields_of, shown}
 use Rattle.h3_c.specs.Rows.{fits, flags_of, row_of, sizes_of}
 use Rattle.h3_c.specs.declared.fields.FieldSize.{FieldSize}
-use Rattle.h3_c.specs.Numbers.{ok, none, room, argument, memory, rejected, call_told, list_told, refusal_told}
+use Rattle.h3_c.specs.Numbers.{ok, none, room, argument, memory, rejected, TellsList, call_told, refusal_told}
 use Rattle.h3_c.specs.Seen.{Seen}
 use Rattle.h3_c.specs.Bits.{bit}
 
@@ -61,11 +61,19 @@ pub record UnlessRejected (id : ℕ) (n : Told) (v w : Seen) (goes : Type 0) : T
 abbrev pub DeliversOn : {R : Type 0} → (R → Told) → ℕ → Told → Seen → Seen → (R → Type 0) → Type 0
 DeliversOn told id n v w does = OnStream id n v w (UnlessRejected id n v w (Calls told n v w does))
 
+-- The call answered a result of this list, which this number tells by the choices of the endpoint (`Numbers`, `TellsList`), and did this with it.
+pub record CallsList (fields : List Field) (n : Told) (v w : Seen) (does : Result Unit Refusal → Type 0) : Type 0 where
+  pub answer : Result Unit Refusal
+  pub is : TellsList answer w.endpoint.announced.choices fields n
+  pub done : does answer
+  pub last : w.last ≡ v.last
+  pub events : w.events ≡ v.events
+
 -- The list that C gave is sent; or its sizes are not those of its bytes or a flag is not known; or there was no memory for it, where `place` tells that no rule of
 -- the stream refuses each list there.
 abbrev pub SendsCut : Option (List Field) → (EndpointHistory → Option Refusal) → Told → Seen → Seen → (List Field → Result Unit Refusal → Type 0) → Type 0
 SendsCut None place n v w does = (n ≡ argument) × (w ≡ v)
-SendsCut (Some fields) place n v w does = LacksList place fields n v w ⊎ Calls (λ call. list_told call w.endpoint.announced.choices fields) n v w (does fields)
+SendsCut (Some fields) place n v w does = LacksList place fields n v w ⊎ CallsList fields n v w (does fields)
 
 -- A pull: its answer stays until the next one, and C gets what it is. Of a header or trailer section it is the list of fields that came.
 pub record Pulls (id : ℕ) (n : Told) (v w : Seen) (given : PulledItem) : Type 0 where

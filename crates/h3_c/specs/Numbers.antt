@@ -1,5 +1,5 @@
 -- The numbers of `include/h3.h`.
-use Rattle.std.specs.Prelude.{ℕ, List, Option, Some, None, unwrap_or, Result, Ok, Err}
+use Rattle.std.specs.Prelude.{◌≡◌, ℕ, List, Option, Some, None, Result, Ok, Err}
 use Rattle.h3_field.specs.Field.{Field}
 use Rattle.h3_proto.specs.declared.frame.SettingsError.{SettingsError}
 use Rattle.h3_proto.specs.declared.frame.SettingsError.TheVariants as settings_error
@@ -111,20 +111,23 @@ new_told (new_error.Settings e) = number 21 (setting_of e)
 new_told new_error.UnfinishedLimit = number 28 0
 new_told new_error.OutOfMemory = memory
 
--- why a list that is to be sent is malformed: by the name or value of the field of this index, by their count, or by the rule of strict messages that it
--- breaks
-abbrev pub malformed_told : Malformation → ℕ → Told
-malformed_told malformation.Name index = number 22 index
-malformed_told malformation.Value index = number 23 index
-malformed_told malformation.TooMany index = number 24 0
-malformed_told why index = number 27 (malformation_number why)
+-- this number, and the index of the field that is told of these choices beside it
+abbrev pub TellsField : ℕ → Choices → List Field → Told → Type 0
+TellsField n choices fields told =
+    (told.number ≡ n) × (invalid_field choices.extensions.any_protocol choices.strict_messages fields ≡ Some told.detail)
+
+-- why a list that is to be sent is malformed: by the name or value of a field, by their count, or by the rule of strict messages that it breaks
+abbrev pub TellsMalformed : Malformation → Choices → List Field → Told → Type 0
+TellsMalformed malformation.Name choices fields told = TellsField 22 choices fields told
+TellsMalformed malformation.Value choices fields told = TellsField 23 choices fields told
+TellsMalformed malformation.TooMany choices fields told = told ≡ number 24 0
+TellsMalformed why choices fields told = told ≡ number 27 (malformation_number why)
 
 -- what a call tells that sends a list, with these choices
-abbrev pub list_told : {X : Type 0} → Result X Refusal → Choices → List Field → Told
-list_told (Ok done) choices fields = ok
-list_told (Err (refusal.Malformed why)) choices fields =
-    malformed_told why (unwrap_or (invalid_field choices.extensions.any_protocol choices.strict_messages fields) 0)
-list_told (Err r) choices fields = refusal_told r
+abbrev pub TellsList : Result Unit Refusal → Choices → List Field → Told → Type 0
+TellsList (Ok done) choices fields told = told ≡ ok
+TellsList (Err (refusal.Malformed why)) choices fields told = TellsMalformed why choices fields told
+TellsList (Err r) choices fields told = told ≡ refusal_told r
 
 -- `H3_NO_DATAGRAMS`
 abbrev pub no_datagrams : Told
