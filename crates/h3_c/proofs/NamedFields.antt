@@ -1,5 +1,5 @@
 -- A list that is refused for a name or a value has a field whose index is told.
-use Rattle.std.proofs.Common.{◌≡◌, true, List, Some, ap}
+use Rattle.std.proofs.Common.{◌≡◌, true, List, Some, ap, inl, inr}
 use Rattle.std.specs.Prelude.{is_some}
 use Rattle.h3_field.specs.Field.{Field}
 use Rattle.h3_proto.specs.declared.config.Choices.{Choices}
