@@ -7,7 +7,7 @@ use crate::stream::RequestStream;
 use std::alloc::{AllocError, Global};
 use std::marker::Model;
 
-/// So many blocks are kept at most, 32 KiB in all, however many streams there were at once.
+/// So many blocks are kept at most: some 30 KB, however many streams there were at once.
 const MOST: usize = 64;
 
 /// The blocks that are kept, with a stream in each on which nothing has happened: so streams that come and go, one after the other or many at
