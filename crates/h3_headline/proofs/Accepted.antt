@@ -1,6 +1,6 @@
 -- What is in order is accepted.
 use Rattle.std.proofs.Common.{◌≡◌, Bool, true, false, not, [], ◌∷◌, refl, ap, Option, Some, None}
-use Rattle.h3_connection.specs.Refusals.{first_of, is_too_large}
+use Rattle.h3_connection.specs.Refusals.{first_of, is_too_large, unless_going}
 use Rattle.h3_field.specs.Field.{section_size}
 use Rattle.h3_header.specs.Head.{head_fields, has_pseudo}
 use Rattle.h3_connection.specs.Outgoing.{takes_head, takes_body, takes_end}
@@ -15,7 +15,7 @@ use Rattle.h3_world.specs.declared.event.Answer.{Answer}
 use Rattle.h3_world.specs.declared.event.Answer.TheVariants as answer
 use Rattle.h3_world.specs.Came.{settings_known}
 use Rattle.h3_world.specs.Order.{outgoing_of}
-use Rattle.h3_world.specs.Refusals.{head_refusal, body_refusal, trailer_refusal, finish_refusal}
+use Rattle.h3_world.specs.Refusals.{none_after, head_refusal, body_refusal, trailer_refusal, finish_refusal}
 use Rattle.h3_world.specs.Sending.{sent_head, sent_body, sent_trailer, finished}
 use Rattle.h3_world.specs.Step.{Does, Step}
 use Rattle.h3_world.specs.Streams.{flow, is_open}
@@ -36,6 +36,11 @@ four_pass true true true fourth r q s t e f g h = cc
 four_pass true false third fourth r q s t e f g h = cc
 four_pass false order third fourth r q s t e f g h = cc
 
+head_passes : (there order third fourth : Bool) (going : Option ℕ) (r q s t : Refusal) → there ≡ true → order ≡ true → going ≡ None → third ≡ false → fourth ≡ false
+    → first_of ((not there, r) ∷ (not order, q) ∷ unless_going going ((third, s) ∷ (fourth, t) ∷ [])) ≡ None
+head_passes there order third fourth None r q s t e f none g h = four_pass there order third fourth r q s t e f g h
+head_passes there order third fourth (Some id) r q s t e f none g h = absurd (cc)
+
 succeeds : (o : Option Refusal) (old after new : World) (success given : Answer) → o ≡ None → Does o old success after given new → given ≡ success
 succeeds None old after new success given e h = h.0
 succeeds (Some r) old after new success given e h = cc
@@ -44,8 +49,8 @@ pub accepted : (setup : Setup) (w new : World) (e : Event) (a : Answer) → Step
 accepted setup w new (event.Head side id head) a step h =
     let fits = is_too_large (settings_known setup w side) (head_fields head) in
     succeeds (head_refusal setup w side id head) w (sent_head w side id head) new answer.Done a
-    (four_pass (is_open w side id) (takes_head (outgoing_of (flow w side id))) (not (is_for (other side) head)) fits
-    refusal.NotOpen refusal.OutOfOrder refusal.WrongSide (refusal.TooLarge (section_size (head_fields head))) h.0 h.1 (ap not h.2) h.3) step
+    (head_passes (is_open w side id) (takes_head (outgoing_of (flow w side id))) (not (is_for (other side) head)) fits (none_after setup w side)
+    refusal.NotOpen refusal.OutOfOrder refusal.WrongSide (refusal.TooLarge (section_size (head_fields head))) h.0 h.1 h.2 (ap not h.3) h.4) step
 accepted setup w new (event.Body side id bytes) a step h =
     succeeds (body_refusal w side id) w (sent_body w side id bytes) new answer.Done a
     (two_pass (is_open w side id) (takes_body (outgoing_of (flow w side id))) refusal.NotOpen refusal.OutOfOrder h.0 h.1) step

@@ -15,6 +15,7 @@ use Rattle.h3_session.proofs.ReceivingArrives.{is_taken, took_none, was_closed, 
 use Rattle.h3_session.proofs.ReceivingCancel.{nothing_changed}
 use Rattle.h3_session.proofs.SendingBodies.{body_closed, body_uncounted}
 use Rattle.h3_session.proofs.SendingRefusals.{order_refusal_is, place_refusal_is}
+use Rattle.h3_session.specs.Refused.{head_refused_in}
 
 module _ (s : EndpointState) (id : ℕ) where
   -- a body
@@ -37,9 +38,9 @@ module _ (s : EndpointState) (id : ℕ) where
   pub heads_closed : (code : ℕ) → s.closed ≡ Some code → RefusesHeads s id (Some (refusal.Closed code))
   heads_closed code closed = λ fields. head_list_closed s id fields code closed
 
-  pub heads_refused : (why : Option Refusal) → s.closed ≡ None → why ≡ head_refused_at (kept_at s.requests id) → RefusesHeads s id why
+  pub heads_refused : (why : Option Refusal) → s.closed ≡ None → why ≡ head_refused_in s id → RefusesHeads s id why
   heads_refused (Some r) closed is = λ fields. head_list_early s id fields r closed (sym is)
-  heads_refused None closed is = λ e stands. sym (place_refusal_is s e id stands) ∙ ap (λ c. closed_or c (head_refused_at (kept_at s.requests id))) closed ∙ sym is
+  heads_refused None closed is = λ e stands. sym (place_refusal_is s e id stands) ∙ ap (λ c. closed_or c (head_refused_in s id)) closed ∙ sym is
 
   -- and of a trailer
   pub trailers_closed : (code : ℕ) → s.closed ≡ Some code → RefusesTrailers s id (Some (refusal.Closed code))

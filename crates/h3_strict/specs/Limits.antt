@@ -54,9 +54,9 @@ TakesSection setup side fields = is_limit (limit_at setup side) ≡ true → mos
 abbrev pub IsTaken : Setup → Event → Answer → Type 0
 IsTaken setup (event.Head side id head) a = is_done a ≡ true → TakesSection setup (other side) (head_fields head)
 IsTaken setup (event.Trailer side id trailer) a = is_done a ≡ true → TakesSection setup (other side) (head_fields trailer)
-IsTaken setup (event.Deliver side id count) a = is_excess (refused_by a) ≡ false
-IsTaken setup (event.DeliverEnd side id) a = is_excess (refused_by a) ≡ false
-IsTaken setup (event.DeliverReset side id) a = is_excess (refused_by a) ≡ false
+IsTaken setup (event.Deliver side id count) a = is_excess true (refused_by a) ≡ false
+IsTaken setup (event.DeliverEnd side id) a = is_excess true (refused_by a) ≡ false
+IsTaken setup (event.DeliverReset side id) a = is_excess true (refused_by a) ≡ false
 IsTaken setup _ a = Unit {0}
 
 -- over a whole schedule, by its events and answers

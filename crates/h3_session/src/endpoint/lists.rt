@@ -6,8 +6,8 @@ ghost use Rattle.h3_connection.specs.Answers.{call_refused};
 ghost use Rattle.h3_connection.specs.Pulling.{is_interim};
 ghost use Rattle.h3_connection.specs.State.{kept_at};
 ghost use Rattle.h3_connection.specs.declared.event.Refusal.TheVariants as refusal;
-ghost use Rattle.h3_requests.specs.Refused.{head_refused_at, body_refused_at};
-ghost use Rattle.h3_session.specs.Refused.{own_head_refused, own_trailer_refused};
+ghost use Rattle.h3_requests.specs.Refused.{body_refused_at};
+ghost use Rattle.h3_session.specs.Refused.{head_refused_in, own_head_refused, own_trailer_refused};
 ghost use Rattle.h3_session.specs.SendingLists.{IsJudgedOr, SendsFieldList, SendsTrailerList, SendsJudgedHead, SendsJudgedTrailer, error_after, error_of, no_memory, list_told};
 ghost use Rattle.h3_incoming.specs.Outline.{is_sent_outline, list_read};
 ghost use Rattle.h3_session.specs.declared.endpoint.lists.FieldsError.TheVariants as error;
@@ -132,7 +132,7 @@ impl Endpoint {
 
     // Why a list is refused as a header section that is refused by itself: the stream's own refusal comes first.
     fn head_error(&self, id: StreamId, later: FieldsError) -> FieldsError
-        ensures { result ≡ error_after (head_refused_at (kept_at self.now.requests id)) later }
+        ensures { result ≡ error_after (head_refused_in self.now id) later }
     {
         match self.head_order_refusal(id) {
             Some(refusal) => FieldsError::Refused(refusal),
