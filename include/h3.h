@@ -480,14 +480,29 @@ typedef struct {
                                        * stands if its Huffman code is not shorter (RFC 9204,
                                        * section 4.1.2). Without this each is Huffman coded, and one
                                        * of rare bytes takes up to four times its length */
+  uint64_t strict_connection;         /* whether the peer's connection is judged by rules that else
+                                       * are not asked for. It closes the connection with 0x109 if a
+                                       * setting has another value than 0 and 1: 8 (at a client;
+                                       * RFC 8441, section 3), 0x33 (RFC 9297, section 2.1.1), and
+                                       * 0x2b603742 if `webtransport` is set; or if 0x2b603742 is 1
+                                       * and 0x33 is not. With 0x10a if the first frame of the
+                                       * control stream is not SETTINGS, not one of unknown type
+                                       * either (RFC 9114, section 6.2.1). With 0x201 and 0x202 in
+                                       * place of 0x107 if an instruction is too long (RFC 9204,
+                                       * section 7.4). With 0x108 if the id of a WebTransport
+                                       * session is that of no request stream. A client sends no
+                                       * header section after the peer's GOAWAY on a stream on which
+                                       * nothing was sent: H3_GOING_AWAY (RFC 9114, section 5.2).
+                                       * `webtransport` without `datagram` is refused: H3_SETTING */
 } h3_config;
 
 /* A client with limits for an untrusted peer: it takes field sections of at most 65,536 bytes, and
  * has a dynamic table of 4,096 bytes, for which 16 streams may wait. It counts acknowledgments, and
  * the table of its encoder has at most 4,096 bytes and is used economically. It is strict, keeps
- * 1,000 ids of canceled streams, and has reject_requests, any_protocol, guard_secrets and
- * shortest_strings set. All else is 0, so a frame or instruction that it keeps until it is whole
- * has at most 262,144 bytes: four times 65,536. SECURITY.md says what each limit bounds. */
+ * 1,000 ids of canceled streams, and has reject_requests, any_protocol, guard_secrets,
+ * shortest_strings and strict_connection set. All else is 0, so a frame or instruction that it
+ * keeps until it is whole has at most 262,144 bytes: four times 65,536. SECURITY.md says what each
+ * limit bounds. */
 static inline void h3_config_default(h3_config *config);
 
 /* Makes an endpoint in *endpoint, which is overwritten: what it held before is not freed. Its

@@ -196,10 +196,11 @@ class Incoming:
 
 
 class Endpoint:
-    """The calls of one side. `section`, `capacity` and `blocked` are what it announces (RFC 9114, 7.2.4.1; RFC 9204, 5)."""
+    """The calls of one side. `section`, `capacity` and `blocked` are what it announces (RFC 9114, 7.2.4.1; RFC 9204, 5). With `strict` it
+    holds its peer to rules that else pass: of settings, of the first frame and of sessions; and keeps one itself after a GOAWAY."""
 
-    def __init__(self, side, section, capacity, blocked):
-        self.side, self.section, self.blocked = side, section, blocked
+    def __init__(self, side, section, capacity, blocked, strict=False):
+        self.side, self.section, self.blocked, self.strict = side, section, blocked, strict
         self.bit = 0 if side == CLIENT else 1
         self.ids = [2 + self.bit, 6 + self.bit, 10 + self.bit]
         pairs = [(SECTION_SIZE, section), (8, 0), (0x2B603742, 0), (0x33, 0), (0x2B603743, 0), (CAPACITY, capacity), (BLOCKED, blocked)]
@@ -269,6 +270,8 @@ class Endpoint:
         refused = self.not_sent(id, "head")
         if refused:
             return refused
+        if self.strict and self.side == CLIENT and self.goaways:  # RFC 9114, 5.2: no new request, on a stream that was opened before either
+            return ("GoingAway", self.goaways[-1])
         if not (is_request(head) if self.side == CLIENT else is_response(head)):
             return ("WrongSide",)
         if self.too_large(head):
@@ -444,6 +447,7 @@ class Endpoint:
             if s.kind == PUSH:  # RFC 9114, 6.2.2: no client pushes, and no push was allowed
                 raise Fault(STREAM_CREATION_ERROR if self.side == SERVER else ID_ERROR)
         if s.kind == WEBTRANSPORT_UNI:
+            self.named(s.session)
             return
         data, s.pieces = s.unread(), []
         if s.kind in self.critical:
@@ -468,6 +472,8 @@ class Endpoint:
 
     def read_control(self):
         known_before = self.settings is not None
+        if self.strict and not known_before:
+            self.settings_first()
         while True:
             try:
                 kind, payload, used = frame(self.critical[CONTROL])
@@ -478,6 +484,21 @@ class Endpoint:
                 self.control_frame(kind, payload)
         if not known_before and DECODER in self.critical:
             self.read_decoder()
+
+    def settings_first(self):
+        """RFC 9114, 6.2.1: no other frame is the first, one of unknown type either. The type and the length tell it"""
+        r = Reader(self.critical[CONTROL])
+        try:
+            kind, _ = r.varint(), r.varint()
+        except Short:
+            return
+        if kind != SETTINGS:
+            raise Fault(MISSING_SETTINGS)
+
+    def named(self, session):
+        """a session of WebTransport has the id of a request stream"""
+        if self.strict and not self.is_request(session):
+            raise Fault(ID_ERROR)
 
     def control_frame(self, kind, payload):
         """RFC 9114, 6.2.1 and 7.2"""
@@ -502,6 +523,9 @@ class Endpoint:
     def take_settings(self, pairs):
         """RFC 9204, 3.2.3: the table is used where capacity and limit are ones that this project can have"""
         self.settings = pairs
+        flags = (8, 0x33) if self.side == CLIENT else (0x33,)  # RFC 8441, 3; RFC 9297, 2.1.1
+        if self.strict and any(pairs.get(id, 0) > 1 for id in flags):
+            raise Fault(SETTINGS_ERROR)
         capacity, limit = pairs.get(CAPACITY, 0), pairs.get(BLOCKED, 0)
         if 1 <= capacity < 2**30 and limit <= 65535:
             self.sender.table.capacity, self.sender.limit = capacity, limit
@@ -588,6 +612,7 @@ class Endpoint:
         return ("Body", taken)
 
     def begin_session(self, s, session):
+        self.named(session)
         s.place = "session"
         return ("Session", session)
 

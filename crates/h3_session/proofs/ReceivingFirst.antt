@@ -14,7 +14,7 @@ use Rattle.h3_connection.specs.Endpoint.Kind.{Request, PeerUnidirectional}
 use Rattle.h3_connection.specs.Incoming.{Incoming, nothing_came}
 use Rattle.h3_connection.specs.Keeping.{read_arrival, read_all, keeping, unkept, arrives, refused_behind}
 use Rattle.h3_connection.specs.Outgoing.{Outgoing, nothing_sent}
-use Rattle.h3_connection.specs.PartReading.{ReadsOn, ReadsPart, PeerReadsPart, HearsPart, ListensPart, is_reader, held, after_frames, early}
+use Rattle.h3_connection.specs.PartReading.{ReadsOn, ReadsPart, MayRead, PeerReadsPart, HearsPart, ListensPart, is_reader, held, after_frames, early}
 use Rattle.h3_connection.specs.PartReading.ReadsOn.{ReadsWhole, ReadsFront, Holds, ReadsFrames, Hears, Listens}
 use Rattle.h3_connection.specs.PartReading.ReadsPart.{Stops, Goes}
 use Rattle.h3_connection.specs.ReceivingContracts.{Receives, StoresArrival, IsTaken, bytes_of}
@@ -128,10 +128,10 @@ lands id e f other arrivals b kind some (Goes (Holds {id = q} {bytes} {more} kin
     (Holds (by_rest (λ y. kind_of y.side q ≡ PeerUnidirectional) id e f b kinds) (by_rest (λ y. is_reader y q (role_after (unidirectional_at y q).role bytes).0 ≡ true) id e f b reads))
     (λ beside then_kind same. lands id (held e q bytes) (held f q bytes) other (BytesCame q [] ∷ more) beside then_kind
     (moves_on id (BytesCame q [] ∷ more) e (held e q bytes) same (same_stream id e (BytesCame q bytes) (BytesCame q []) more refl some)) read)
-lands id e f other arrivals b kind some (Goes (ReadsFrames {id = q} {p} {more} on part) read) =
+lands id e f other arrivals b kind some (Goes (ReadsFrames {id = q} {p} {more} on may part) read) =
     let h = frames_elsewhere e p in
     lands_else id e f other (BytesCame q [] ∷ more) (BytesCame q [] ∷ early e p ++ more) (λ y. after_frames y p) b kind h
-    (ReadsFrames (by_rest (λ y. y.control_on ≡ Some q) id e f b on) (by_rest (λ y. PeerReadsPart (limit_of y) y.side y.peer p) id e f b part))
+    (ReadsFrames (by_rest (λ y. y.control_on ≡ Some q) id e f b on) (by_rest (λ y. MayRead y p) id e f b may) (by_rest (λ y. PeerReadsPart (limit_of y) y.side y.peer p) id e f b part))
     (λ beside then_kind same. subst (λ l. Lands id (after_frames e p) (BytesCame q [] ∷ l ++ more) other) (ap (λ y. early y p) b.rest)
     (lands id (after_frames e p) (after_frames f p) other (BytesCame q [] ∷ early f p ++ more) beside then_kind (frame_moves id q (early f p) more e (after_frames e p) same some) read))
 lands id e f other arrivals b kind some (Goes (Hears {id = q} {d} {more} on part) read) =

@@ -7,6 +7,7 @@ use Rattle.h3_proto.specs.declared.stream.Side.{Side}
 use Rattle.h3_proto.specs.declared.stream.Side.TheVariants.{Client, Server}
 use Rattle.h3_connection.specs.Announcing.{section_of}
 use Rattle.h3_connection.specs.AnnouncingLaws.{announced_as, announces}
+use Rattle.h3_connection.specs.StrictConnection.{announces_alone}
 use Rattle.h3_connection.specs.declared.setup.Announced.{Announced}
 use Rattle.h3_world.specs.Setup.{IsMade, IsMadeSetup, JudgesPlainly, announced_at}
 use Rattle.h3_world.specs.declared.setup.Setup.{Setup}
@@ -20,15 +21,16 @@ without choices = record choices { unfinished_limit = 2 ^ 62 - 1 }
 made_unlimited : (a : Announced) → IsMade a → IsMade (unlimited a)
 made_unlimited a h =
     let is = announced_as (announced h.config h.grease) a.limits h.config.choices a h.made in
+    let is_beside = sym (ap announces_alone is.announced) ∙ is.beside in
     record {
       config = record h.config { choices = without h.config.choices };
       grease = h.grease;
       small = h.small;
-      made = announces (announced h.config h.grease) a.limits (without h.config.choices) is.pairs is.is is.table is.blocked refl ∙ ap (λ x. Ok (unlimited x)) (sym is.announced);
+      made = announces (announced h.config h.grease) a.limits (without h.config.choices) is.pairs is.is is.table is.blocked is_beside refl ∙ ap (λ x. Ok (unlimited x)) (sym is.announced);
     }
 
 pub setup_unlimited : (setup : Setup) → IsMadeSetup setup → IsMadeSetup (unlimited_setup setup)
-setup_unlimited setup h = record { client = made_unlimited setup.client h.client; server = made_unlimited setup.server h.server }
+setup_unlimited setup h = record { client = made_unlimited setup.client h.client; server = made_unlimited setup.server h.server; takes = h.takes }
 
 pub unlimited_plainly : (setup : Setup) → AsksForNone setup → JudgesPlainly (unlimited_setup setup)
 unlimited_plainly setup none Client = (none Client, refl)

@@ -7,6 +7,7 @@ use Rattle.h3_proto.specs.declared.stream.Side.{Side}
 use Rattle.h3_proto.specs.declared.stream.Side.TheVariants.{Client, Server}
 use Rattle.h3_connection.specs.AnnouncingLaws.{announced_as, announces}
 use Rattle.h3_connection.specs.Endpoint.{new_endpoint}
+use Rattle.h3_connection.specs.StrictConnection.{announces_alone}
 use Rattle.h3_connection.specs.declared.setup.Announced.{Announced}
 use Rattle.h3_world.specs.Ends.{new_ends}
 use Rattle.h3_world.specs.Setup.{IsMade, IsMadeSetup, JudgesPlainly, announced_at, takes_any}
@@ -27,15 +28,16 @@ without choices = record choices { strict_messages = false; unfinished_limit = 2
 made_plainly : (a : Announced) → IsMade a → IsMade (plain a)
 made_plainly a h =
     let is = announced_as (announced h.config h.grease) a.limits h.config.choices a h.made in
+    let is_beside = sym (ap announces_alone is.announced) ∙ is.beside in
     record {
       config = record h.config { choices = without h.config.choices };
       grease = h.grease;
       small = h.small;
-      made = announces (announced h.config h.grease) a.limits (without h.config.choices) is.pairs is.is is.table is.blocked refl ∙ ap (λ x. Ok (plain x)) (sym is.announced);
+      made = announces (announced h.config h.grease) a.limits (without h.config.choices) is.pairs is.is is.table is.blocked is_beside refl ∙ ap (λ x. Ok (plain x)) (sym is.announced);
     }
 
 pub setup_plainly : (setup : Setup) → IsMadeSetup setup → IsMadeSetup (plain_setup setup)
-setup_plainly setup h = record { client = made_plainly setup.client h.client; server = made_plainly setup.server h.server }
+setup_plainly setup h = record { client = made_plainly setup.client h.client; server = made_plainly setup.server h.server; takes = h.takes }
 
 -- the same protocols are taken
 pub same_protocols : (setup : Setup) (side : Side) → takes_any (announced_at (plain_setup setup) side) ≡ takes_any (announced_at setup side)

@@ -5,8 +5,8 @@ ghost use Rattle.h3_header.specs.HeadRead.{head_by};
 ghost use Rattle.h3_connection.specs.Pulling.{is_interim};
 ghost use Rattle.h3_connection.specs.State.{kept_at};
 ghost use Rattle.h3_connection.specs.declared.event.Refusal.TheVariants as refusal;
-ghost use Rattle.h3_requests.specs.Refused.{head_refused_at, body_refused_at};
-ghost use Rattle.h3_session.specs.Refused.{own_head_refused, own_trailer_refused};
+ghost use Rattle.h3_requests.specs.Refused.{body_refused_at};
+ghost use Rattle.h3_session.specs.Refused.{head_refused_in, own_head_refused, own_trailer_refused};
 ghost use Rattle.h3_session.specs.SendingLists.{IsJudgedOr, SendsFieldList, SendsTrailerList, SendsJudgedHead, SendsJudgedTrailer, refusal_after};
 ghost use Rattle.h3_incoming.specs.Outline.{is_sent_outline, list_read};
 ghost use Rattle.h3_messages.specs.InvalidField.{invalid_field};
@@ -134,7 +134,7 @@ impl Endpoint {
 
     // Why a list is refused as a header section that is refused by itself: the stream's own refusal comes first.
     fn refusal_of_head(&self, id: StreamId, later: Refusal) -> Refusal
-        ensures { result ≡ refusal_after (head_refused_at (kept_at self.now.requests id)) later }
+        ensures { result ≡ refusal_after (head_refused_in self.now id) later }
     {
         match self.head_order_refusal(id) {
             Some(refusal) => refusal,
