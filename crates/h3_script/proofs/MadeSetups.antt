@@ -1,5 +1,5 @@
 -- The setup of a script is one that `Setup::new` makes, and asks for no strict messages.
-use Rattle.std.proofs.Common.{◌≡◌, ℕ, Bool, true, false, List, [], ◌∷◌, codes, bytes_eq, Option, Some, None, Result, Ok, Err, sym, ap, subst, arith, if◌then◌else◌}
+use Rattle.std.proofs.Common.{◌≡◌, ℕ, Bool, true, false, List, [], ◌∷◌, codes, bytes_eq, Option, Some, None, Result, Ok, Err, refl, sym, ap, ◌∙◌, subst, arith, if◌then◌else◌}
 use Rattle.std.specs.Result.{result_ok}
 use Rattle.h3_proto.specs.Config.{announced, is_limit, no_choices}
 use Rattle.h3_proto.specs.declared.config.Choices.{Choices}
