@@ -1,5 +1,5 @@
 -- What the peer's control stream begins with, where SETTINGS has to come first (RFC 9114, section 6.2.1).
-use Rattle.std.specs.Prelude.{◌≡◌, ℕ, false, List, Option, Some, None}
+use Rattle.std.specs.Prelude.{◌≡◌, ℕ, false, List, Some, None}
 use Rattle.h3_coding.specs.Varint.{varint_at}
 use Rattle.h3_proto.specs.declared.stream.Side.{Side}
 use Rattle.h3_wire.specs.ExcessiveFrames.{is_excessive}

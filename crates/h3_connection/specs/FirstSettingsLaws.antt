@@ -1,5 +1,5 @@
 -- What the peer's control stream begins with, where SETTINGS has to come first (RFC 9114, section 6.2.1).
-use Rattle.std.proofs.Common.{◌≡◌, ℕ, ◌+◌, Bool, true, false, not, ◌&&◌, ◌==◌, if◌then◌else◌, List, ◌++◌, length, take, drop, Option, Some, None, Result, Ok, Err, refl, ap, sym, ◌∙◌, subst, inl, inr}
+use Rattle.std.proofs.Common.{◌≡◌, ℕ, ◌+◌, Bool, true, false, not, ◌&&◌, ◌==◌, if◌then◌else◌, List, ◌++◌, length, take, drop, Some, None, Result, Ok, Err, refl, ap, sym, ◌∙◌, subst, inl, inr}
 use Rattle.std.specs.Prelude.{◌⊎◌, is_some, nat_lt}
 use Rattle.std.proofs.lemmas.Bool.{and_right, eqb-true}
 use Rattle.h3_coding.specs.Varint.{varint_at}
@@ -11,7 +11,7 @@ use Rattle.h3_proto.specs.declared.stream.Side.{Side}
 use Rattle.h3_wire.specs.ExcessiveFrames.{is_excessive, is_too_long, says_too_much}
 use Rattle.h3_wire.specs.FirstFrames.{begins_other, is_other}
 use Rattle.h3_wire.specs.FrameLaws.{at_head, at_no_kind, at_no_number}
-use Rattle.h3_wire.specs.Frames.{Front, Whole, Unknown, Refused, Unfinished, frame_at, frame_of, settings_frame, with_head}
+use Rattle.h3_wire.specs.Frames.{Whole, Refused, Unfinished, frame_at, frame_of, settings_frame, with_head}
 use Rattle.h3_wire.specs.Fronts.{IsKnown}
 use Rattle.h3_wire.specs.Known.{known}
 use Rattle.h3_wire.specs.KnownLaws.{known-other}

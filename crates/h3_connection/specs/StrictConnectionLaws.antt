@@ -1,5 +1,5 @@
 -- An endpoint that does not ask for a strict connection judges what it judged before that could be asked for.
-use Rattle.std.proofs.Common.{◌≡◌, ℕ, Bool, true, false, ◌&&◌, if◌then◌else◌, List, [], ◌++◌, append-nil, Option, Some, None, Result, Err, refl, ap, sym, ◌∙◌}
+use Rattle.std.proofs.Common.{◌≡◌, ℕ, Bool, true, false, ◌&&◌, if◌then◌else◌, List, [], ◌++◌, append-nil, Option, Some, None, Err, refl, ap, sym, ◌∙◌}
 use Rattle.std.proofs.lemmas.Bool.{and_right}
 use Rattle.h3_coding.specs.VarintLaws.{none_at_end}
 use Rattle.std.specs.Prelude.{is_none, not}
@@ -21,7 +21,6 @@ use Rattle.h3_connection.specs.declared.event.Item.TheVariants as item
 use Rattle.h3_connection.specs.declared.event.Pull.TheVariants as pull
 use Rattle.h3_connection.specs.declared.place.Place.TheVariants.{InSession}
 use Rattle.h3_connection.specs.declared.setup.Announced.{Announced}
-use Rattle.h3_connection.specs.declared.setup.NewError.{NewError}
 use Rattle.h3_connection.specs.declared.setup.NewError.TheVariants.{Settings}
 use Rattle.h3_proto.specs.declared.frame.SettingsError.TheVariants.{InvalidSettingValue}
 

@@ -6,7 +6,6 @@ use Rattle.h3_connection.specs.Arrivals.{stream_of}
 use Rattle.h3_connection.specs.Calls.{AllSame}
 use Rattle.h3_connection.specs.Control.{Found}
 use Rattle.h3_connection.specs.Delivering.{bytes_at}
-use Rattle.h3_connection.specs.declared.setup.Announced.{Announced}
 use Rattle.h3_connection.specs.Endpoint.{EndpointHistory, Kind, kind_of}
 use Rattle.h3_connection.specs.Endpoint.Kind.{Request, ServerOpened, OwnUnidirectional, PeerUnidirectional}
 use Rattle.h3_connection.specs.Codes.{stream_creation_error}

@@ -1,5 +1,5 @@
 -- An empty arrival on the control stream, after all that is held of it was read.
-use Rattle.std.proofs.Common.{◌≡◌, ◌==◌, ℕ, false, not, [], ◌++◌, append-nil, Option, Some, None, refl, ap, subst, ◌∙◌, arith}
+use Rattle.std.proofs.Common.{◌≡◌, ◌==◌, ℕ, false, not, [], Option, Some, None, refl, ap, subst, ◌∙◌, arith}
 use Rattle.std.specs.Prelude.{unwrap_or}
 use Rattle.std.proofs.lemmas.Grind.{common_steps}
 use Rattle.h3_connection.specs.declared.arrival.Arrival.TheVariants.{BytesCame}
@@ -10,7 +10,7 @@ use Rattle.h3_connection.specs.Delivering.{bytes_at, heard_as, read_unidirection
 use Rattle.h3_connection.specs.Endpoint.{EndpointHistory, limit_of, is_second, kind_of}
 use Rattle.h3_connection.specs.Endpoint.Kind.{PeerUnidirectional}
 use Rattle.h3_connection.specs.Keeping.{read_arrival}
-use Rattle.h3_connection.specs.PeerReading.{with_unread, read_peer}
+use Rattle.h3_connection.specs.PeerReading.{read_peer}
 use Rattle.h3_connection.specs.StandsLaws.{stands_unidirectional}
 use Rattle.h3_connection.specs.State.{EndpointState, StandsFor, kept_at}
 use Rattle.h3_connection.specs.Unidirectional.{Unidirectional, Role, untold, role_after}

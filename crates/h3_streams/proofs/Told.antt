@@ -9,7 +9,7 @@ use Rattle.h3_connection.specs.declared.arrival.Arrival.TheVariants.{BytesCame}
 use Rattle.h3_connection.specs.Calls.{Sets}
 use Rattle.h3_connection.specs.Control.{Found, read_control, read_encoder, read_decoder}
 use Rattle.h3_connection.specs.Delivering.{bytes_at, heard_as, only_one, read_unidirectional, unidirectional_at, with_unidirectional}
-use Rattle.h3_connection.specs.Endpoint.{EndpointHistory, limit_of, is_second, kind_of}
+use Rattle.h3_connection.specs.Endpoint.{EndpointHistory, is_second, kind_of}
 use Rattle.h3_connection.specs.Endpoint.Kind.{PeerUnidirectional}
 use Rattle.h3_connection.specs.Keeping.{read_arrival}
 use Rattle.h3_connection.specs.PartReading.{ReadsOn, held, held_as, is_reader}

@@ -1,5 +1,5 @@
 -- The first frame of a control stream, and what follows if the endpoint takes the settings that it brings.
-use Rattle.std.proofs.Common.{◌≡◌, ℕ, ◌<◌, Bool, true, false, if◌then◌else◌, List, [], ◌∷◌, ◌++◌, append-nil, Option, Some, None, Result, Ok, Err, refl, ap, sym, ◌∙◌, subst}
+use Rattle.std.proofs.Common.{◌≡◌, ℕ, Bool, true, false, if◌then◌else◌, List, [], ◌∷◌, ◌++◌, append-nil, Option, Some, None, Result, Ok, Err, refl, ap, sym, ◌∙◌}
 use Rattle.std.specs.Prelude.{IfOk, OnErr, is_some}
 use Rattle.h3_proto.specs.declared.stream.Side.{Side}
 use Rattle.h3_wire.specs.declared.proto.frame.PayloadLen.{PayloadLen}
@@ -13,8 +13,6 @@ use Rattle.h3_connection.specs.PeerReadingLaws.{nothing_read_on, settings_stay}
 use Rattle.h3_connection.specs.StrictConnection.{settings_refused}
 use Rattle.h3_connection.specs.declared.setup.Announced.{Announced}
 use Rattle.h3_unidirectional.specs.Fronts.{KeepsFront, KeepsOn, KeepsPart, ReadsFront, StopsReading, found_first}
-use Rattle.h3_unidirectional.specs.Judged.{KeepsEarlier, ReadsOne}
-use Rattle.h3_unidirectional.specs.declared.control.Progress.TheVariants.{Ends, GoesOn}
 use Rattle.h3_unidirectional.proofs.KeptFronts.{kept_behind, none_kept, stops_kept, then_kept}
 
 -- Of a first frame no GOAWAY and no limit on pushes is taken.

@@ -1,5 +1,5 @@
 -- What a reading leaves that was refused memory: whole frames or instructions at the front were read, and the rest is as it was.
-use Rattle.std.specs.Prelude.{◌≡◌, ℕ, Bool, false, List, [], ◌++◌, Some, None, if◌then◌else◌}
+use Rattle.std.specs.Prelude.{◌≡◌, ℕ, Bool, false, List, [], ◌++◌, Some, if◌then◌else◌}
 use Rattle.h3_proto.specs.declared.stream.Side.{Side}
 use Rattle.h3_qpack.specs.EncoderHistory.{EncoderHistory}
 use Rattle.h3_qpack.specs.EncoderState.{encoder_state}
