@@ -19,6 +19,7 @@ use Rattle.h3_connection.specs.declared.event.Fault.TheVariants as fault
 use Rattle.h3_connection.specs.declared.event.StreamFault.TheVariants as stream_fault
 use Rattle.h3_connection.specs.Codes.{decompression_failed}
 use Rattle.h3_connection.specs.StreamSets.{Streams, stream_at, set_stream}
+use Rattle.h3_connection.specs.StrictConnection.{begins_none_after}
 use Rattle.h3_connection.specs.StrictSending.{broken_head, broken_protocol, broken_trailer, early_trailer, passes_content}
 use Rattle.h3_connection.specs.Incoming.{Incoming, awaiting}
 use Rattle.h3_messages.specs.Content.{awaited_by, may_end}
@@ -65,7 +66,8 @@ abbrev pub seen_at : EndpointHistory → ℕ → SenderStream
 seen_at e id = seen (is_open e id) (outgoing_at e id)
 
 abbrev pub sender_at : EndpointHistory → ℕ → Sender
-sender_at e id = record { side = e.side; stream = seen_at e id; settings = e.peer.settings }
+sender_at e id =
+    record { side = e.side; stream = seen_at e id; settings = e.peer.settings; going = begins_none_after e.announced e.side (last_id e.peer.goaways) }
 
 abbrev pub head_refusal : EndpointHistory → ℕ → Head → Option Refusal
 head_refusal e id head =

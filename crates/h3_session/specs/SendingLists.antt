@@ -10,7 +10,7 @@ use Rattle.h3_connection.specs.Endpoint.{EndpointHistory}
 use Rattle.h3_connection.specs.Outgoing.OwnPart.{OwnTrailer}
 use Rattle.h3_connection.specs.Pulling.{malformation_of}
 use Rattle.h3_connection.specs.Sections.{written_section}
-use Rattle.h3_connection.specs.Refusals.{first_of, not_next, refusal_of_head, refusal_of_trailer}
+use Rattle.h3_connection.specs.Refusals.{first_of, not_next, refusal_of_head, refusal_of_trailer, unless_going}
 use Rattle.h3_connection.specs.Sending.{does, unless_closed, outgoing_at, seen_at, sender_at, appended, asked, counted, encoded, fields_cost, head_part}
 use Rattle.h3_connection.specs.SendingContracts.{CutsOff, MayLackMemory, SendsSection}
 use Rattle.h3_connection.specs.State.{EndpointState, StandsFor}
@@ -71,7 +71,7 @@ pub record IsJudgedOr (s : EndpointState) (place : SendPlace) (fields : List Fie
 
 -- Why a stream takes no head now, whatever is in it.
 abbrev pub place_refusal : EndpointHistory → ℕ → Option Refusal
-place_refusal e id = unless_closed e (first_of (not_next (seen_at e id) (seen_at e id).takes_head []))
+place_refusal e id = unless_closed e (first_of (not_next (seen_at e id) (seen_at e id).takes_head (unless_going (sender_at e id).going [])))
 
 -- Why it takes no trailer.
 abbrev pub order_refusal : EndpointHistory → ℕ → Option Refusal

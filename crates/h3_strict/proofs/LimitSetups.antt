@@ -23,10 +23,11 @@ made_unlimited a h =
       table = h.table;
       blocked = h.blocked;
       within = refl;
+      beside = h.beside;
     }
 
 pub setup_unlimited : (setup : Setup) → IsMadeSetup setup → IsMadeSetup (unlimited_setup setup)
-setup_unlimited setup h = record { client = made_unlimited setup.client h.client; server = made_unlimited setup.server h.server }
+setup_unlimited setup h = record { client = made_unlimited setup.client h.client; server = made_unlimited setup.server h.server; takes = h.takes }
 
 pub unlimited_plainly : (setup : Setup) → AsksForNone setup → JudgesPlainly (unlimited_setup setup)
 unlimited_plainly setup none Client = (none Client, refl)

@@ -1,9 +1,9 @@
 -- A pull of any stream: it judges a message, or is answered as without strict messages.
 use Rattle.std.proofs.Common.{arith, ◌≡◌, ◌≤◌, ℕ, Bool, true, false, if◌then◌else◌, List, [], ◌∷◌, refl, ap, sym, ◌∙◌, subst, Option, Some, None}
 use Rattle.std.proofs.lemmas.Bool.{le-ltb}
-use Rattle.std.specs.Prelude.{◌||◌, is_some, nat_lt, option_map}
+use Rattle.std.specs.Prelude.{◌==◌, ◌&&◌, ◌||◌, is_some, nat_lt, option_map}
 use Rattle.h3_proto.specs.Config.{is_limit}
-use Rattle.h3_connection.specs.Codes.{excessive_load}
+use Rattle.h3_connection.specs.Codes.{excessive_load, frame_unexpected}
 use Rattle.h3_connection.specs.declared.arrival.Arrival.{Arrival}
 use Rattle.h3_connection.specs.Control.{Found}
 use Rattle.h3_connection.specs.Delivering.{with_incoming}
@@ -25,7 +25,8 @@ use Rattle.h3_world.specs.Lists.{listed_pull}
 use Rattle.h3_connection.specs.Coming.{HasNoHeader}
 use Rattle.h3_headline.specs.ListEventLaws.{any_list}
 use Rattle.h3_strict.specs.PlainEnds.{FewWait, FewWaitBehind, FewWaitIn}
-use Rattle.h3_strict.specs.Plainly.{exceeds, is_judged, judged_as, judged_at, judged_open, plain, plain_incoming, plainly, tells_malformed}
+use Rattle.h3_connection.specs.StrictConnection.{is_strict}
+use Rattle.h3_strict.specs.Plainly.{exceeds, is_excess, is_stream_error, is_judged, judged_as, judged_at, judged_open, plain, plain_incoming, plainly, tells_malformed}
 use Rattle.h3_strict.proofs.PlainCalls.{plain_result}
 use Rattle.h3_strict.proofs.PlainPulls.{PullsPlainly, Judged, Same, plain_pulled, pull_plain}
 use Rattle.h3_strict.proofs.PlainReading.{IsTooLong, ReadsAlike, ReadsPlainly, all_plain, plain_found}
@@ -174,11 +175,18 @@ or_judged few true b x y (IsJudged judged told) = IsJudged refl told
 or_judged few false b x y (IsJudged judged told) = IsJudged judged told
 or_judged few long b x y (IsAlike same) = IsAlike same
 
-long_told : (id : ℕ) (x : Found) → x.1 ≡ Some excessive_load → tells_malformed (pulled_after x id).0 ≡ true
-long_told id (f, fault) is = ap (λ o. tells_malformed (pulled_after (let x : Found = (f, o) in x) id).0) is
+long_told : (id : ℕ) (strict : Bool) (x : Found) → is_excess strict x.1 ≡ true → tells_malformed (pulled_after x id).0 ≡ true
+long_told id strict (f, None) is = absurd (cc)
+long_told id strict (f, Some code) is = by_code (code == frame_unexpected) (code == excessive_load) strict (is_stream_error code) is
+  where
+    by_code : (a b s c : Bool) → (b || (s && c)) ≡ true → (a || (b || c)) ≡ true
+    by_code true b s c is = refl
+    by_code false true s c is = refl
+    by_code false false true c is = is
+    by_code false false false c is = absurd (cc)
 
-is_long : (e : EndpointHistory) (fault : Option ℕ) (b : Bool) → fault ≡ Some excessive_load → is_limit (limit_of e) ≡ true → (exceeds e fault || b) ≡ true
-is_long e fault b is limit = ap (λ o. exceeds e o || b) is ∙ ap (λ on. on || b) limit
+is_long : (e : EndpointHistory) (fault : Option ℕ) (b : Bool) → is_excess (is_strict e.announced) fault ≡ true → is_limit (limit_of e) ≡ true → (exceeds e fault || b) ≡ true
+is_long e fault b is limit = ap (λ long. (long && is_limit (limit_of e)) || b) is ∙ ap (λ on. on || b) limit
 
 kept_plain : (kept : List Arrival) (e : EndpointHistory) (id : ℕ) → PulledPlainly (FewWaitIn (read_all kept (unkept e))) (exceeds e (read_all kept (unkept e)).1 || judged_open e.closed (read_all kept (unkept e)).0 id) (pulls_behind kept e id) (pulls_behind kept (plainly e) id)
 kept_plain [] e id = open_plain (FewWaitIn (unkept e, None)) e.closed false e (unkept e) id _ _ (where_more (FewWait e) (FewWaitIn (unkept e, None)) _ _ _ (λ few. few (unkept e) refl) (kind_plain e id (kind_of e.side id)))
@@ -202,8 +210,8 @@ kept_plain (k ∷ kept) e id = open_plain few e.closed (exceeds e (read_all (k �
     If : Bool → Type 0
     If b = PulledPlainly few judged (if settles e id then pull_at e id kind else pulled_after x id) (if b then pull_at (plainly e) id kind else pulled_after y id)
 
-    by_reading : ReadsPlainly (limit_of (unkept e)) x y → PulledPlainly few judged (pulled_after x id) (pulled_after y id)
-    by_reading (IsTooLong limit long) = IsJudged (is_long e x.1 (judged_as x.0 id (kind_of x.0.side id)) long limit) (λ known. long_told id x long)
+    by_reading : ReadsPlainly e.announced x y → PulledPlainly few judged (pulled_after x id) (pulled_after y id)
+    by_reading (IsTooLong limit long) = IsJudged (is_long e x.1 (judged_as x.0 id (kind_of x.0.side id)) long limit) (λ known. long_told id (is_strict e.announced) x long)
     by_reading (ReadsAlike same) =
         subst (λ z. PulledPlainly few judged (pulled_after x id) (pulled_after z id)) (sym same)
         (or_judged few (exceeds e x.1) (judged_as x.0 id (kind_of x.0.side id)) (pulled_after x id) (pulled_after (plain_found x) id) (found_plain id x))

@@ -31,6 +31,7 @@ use Rattle.h3_connection.specs.declared.event.Malformation.TheVariants as malfor
 use Rattle.h3_connection.specs.declared.event.Pull.TheVariants as pull
 use Rattle.h3_connection.specs.declared.event.StreamFault.{StreamFault}
 use Rattle.h3_connection.specs.declared.place.Place.{Place}
+use Rattle.h3_connection.specs.StrictConnection.{is_no_session}
 use Rattle.h3_connection.specs.declared.place.Place.TheVariants.{BeforeHead, InBody, AfterTrailer, InSession}
 use Rattle.h3_connection.specs.declared.setup.Announced.{Announced}
 use Rattle.h3_strict.specs.Plainly.{plain, plain_incoming, tells_malformed}
@@ -129,7 +130,7 @@ module _ (side : Side) (own : Announced) (id : ℕ) (r : DecoderState) where
   frame_plain n Server i InBody (frame.Headers bytes) few = trailer_at_plain n i bytes few
   frame_plain n Client i InBody (frame.Data len) few = payload_plain n id (begun_payload i len.0)
   frame_plain n Server i InBody (frame.Data len) few = payload_plain n id (begun_payload i len.0)
-  frame_plain n Server i BeforeHead (frame.WebTransportStream session) few = Same refl
+  frame_plain n Server i BeforeHead (frame.WebTransportStream session) few = either n (is_no_session own session) _ _ _ _ (Same refl) (Same refl)
   frame_plain n Client i place (frame.PushPromise promise) few = Same refl
   frame_plain n _ i place _ few = Same refl
 

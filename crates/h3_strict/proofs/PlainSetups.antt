@@ -30,10 +30,11 @@ made_plainly a h =
       table = h.table;
       blocked = h.blocked;
       within = refl;
+      beside = h.beside;
     }
 
 pub setup_plainly : (setup : Setup) → IsMadeSetup setup → IsMadeSetup (plain_setup setup)
-setup_plainly setup h = record { client = made_plainly setup.client h.client; server = made_plainly setup.server h.server }
+setup_plainly setup h = record { client = made_plainly setup.client h.client; server = made_plainly setup.server h.server; takes = h.takes }
 
 -- the same protocols are taken
 pub same_protocols : (setup : Setup) (side : Side) → takes_any (announced_at (plain_setup setup) side) ≡ takes_any (announced_at setup side)

@@ -28,7 +28,8 @@ use Rattle.h3_world.specs.declared.event.Answer.TheVariants as answer
 use Rattle.h3_world.specs.declared.event.Event.{Event}
 use Rattle.h3_world.specs.declared.event.Event.TheVariants as event
 use Rattle.h3_strict.specs.PlainEnds.{FewWaitBehind, StepsPlainly, Alike, Judges, RefusesMalformed, finds_fault, is_malformed_refusal, judges, plain_ends, refused_by, was_too_long}
-use Rattle.h3_strict.specs.Plainly.{exceeds, is_excess, is_judged, plain_outgoing, plainly}
+use Rattle.h3_connection.specs.StrictConnection.{is_strict}
+use Rattle.h3_strict.specs.Plainly.{exceeds, is_excess, is_judged, is_stream_error, plain_outgoing, plainly}
 use Rattle.h3_strict.proofs.PlainCalls.{CallsPlainly, Malforms, Does, tells}
 use Rattle.h3_strict.proofs.PlainLists.{tells_same}
 use Rattle.h3_strict.proofs.PlainPulled.{IsAlike, IsJudged, PulledPlainly, lists_plain, pulls_plainly}
@@ -152,18 +153,31 @@ data Delivers (ends : Ends) (reader : Side) (x y : Answer × Ends) : Type 0 wher
   IsExcess : was_too_long ends reader x.0 ≡ true → Delivers ends reader x y
   IsBeside : Beside ends x y → Delivers ends reader x y
 
-excess_told : (a : Answer) → is_excess (refused_by a) ≡ true → finds_fault a ≡ true
+excess_told : (a : Answer) → is_excess true (refused_by a) ≡ true → finds_fault a ≡ true
 excess_told (answer.Pulled p) is = absurd (cc)
 excess_told (answer.Listed l) is = absurd (cc)
 excess_told a is = is
 
+-- the codes of an end that asks for a strict connection are all of them
+any_excess : (strict : Bool) (fault : Option ℕ) → is_excess strict fault ≡ true → is_excess true fault ≡ true
+any_excess true fault is = is
+any_excess false None is = absurd (cc)
+any_excess false (Some code) is = by_code (code == excessive_load) (is_stream_error code) is
+  where
+    by_code : (b c : Bool) → (b || (false && c)) ≡ true → (b || (true && c)) ≡ true
+    by_code true c is = refl
+    by_code false c is = absurd (cc)
+
 delivers_steps : (ends : Ends) (reader : Side) (e : Event) → judges ends e ≡ was_too_long ends reader (answered ends e).0 → Delivers ends reader (answered ends e) (answered (plain_ends ends) e) → StepsPlainly ends e
-delivers_steps ends reader e judged (IsExcess long) = Judges (judged ∙ long) (λ few. excess_told (answered ends e).0 (and_parts (is_excess (refused_by (answered ends e).0)) (is_limit (limit_of (end_at ends reader))) long).0)
+delivers_steps ends reader e judged (IsExcess long) =
+    let fault = refused_by (answered ends e).0 in
+    let strict = is_strict (end_at ends reader).announced in
+    Judges (judged ∙ long) (λ few. excess_told (answered ends e).0 (any_excess strict fault (and_parts (is_excess strict fault) (is_limit (limit_of (end_at ends reader))) long).0))
 delivers_steps ends reader e judged (IsBeside h) = steps ends e h
 
 -- the fault of an end that limits it
-too_long : (ends : Ends) (reader : Side) (a : Answer) → refused_by a ≡ Some excessive_load → is_limit (limit_of (end_at ends reader)) ≡ true → was_too_long ends reader a ≡ true
-too_long ends reader a is limit = ap (exceeds (end_at ends reader)) is ∙ limit
+too_long : (ends : Ends) (reader : Side) (a : Answer) (code : ℕ) → is_excess (is_strict (end_at ends reader).announced) (Some code) ≡ true → refused_by a ≡ Some code → is_limit (limit_of (end_at ends reader)) ≡ true → was_too_long ends reader a ≡ true
+too_long ends reader a code long is limit = ap (exceeds (end_at ends reader)) is ∙ ap (λ b. b && is_limit (limit_of (end_at ends reader))) long ∙ limit
 
 -- a test that comes out alike
 by_test : (ends : Ends) (reader : Side) (b c : Bool) (x v y w : Answer × Ends) → c ≡ b → Delivers ends reader x v → Delivers ends reader y w → Delivers ends reader (if b then x else y) (if c then v else w)
@@ -194,16 +208,16 @@ module _ (ends : Ends) (id : ℕ) where
           ∙ ap (λ v. with_end v (other writer) (plainly e)) (sets_end ends writer new)
           ∙ sets_end (with_end ends writer new) (other writer) e))
 
-  offered_long : (writer : Side) (count : ℕ) (x : Option Refusal × EndpointHistory) → x.0 ≡ Some (refusal.Connection excessive_load) → refused_by (was_offered ends writer id count x).0 ≡ Some excessive_load
-  offered_long writer count (r, e) is = ap (λ o. refused_by (was_offered ends writer id count (let x : Option Refusal × EndpointHistory = (o, e) in x)).0) is
+  offered_long : (writer : Side) (count : ℕ) (x : Option Refusal × EndpointHistory) (code : ℕ) → x.0 ≡ Some (refusal.Connection code) → refused_by (was_offered ends writer id count x).0 ≡ Some code
+  offered_long writer count (r, e) code is = ap (λ o. refused_by (was_offered ends writer id count (let x : Option Refusal × EndpointHistory = (o, e) in x)).0) is
 
   offers : (writer : Side) (count : ℕ) (x y : Option Refusal × EndpointHistory) → ArrivesPlainly (end_at ends (other writer)) x y
       → Delivers ends (other writer) (was_offered ends writer id count x) (was_offered (plain_ends ends) writer id count y)
-  offers writer count x y (Exceeds limit is) = IsExcess (too_long ends (other writer) (was_offered ends writer id count x).0 (offered_long writer count x is) limit)
+  offers writer count x y (Exceeds limit code long is) = IsExcess (too_long ends (other writer) (was_offered ends writer id count x).0 code long (offered_long writer count x code is) limit)
   offers writer count x y (Otherwise h) = IsBeside (offered writer count x y h)
 
-  done_long : (reader : Side) (x : Option Refusal × EndpointHistory) → x.0 ≡ Some (refusal.Connection excessive_load) → refused_by (done ends reader answer.Done x).0 ≡ Some excessive_load
-  done_long reader (r, e) is = ap (λ o. refused_by (done ends reader answer.Done (let x : Option Refusal × EndpointHistory = (o, e) in x)).0) is
+  done_long : (reader : Side) (x : Option Refusal × EndpointHistory) (code : ℕ) → x.0 ≡ Some (refusal.Connection code) → refused_by (done ends reader answer.Done x).0 ≡ Some code
+  done_long reader (r, e) code is = ap (λ o. refused_by (done ends reader answer.Done (let x : Option Refusal × EndpointHistory = (o, e) in x)).0) is
 
   -- an end or a reset
   closes : (reader : Side) (a : Arrival) → Delivers ends reader (done ends reader answer.Done (arrives (end_at ends reader) a)) (done (plain_ends ends) reader answer.Done (arrives (end_at (plain_ends ends) reader) a))
@@ -213,7 +227,7 @@ module _ (ends : Ends) (id : ℕ) where
     where
       by_arrival : {y : Option Refusal × EndpointHistory} → ArrivesPlainly (end_at ends reader) (arrives (end_at ends reader) a) y
           → Delivers ends reader (done ends reader answer.Done (arrives (end_at ends reader) a)) (done (plain_ends ends) reader answer.Done y)
-      by_arrival (Exceeds limit is) = IsExcess (too_long ends reader (done ends reader answer.Done (arrives (end_at ends reader) a)).0 (done_long reader (arrives (end_at ends reader) a) is) limit)
+      by_arrival (Exceeds limit code long is) = IsExcess (too_long ends reader (done ends reader answer.Done (arrives (end_at ends reader) a)).0 code long (done_long reader (arrives (end_at ends reader) a) code is) limit)
       by_arrival (Otherwise h) = IsBeside (done_beside ends reader answer.Done _ _ refl h)
 
   as_is : (reader : Side) (a : Answer) → is_malformed_refusal a ≡ false → Delivers ends reader (a, ends) (a, plain_ends ends)

@@ -15,10 +15,10 @@ use Rattle.h3_connection.specs.Outgoing.{Outgoing, is_unsent, takes_body, takes_
 use Rattle.h3_connection.specs.Outgoing as sent
 use Rattle.h3_connection.specs.OwnIds.{other}
 use Rattle.h3_connection.specs.Pulling.{is_for}
-use Rattle.h3_connection.specs.Refusals.{first_of, is_too_large, refusal_of_head, refusal_of_trailer}
+use Rattle.h3_connection.specs.Refusals.{first_of, is_too_large, refusal_of_head, refusal_of_trailer, unless_going}
 use Rattle.h3_connection.specs.Sending.{body_refusal, finish_refusal, is_open, outgoing_at, sender_at, unless_closed}
 use Rattle.h3_connection.specs.StrictSending.{broken_head, broken_trailer, early_trailer, passes_content, unless_malformed}
-use Rattle.h3_connection.specs.StrictSendingLaws.{not_closed, not_early, not_malformed, passed}
+use Rattle.h3_connection.specs.StrictSendingLaws.{not_closed, not_early, not_going, not_malformed, passed}
 use Rattle.h3_connection.specs.declared.event.Malformation.{Malformation}
 use Rattle.h3_connection.specs.declared.event.Malformation.TheVariants as malformation
 use Rattle.h3_connection.specs.declared.event.Refusal.{Refusal}
@@ -53,10 +53,12 @@ head_rules e id protocol head fields done =
     let large = (is_too_large e.peer.settings fields, refusal.TooLarge (section_size fields)) ∷ [] in
     let broken = broken_head e.side e.announced e.peer.settings fields in
     let wrong = (not (is_for (other e.side) head), refusal.WrongSide) ∷ unless_malformed broken large in
-    let there = passed (not (is_open e id)) refusal.NotOpen ((not (takes_head (outgoing_at e id)), refusal.OutOfOrder) ∷ unless_malformed protocol wrong) (not_closed e.closed _ done) in
-    let placed = not_early protocol wrong (passed (not (takes_head (outgoing_at e id))) refusal.OutOfOrder (unless_malformed protocol wrong) there) in
+    let going = (sender_at e id).going in
+    let judged = unless_going going (unless_malformed protocol wrong) in
+    let there = passed (not (is_open e id)) refusal.NotOpen ((not (takes_head (outgoing_at e id)), refusal.OutOfOrder) ∷ judged) (not_closed e.closed _ done) in
+    let placed = not_early protocol wrong (not_going going (unless_malformed protocol wrong) (passed (not (takes_head (outgoing_at e id))) refusal.OutOfOrder judged there)) in
     record {
-      takes = is_true (takes_head (outgoing_at e id)) (held (not (takes_head (outgoing_at e id))) refusal.OutOfOrder (unless_malformed protocol wrong) there);
+      takes = is_true (takes_head (outgoing_at e id)) (held (not (takes_head (outgoing_at e id))) refusal.OutOfOrder judged there);
       fits = is_true (is_for (other e.side) head) (held (not (is_for (other e.side) head)) refusal.WrongSide (unless_malformed broken large) placed);
       rule = not_malformed broken large (passed (not (is_for (other e.side) head)) refusal.WrongSide (unless_malformed broken large) placed);
       small = held (is_too_large e.peer.settings fields) (refusal.TooLarge (section_size fields)) [] (not_early broken large (passed (not (is_for (other e.side) head)) refusal.WrongSide (unless_malformed broken large) placed));

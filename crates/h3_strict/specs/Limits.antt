@@ -56,9 +56,9 @@ IsTaken setup (event.Head side id head) a = is_done a ≡ true → TakesSection 
 IsTaken setup (event.Trailer side id trailer) a = is_done a ≡ true → TakesSection setup (other side) (head_fields trailer)
 IsTaken setup (event.Fields side id fields) a = is_done a ≡ true → TakesSection setup (other side) fields
 IsTaken setup (event.TrailerFields side id fields) a = is_done a ≡ true → TakesSection setup (other side) fields
-IsTaken setup (event.Deliver side id count) a = is_excess (refused_by a) ≡ false
-IsTaken setup (event.DeliverEnd side id) a = is_excess (refused_by a) ≡ false
-IsTaken setup (event.DeliverReset side id) a = is_excess (refused_by a) ≡ false
+IsTaken setup (event.Deliver side id count) a = is_excess true (refused_by a) ≡ false
+IsTaken setup (event.DeliverEnd side id) a = is_excess true (refused_by a) ≡ false
+IsTaken setup (event.DeliverReset side id) a = is_excess true (refused_by a) ≡ false
 IsTaken setup _ a = Unit {0}
 
 -- over a whole schedule, by its events and answers

@@ -65,7 +65,7 @@ NoneJudges ends (e ∷ events) = (judges ends e ≡ false) × NoneJudges (answer
 abbrev pub finds_fault : Answer → Bool
 finds_fault (answer.Pulled p) = tells_malformed p
 finds_fault (answer.Listed l) = tells_malformed (pull_of l)
-finds_fault a = is_excess (refused_by a)
+finds_fault a = is_excess true (refused_by a)
 
 -- no more streams of it wait for insertions than it announced (RFC 9204, section 2.1.2)
 abbrev pub FewWait : EndpointHistory → Type 0

@@ -7,7 +7,7 @@ ghost use Rattle.h3_qpack.specs.DecoderState.{DecoderState};
 ghost use Rattle.h3_connection.specs.Codes.{excessive_load, refusal_code};
 ghost use Rattle.h3_connection.specs.declared.event.Fault.TheVariants.{Connection};
 ghost use Rattle.h3_connection.specs.declared.event.Pull.TheVariants as pull;
-ghost use Rattle.h3_connection.specs.Pulling.{is_memory, next_frame, between_frames};
+ghost use Rattle.h3_connection.specs.Pulling.{at_session, is_memory, just, next_frame, between_frames};
 ghost use Rattle.h3_incoming.specs.Answering.{Lists};
 ghost use Rattle.h3_connection.specs.Coming.{fields_next};
 ghost use Rattle.h3_incoming.specs.Gives.{Gives};
@@ -24,6 +24,7 @@ use h3_connection::setup::Announced;
 use h3_proto::error::Code;
 use h3_proto::frame::SettingsError;
 use h3_proto::stream::{Side, StreamId};
+use h3_proto::webtransport::SessionId;
 use h3_qpack::Decoder;
 use h3_wire::frame::{FrameBuffer, FrameProtocolError};
 use std::alloc::Global;
@@ -84,13 +85,23 @@ impl IncomingStream {
                     self.content = behind;
                     self.pull_payload(alloc, id, replies, out)
                 }
-                Begun::Session(session) => {
-                    self.place = Place::InSession;
-                    out.give(Plain::Session(session))
-                }
+                Begun::Session(session) => self.begin_session(announced, session, out),
                 Begun::Fault(code) => fail(out, Fault::Connection(code)),
             },
         }
+    }
+
+    // A session begins, unless its id is that of no request stream and the endpoint asks for that.
+    fn begin_session<O: Answer>(&mut self, announced: &Announced, session: SessionId, out: &mut O)
+        ensures is { at_session announced.now self.old session ≡ just (O.told out.new) self.new }
+        ensures told { is_memory (O.told out.new) ≡ false }
+        ensures none { O.listed out.new ≡ None }
+    {
+        if announced.is_no_session(session.into_inner()) {
+            return fail(out, Fault::Connection(Code::H3_ID_ERROR));
+        }
+        self.place = Place::InSession;
+        out.give(Plain::Session(session))
     }
 
     // A frame that is no field section is longer than what the endpoint takes. What came is freed.

@@ -15,8 +15,8 @@ ghost use Rattle.h3_connection.specs.SendingContracts.{SendsHead, SendsTrailer, 
 ghost use Rattle.h3_connection.specs.State.{StandsFor, kept_at};
 ghost use Rattle.h3_connection.specs.declared.event.Refusal.TheVariants.{OutOfMemory};
 ghost use Rattle.h3_connection.specs.declared.place.SendPlace.TheVariants.{TrailerSent};
-ghost use Rattle.h3_requests.specs.Refused.{head_refused_at, body_refused_at, early_trailer_at};
-ghost use Rattle.h3_session.specs.Refused.{broken_behind, own_head_refused, own_trailer_refused, protocol_refused, side_refused, pseudo_refused, size_refused, refused_behind};
+ghost use Rattle.h3_requests.specs.Refused.{body_refused_at, early_trailer_at};
+ghost use Rattle.h3_session.specs.Refused.{broken_behind, head_refused_in, own_head_refused, own_trailer_refused, protocol_refused, side_refused, pseudo_refused, size_refused, refused_behind};
 ghost use Rattle.h3_session.specs.SendingFields.{Encodes, StopsEncoding, Queues, Remembers, SendsFields, IsJudged, asking};
 ghost use Rattle.h3_session.specs.SentHeads.{IsReadOf, IsSaid};
 
@@ -47,14 +47,24 @@ const MANY_FIELDS: usize = 64;
 /// No section of so many bytes fits into memory.
 const SIZE_LIMIT: u64 = 1 << 62;
 
+/// The one that comes first.
+fn first_refusal(first: Option<Refusal>, later: Option<Refusal>) -> Option<Refusal>
+    ensures { result ≡ or_later first later }
+{
+    match first {
+        Some(refusal) => Some(refusal),
+        None => later,
+    }
+}
+
 impl Endpoint {
     /// Sends a header section on a stream: an encoded field section in a HEADERS frame (RFC 9114, section 4.3), and its insertions on the
     /// encoder stream. One with a status from 100 to 199 is not the last one. Refused are first every call after a connection fault, then a
-    /// stream that is not open, then one whose final header section or end was sent. Next is a header section with another protocol than the
-    /// two names of `Protocol`, unless the configuration takes any (`Config::with_any_protocol`), and then one of the other side's messages.
-    /// An endpoint that asks for strict messages then refuses one that a strict peer would call malformed. Last is one whose size is above
-    /// what the peer's settings allow. If an allocation fails the encoder stream may have gained whole instructions, and the stream is as
-    /// it was.
+    /// stream that is not open, then one whose final header section or end was sent. A client that asks for a strict connection then
+    /// refuses each, once the peer's GOAWAY came. Next is a header section with another protocol than the two names of `Protocol`, unless
+    /// the configuration takes any (`Config::with_any_protocol`), and then one of the other side's messages. An endpoint that asks for
+    /// strict messages then refuses one that a strict peer would call malformed. Last is one whose size is above what the peer's settings
+    /// allow. If an allocation fails the encoder stream may have gained whole instructions, and the stream is as it was.
     pub fn send_head(&mut self, id: StreamId, head: &Header) -> Result<(), Refusal>
         ensures { SendsHead self.old self.new id head.now result }
     {
@@ -72,7 +82,9 @@ impl Endpoint {
         self.send_head_section(room, fields.as_slice(), place_behind(head), None)
     }
 
-    // Room for the frame of a header section on a stream that takes one, unless `later` refuses it. The streams are found as they were.
+    // Room for the frame of a header section on a stream that takes one, unless the peer is going away or `later` refuses it. The streams are
+    // found as they were.
+    #[tactic(auto, using(crate::proofs::SendingRefusals::later_twice))]
     pub(super) fn reserve_head(
         &mut self,
         id: StreamId,
@@ -80,11 +92,12 @@ impl Endpoint {
     ) -> Result<SectionRoom, Refusal>
         ensures room { IfOk result (λ room. room ≡ id) }
         ensures rest { self.new ≡ record self.old { requests = self.new.requests } }
-        ensures taken { OnOk result (or_later (head_refused_at (kept_at self.old.requests id)) later ≡ None) }
-        ensures why { IfErr result (λ r. r ≡ unwrap_or (or_later (head_refused_at (kept_at self.old.requests id)) later) OutOfMemory) }
+        ensures taken { OnOk result (or_later (head_refused_in self.old id) later ≡ None) }
+        ensures why { IfErr result (λ r. r ≡ unwrap_or (or_later (head_refused_in self.old id) later) OutOfMemory) }
         ensures same { AllSame self.old.requests self.new.requests }
     {
-        self.requests.reserve_head(id, later)
+        let behind = first_refusal(self.going_refusal(), later);
+        self.requests.reserve_head(id, behind)
     }
 
     /// Sends a trailer on a stream, as `send_head` sends a header section, and ends the message's fields. Refused are first every call
