@@ -59,10 +59,18 @@ limit_set : (most : Side → ℕ) (ends : Ends) (side : Side) → limits_of (lim
 limit_set most ends Client = refl
 limit_set most ends Server = refl
 
-arrive_as_itself : (ends : Ends) → ArriveWithin (limits_of ends) ends
-arrive_as_itself ends side a = arrives_as_itself (end_at ends side) a
+-- neither end keeps anything
+abbrev KeepNothing : Ends → Type 0
+KeepNothing ends = (side : Side) → (end_at ends side).kept ≡ []
+
+arrive_as_itself : (ends : Ends) → KeepNothing ends → ArriveWithin (limits_of ends) ends
+arrive_as_itself ends none side a = arrives_as_itself (end_at ends side) a (none side)
 
 module _ (setup : Setup) where
+  none_kept : (ends : Ends) → EndsWithin setup (unlimited_ends ends) → KeepNothing ends
+  none_kept ends within Client = (within Client).nothing_kept
+  none_kept ends within Server = (within Server).nothing_kept
+
   -- what the limits of an end were is what they are: an event is answered alike with any limits, so with its own
   own_alike : (ends : Ends) (e : Event) → EndsWithin setup (unlimited_ends ends) → IsTaken setup e (answered ends e).0 → StepsAlike (limits_of ends) ends e
   own_alike ends (event.Pull Client id) within taken = record { nothing_kept = (within Client).nothing_kept; looks = λ i is alive over none whole. refl }
@@ -86,12 +94,12 @@ module _ (setup : Setup) where
 
   limits_stay : (ends : Ends) (e : Event) → EndsWithin setup (unlimited_ends ends) → IsTaken setup e (answered ends e).0 → (side : Side) → limits_of (answered ends e).1 side ≡ limits_of ends side
   limits_stay ends e within taken side =
-      let same : answered ends e ≡ limited_answer (limits_of ends) (answered ends e) = step_same (limits_of ends) ends e (arrive_as_itself ends) (own_alike ends e within taken) in
+      let same : answered ends e ≡ limited_answer (limits_of ends) (answered ends e) = step_same (limits_of ends) ends e (arrive_as_itself ends (none_kept ends within)) (own_alike ends e within taken) in
       ap (λ (x : Answer × Ends). limits_of x.1 side) same ∙ limit_set (limits_of ends) (answered ends e).1 side
 
   -- without limits it is answered alike
-  arrive_endless : (ends : Ends) → ArriveWithin (λ side. 2 ^ 62 - 1) ends
-  arrive_endless ends side a = arrives_within (end_at ends side) a
+  arrive_endless : (ends : Ends) → EndsWithin setup (unlimited_ends ends) → ArriveWithin (λ side. 2 ^ 62 - 1) ends
+  arrive_endless ends within side a = arrives_within (end_at ends side) a (none_kept ends within side)
 
   looks_alike : (most other : ℕ) (i : Incoming) → other ≡ most → LooksWithin most i → LooksAlike (2 ^ 62 - 1) other i
   looks_alike most other i same within alive over none whole =
@@ -147,12 +155,12 @@ module _ (setup : Setup) where
   runs_from all past (e ∷ rest) ends find is b taken =
       let within : EndsWithin setup (unlimited_ends ends) = subst (EndsWithin setup) (sym b.leads) (find past (e ∷ rest) is b.answers) in
       let alike = steps_alike ends e b.limits within taken.0 in
-      let same : answered (unlimited_ends ends) e ≡ limited_answer (λ side. 2 ^ 62 - 1) (answered ends e) = step_same (λ side. 2 ^ 62 - 1) ends e (arrive_endless ends) alike in
+      let same : answered (unlimited_ends ends) e ≡ limited_answer (λ side. 2 ^ 62 - 1) (answered ends e) = step_same (λ side. 2 ^ 62 - 1) ends e (arrive_endless ends within) alike in
       let more = runs_from all (past ++ e ∷ []) rest (answered ends e).1 find (is ∙ sym (append_assoc past (e ∷ []) rest)) (goes_on past ends e b within taken.0 same) taken.1 in
       record {
         answers = ap (λ l. (answered ends e).0 ∷ l) more.answers ∙ sym (ap (λ (x : Answer × Ends). x.0 ∷ answers_of_ends x.1 rest) same);
         leads = more.leads ∙ sym (ap (λ (x : Answer × Ends). ends_after x.1 rest) same);
-        judges = λ h. (sym (judged_alike (λ side. 2 ^ 62 - 1) ends e (arrive_endless ends) alike) ∙ h.0, more.judges (subst (λ (x : Answer × Ends). NoneJudges x.1 rest) same h.1));
+        judges = λ h. (sym (judged_alike (λ side. 2 ^ 62 - 1) ends e (arrive_endless ends within) alike) ∙ h.0, more.judges (subst (λ (x : Answer × Ends). NoneJudges x.1 rest) same h.1));
       }
 
   limits_begin : (side : Side) → limits_of (new_ends setup) side ≡ limit_at setup side
@@ -168,7 +176,7 @@ module _ (setup : Setup) where
   limits_from all past [] ends find is b taken side = b.limits side
   limits_from all past (e ∷ rest) ends find is b taken side =
       let within : EndsWithin setup (unlimited_ends ends) = subst (EndsWithin setup) (sym b.leads) (find past (e ∷ rest) is b.answers) in
-      let same : answered (unlimited_ends ends) e ≡ limited_answer (λ side. 2 ^ 62 - 1) (answered ends e) = step_same (λ side. 2 ^ 62 - 1) ends e (arrive_endless ends) (steps_alike ends e b.limits within taken.0) in
+      let same : answered (unlimited_ends ends) e ≡ limited_answer (λ side. 2 ^ 62 - 1) (answered ends e) = step_same (λ side. 2 ^ 62 - 1) ends e (arrive_endless ends within) (steps_alike ends e b.limits within taken.0) in
       limits_from all (past ++ e ∷ []) rest (answered ends e).1 find (is ∙ sym (append_assoc past (e ∷ []) rest)) (goes_on past ends e b within taken.0 same) taken.1 side
 
   pub limits_kept : (events : List Event) → FindNone events → AreTaken setup events (answers_of_ends (new_ends setup) events) → (side : Side) → limits_of (ends_after (new_ends setup) events) side ≡ limit_at setup side

@@ -246,8 +246,9 @@ unless_none : (closed : Option ℕ) (e : EndpointHistory) (later : Pull × Endpo
 unless_none (Some code) e later none = tt
 unless_none None e later none = none
 
-long_none : (id : ℕ) (x : Found) → x.1 ≡ Some excessive_load → HasNoHeader (pulled_after x id).0
-long_none id (f, fault) is = subst (λ o. HasNoHeader (pulled_after (let x : Found = (f, o) in x) id).0) (sym is) tt
+long_none : (id : ℕ) (strict : Bool) (x : Found) → is_excess strict x.1 ≡ true → HasNoHeader (pulled_after x id).0
+long_none id strict (f, None) is = absurd (cc)
+long_none id strict (f, Some code) is = tt
 
 pub lists_plain : (kept : List Arrival) (e : EndpointHistory) (id : ℕ) → listed_pull (fields_behind kept (plainly e) id) (pulls_behind kept e id).0 ≡ listed_pull (fields_behind kept e id) (pulls_behind kept e id).0
 lists_plain [] e id = ap (λ o. listed_pull o (pulls_behind [] e id).0) (items_plain e id)
@@ -266,8 +267,8 @@ lists_plain (k ∷ kept) e id =
     given : Bool → Pull
     given b = (pull_unless e.closed e (if b then pull_at e id kind else pulled_after x id)).0
 
-    by_reading : ReadsPlainly (limit_of (unkept e)) x y → listed_pull (fields_item y.0 id) (given false) ≡ listed_pull (fields_item x.0 id) (given false)
-    by_reading (IsTooLong limit long) = any_list (fields_item y.0 id) (fields_item x.0 id) (given false) (unless_none e.closed e (pulled_after x id) (long_none id x long))
+    by_reading : ReadsPlainly e.announced x y → listed_pull (fields_item y.0 id) (given false) ≡ listed_pull (fields_item x.0 id) (given false)
+    by_reading (IsTooLong limit long) = any_list (fields_item y.0 id) (fields_item x.0 id) (given false) (unless_none e.closed e (pulled_after x id) (long_none id (is_strict e.announced) x long))
     by_reading (ReadsAlike same) = ap (λ (z : Found). listed_pull (fields_item z.0 id) (given false)) same ∙ ap (λ o. listed_pull o (given false)) (items_plain x.0 id)
 
     by_test : (b : Bool) → listed_pull (if b then fields_item (plainly e) id else fields_item y.0 id) (given b) ≡ listed_pull (if b then fields_item e id else fields_item x.0 id) (given b)

@@ -77,8 +77,8 @@ abbrev pub judged_open : Option ℕ → EndpointHistory → ℕ → Bool
 judged_open (Some code) e id = false
 judged_open None e id = judged_as e id (kind_of e.side id)
 
--- what is read is too long for an endpoint that limits what is unfinished; of an instruction that is an error of its stream if the endpoint asks for a
--- strict connection (RFC 9204, section 7.4)
+-- what is read is too long for an endpoint that limits what is unfinished. An instruction that is too long is an error of its stream if the
+-- endpoint asks for a strict connection (RFC 9204, section 7.4)
 abbrev pub is_excess : Bool → Option ℕ → Bool
 is_excess strict None = false
 is_excess strict (Some code) = (code == excessive_load) || (strict && is_stream_error code)
