@@ -48,7 +48,6 @@ use Rattle.h3_world.specs.Machine.{served}
 use Rattle.h3_world.specs.Refusals.{none_after, sender_at}
 use Rattle.h3_world.specs.Lists.{unreadable}
 use Rattle.h3_world.specs.Machine as machine
-use Rattle.h3_connection.specs.declared.event.Refusal.{Refusal}
 use Rattle.http_uri.specs.Grammar.{or_slash}
 use Rattle.h3_headline.specs.Calls.{Both, Does, Extends, Hears, IsOfSection, IsWritableAs, IsWritableHead, Serves, writing_to, written}
 use Rattle.h3_headline.specs.ComingLaws.{sound_flow}
