@@ -153,7 +153,7 @@ announces a made =
 -- settings with a meaning have the values of all
 same_value : (id : ℕ) (pairs : List (ℕ × ℕ)) → is_known id ≡ true → value_of id (with_meaning pairs) ≡ value_of id pairs
 same_value id [] known = refl
-same_value id (p ∷ pairs) known = by_known (is_known p.0) (p.0 == id) refl refl
+same_value id (p ∷ pairs) known = by_known (same_value id pairs known) (is_known p.0) (p.0 == id) refl refl
   where
     rest : Option ℕ
     rest = value_of id pairs
@@ -167,11 +167,11 @@ same_value id (p ∷ pairs) known = by_known (is_known p.0) (p.0 == id) refl ref
     kept : (b : Bool) → Option ℕ
     kept b = option_map (λ (q : ℕ × ℕ). q.1) (if b then Some p else find (λ (q : ℕ × ℕ). q.0 == id) (with_meaning pairs))
 
-    by_known : (m b : Bool) → is_known p.0 ≡ m → (p.0 == id) ≡ b → found m ≡ first b
-    by_known true true k e = ap kept e
-    by_known true false k e = ap kept e ∙ same_value id pairs known
-    by_known false true k e = let same : p.0 ≡ id = eqb-true p.0 id e in let wrong : false ≡ true = sym k ∙ ap is_known same ∙ known in absurd (cc)
-    by_known false false k e = same_value id pairs known
+    by_known : value_of id (with_meaning pairs) ≡ value_of id pairs → (m b : Bool) → is_known p.0 ≡ m → (p.0 == id) ≡ b → found m ≡ first b
+    by_known behind true true k e = ap kept e
+    by_known behind true false k e = ap kept e ∙ behind
+    by_known behind false true k e = let same : p.0 ≡ id = eqb-true p.0 id e in let wrong : false ≡ true = sym k ∙ ap is_known same ∙ known in absurd (cc)
+    by_known behind false false k e = behind
 
 -- so what is judged of them is judged of all
 judged_alike : (side : Side) (own : Announced) (pairs : List (ℕ × ℕ)) → refuses_settings side own (with_meaning pairs) ≡ refuses_settings side own pairs

@@ -1,5 +1,5 @@
 -- What an endpoint knows of the other side once so many bytes of its control stream came.
-use Rattle.std.proofs.Common.{◌≡◌, [], ◌∷◌, refl, ◌+◌, ◌-◌, ◌<◌, ◌++◌, length, length-append, ap, arith, ℕ, ◌≤◌, List, flat_map, nat_le, true, take, drop, None, sym, ◌∙◌, subst, zero, suc, false, Some, Bool}
+use Rattle.std.proofs.Common.{◌≡◌, [], ◌∷◌, refl, ◌+◌, ◌-◌, ◌<◌, ◌++◌, length, length-append, ap, arith, ℕ, ◌≤◌, List, flat_map, nat_le, true, take, drop, None, sym, ◌∙◌, subst, zero, suc, false, Some, Bool, lit<}
 use Rattle.h3_coding.specs.Encodings.{encoding}
 use Rattle.h3_coding.specs.Varint.{varint_at}
 use Rattle.h3_coding.specs.VarintLaws.{none_at_end, reads_shortest}
