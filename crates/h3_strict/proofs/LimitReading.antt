@@ -1,10 +1,10 @@
 -- What comes is too long for its reader, or it is read alike without a limit.
-use Rattle.std.proofs.Common.{◌≡◌, ℕ, Bool, true, false, if◌then◌else◌, List, [], ◌∷◌, ◌++◌, refl, ap, sym, ◌∙◌, subst, Option, Some, None}
+use Rattle.std.proofs.Common.{◌≡◌, ℕ, Bool, true, false, if◌then◌else◌, List, [], ◌++◌, refl, ap, sym, ◌∙◌, subst, Option, Some, None}
 use Rattle.std.specs.Prelude.{is_some}
 use Rattle.h3_qpack.specs.Hearing.{Heard, Listened}
 use Rattle.h3_connection.specs.Arrivals.{stream_of}
-use Rattle.h3_connection.specs.Codes.{decoder_stream_error, encoder_stream_error, excessive_load, missing_settings, settings_error}
-use Rattle.h3_connection.specs.Control.{Found, after_peer, are_refused, holding, if_learned, lacks_settings, read_control, read_decoder, read_encoder, settings_alone, taken_peer, then_decoder, with_table}
+use Rattle.h3_connection.specs.Codes.{decoder_stream_error, encoder_stream_error, excessive_load, missing_settings}
+use Rattle.h3_connection.specs.Control.{Found, after_peer, are_refused, holding, if_learned, lacks_settings, read_control, read_decoder, read_encoder, taken_peer, then_decoder, with_table}
 use Rattle.h3_connection.specs.Delivering.{bytes_at, closed_by, delivery_refusal, end_at, give_up, heard_as, incoming_at, kept, opened, opened_at, read_unidirectional, refusal_at, reset_at, taken, unidirectional_at, unless_second, with_end, with_incoming, with_unidirectional}
 use Rattle.h3_connection.specs.Endpoint.{EndpointHistory, Kind, is_second, kind_of, limit_of}
 use Rattle.h3_connection.specs.Endpoint.Kind.{OwnUnidirectional, PeerUnidirectional, Request, ServerOpened}
