@@ -296,39 +296,41 @@ module _ (a : Announced) (limit : ℕ) (writer : Side) (own : Own) (er ew : Endp
 abbrev IsQuiet : Answer → Type 0
 IsQuiet a = is_connection_fault a ≡ false
 
-refused_within : (r : Refusal) → IsQuiet (answer.Refused r) → IsWithin (answer.Refused r)
-refused_within (refusal.Connection code) quiet = absurd (cc)
-refused_within r quiet = refl
+refused_within : (strict : Bool) (r : Refusal) → IsQuiet (answer.Refused r) → IsWithin strict (answer.Refused r)
+refused_within strict (refusal.Connection code) quiet = absurd (cc)
+refused_within strict r quiet = refl
 
 -- a test of the writer
-by_test : (b : Bool) (x y v w : Answer × Ends) → IsWithin x.0 → (b ≡ false → IsQuiet w.0 → IsWithin y.0) → IsQuiet (if b then v else w).0 → IsWithin (if b then x else y).0
-by_test true x y v w h k quiet = h
-by_test false x y v w h k quiet = k refl quiet
+by_test : (strict b : Bool) (x y v w : Answer × Ends) → IsWithin strict x.0 → (b ≡ false → IsQuiet w.0 → IsWithin strict y.0) → IsQuiet (if b then v else w).0 → IsWithin strict (if b then x else y).0
+by_test strict true x y v w h k quiet = h
+by_test strict false x y v w h k quiet = k refl quiet
 
 has_one : (b : Bool) → not b ≡ false → b ≡ true
 has_one true h = refl
 has_one false h = absurd (cc)
 
 -- what is not too long is answered as by the reader without a limit
-offered_quiet : (ends : Ends) (writer : Side) (id count : ℕ) (x : Option Refusal × EndpointHistory) → IsQuiet (was_offered (unlimited_ends ends) writer id count (limited_result no_limit x)).0 → IsWithin (was_offered ends writer id count x).0
-offered_quiet ends writer id count (None, e) quiet = refl
-offered_quiet ends writer id count (Some r, e) quiet = refused_within r quiet
+offered_quiet : (strict : Bool) (ends : Ends) (writer : Side) (id count : ℕ) (x : Option Refusal × EndpointHistory) → IsQuiet (was_offered (unlimited_ends ends) writer id count (limited_result no_limit x)).0
+    → IsWithin strict (was_offered ends writer id count x).0
+offered_quiet strict ends writer id count (None, e) quiet = refl
+offered_quiet strict ends writer id count (Some r, e) quiet = refused_within strict r quiet
 
-offered_fits : (ends : Ends) (writer : Side) (id count : ℕ) (x y : Option Refusal × EndpointHistory) (told : Found) → ArrivesWithin no_limit x y told → FoundFits told
-    → IsQuiet (was_offered (unlimited_ends ends) writer id count y).0 → IsWithin (was_offered ends writer id count x).0
-offered_fits ends writer id count x y told (Exceeds code is refused long) fits quiet = absurd (let never : true ≡ false = sym (ap (is_excess false) long) ∙ fits in cc)
-offered_fits ends writer id count x y told (Otherwise same) fits quiet =
-    offered_quiet ends writer id count x (sym (ap (λ (z : Option Refusal × EndpointHistory). is_connection_fault (was_offered (unlimited_ends ends) writer id count z).0) same) ∙ quiet)
+offered_fits : (strict : Bool) (own : Announced) (ends : Ends) (writer : Side) (id count : ℕ) (x y : Option Refusal × EndpointHistory) (told : Found) → ArrivesWithin no_limit own x y told → FoundFits told
+    → IsQuiet (was_offered (unlimited_ends ends) writer id count y).0 → IsWithin strict (was_offered ends writer id count x).0
+offered_fits strict own ends writer id count x y told (Exceeds code is refused long) fits quiet = absurd (let never : true ≡ false = sym (ap (is_excess false) long) ∙ fits in cc)
+offered_fits strict own ends writer id count x y told (Otherwise same) fits quiet =
+    offered_quiet strict ends writer id count x (sym (ap (λ (z : Option Refusal × EndpointHistory). is_connection_fault (was_offered (unlimited_ends ends) writer id count z).0) same) ∙ quiet)
 
-done_quiet : (ends : Ends) (side : Side) (x : Option Refusal × EndpointHistory) → IsQuiet (done (unlimited_ends ends) side answer.Done (limited_result no_limit x)).0 → IsWithin (done ends side answer.Done x).0
-done_quiet ends side (None, e) quiet = refl
-done_quiet ends side (Some r, e) quiet = refused_within r quiet
+done_quiet : (strict : Bool) (ends : Ends) (side : Side) (x : Option Refusal × EndpointHistory) → IsQuiet (done (unlimited_ends ends) side answer.Done (limited_result no_limit x)).0
+    → IsWithin strict (done ends side answer.Done x).0
+done_quiet strict ends side (None, e) quiet = refl
+done_quiet strict ends side (Some r, e) quiet = refused_within strict r quiet
 
-done_fits : (ends : Ends) (side : Side) (x y : Option Refusal × EndpointHistory) (told : Found) → ArrivesWithin no_limit x y told → FoundFits told
-    → IsQuiet (done (unlimited_ends ends) side answer.Done y).0 → IsWithin (done ends side answer.Done x).0
-done_fits ends side x y told (Exceeds code is refused long) fits quiet = absurd (let never : true ≡ false = sym (ap (is_excess false) long) ∙ fits in cc)
-done_fits ends side x y told (Otherwise same) fits quiet =
-    done_quiet ends side x (sym (ap (λ (z : Option Refusal × EndpointHistory). is_connection_fault (done (unlimited_ends ends) side answer.Done z).0) same) ∙ quiet)
+done_fits : (strict : Bool) (own : Announced) (ends : Ends) (side : Side) (x y : Option Refusal × EndpointHistory) (told : Found) → ArrivesWithin no_limit own x y told → FoundFits told
+    → IsQuiet (done (unlimited_ends ends) side answer.Done y).0 → IsWithin strict (done ends side answer.Done x).0
+done_fits strict own ends side x y told (Exceeds code is refused long) fits quiet = absurd (let never : true ≡ false = sym (ap (is_excess false) long) ∙ fits in cc)
+done_fits strict own ends side x y told (Otherwise same) fits quiet =
+    done_quiet strict ends side x (sym (ap (λ (z : Option Refusal × EndpointHistory). is_connection_fault (done (unlimited_ends ends) side answer.Done z).0) same) ∙ quiet)
 
 -- **The deliveries of two ends, of which those without limits find no fault.**
 module _ (ends : Ends) (writer : Side) (a : Announced) (limit : ℕ) (own : Own) (c : Carries a limit writer own (ends_of.end_at ends (other writer)) (ends_of.end_at ends writer)) where
@@ -341,7 +343,7 @@ module _ (ends : Ends) (writer : Side) (a : Announced) (limit : ℕ) (own : Own)
   abbrev others : Ends
   others = unlimited_ends ends
 
-  comes : (arrival : Arrival) → ArrivesWithin no_limit (arrives reader arrival) (arrives (limited_end no_limit reader) arrival) (read_arrival (loose reader) arrival)
+  comes : (arrival : Arrival) → ArrivesWithin no_limit reader.announced (arrives reader arrival) (arrives (limited_end no_limit reader) arrival) (read_arrival (loose reader) arrival)
   comes arrival = arrives_within reader arrival c.nothing_kept
 
   -- what a test of both ends gives, at the ends without limits
@@ -350,23 +352,23 @@ module _ (ends : Ends) (writer : Side) (a : Announced) (limit : ℕ) (own : Own)
       sym (ap (λ e. is_connection_fault (test e (ends_of.end_at others (other writer))).0) (at_end (λ side. no_limit) ends writer)
       ∙ ap (λ e. is_connection_fault (test (limited_end no_limit sender) e).0) (at_end (λ side. no_limit) ends (other writer))) ∙ quiet
 
-  pub delivery_fits : (id count : ℕ) → IsQuiet (delivery others writer id count).0 → IsWithin (delivery ends writer id count).0
-  delivery_fits id count quiet =
-      by_test (not (has_outgoing sender id)) _ _ _ _ refl (λ has. by_test (nat_lt (waiting sender id) count) _ _ _ _ refl (λ enough.
-      offered_fits ends writer id count _ _ _ (comes (BytesCame id (take count (bytes_waiting sender id)))) (comes_fit a limit writer own reader sender c count id (has_one (has_outgoing sender id) has))))
+  pub delivery_fits : (strict : Bool) (id count : ℕ) → IsQuiet (delivery others writer id count).0 → IsWithin strict (delivery ends writer id count).0
+  delivery_fits strict id count quiet =
+      by_test strict (not (has_outgoing sender id)) _ _ _ _ refl (λ has. by_test strict (nat_lt (waiting sender id) count) _ _ _ _ refl (λ enough.
+      offered_fits strict reader.announced ends writer id count _ _ _ (comes (BytesCame id (take count (bytes_waiting sender id)))) (comes_fit a limit writer own reader sender c count id (has_one (has_outgoing sender id) has))))
       (same_ends (λ e r. if not (has_outgoing e id) then (let z : Answer × Ends = (answer.NoStream, others) in z) else (
       if nat_lt (waiting e id) count then (let z : Answer × Ends = (answer.Short (waiting e id), others) in z) else was_offered others writer id count (arrives r (BytesCame id (take count (bytes_waiting e id)))))) quiet)
 
-  pub end_delivery_fits : (id : ℕ) → IsQuiet (end_delivery others writer id).0 → IsWithin (end_delivery ends writer id).0
-  end_delivery_fits id quiet =
-      by_test (not (has_outgoing sender id)) _ _ _ _ refl (λ has. by_test (not (is_finished sender id && (waiting sender id == 0))) _ _ _ _ refl (λ whole.
-      done_fits ends (other writer) _ _ _ (comes (EndCame id)) (end_fits (loose reader) id (kind_of reader.side id))))
+  pub end_delivery_fits : (strict : Bool) (id : ℕ) → IsQuiet (end_delivery others writer id).0 → IsWithin strict (end_delivery ends writer id).0
+  end_delivery_fits strict id quiet =
+      by_test strict (not (has_outgoing sender id)) _ _ _ _ refl (λ has. by_test strict (not (is_finished sender id && (waiting sender id == 0))) _ _ _ _ refl (λ whole.
+      done_fits strict reader.announced ends (other writer) _ _ _ (comes (EndCame id)) (end_fits (loose reader) id (kind_of reader.side id))))
       (same_ends (λ e r. if not (has_outgoing e id) then (let z : Answer × Ends = (answer.NoStream, others) in z) else (
       if not (is_finished e id && (waiting e id == 0)) then (let z : Answer × Ends = (answer.Early, others) in z) else done others (other writer) answer.Done (arrives r (EndCame id)))) quiet)
 
-  pub reset_delivery_fits : (id : ℕ) → IsQuiet (reset_delivery others writer id).0 → IsWithin (reset_delivery ends writer id).0
-  reset_delivery_fits id quiet =
-      by_test (not (has_outgoing sender id)) _ _ _ _ refl (λ has. by_test (not (is_reset sender id)) _ _ _ _ refl (λ whole.
-      done_fits ends (other writer) _ _ _ (comes (ResetCame id reset_code)) (reset_fits (loose reader) id reset_code (kind_of reader.side id))))
+  pub reset_delivery_fits : (strict : Bool) (id : ℕ) → IsQuiet (reset_delivery others writer id).0 → IsWithin strict (reset_delivery ends writer id).0
+  reset_delivery_fits strict id quiet =
+      by_test strict (not (has_outgoing sender id)) _ _ _ _ refl (λ has. by_test strict (not (is_reset sender id)) _ _ _ _ refl (λ whole.
+      done_fits strict reader.announced ends (other writer) _ _ _ (comes (ResetCame id reset_code)) (reset_fits (loose reader) id reset_code (kind_of reader.side id))))
       (same_ends (λ e r. if not (has_outgoing e id) then (let z : Answer × Ends = (answer.NoStream, others) in z) else (
       if not (is_reset e id) then (let z : Answer × Ends = (answer.Early, others) in z) else done others (other writer) answer.Done (arrives r (ResetCame id reset_code)))) quiet)

@@ -11,6 +11,7 @@ use Rattle.h3_connection.specs.Announcing.{section_of}
 use Rattle.h3_connection.specs.Endpoint.{EndpointHistory}
 use Rattle.h3_connection.specs.OwnIds.{other}
 use Rattle.h3_connection.specs.Refusals.{is_too_large}
+use Rattle.h3_connection.specs.StrictConnection.{is_strict}
 use Rattle.h3_connection.specs.StrictSending.{broken_protocol}
 use Rattle.h3_connection.specs.declared.event.Malformation.{Malformation}
 use Rattle.h3_header.specs.Reads.{head_of_fields}
@@ -37,8 +38,9 @@ use Rattle.h3_strict.proofs.DeliveriesFit.{delivery_fits, end_delivery_fits, res
 use Rattle.h3_strict.proofs.LimitCarries.{CarriesAt, loose_carries, strict_carries}
 use Rattle.h3_strict.proofs.MadeLimits.{limits_made}
 use Rattle.h3_strict.proofs.LimitHeadlines.{loose_world}
+use Rattle.h3_strict.proofs.LimitRuns.{limits_kept}
 use Rattle.h3_strict.proofs.LimitSetups.{setup_unlimited, unlimited_plainly, unlimited_strictly}
-use Rattle.h3_strict.proofs.LimitWorlds.{RunStrictly, knows_front, loose_limits, loose_unlimited, sendable_front, strict_limits, strict_unlimited}
+use Rattle.h3_strict.proofs.LimitWorlds.{RunStrictly, knows_front, loose_unlimited, sendable_front, strict_unlimited}
 use Rattle.h3_strict.proofs.PlainHeadlines.{RunInWorlds}
 use Rattle.h3_strict.proofs.SameWorlds.{answers_more, ends_more, run_last}
 use Rattle.h3_strict.proofs.SentLaws.{head_judged, head_rules, trailer_judged, trailer_rules}
@@ -124,9 +126,9 @@ module _ (setup : Setup) (made : IsMadeSetup setup) where
   event_taken ends (event.Reset side id) sends early = tt
   event_taken ends (event.Cancel side id) sends early = tt
   event_taken ends (event.Goaway side id) sends early = tt
-  event_taken ends (event.Deliver side id count) sends early = let c = sends.carries side in delivery_fits ends side (announced_at setup side) (limit_at setup (other side)) c.0 c.1 id count (sends.quiet refl)
-  event_taken ends (event.DeliverEnd side id) sends early = let c = sends.carries side in end_delivery_fits ends side (announced_at setup side) (limit_at setup (other side)) c.0 c.1 id (sends.quiet refl)
-  event_taken ends (event.DeliverReset side id) sends early = let c = sends.carries side in reset_delivery_fits ends side (announced_at setup side) (limit_at setup (other side)) c.0 c.1 id (sends.quiet refl)
+  event_taken ends (event.Deliver side id count) sends early = let c = sends.carries side in delivery_fits ends side (announced_at setup side) (limit_at setup (other side)) c.0 c.1 (is_strict (announced_at setup (other side))) id count (sends.quiet refl)
+  event_taken ends (event.DeliverEnd side id) sends early = let c = sends.carries side in end_delivery_fits ends side (announced_at setup side) (limit_at setup (other side)) c.0 c.1 (is_strict (announced_at setup (other side))) id (sends.quiet refl)
+  event_taken ends (event.DeliverReset side id) sends early = let c = sends.carries side in reset_delivery_fits ends side (announced_at setup side) (limit_at setup (other side)) c.0 c.1 (is_strict (announced_at setup (other side))) id (sends.quiet refl)
   event_taken ends (event.Pull side id) sends early = tt
   event_taken ends (event.PullFields side id) sends early = tt
   event_taken ends (event.Show side) sends early = tt
@@ -199,7 +201,7 @@ module _ (short : SectionsAreShort) (streams : StreamLaws) (setup : Setup) (even
           let next = headline X (past ++ e ∷ []) (setup_unlimited setup made) (unlimited_plainly setup none) more in
           record {
             knows = loose_knows setup ran.0 (ends_after (new_ends setup) past) ran.2;
-            carries = loose_carries streams setup made ran.0 (ends_after (new_ends setup) past) (loose_limits short setup past made sent taken headline none) ran.2;
+            carries = loose_carries streams setup made ran.0 (ends_after (new_ends setup) past) (limits_kept setup past) ran.2;
             quiet = λ delivers. ap (λ x. is_connection_fault (answered x e).0) runs.leads ∙ last_quiet X past e next.0 next.1;
           }
 
@@ -220,7 +222,7 @@ module _ (short : SectionsAreShort) (streams : StreamLaws) (setup : Setup) (even
           subst (λ x. Stands (plain_setup (unlimited_setup setup)) ran.0 (plain_ends x)) (sym runs.leads) ran.2 in
           record {
             knows = strict_knows setup ran.0 (ends_after (new_ends setup) past) stands;
-            carries = strict_carries streams setup made ran.0 (ends_after (new_ends setup) past) (strict_limits short setup past made sent taken headline strict asked) stands;
+            carries = strict_carries streams setup made ran.0 (ends_after (new_ends setup) past) (limits_kept setup past) stands;
             quiet = λ delivers. ap (λ x. is_connection_fault (answered x e).0) runs.leads
                 ∙ last_faultless (answers_of_ends (new_ends X) past) (answered (ends_after (new_ends X) past) e).0
                 (sym (ap (list_any is_connection_fault) (answers_more (new_ends X) past e))

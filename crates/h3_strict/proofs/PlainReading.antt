@@ -55,11 +55,11 @@ pub data ReadsPlainly (own : Announced) (x y : Found) : Type 0 where
   ReadsAlike : y ≡ plain_found x → ReadsPlainly own x y
 
 -- the codes of instructions that are too long
-encoder_told : (strict : Bool) → is_excess strict (stream_error strict encoder_stream_error (Some excessive_load)) ≡ true
+pub encoder_told : (strict : Bool) → is_excess strict (stream_error strict encoder_stream_error (Some excessive_load)) ≡ true
 encoder_told true = refl
 encoder_told false = refl
 
-decoder_told : (strict : Bool) → is_excess strict (stream_error strict decoder_stream_error (Some excessive_load)) ≡ true
+pub decoder_told : (strict : Bool) → is_excess strict (stream_error strict decoder_stream_error (Some excessive_load)) ≡ true
 decoder_told true = refl
 decoder_told false = refl
 
