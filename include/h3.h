@@ -553,17 +553,19 @@ typedef struct {
  * endpoint does not send it. A response with a status from 100 to 199 is an interim one: send a
  * further header section after it.
  * Refused, in this order: H3_ARGUMENT (id not below 2^62; len is not the sum; another flag),
- * H3_CLOSED, H3_NOT_OPEN, H3_OUT_OF_ORDER, H3_FIELD_NAME, H3_FIELD_VALUE and H3_FIELD_COUNT (the
- * first field that is refused decides), H3_WRONG_SIDE, H3_MALFORMED (for white space around a value
- * H3_FIELD_VALUE), H3_TOO_LARGE, H3_MEMORY. (If memory is needed to check or to send the list,
- * H3_MEMORY may come before the refusals after H3_OUT_OF_ORDER.) */
+ * H3_CLOSED, H3_NOT_OPEN, H3_OUT_OF_ORDER, H3_GOING_AWAY (with `strict_connection`, by a client
+ * after the peer's GOAWAY), H3_FIELD_NAME, H3_FIELD_VALUE and H3_FIELD_COUNT (the first field that
+ * is refused decides), H3_WRONG_SIDE, H3_MALFORMED (for white space around a value H3_FIELD_VALUE),
+ * H3_TOO_LARGE, H3_MEMORY. (If memory is needed to check or to send the list, H3_MEMORY may come
+ * before the refusals after H3_GOING_AWAY.) */
 static inline uint32_t h3_send_head(h3_endpoint *endpoint, uint64_t id, const h3_field_size *sizes,
                                     const uint8_t *flags, size_t count, const void *bytes,
                                     size_t len, uint64_t *detail);
 
 /* Sends a trailer section, after which only the end comes. Send no empty one: it is allowed, but
- * some peers close the connection over it. Refused as h3_send_head, but after the refusals of the
- * list: H3_PSEUDO_IN_TRAILER, H3_MALFORMED (or H3_FIELD_VALUE), H3_TOO_LARGE, H3_MEMORY. */
+ * some peers close the connection over it. Refused as h3_send_head, but never by H3_GOING_AWAY, and
+ * after the refusals of the list: H3_PSEUDO_IN_TRAILER, H3_MALFORMED (or H3_FIELD_VALUE),
+ * H3_TOO_LARGE, H3_MEMORY. */
 static inline uint32_t h3_send_trailer(h3_endpoint *endpoint, uint64_t id,
                                        const h3_field_size *sizes, const uint8_t *flags,
                                        size_t count, const void *bytes, size_t len,

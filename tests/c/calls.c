@@ -363,7 +363,7 @@ static void on_stream(char **words, size_t count) {
   const char *command = words[0];
   uint64_t id = strtoull(words[1], NULL, 10), detail = 0;
   const char *word = count > 2 ? words[2] : "";
-  if (!strcmp(command, "head") || !strcmp(command, "trailer")) section(id, command[0] == 't', words + 2, count - 2);
+  if (!strcmp(command, "head") || !strcmp(command, "fields") || !strcmp(command, "trailer")) section(id, command[0] == 't', words + 2, count - 2);
   else if (!strcmp(command, "body")) {
     uint32_t n = h3_send_body(&endpoint, id, bytes, from_hex(word, bytes), &detail);
     answer(n, detail);

@@ -111,7 +111,8 @@ static void of_own_settings(void) {
     h3_config_default(&config);
     config.webtransport = 1;
     config.strict_connection = (uint64_t)strict;
-    IS(h3_new(&e, &config, &detail), strict ? H3_ARGUMENT : H3_OK);
+    IS(h3_new(&e, &config, &detail), strict ? H3_SETTING : H3_OK);
+    HOLDS(detail == (strict ? 0x2b603742 : 0));
     h3_free(&e);
   }
 }

@@ -11,7 +11,8 @@ use Rattle.h3_connection.specs.Endpoint.{EndpointHistory, limit_of}
 use Rattle.h3_connection.specs.PeerReading.{PeerFound, read_peer, with_unread}
 use Rattle.h3_connection.specs.StrictConnection.{is_strict, settings_refused, have_bad_value}
 use Rattle.h3_connection.specs.declared.setup.Announced.{Announced}
-use Rattle.h3_connection.specs.FirstSettingsLaws.{FirstRead, Fails, HasHead, Nothing, Settings, head_stays, other_stays, what_first}
+use Rattle.h3_connection.specs.FirstSettings.{FirstRead, Fails, HasHead, Nothing, Settings}
+use Rattle.h3_connection.specs.FirstSettingsLaws.{head_stays, other_stays, what_first}
 use Rattle.h3_connection.specs.PeerReadingLaws.{settings_stay}
 use Rattle.h3_connection.specs.StrictConnectionLaws.{known_missed, known_refused}
 use Rattle.h3_connection.proofs.PeerReadings.{then_peer}

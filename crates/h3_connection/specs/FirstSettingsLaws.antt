@@ -17,23 +17,9 @@ use Rattle.h3_wire.specs.Known.{known}
 use Rattle.h3_wire.specs.KnownLaws.{known-other}
 use Rattle.h3_wire.specs.declared.proto.frame.FrameError.{FrameError}
 use Rattle.h3_wire.specs.declared.proto.frame.Frame.TheVariants as frame
+use Rattle.h3_connection.specs.FirstSettings.{FirstRead, Fails, HasHead, NoHead, Nothing, Settings, SettingsFront, Bad, Came, Waits}
 use Rattle.h3_connection.specs.PeerReading.{Peer, PeerFound, with_unread, read_frame, refused_code, unless_fault, at_front, read_peer}
 use Rattle.h3_connection.specs.PeerReadingLaws.{settings_stay, step_excessive, step_within}
-
--- No frame's head is whole: nothing is known of it.
-pub record NoHead (bytes : List ℕ) : Type 0 where
-  pub other : begins_other bytes ≡ false
-  pub least : ℕ
-  pub waits : frame_at bytes ≡ Unfinished least
-  pub small : (limit : ℕ) → is_excessive limit bytes ≡ false
-
-pub record HasHead (bytes : List ℕ) : Type 0 where
-  pub kind : ℕ
-  pub number : ℕ
-  pub mid : List ℕ
-  pub behind : List ℕ
-  pub kind_at : varint_at bytes ≡ Some (kind, mid)
-  pub number_at : varint_at mid ≡ Some (number, behind)
 
 no_number : (bytes : List ℕ) (kind : ℕ) (mid : List ℕ) → varint_at bytes ≡ Some (kind, mid) → varint_at mid ≡ None → NoHead bytes
 no_number bytes kind mid is none =
@@ -84,12 +70,6 @@ other_stays bytes more is = elim (cases_head bytes) [
   | inr h ↦ head_stays bytes more h ∙ is
 ]
 
--- SETTINGS: it is not whole, or it is, or it is refused
-data SettingsFront (x : Front) : Type 0 where
-  Waits : (least : ℕ) → x ≡ Unfinished least → SettingsFront x
-  Came : (pairs : List (ℕ × ℕ)) (rest : List ℕ) → x ≡ Whole (frame.Settings pairs) rest → SettingsFront x
-  Bad : (e : FrameError) → x ≡ Refused e → SettingsFront x
-
 settings_read : (r : Result (List (ℕ × ℕ)) SettingsError) (rest : List ℕ) → SettingsFront (settings_frame r rest)
 settings_read (Ok pairs) rest = Came pairs rest refl
 settings_read (Err e) rest = Bad _ refl
@@ -116,12 +96,6 @@ known_front : (bytes : List ℕ) → SettingsFront (frame_at bytes) → known by
 known_front bytes (Waits least is) = known-other bytes (subst IsKnown (sym is) tt)
 known_front bytes (Came pairs rest is) = known-other bytes (subst IsKnown (sym is) tt)
 known_front bytes (Bad e is) = known-other bytes (subst IsKnown (sym is) tt)
-
--- What is read where the settings are due, and the bytes do not begin with another frame: nothing; or the settings first; or there is a fault without them.
-pub data FirstRead (limit : ℕ) (side : Side) (p : Peer) : Type 0 where
-  Nothing : read_peer limit side p ≡ (p, None) → FirstRead limit side p
-  Settings : HasHead p.unread → (pairs : List (ℕ × ℕ)) → (read_peer limit side p).0.settings ≡ Some pairs → FirstRead limit side p
-  Fails : HasHead p.unread → (code : ℕ) → (read_peer limit side p).1 ≡ Some code → (read_peer limit side p).0.settings ≡ None → FirstRead limit side p
 
 waiting : (limit : ℕ) (side : Side) (p : Peer) (least : ℕ) → known p.unread ≡ p.unread → frame_at p.unread ≡ Unfinished least → is_excessive limit p.unread ≡ false → read_peer limit side p ≡ (p, None)
 waiting limit side p least same waits small =

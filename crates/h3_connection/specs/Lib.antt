@@ -25,6 +25,7 @@ pub mod Arrivals
 pub mod Skipping
 pub mod SkippingLaws
 pub mod PeerReadingLaws
+pub mod FirstSettings
 pub mod FirstSettingsLaws
 pub mod KeptGoaways
 pub mod KeptGoawayLaws

@@ -323,7 +323,7 @@ ghost use Rattle.std.specs.Prelude.{Option, false};
 
 /// If an endpoint does not ask for a strict connection, it judges by no rule of `Config::with_strict_connection`: neither settings, nor the
 /// first frame of the control stream (`control`), nor the ids of sessions (`stream`, `place`), nor what it sends after a GOAWAY (`begins`) or
-/// announces (`announces`). A fault of the encoder or decoder stream is told as it is found (`fault`).
+/// announces (`announces`). A fault of the encoder or decoder stream keeps its code (`fault`).
 pub fn without_a_strict_connection_nothing_more_is_judged()
     ensures settings { (side : Side) (own : Announced) (settings : Option (List (ℕ × ℕ))) → is_strict own ≡ false → settings_refused side own settings ≡ false }
     ensures control { (e : EndpointHistory) (bytes : List ℕ) → is_strict e.announced ≡ false →

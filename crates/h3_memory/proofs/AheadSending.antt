@@ -12,9 +12,11 @@ use Rattle.h3_connection.specs.Outgoing.{Outgoing, OwnPart, nothing_sent, takes_
 use Rattle.h3_connection.specs.Outgoing.OwnPart.{OwnTrailer}
 use Rattle.h3_connection.specs.Pulling.{is_client, is_for}
 use Rattle.h3_connection.specs.Sections.{written_section}
-use Rattle.h3_connection.specs.Refusals.{first_of, is_too_large, refusal_of_head, refusal_of_trailer}
+use Rattle.h3_connection.specs.Lasts.{last_id}
+use Rattle.h3_connection.specs.Refusals.{first_of, is_too_large, refusal_of_head, refusal_of_trailer, unless_going}
 use Rattle.h3_connection.specs.Sending.{does, closed_or, unless_closed, sender_at, finish_refusal, goaway_refusal, with_outgoing, outgoing_at, counted, encoded, appended, fields_cost, head_part, asked, finish, goaway}
 use Rattle.h3_connection.specs.StreamSets.{Streams, stream_at, set_stream}
+use Rattle.h3_connection.specs.StrictConnection.{begins_none_after}
 use Rattle.h3_connection.specs.StrictSending.{broken_head, broken_trailer, early_trailer, unless_malformed}
 use Rattle.h3_messages.specs.Content.{may_end}
 use Rattle.h3_connection.specs.declared.event.Malformation.{Malformation}
@@ -110,9 +112,10 @@ module _ (mine : List Delivery) (held : Held) (incoming : Streams Incoming) (kep
       rules : Outgoing → List (Bool × Refusal)
       rules o =
           (not (takes_head o), refusal.OutOfOrder)
-          ∷ unless_malformed told
+          ∷ unless_going (begins_none_after behind.announced behind.side (last_id behind.peer.goaways))
+          (unless_malformed told
           ((not (is_for (other behind.side) head), refusal.WrongSide)
-          ∷ unless_malformed (broken_head behind.side behind.announced behind.peer.settings fields) ((is_too_large behind.peer.settings fields, refusal.TooLarge (section_size fields)) ∷ []))
+          ∷ unless_malformed (broken_head behind.side behind.announced behind.peer.settings fields) ((is_too_large behind.peer.settings fields, refusal.TooLarge (section_size fields)) ∷ [])))
 
   -- **A trailer.**
   pub trailer_ahead : (id : ℕ) (told : Option Malformation) (head : Head) (fields : List Field) → trailer_as (ahead behind mine held incoming kept) id told head fields ≡ lifted (trailer_as behind id told head fields)

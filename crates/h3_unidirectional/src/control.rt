@@ -169,7 +169,7 @@ impl PeerControl {
         &self.unread
     }
 
-    /// Whether those bytes begin with the whole head of a frame that is not SETTINGS (RFC 9114, section 6.2.1).
+    /// Whether those bytes begin with the type and the length of a frame that is not SETTINGS (RFC 9114, section 6.2.1).
     pub fn begins_other(&self) -> bool
         ensures { result ≡ begins_other self.now.unread }
     {

@@ -60,12 +60,11 @@ fn first_refusal(first: Option<Refusal>, later: Option<Refusal>) -> Option<Refus
 impl Endpoint {
     /// Sends a header section on a stream: an encoded field section in a HEADERS frame (RFC 9114, section 4.3), and its insertions on the
     /// encoder stream. One with a status from 100 to 199 is not the last one. Refused are first every call after a connection fault, then a
-    /// stream that is not open, then one whose final header section or end was sent. At a client that asks for a strict connection each is
-    /// refused once the peer's GOAWAY came. Next is a header section with another protocol than the
-    /// two names of `Protocol`, unless the configuration takes any (`Config::with_any_protocol`), and then one of the other side's messages.
-    /// An endpoint that asks for strict messages then refuses one that a strict peer would call malformed. Last is one whose size is above
-    /// what the peer's settings allow. If an allocation fails the encoder stream may have gained whole instructions, and the stream is as
-    /// it was.
+    /// stream that is not open, then one whose final header section or end was sent. A client that asks for a strict connection then
+    /// refuses each, once the peer's GOAWAY came. Next is a header section with another protocol than the two names of `Protocol`, unless
+    /// the configuration takes any (`Config::with_any_protocol`), and then one of the other side's messages. An endpoint that asks for
+    /// strict messages then refuses one that a strict peer would call malformed. Last is one whose size is above what the peer's settings
+    /// allow. If an allocation fails the encoder stream may have gained whole instructions, and the stream is as it was.
     pub fn send_head(&mut self, id: StreamId, head: &Header) -> Result<(), Refusal>
         ensures { SendsHead self.old self.new id head.now result }
     {

@@ -30,6 +30,7 @@ impl Endpoint {
     /// made of them. It refuses, in this order:
     /// - every call after a connection fault (`Refusal::Closed`),
     /// - a stream that is not open (`NotOpen`), or whose final header section or end was sent (`OutOfOrder`),
+    /// - if the endpoint asks for a strict connection, each by a client after the peer's GOAWAY (`GoingAway`),
     /// - a list that `Header::try_from` refuses (`Malformed` of `Name`, `Value` or `TooMany`); with `Config::with_any_protocol` the value of
     ///   `:protocol` may be any token of at most 31 bytes,
     /// - a header section of the other side's messages (`WrongSide`),

@@ -176,8 +176,8 @@ impl FrameBuffer {
         self.unread.begins_section()
     }
 
-    /// Whether the bytes begin with the whole head of a frame that is not SETTINGS (RFC 9114, section 7.2.4). Its payload need not be
-    /// there. Nothing is taken.
+    /// Whether the bytes begin with the type and the length of a frame that is not SETTINGS (RFC 9114, section 7.2.4). Its payload need
+    /// not be there. Nothing is taken.
     pub fn begins_other(&self) -> bool
         ensures { result ≡ begins_other (concat self.now.pieces) }
     {

@@ -10,7 +10,7 @@ use h3_coding::coding::BufExt;
 /// The type of SETTINGS (RFC 9114, section 7.2.4).
 const SETTINGS: u64 = 4;
 
-/// Whether the bytes begin with the whole head of a frame that is not SETTINGS. Nothing is taken.
+/// Whether the bytes begin with the type and the length of a frame that is not SETTINGS. Nothing is taken.
 pub(super) fn begins_other(src: &BufList<Bytes>) -> bool
     ensures { result ≡ begins_other (concat src.now.pieces) }
 {

@@ -219,7 +219,8 @@ impl FrameBytes {
         excess::begins_section(&self.kept, self.passing - self.gone)
     }
 
-    /// Whether the bytes begin with the whole head of a frame that is not SETTINGS: an unknown frame under way is one. Nothing is taken.
+    /// Whether the bytes begin with the type and the length of a frame that is not SETTINGS: an unknown frame under way is one. Nothing
+    /// is taken.
     pub(super) fn begins_other(&self) -> bool
         ensures { result ≡ begins_other (concat self.now.pieces) }
     {
