@@ -211,7 +211,6 @@ class Endpoint:
     each field that is a secret as one that is never indexed. If it is `strict`, it holds its peer to rules that else pass, of settings, of the
     first frame and of sessions, and keeps one itself after a GOAWAY."""
 
-
     def __init__(self, side, section, capacity, blocked, guards=False, strict=False):
         self.side, self.section, self.blocked, self.guards, self.strict = side, section, blocked, guards, strict
         self.bit = 0 if side == CLIENT else 1
