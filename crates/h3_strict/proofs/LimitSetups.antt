@@ -23,7 +23,6 @@ made_unlimited a h =
       table = h.table;
       blocked = h.blocked;
       within = refl;
-      beside = h.beside;
     }
 
 pub setup_unlimited : (setup : Setup) → IsMadeSetup setup → IsMadeSetup (unlimited_setup setup)

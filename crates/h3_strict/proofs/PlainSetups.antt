@@ -30,7 +30,6 @@ made_plainly a h =
       table = h.table;
       blocked = h.blocked;
       within = refl;
-      beside = h.beside;
     }
 
 pub setup_plainly : (setup : Setup) → IsMadeSetup setup → IsMadeSetup (plain_setup setup)

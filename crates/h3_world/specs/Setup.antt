@@ -10,7 +10,7 @@ use Rattle.h3_connection.specs.declared.setup.Announced.{Announced}
 use Rattle.h3_connection.specs.declared.setup.Limits.{Limits}
 use Rattle.h3_connection.specs.declared.setup.NewError.{NewError}
 use Rattle.h3_connection.specs.declared.setup.NewError.TheVariants as refusal
-use Rattle.h3_connection.specs.StrictConnection.{announces_alone, refuses_settings}
+use Rattle.h3_connection.specs.StrictConnection.{refuses_settings}
 use Rattle.h3_proto.specs.declared.frame.SettingsError.TheVariants.{InvalidSettingValue}
 use Rattle.h3_world.specs.declared.setup.Setup.{Setup}
 
@@ -73,7 +73,6 @@ pub record IsMade (a : Announced) : Type 0 where
   pub table : a.limits.table < 2 ^ 30
   pub blocked : a.limits.blocked < 2 ^ 16
   pub within : is_below_announced a ≡ false
-  pub beside : announces_alone a ≡ false
 
 -- what `Setup::new` makes
 pub record IsMadeSetup (setup : Setup) : Type 0 where
