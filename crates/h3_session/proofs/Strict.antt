@@ -17,7 +17,7 @@ use Rattle.h3_connection.specs.OwnIds.{other}
 use Rattle.h3_strict.specs.Limits.{EarlyAreTaken, IsTaken, is_early}
 use Rattle.h3_strict.specs.ServerKnows.{ServerKnows}
 use Rattle.h3_strict.specs.Tallies.{JudgesStrictly}
-use Rattle.h3_strict.specs.PlainEnds.{RunsPlainly, answers_without_malformed, finds_fault, plain_ends, plain_setup, without_malformed}
+use Rattle.h3_strict.specs.PlainEnds.{RunsPlainly, answers_without_malformed, asks_strictly, finds_fault, plain_ends, plain_setup, without_malformed}
 use Rattle.h3_session.specs.Messages.{HandsOutWhatWasSent}
 use Rattle.h3_session.specs.Running.{AnswersEach, RunsTo}
 use Rattle.h3_session.specs.Strict.{RunsFaultless, RunsUntilFault, RunsWithoutMalformed}
@@ -39,7 +39,7 @@ abbrev pub LawOfMessages : Setup → Type 0
 LawOfMessages setup = (events : List Event) → AllByRecursion (IsSendable setup) events → RunsPlainly (new_ends setup) events → HandsOutWhatWasSent setup events (answers_of_ends (new_ends setup) events)
 
 abbrev pub LawOfAnswers : Setup → Type 0
-LawOfAnswers setup = (events : List Event) → list_any finds_fault (answers_of_ends (new_ends setup) events) ≡ false → RunsPlainly (new_ends setup) events
+LawOfAnswers setup = (events : List Event) → list_any (finds_fault (asks_strictly (new_ends setup))) (answers_of_ends (new_ends setup) events) ≡ false → RunsPlainly (new_ends setup) events
 
 module _ (setup : Setup) (in_world : LawOfWorlds setup) (hands_out : LawOfMessages setup) where
   -- by what two endpoints answer
@@ -58,14 +58,14 @@ module _ (setup : Setup) (in_world : LawOfWorlds setup) (hands_out : LawOfMessag
       → LawOfAnswers setup → AllByRecursion IsTyped events → AnswersEach (new_ends setup) events answers → AreFew setup events → RunsUntilFault setup events answers
   runs_until_fault events answers faultless typed h few = λ n not_memory none.
       let is = h.until_memory n not_memory in
-      runs_front events answers typed h few n is (faultless (take n events) (subst (λ given. list_any finds_fault given ≡ false) is none))
+      runs_front events answers typed h few n is (faultless (take n events) (subst (λ given. list_any (finds_fault (asks_strictly (new_ends setup))) given ≡ false) is none))
 
   -- and over all of them
   pub runs_faultless : (events : List Event) (answers : List Answer) (client server : EndpointState) → LawOfAnswers setup
-      → AllByRecursion IsTyped events → RunsTo (new_ends setup) events answers client server → list_any finds_fault answers ≡ false → AreFew setup events → RunsFaultless setup events answers client server
+      → AllByRecursion IsTyped events → RunsTo (new_ends setup) events answers client server → list_any (finds_fault (asks_strictly (new_ends setup))) answers ≡ false → AreFew setup events → RunsFaultless setup events answers client server
   runs_faultless events answers client server faultless typed h none few =
       let sendable = few_are_sendable setup events typed few in
-      let plainly = faultless events (subst (λ given. list_any finds_fault given ≡ false) h.answered_so none) in
+      let plainly = faultless events (subst (λ given. list_any (finds_fault (asks_strictly (new_ends setup))) given ≡ false) h.answered_so none) in
       let on = in_world events sendable plainly in
       subst (λ given. RunsFaultless setup events given client server) (sym h.answered_so) (record {
         runs = record { world = on.0; run = on.1; hands_out = hands_out events sendable plainly };
@@ -81,17 +81,17 @@ KnownOf setup events answers = ServerKnows events answers × EarlyAreTaken setup
 
 -- Where what two endpoints answer finds no fault, of schedules of which this is known, so do these answers.
 module _ (setup : Setup) (Known : List Event → List Answer → Type 0)
-    (finds_none : (events : List Event) → AllByRecursion (IsSendable setup) events → Known events (answers_of_ends (new_ends setup) events) → list_any finds_fault (answers_of_ends (new_ends setup) events) ≡ false) where
-  by_ends : (events : List Event) (answers : List Answer) → AllByRecursion (IsSendable setup) events → answers ≡ answers_of_ends (new_ends setup) events → Known events answers → list_any finds_fault answers ≡ false
-  by_ends events answers sendable is known = subst (λ given. list_any finds_fault given ≡ false) (sym is) (finds_none events sendable (subst (Known events) is known))
+    (finds_none : (events : List Event) → AllByRecursion (IsSendable setup) events → Known events (answers_of_ends (new_ends setup) events) → list_any (finds_fault (asks_strictly (new_ends setup))) (answers_of_ends (new_ends setup) events) ≡ false) where
+  by_ends : (events : List Event) (answers : List Answer) → AllByRecursion (IsSendable setup) events → answers ≡ answers_of_ends (new_ends setup) events → Known events answers → list_any (finds_fault (asks_strictly (new_ends setup))) answers ≡ false
+  by_ends events answers sendable is known = subst (λ given. list_any (finds_fault (asks_strictly (new_ends setup))) given ≡ false) (sym is) (finds_none events sendable (subst (Known events) is known))
 
   pub front_finds_none : (events : List Event) (answers : List Answer) → AllByRecursion IsTyped events → AnswersEach (new_ends setup) events answers → AreFew setup events
-      → (n : ℕ) → list_any is_memory (take n answers) ≡ false → Known (take n events) (take n answers) → list_any finds_fault (take n answers) ≡ false
+      → (n : ℕ) → list_any is_memory (take n answers) ≡ false → Known (take n events) (take n answers) → list_any (finds_fault (asks_strictly (new_ends setup))) (take n answers) ≡ false
   front_finds_none events answers typed h few = λ n not_memory known.
       by_ends (take n events) (take n answers) (front_of_all (IsSendable setup) n events (few_are_sendable setup events typed few)) (h.until_memory n not_memory) known
 
   pub run_finds_none : (events : List Event) (answers : List Answer) (client server : EndpointState) → AllByRecursion IsTyped events → RunsTo (new_ends setup) events answers client server → AreFew setup events
-      → Known events answers → list_any finds_fault answers ≡ false
+      → Known events answers → list_any (finds_fault (asks_strictly (new_ends setup))) answers ≡ false
   run_finds_none events answers client server typed h few known = by_ends events answers (few_are_sendable setup events typed few) h.answered_so known
 
 -- A side without a limit takes each list that is sent to it.

@@ -11,7 +11,7 @@ use Rattle.h3_world.specs.Run.{Run}
 use Rattle.h3_world.specs.World.{World, empty_world}
 use Rattle.h3_headline.specs.Standing.{Stands}
 use Rattle.h3_strict.specs.Limits.{EarlyAreTaken}
-use Rattle.h3_strict.specs.PlainEnds.{answers_without_malformed, finds_fault, plain_ends, plain_setup, without_malformed}
+use Rattle.h3_strict.specs.PlainEnds.{answers_without_malformed, asks_strictly, finds_fault, plain_ends, plain_setup, without_malformed}
 use Rattle.h3_strict.specs.ServerKnows.{ServerKnows}
 use Rattle.h3_session.specs.Messages.{HandsOutWhatWasSent}
 
@@ -22,10 +22,11 @@ pub record RunsWithoutMalformed (setup : Setup) (events : List Event) (answers :
   pub run : Run (Happens (plain_setup setup)) (empty_world (plain_setup setup)) (without_malformed events answers) (answers_without_malformed answers) world
   pub hands_out : HandsOutWhatWasSent setup events answers
 
--- So it is up to the first answer that tells of refused memory, or that a message was found malformed, a frame at the wrong place or too long.
+-- So it is up to the first answer that tells of refused memory, or that a message was found malformed, a frame at the wrong place or too long. An
+-- error of a stream of instructions counts only if a side asks for a strict connection.
 abbrev pub RunsUntilFault : Setup → List Event → List Answer → Type 0
 RunsUntilFault setup events answers =
-    (n : ℕ) → list_any is_memory (take n answers) ≡ false → list_any finds_fault (take n answers) ≡ false → RunsWithoutMalformed setup (take n events) (take n answers)
+    (n : ℕ) → list_any is_memory (take n answers) ≡ false → list_any (finds_fault (asks_strictly (new_ends setup))) (take n answers) ≡ false → RunsWithoutMalformed setup (take n events) (take n answers)
 
 -- So it is of all events, and these endpoints stand for ends that, without strict messages, stand in the world that the run leads to.
 pub record RunsFaultless (setup : Setup) (events : List Event) (answers : List Answer) (client server : EndpointState) : Type 0 where
@@ -40,4 +41,4 @@ pub record RunsFaultless (setup : Setup) (events : List Event) (answers : List A
 abbrev pub FindsNoFault : Setup → List Event → List Answer → Type 0
 FindsNoFault setup events answers =
     (n : ℕ) → list_any is_memory (take n answers) ≡ false → ServerKnows (take n events) (take n answers) → EarlyAreTaken setup (new_ends setup) (take n events) →
-    (list_any finds_fault (take n answers) ≡ false) × RunsWithoutMalformed setup (take n events) (take n answers)
+    (list_any (finds_fault (asks_strictly (new_ends setup))) (take n answers) ≡ false) × RunsWithoutMalformed setup (take n events) (take n answers)

@@ -9,7 +9,7 @@ ghost use Rattle.h3_session.specs.Headlines.{RunsInKeepingWorld, RunsInWorld, Ru
 ghost use Rattle.h3_session.specs.Messages.{HandsOutAlways};
 ghost use Rattle.h3_session.specs.Strict.{FindsNoFault, RunsFaultless, RunsUntilFault};
 ghost use Rattle.h3_strict.specs.Limits.{AsksForStrict, EarlyAreTaken};
-ghost use Rattle.h3_strict.specs.PlainEnds.{finds_fault};
+ghost use Rattle.h3_strict.specs.PlainEnds.{asks_strictly, finds_fault};
 ghost use Rattle.h3_strict.specs.ServerKnows.{ServerKnows};
 ghost use Rattle.h3_session.specs.Acting.{ActsEach, RunsByCalls};
 ghost use Rattle.h3_session.specs.Running.{AnswersEach, RunsTo};
@@ -116,8 +116,9 @@ fn beside<A: Drop, B: Drop>(first: A, second: Result<B, AllocError>) -> Result<(
 /// - `faultless_front`: the answers are a run of the world of the setup that asks for no strict messages, and each side pulls what the
 ///   other side sent. The sends that were refused as malformed are left out of that run. It is so up to the first answer that reports out
 ///   of memory, a message that a pull found malformed, a frame at the wrong place or one too long. (`finds_fault`: a malformed message,
-///   H3_FRAME_UNEXPECTED, or H3_EXCESSIVE_LOAD, which a delivery may tell too.) No answer tells of a connection fault of another code
-///   either.
+///   H3_FRAME_UNEXPECTED, or H3_EXCESSIVE_LOAD, which a delivery may tell too. If a side asks for a strict connection, these are two more:
+///   QPACK_ENCODER_STREAM_ERROR and QPACK_DECODER_STREAM_ERROR, which such a side tells of an instruction that is too long.) No answer
+///   tells of a connection fault of another code either.
 /// - `faultless`: if no answer tells of these, so it is of all of them. The endpoints that are returned then stand in the last world, once
 ///   they are taken for ones without strict messages.
 ///
@@ -142,11 +143,11 @@ pub fn run(alloc: Global, setup: Setup, events: &[Event]) -> Result<Outcome, All
     ensures headline { IfOk result (λ out. list_any is_memory out.answers.items ≡ false → AreFew setup events.now → JudgesPlainly setup →
         RunsInWorld setup events.now out.answers.items out.client out.server) }
     ensures faultless_front { IfOk result (λ out. AreFew setup events.now → RunsUntilFault setup events.now out.answers.items) }
-    ensures faultless { IfOk result (λ out. list_any is_memory out.answers.items ≡ false → list_any finds_fault out.answers.items ≡ false → AreFew setup events.now →
+    ensures faultless { IfOk result (λ out. list_any is_memory out.answers.items ≡ false → list_any (finds_fault (asks_strictly (new_ends setup))) out.answers.items ≡ false → AreFew setup events.now →
         RunsFaultless setup events.now out.answers.items out.client out.server) }
     ensures strict_front { IfOk result (λ out. AreFew setup events.now → AsksForStrict setup → FindsNoFault setup events.now out.answers.items) }
     ensures strict { IfOk result (λ out. list_any is_memory out.answers.items ≡ false → AreFew setup events.now → AsksForStrict setup → ServerKnows events.now out.answers.items →
-        EarlyAreTaken setup (new_ends setup) events.now → (list_any finds_fault out.answers.items ≡ false) × RunsFaultless setup events.now out.answers.items out.client out.server) }
+        EarlyAreTaken setup (new_ends setup) events.now → (list_any (finds_fault (asks_strictly (new_ends setup))) out.answers.items ≡ false) × RunsFaultless setup events.now out.answers.items out.client out.server) }
 {
     two_endpoints_run_in_a_world();
     two_endpoints_run_with_memory();

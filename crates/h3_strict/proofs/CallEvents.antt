@@ -18,7 +18,7 @@ use Rattle.h3_connection.specs.OwnIds.{other}
 use Rattle.h3_connection.specs.Pulling.{is_for, is_interim}
 use Rattle.h3_connection.specs.Sections.{written_section}
 use Rattle.h3_connection.specs.Sending as sender
-use Rattle.h3_connection.specs.Refusals.{first_of, is_too_large, of_list, with_pseudo, wrong_side}
+use Rattle.h3_connection.specs.Refusals.{first_of, is_too_large, of_list, unless_going, with_pseudo, wrong_side}
 use Rattle.h3_connection.specs.Sending.{appended as part_appended, counted, does, encoded, fields_cost, outgoing_at, sent_bytes, with_outgoing}
 use Rattle.h3_connection.specs.StreamSets.{Streams, set_stream, stream_at}
 use Rattle.h3_connection.specs.StrictSending.{broken_protocol, unless_malformed}
@@ -34,7 +34,7 @@ use Rattle.h3_world.specs.Ends.{Ends, done, end_at, with_end}
 use Rattle.h3_world.specs.Flow.{Part, flow_bytes}
 use Rattle.h3_world.specs.Flow.Part.{Body, End, Head as HeadPart, Interim, Trailer}
 use Rattle.h3_world.specs.Order.{outgoing_of}
-use Rattle.h3_world.specs.Refusals.{body_refusal, fields_refusal, finish_refusal, head_refusal, trailer_fields_refusal, trailer_refusal}
+use Rattle.h3_world.specs.Refusals.{body_refusal, fields_refusal, finish_refusal, head_refusal, none_after, trailer_fields_refusal, trailer_refusal}
 use Rattle.h3_world.specs.Sending.{appended, finished, having_encoded, section_sent, sent_body, sent_fields, sent_head, with_section, sent_trailer, sent_trailer_fields}
 use Rattle.h3_world.specs.Setup.{announced_at, takes_any}
 use Rattle.h3_world.specs.Step.{Does}
@@ -127,8 +127,9 @@ module _ (setup : Setup) (w : World) (ends : Ends) (known : ℕ → Bool) (h : S
       head_goes s i (broken_protocol (end_at ends s).announced head) head (head_fields head) (head_refusal (plain_setup setup) w s i head) v a next is
       (not_refused (is_open w s i) (
       (not (takes_head (outgoing_of (flow w s i))), refusal.OutOfOrder) ∷
+      unless_going (none_after (plain_setup setup) w s) (
       (not (is_for (other s) head), refusal.WrongSide) ∷
-      (is_too_large (settings_known (plain_setup setup) w s) (head_fields head), refusal.TooLarge (section_size (head_fields head))) ∷ [])) step knows
+      (is_too_large (settings_known (plain_setup setup) w s) (head_fields head), refusal.TooLarge (section_size (head_fields head))) ∷ []))) step knows
 
   pub fields_event : (s : Side) (i : ℕ) (fields : List Field) (v : World) (a : Answer) (next : Ends) → (a, next) ≡ done ends s answer.Done (send_fields (end_at ends s) i fields)
       → Does (fields_refusal (plain_setup setup) w s i fields) w answer.Done (sent_fields w s i fields) a v → (s ≡ Server → a ≡ answer.Done → is_interim (head_of_fields fields).status ≡ false → known i ≡ true) → Tallies setup v next known
@@ -136,7 +137,8 @@ module _ (setup : Setup) (w : World) (ends : Ends) (known : ℕ → Bool) (h : S
       head_goes s i (unreadable (takes_any (end_at ends s).announced) fields) (head_of_fields fields) fields (fields_refusal (plain_setup setup) w s i fields) v a next is
       (not_refused (is_open w s i) (
       (not (takes_head (outgoing_of (flow w s i))), refusal.OutOfOrder) ∷
-      unless_malformed (unreadable (takes_any (announced_at (plain_setup setup) s)) fields) (wrong_side s (head_of_fields fields) ∷ of_list None (settings_known (plain_setup setup) w s) fields))) step knows
+      unless_going (none_after (plain_setup setup) w s) (
+      unless_malformed (unreadable (takes_any (announced_at (plain_setup setup) s)) fields) (wrong_side s (head_of_fields fields) ∷ of_list None (settings_known (plain_setup setup) w s) fields)))) step knows
 
   -- A part behind the head.
   behind_head : (s : Side) (i : ℕ) (part : Part) (p : Outgoing) (e : EndpointHistory) (v : World) → IsThere w i → ((writer : Side) (id : ℕ) → flow v writer id ≡ (if is_on writer id s i then appended (flow w s i) part else flow w writer id))

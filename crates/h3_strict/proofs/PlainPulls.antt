@@ -42,7 +42,7 @@ plain_pulled p = record p { incoming = plain_incoming p.incoming }
 
 -- It judges, and then the stream waits for no more than this count of insertions.
 pub data PullsPlainly (n : ℕ) (p q : Pulled) : Type 0 where
-  Judged : tells_malformed p.answer ≡ true → p.incoming.waits_for ≤ n → PullsPlainly n p q
+  Judged : tells_malformed false p.answer ≡ true → p.incoming.waits_for ≤ n → PullsPlainly n p q
   Same : q ≡ plain_pulled p → PullsPlainly n p q
 
 least : (n : ℕ) → 0 ≤ n
@@ -53,11 +53,11 @@ either n true x y v w h k = h
 either n false x y v w h k = k
 
 -- the rule in front is broken, or the answer is that behind it
-unless : (n : ℕ) (b : Bool) (x y v : Pulled) → tells_malformed x.answer ≡ true → x.incoming.waits_for ≤ n → PullsPlainly n y v → PullsPlainly n (if b then x else y) v
+unless : (n : ℕ) (b : Bool) (x y v : Pulled) → tells_malformed false x.answer ≡ true → x.incoming.waits_for ≤ n → PullsPlainly n y v → PullsPlainly n (if b then x else y) v
 unless n true x y v h few k = Judged h few
 unless n false x y v h few k = k
 
-where_not : (n : ℕ) (b : Bool) (x y v : Pulled) → PullsPlainly n x v → tells_malformed y.answer ≡ true → y.incoming.waits_for ≤ n → PullsPlainly n (if b then x else y) v
+where_not : (n : ℕ) (b : Bool) (x y v : Pulled) → PullsPlainly n x v → tells_malformed false y.answer ≡ true → y.incoming.waits_for ≤ n → PullsPlainly n (if b then x else y) v
 where_not n true x y v h k few = h
 where_not n false x y v h k few = Judged k few
 
@@ -144,10 +144,10 @@ module _ (side : Side) (own : Announced) (id : ℕ) (r : DecoderState) where
   next_plain n i [] few = either n i.ended _ _ _ _ (end_plain n i i.place) (Same refl)
   next_plain n i (byte ∷ bytes) few = framed_plain n i (frame_at (byte ∷ bytes)) few
 
-  excess_told : (i : Incoming) (bytes : List ℕ) → tells_malformed (excess id i bytes).answer ≡ true
+  excess_told : (i : Incoming) (bytes : List ℕ) → tells_malformed false (excess id i bytes).answer ≡ true
   excess_told i bytes = by_type (begins_section bytes)
     where
-      by_type : (b : Bool) → tells_malformed (if b then malformed id malformation.TooLong i [] else connection_fault excessive_load (record i { unread = [] })).answer ≡ true
+      by_type : (b : Bool) → tells_malformed false (if b then malformed id malformation.TooLong i [] else connection_fault excessive_load (record i { unread = [] })).answer ≡ true
       by_type true = refl
       by_type false = refl
 

@@ -15,7 +15,7 @@ use Rattle.h3_connection.specs.declared.arrival.Arrival.{Arrival}
 use Rattle.h3_connection.specs.declared.arrival.Arrival.TheVariants.{BytesCame, EndCame, ResetCame}
 use Rattle.h3_connection.specs.Codes.{decoder_stream_error, encoder_stream_error, excessive_load, missing_settings, settings_error}
 use Rattle.h3_connection.specs.Control.{Found, after_peer, are_refused, holding, if_learned, increment, kept_unread, lacks_settings, listened_to, read_control, read_decoder, read_encoder, read_held, settings_alone, taken_peer, then_decoder, with_table}
-use Rattle.h3_connection.specs.Delivering.{request_refusal, refusal_at, delivery_refusal, closed_by, opened_at, opened, incoming_at, with_incoming, unidirectional_at, with_unidirectional, unless_second, heard_as, read_unidirectional, kept, with_end, bytes_at, end_at, give_up, reset_at, taken}
+use Rattle.h3_connection.specs.Delivering.{request_refusal, refusal_at, delivery_refusal, opened_at, opened, incoming_at, with_incoming, unidirectional_at, with_unidirectional, unless_second, heard_as, read_unidirectional, kept, with_end, bytes_at, end_at, give_up, reset_at, taken}
 use Rattle.h3_connection.specs.Endpoint.{EndpointHistory, limit_of, Kind, is_second, kind_of, replied}
 use Rattle.h3_connection.specs.Endpoint.Kind.{Request, ServerOpened, OwnUnidirectional, PeerUnidirectional}
 use Rattle.h3_connection.specs.ExcessiveInstructions.{listen_up_to}
@@ -55,11 +55,11 @@ pub data ReadsPlainly (own : Announced) (x y : Found) : Type 0 where
   ReadsAlike : y ≡ plain_found x → ReadsPlainly own x y
 
 -- the codes of instructions that are too long
-encoder_told : (strict : Bool) → is_excess strict (stream_error strict encoder_stream_error (Some excessive_load)) ≡ true
+pub encoder_told : (strict : Bool) → is_excess strict (stream_error strict encoder_stream_error (Some excessive_load)) ≡ true
 encoder_told true = refl
 encoder_told false = refl
 
-decoder_told : (strict : Bool) → is_excess strict (stream_error strict decoder_stream_error (Some excessive_load)) ≡ true
+pub decoder_told : (strict : Bool) → is_excess strict (stream_error strict decoder_stream_error (Some excessive_load)) ≡ true
 decoder_told true = refl
 decoder_told false = refl
 
@@ -133,12 +133,12 @@ taken_plain e (p, fault) =
     (subst (λ own. ReadsPlainly own (then_decoder before p.settings g fault) (then_decoder before p.settings (plainly g) fault)) (if_learned_same before p.settings f).announced (then_plain before p.settings g fault))
 
 -- the same settings are refused
-refused_plain : (e : EndpointHistory) (before after : Option (List (ℕ × ℕ))) → are_refused (plainly e) before after ≡ are_refused e before after
-refused_plain e None None = refl
-refused_plain e None (Some pairs) = refl
-refused_plain e (Some known) after = refl
+bad_plain : (e : EndpointHistory) (before after : Option (List (ℕ × ℕ))) → are_refused (plainly e) before after ≡ are_refused e before after
+bad_plain e None None = refl
+bad_plain e None (Some pairs) = refl
+bad_plain e (Some known) after = refl
 
-refused_some : (e : EndpointHistory) (before after : Option (List (ℕ × ℕ))) → are_refused e before after ≡ true → (pairs : List (ℕ × ℕ)) × (after ≡ Some pairs)
+pub refused_some : (e : EndpointHistory) (before after : Option (List (ℕ × ℕ))) → are_refused e before after ≡ true → (pairs : List (ℕ × ℕ)) × (after ≡ Some pairs)
 refused_some e None None is = absurd (cc)
 refused_some e None (Some pairs) is = (pairs, refl)
 refused_some e (Some known) after is = absurd (cc)
@@ -147,14 +147,14 @@ either_plain : (own : Announced) (b : Bool) (x y v w : Found) → ReadsPlainly o
 either_plain own true x y v w h k = h
 either_plain own false x y v w h k = k
 
-abbrev alone : EndpointHistory → Option (List (ℕ × ℕ)) → Found
+abbrev pub alone : EndpointHistory → Option (List (ℕ × ℕ)) → Found
 alone e settings = (record e { peer = settings_alone e.peer settings }, Some settings_error)
 
 after_plain : (e : EndpointHistory) (x : PeerFound) → ReadsPlainly e.announced (after_peer e x) (after_peer (plainly e) x)
 after_plain e x =
     let before = e.peer.settings in
     let o = x.0.settings in
-    subst (λ b. ReadsPlainly e.announced (after_peer e x) (if◌then◌else◌ {A = Found} b (alone (plainly e) o) (taken_peer (plainly e) x))) (sym (refused_plain e before o))
+    subst (λ b. ReadsPlainly e.announced (after_peer e x) (if◌then◌else◌ {A = Found} b (alone (plainly e) o) (taken_peer (plainly e) x))) (sym (bad_plain e before o))
     (either_plain e.announced (are_refused e before o) (alone e o) (taken_peer e x) (alone (plainly e) o) (taken_peer (plainly e) x) (ReadsAlike refl) (taken_plain e x))
 
 behind_fault : (limit : ℕ) (x : PeerFound) (go both : Peer → PeerFound) → ((q : Peer) → PeerPlainly limit (go q) (both q)) → PeerPlainly limit (unless_fault x go) (unless_fault x both)
@@ -197,7 +197,7 @@ control_found e (p, fault) y (IsLong limit is keeps) = by_refused (are_refused e
         let came = refused_some e before p.settings bad in
         let same : y.0.settings ≡ p.settings = keeps came.0 came.1 ∙ sym came.1 in
         let there : after_peer (plainly e) y ≡ alone (plainly e) p.settings =
-        ap (λ b. if◌then◌else◌ {A = Found} b (alone (plainly e) y.0.settings) (taken_peer (plainly e) y)) (ap (are_refused (plainly e) before) same ∙ refused_plain e before p.settings ∙ bad)
+        ap (λ b. if◌then◌else◌ {A = Found} b (alone (plainly e) y.0.settings) (taken_peer (plainly e) y)) (ap (are_refused (plainly e) before) same ∙ bad_plain e before p.settings ∙ bad)
         ∙ ap (alone (plainly e)) same in
         let here : after_peer e x ≡ alone e p.settings = ap (λ b. if◌then◌else◌ {A = Found} b (alone e p.settings) (taken_peer e x)) bad in
         ReadsAlike (there ∙ sym (ap plain_found here))
@@ -325,9 +325,6 @@ all_plain arrivals e = all_within e.announced arrivals e refl
 pub data ArrivesPlainly (e : EndpointHistory) (x y : Option Refusal × EndpointHistory) : Type 0 where
   Exceeds : is_limit (limit_of e) ≡ true → (code : ℕ) → is_excess (is_strict e.announced) (Some code) ≡ true → x.0 ≡ Some (refusal.Connection code) → ArrivesPlainly e x y
   Otherwise : CallsPlainly e x y → ArrivesPlainly e x y
-
-pub closed_too_long : (x : Found) → x.1 ≡ Some excessive_load → (closed_by x).0 ≡ Some (refusal.Connection excessive_load)
-closed_too_long (f, fault) is = ap (λ o. (closed_by (let x : Found = (f, o) in x)).0) is
 
 takes_plainly : (closed : Option ℕ) (r : Option Refusal) (e : EndpointHistory) (x y : Found) → ReadsPlainly e.announced x y → ArrivesPlainly e (taken closed r e x) (taken closed r (plainly e) y)
 takes_plainly (Some code) r e x y h = Otherwise (taken_plainly (Some code) r e x (plain_found x) refl)

@@ -5,7 +5,6 @@ use Rattle.h3_proto.specs.declared.stream.Side.{Side}
 use Rattle.h3_proto.specs.declared.stream.Side.TheVariants.{Client, Server}
 use Rattle.std.proofs.lemmas.Bool.{and_parts}
 use Rattle.h3_proto.specs.Config.{is_limit}
-use Rattle.h3_connection.specs.Codes.{excessive_load}
 use Rattle.h3_connection.specs.Endpoint.{EndpointHistory, limit_of, bytes_waiting, own_waiting}
 use Rattle.h3_connection.specs.Keeping.{arrives, pulls}
 use Rattle.h3_connection.specs.Outgoing.{Outgoing, part_bytes_waiting}
@@ -27,11 +26,12 @@ use Rattle.h3_world.specs.declared.event.Answer.{Answer}
 use Rattle.h3_world.specs.declared.event.Answer.TheVariants as answer
 use Rattle.h3_world.specs.declared.event.Event.{Event}
 use Rattle.h3_world.specs.declared.event.Event.TheVariants as event
-use Rattle.h3_strict.specs.PlainEnds.{FewWaitBehind, StepsPlainly, Alike, Judges, RefusesMalformed, finds_fault, is_malformed_refusal, judges, plain_ends, refused_by, was_too_long}
+use Rattle.h3_strict.specs.PlainEnds.{FewWaitBehind, StepsPlainly, Alike, Judges, RefusesMalformed, asks_strictly, finds_fault, is_malformed_refusal, judges, plain_ends, refused_by, was_too_long}
 use Rattle.h3_connection.specs.StrictConnection.{is_strict}
-use Rattle.h3_strict.specs.Plainly.{exceeds, is_excess, is_judged, is_stream_error, plain_outgoing, plainly}
+use Rattle.h3_strict.specs.Plainly.{exceeds, is_excess, is_judged, plain_outgoing, plainly}
 use Rattle.h3_strict.proofs.PlainCalls.{CallsPlainly, Malforms, Does, tells}
 use Rattle.h3_strict.proofs.PlainLists.{tells_same}
+use Rattle.h3_strict.proofs.StrictCodes.{asks_at, more_excess, more_told}
 use Rattle.h3_strict.proofs.PlainPulled.{IsAlike, IsJudged, PulledPlainly, lists_plain, pulls_plainly}
 use Rattle.h3_strict.proofs.PlainReading.{ArrivesPlainly, Exceeds, Otherwise, arrives_plainly}
 use Rattle.h3_strict.proofs.PlainSends.{advances_plainly, bodies_plainly, cancels_plainly, ends_plainly, goaways_plainly, heads_plainly, opens_plainly, resets_plainly, trailers_plainly, fields_plainly, trailer_fields_plainly}
@@ -85,8 +85,8 @@ module _ (ends : Ends) (side : Side) where
       (done_beside (success (end_at ends side)) _ _ plain (h (end_at ends side))))
 
   pulled_steps : (id : ℕ) (x y : Pull × EndpointHistory) → answered ends (event.Pull side id) ≡ was_pulled ends side x → answered (plain_ends ends) (event.Pull side id) ≡ was_pulled (plain_ends ends) side y
-      → PulledPlainly (FewWaitBehind (end_at ends side)) (is_judged (end_at ends side) id) x y → StepsPlainly ends (event.Pull side id)
-  pulled_steps id x y is plain_is (IsJudged judged told) = Judges judged (λ few. ap (λ z. finds_fault z.0) is ∙ told (few side))
+      → PulledPlainly (is_strict (end_at ends side).announced) (FewWaitBehind (end_at ends side)) (is_judged (end_at ends side) id) x y → StepsPlainly ends (event.Pull side id)
+  pulled_steps id x y is plain_is (IsJudged judged told) = Judges judged (λ few. ap (λ z. finds_fault (asks_strictly ends) z.0) is ∙ more_told (is_strict (end_at ends side).announced) (asks_strictly ends) x.0 (asks_at ends side) (told (few side)))
   pulled_steps id (a, e) y is plain_is (IsAlike same) =
       Alike (ap (λ z. is_malformed_refusal z.0) is)
       (plain_is ∙ ap (was_pulled (plain_ends ends) side) same ∙ ap (λ v. let z : Answer × Ends = (answer.Pulled a, v) in z) (sets_end ends side e) ∙ sym (ap (λ z. let w : Answer × Ends = (z.0, plain_ends z.1) in w) is))
@@ -99,9 +99,10 @@ module _ (ends : Ends) (side : Side) where
   -- with lists
   listed_steps : (id : ℕ) (x y : Pull × EndpointHistory) → answered ends (event.PullFields side id) ≡ was_listed ends side id x → answered (plain_ends ends) (event.PullFields side id) ≡ was_listed (plain_ends ends) side id y
       → listed_pull (fields_behind (end_at ends side).kept (plainly (end_at ends side)) id) x.0 ≡ listed_pull (fields_behind (end_at ends side).kept (end_at ends side) id) x.0
-      → PulledPlainly (FewWaitBehind (end_at ends side)) (is_judged (end_at ends side) id) x y → StepsPlainly ends (event.PullFields side id)
+      → PulledPlainly (is_strict (end_at ends side).announced) (FewWaitBehind (end_at ends side)) (is_judged (end_at ends side) id) x y → StepsPlainly ends (event.PullFields side id)
   listed_steps id (a, e) y is plain_is same_list (IsJudged judged told) =
-      Judges judged (λ few. ap (λ z. finds_fault z.0) is ∙ tells_same (fields_behind (end_at ends side).kept (end_at ends side) id) a ∙ told (few side))
+      Judges judged (λ few. ap (λ z. finds_fault (asks_strictly ends) z.0) is ∙ tells_same (asks_strictly ends) (fields_behind (end_at ends side).kept (end_at ends side) id) a
+      ∙ more_told (is_strict (end_at ends side).announced) (asks_strictly ends) a (asks_at ends side) (told (few side)))
   listed_steps id (a, e) y is plain_is same_list (IsAlike same) =
       Alike (ap (λ z. is_malformed_refusal z.0) is)
       (plain_is ∙ ap (was_listed (plain_ends ends) side id) same
@@ -153,26 +154,16 @@ data Delivers (ends : Ends) (reader : Side) (x y : Answer × Ends) : Type 0 wher
   IsExcess : was_too_long ends reader x.0 ≡ true → Delivers ends reader x y
   IsBeside : Beside ends x y → Delivers ends reader x y
 
-excess_told : (a : Answer) → is_excess true (refused_by a) ≡ true → finds_fault a ≡ true
-excess_told (answer.Pulled p) is = absurd (cc)
-excess_told (answer.Listed l) is = absurd (cc)
-excess_told a is = is
-
--- the codes of an end that asks for a strict connection are all of them
-any_excess : (strict : Bool) (fault : Option ℕ) → is_excess strict fault ≡ true → is_excess true fault ≡ true
-any_excess true fault is = is
-any_excess false None is = absurd (cc)
-any_excess false (Some code) is = by_code (code == excessive_load) (is_stream_error code) is
-  where
-    by_code : (b c : Bool) → (b || (false && c)) ≡ true → (b || (true && c)) ≡ true
-    by_code true c is = refl
-    by_code false c is = absurd (cc)
+excess_told : (strict : Bool) (a : Answer) → is_excess strict (refused_by a) ≡ true → finds_fault strict a ≡ true
+excess_told strict (answer.Pulled p) is = absurd (cc)
+excess_told strict (answer.Listed l) is = absurd (cc)
+excess_told strict a is = is
 
 delivers_steps : (ends : Ends) (reader : Side) (e : Event) → judges ends e ≡ was_too_long ends reader (answered ends e).0 → Delivers ends reader (answered ends e) (answered (plain_ends ends) e) → StepsPlainly ends e
 delivers_steps ends reader e judged (IsExcess long) =
     let fault = refused_by (answered ends e).0 in
     let strict = is_strict (end_at ends reader).announced in
-    Judges (judged ∙ long) (λ few. excess_told (answered ends e).0 (any_excess strict fault (and_parts (is_excess strict fault) (is_limit (limit_of (end_at ends reader))) long).0))
+    Judges (judged ∙ long) (λ few. excess_told (asks_strictly ends) (answered ends e).0 (more_excess strict (asks_strictly ends) fault (asks_at ends reader) (and_parts (is_excess strict fault) (is_limit (limit_of (end_at ends reader))) long).0))
 delivers_steps ends reader e judged (IsBeside h) = steps ends e h
 
 -- the fault of an end that limits it

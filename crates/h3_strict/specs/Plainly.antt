@@ -55,19 +55,25 @@ is_malformation _ = false
 abbrev pub is_stream_error : ℕ → Bool
 is_stream_error code = (code == encoder_stream_error) || (code == decoder_stream_error)
 
-abbrev pub faults_message : Fault → Bool
-faults_message (fault.Stream f) = is_malformation f
-faults_message (fault.Connection code) = (code == frame_unexpected) || ((code == excessive_load) || is_stream_error code)
-faults_message fault.Memory = false
+-- What is read is too long for an endpoint that limits what is unfinished. An instruction that is too long is an error of its stream if the
+-- endpoint asks for a strict connection (RFC 9204, section 7.4)
+abbrev pub is_excess : Bool → Option ℕ → Bool
+is_excess strict None = false
+is_excess strict (Some code) = (code == excessive_load) || (strict && is_stream_error code)
 
-abbrev pub tells_malformed : Pull → Bool
-tells_malformed (pull.Fault f) = faults_message f
-tells_malformed _ = false
+abbrev pub faults_message : Bool → Fault → Bool
+faults_message strict (fault.Stream f) = is_malformation f
+faults_message strict (fault.Connection code) = (code == frame_unexpected) || is_excess strict (Some code)
+faults_message strict fault.Memory = false
 
--- a pull of this receiver would
+abbrev pub tells_malformed : Bool → Pull → Bool
+tells_malformed strict (pull.Fault f) = faults_message strict f
+tells_malformed strict _ = false
+
+-- a pull of this receiver would, which reads no instruction
 abbrev pub judged_at : EndpointHistory → ℕ → Option Incoming → Bool
 judged_at e id None = false
-judged_at e id (Some i) = tells_malformed (pull_stream e.side e.announced id e.decoding.decoder i).answer
+judged_at e id (Some i) = tells_malformed false (pull_stream e.side e.announced id e.decoding.decoder i).answer
 
 abbrev pub judged_as : EndpointHistory → ℕ → Kind → Bool
 judged_as e id Request = judged_at e id (stream_at e.incoming id)
@@ -77,12 +83,7 @@ abbrev pub judged_open : Option ℕ → EndpointHistory → ℕ → Bool
 judged_open (Some code) e id = false
 judged_open None e id = judged_as e id (kind_of e.side id)
 
--- what is read is too long for an endpoint that limits what is unfinished; of an instruction that is an error of its stream if the endpoint asks for a
--- strict connection (RFC 9204, section 7.4)
-abbrev pub is_excess : Bool → Option ℕ → Bool
-is_excess strict None = false
-is_excess strict (Some code) = (code == excessive_load) || (strict && is_stream_error code)
-
+-- it is too long for this endpoint
 abbrev pub exceeds : EndpointHistory → Option ℕ → Bool
 exceeds e fault = is_excess (is_strict e.announced) fault && is_limit (limit_of e)
 

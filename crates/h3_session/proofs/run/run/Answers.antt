@@ -1,4 +1,5 @@
 use Rattle.h3_world.specs.Ends.{new_ends}
+use Rattle.h3_strict.specs.PlainEnds.{asks_strictly}
 use Rattle.h3_session.proofs.Headlines.{runs_in_keeping_world, runs_in_world, runs_until_memory}
 use Rattle.h3_session.proofs.Messages.{hands_out_always}
 use Rattle.h3_session.proofs.Runs.{answers_each, ran, runs_to}
@@ -97,7 +98,7 @@ returns-clause-strict_front c = λ few strict.
     let setup = c.args.setup in
     let answers = c.in_ok-client-2.answers.items in
     let each = answers_each (new_ends setup) c.args.events.now answers _ _ calls in
-    let none = front_finds_none setup (KnownOf setup) (λ events sendable known. c.schedules_that_judge_nothing_find_no_fault.ensures setup events c.requires sendable (c.two_strict_limited_endpoints_run_in_a_world.ensures.none setup events c.requires strict sendable known.0 known.1)) c.args.events.now answers c.events_are_typed.ensures
+    let none = front_finds_none setup (KnownOf setup) (λ events sendable known. c.schedules_that_judge_nothing_find_no_fault.ensures setup events (asks_strictly (new_ends setup)) c.requires sendable (c.two_strict_limited_endpoints_run_in_a_world.ensures.none setup events c.requires strict sendable known.0 known.1)) c.args.events.now answers c.events_are_typed.ensures
     each few in
     let runs = runs_until_fault setup (λ front sendable plainly. c.strict_endpoints_run_in_a_world.ensures setup front c.requires sendable plainly)
     (λ front sendable plainly. record {
@@ -115,7 +116,7 @@ returns-clause-strict c = λ whole few strict known taken.
     let setup = c.args.setup in
     let answers = c.in_ok-client-2.answers.items in
     let to = runs_to (new_ends setup) c.args.events.now answers _ _ calls whole in
-    let none = run_finds_none setup (KnownOf setup) (λ events sendable known. c.schedules_that_judge_nothing_find_no_fault.ensures setup events c.requires sendable (c.two_strict_limited_endpoints_run_in_a_world.ensures.none setup events c.requires strict sendable known.0 known.1)) c.args.events.now answers _ _ c.events_are_typed.ensures to few (known, taken) in (
+    let none = run_finds_none setup (KnownOf setup) (λ events sendable known. c.schedules_that_judge_nothing_find_no_fault.ensures setup events (asks_strictly (new_ends setup)) c.requires sendable (c.two_strict_limited_endpoints_run_in_a_world.ensures.none setup events c.requires strict sendable known.0 known.1)) c.args.events.now answers _ _ c.events_are_typed.ensures to few (known, taken) in (
       none,
       runs_faultless setup (λ front sendable plainly. c.strict_endpoints_run_in_a_world.ensures setup front c.requires sendable plainly)
           (λ front sendable plainly. record {
