@@ -10,6 +10,7 @@ ghost use Rattle.h3_connection.specs.declared.event.Pull.TheVariants as pull;
 ghost use Rattle.h3_connection.specs.Pulling.{at_session, is_memory, just, next_frame, between_frames};
 ghost use Rattle.h3_incoming.specs.Answering.{Lists};
 ghost use Rattle.h3_connection.specs.Coming.{fields_next};
+ghost use Rattle.h3_connection.specs.Incoming.{Incoming};
 ghost use Rattle.h3_incoming.specs.Gives.{Gives};
 ghost use Rattle.h3_incoming.specs.Resuming.{Resumes};
 ghost use Rattle.h3_incoming.specs.Placing.{is_session};
@@ -28,6 +29,24 @@ use h3_proto::webtransport::SessionId;
 use h3_qpack::Decoder;
 use h3_wire::frame::{FrameBuffer, FrameProtocolError};
 use std::alloc::Global;
+
+/// A session begins in this place, unless its id is that of no request stream and the endpoint asks for that.
+fn begin_session<O: Answer>(
+    place: &mut Place,
+    announced: &Announced,
+    session: SessionId,
+    out: &mut O,
+)
+    ensures is { (i : Incoming) → at_session announced.now (record i { place = place.old }) session ≡ just (O.told out.new) (record i { place = place.new }) }
+    ensures told { is_memory (O.told out.new) ≡ false }
+    ensures none { O.listed out.new ≡ None }
+{
+    if announced.is_no_session(session.into_inner()) {
+        return fail(out, Fault::Connection(Code::H3_ID_ERROR));
+    }
+    *place = Place::InSession;
+    out.give(Plain::Session(session))
+}
 
 impl IncomingStream {
     /// The next frame that gives something, at its place; or the end.
@@ -85,23 +104,12 @@ impl IncomingStream {
                     self.content = behind;
                     self.pull_payload(alloc, id, replies, out)
                 }
-                Begun::Session(session) => self.begin_session(announced, session, out),
+                Begun::Session(session) => {
+                    begin_session(&mut self.place, announced, session, out)
+                }
                 Begun::Fault(code) => fail(out, Fault::Connection(code)),
             },
         }
-    }
-
-    // A session begins, unless its id is that of no request stream and the endpoint asks for that.
-    fn begin_session<O: Answer>(&mut self, announced: &Announced, session: SessionId, out: &mut O)
-        ensures is { at_session announced.now self.old session ≡ just (O.told out.new) self.new }
-        ensures told { is_memory (O.told out.new) ≡ false }
-        ensures none { O.listed out.new ≡ None }
-    {
-        if announced.is_no_session(session.into_inner()) {
-            return fail(out, Fault::Connection(Code::H3_ID_ERROR));
-        }
-        self.place = Place::InSession;
-        out.give(Plain::Session(session))
     }
 
     // A frame that is no field section is longer than what the endpoint takes. What came is freed.
