@@ -1,0 +1,7 @@
+mod AnyStep
+mod Accounts
+mod Takes
+mod Ordered
+mod Delivered
+mod NoFault
+mod Joined

@@ -1,0 +1,85 @@
+-- The world of any two sides, memory refused or not: as that of sides that ask for no strict messages and limit nothing, with two steps more.
+use Rattle.std.specs.Prelude.{◌≡◌, ℕ, Bool, true, false, ◌||◌, List, [], None, take}
+use Rattle.h3_proto.specs.Config.{is_limit}
+use Rattle.h3_proto.specs.declared.stream.Side.{Side}
+use Rattle.h3_connection.specs.Announcing.{section_of}
+use Rattle.h3_connection.specs.OwnIds.{other}
+use Rattle.h3_connection.specs.declared.event.Fault.TheVariants.{Stream}
+use Rattle.h3_connection.specs.declared.event.Item.{Item}
+use Rattle.h3_connection.specs.declared.event.Malformation.{Malformation}
+use Rattle.h3_connection.specs.declared.event.Pull.{Pull}
+use Rattle.h3_connection.specs.declared.event.Pull.TheVariants.{Fault}
+use Rattle.h3_connection.specs.declared.event.StreamFault.TheVariants.{Malformed}
+use Rattle.h3_connection.specs.declared.setup.Announced.{Announced}
+use Rattle.h3_world.specs.Headline.{is_memory}
+use Rattle.h3_world.specs.Items.{HasCome, handed_out}
+use Rattle.h3_world.specs.Lists.{pull_of}
+use Rattle.h3_world.specs.Order.{next_part}
+use Rattle.h3_world.specs.Pulling.{settled}
+use Rattle.h3_world.specs.Run.{Run}
+use Rattle.h3_world.specs.Sending.{given_up}
+use Rattle.h3_world.specs.Setup.{announced_at}
+use Rattle.h3_world.specs.Streams.{flow}
+use Rattle.h3_world.specs.World.{World, empty_world}
+use Rattle.h3_world.specs.declared.event.Answer.{Answer}
+use Rattle.h3_world.specs.declared.event.Answer.TheVariants as answer
+use Rattle.h3_world.specs.declared.event.Event.{Event}
+use Rattle.h3_world.specs.declared.event.Event.TheVariants as event
+use Rattle.h3_world.specs.declared.setup.Setup.{Setup}
+use Rattle.h3_memory.specs.Kept.{KeepingWorld, caught_up, nothing_kept, with_kept}
+use Rattle.h3_memory.specs.MemoryStep.{HappensWithMemory}
+use Rattle.h3_strict.specs.PlainEnds.{is_malformed_refusal, plain_setup}
+use Rattle.h3_faithful.specs.Faithful.{asks_for_strict, is_without_fault}
+
+-- it asks for strict messages, or limits what is unfinished
+abbrev pub judges_more : Announced → Bool
+judges_more a = a.choices.strict_messages || is_limit a.choices.unfinished_limit
+
+-- The side that sends asks for strict messages.
+abbrev pub is_strict_send : Setup → Event → Bool
+is_strict_send setup (event.Head side id head) = asks_for_strict setup side
+is_strict_send setup (event.Fields side id fields) = asks_for_strict setup side
+is_strict_send setup (event.Body side id bytes) = asks_for_strict setup side
+is_strict_send setup (event.Trailer side id trailer) = asks_for_strict setup side
+is_strict_send setup (event.TrailerFields side id fields) = asks_for_strict setup side
+is_strict_send setup (event.Finish side id) = asks_for_strict setup side
+is_strict_send setup _ = false
+
+-- The side gives the message up that comes next on the stream: at once, or behind its next part, which it takes and hands to nobody.
+pub data GivesUp (setup : Setup) (w : World) (side : Side) (id : ℕ) (why : Malformation) (new : World) : Type 0 where
+  AtOnce : new ≡ given_up w side id (Malformed why) → GivesUp setup w side id why new
+  BehindPart : (i : Item) → HasCome (section_of (announced_at setup side)) (flow w (other side) id) (next_part (flow w (other side) id)) i
+      → new ≡ given_up (handed_out w side id i) side id (Malformed why) → GivesUp setup w side id why new
+
+-- A pull of a side that judges more, which finds the message malformed once all that the side keeps is read.
+pub record PullsMalformed (setup : Setup) (k : KeepingWorld) (side : Side) (id : ℕ) (p : Pull) (new : KeepingWorld) : Type 0 where
+  pub more : judges_more (announced_at setup side) ≡ true
+  pub why : Malformation
+  pub told : p ≡ Fault (Stream (Malformed why))
+  pub unsettled : settled (caught_up setup k side) side id ≡ None
+  pub given_up : GivesUp setup (caught_up setup k side) side id why new.world
+  pub kept : new ≡ with_kept k side new.world []
+
+abbrev pub PullsOn : Setup → KeepingWorld → Event → Answer → KeepingWorld → Type 0
+PullsOn setup k (event.Pull side id) (answer.Pulled p) new = PullsMalformed setup k side id p new
+PullsOn setup k (event.PullFields side id) (answer.Listed l) new = PullsMalformed setup k side id (pull_of l) new
+PullsOn setup k e a new = ⊥
+
+-- What may come of an event. Of a side that judges more stands in the world the same side that does not (`plain_setup`).
+pub data HappensAnywhere (setup : Setup) (k : KeepingWorld) (e : Event) (a : Answer) (new : KeepingWorld) : Type 0 where
+  -- as between sides that judge plainly, where no memory is refused
+  AsPlainly : is_memory a ≡ false → HappensWithMemory (plain_setup setup) k e a new → HappensAnywhere setup k e a new
+  -- and where it is
+  LacksMemory : is_memory a ≡ true → HappensWithMemory (plain_setup setup) k e a new → HappensAnywhere setup k e a new
+  -- a strict side refuses a send as malformed, and nothing changes
+  RefusesMalformed : is_strict_send setup e ≡ true → is_malformed_refusal a ≡ true → new ≡ k → HappensAnywhere setup k e a new
+  -- a pull gives the message up
+  GivesMessageUp : PullsOn setup k e a new → HappensAnywhere setup k e a new
+
+-- **The answers up to a fault of the connection are those of a run of such steps.**
+pub record RunsAnywhere (setup : Setup) (events : List Event) (answers : List Answer) : Type 0 where
+  pub world : KeepingWorld
+  pub run : Run (HappensAnywhere setup) (nothing_kept (empty_world (plain_setup setup))) events answers world
+
+abbrev pub RunsUntilFault : Setup → List Event → List Answer → Type 0
+RunsUntilFault setup events answers = (n : ℕ) → is_without_fault n answers → RunsAnywhere setup (take n events) (take n answers)
