@@ -2,25 +2,18 @@
 use Rattle.std.specs.Prelude.{◌≡◌, ℕ, Bool, true, false, ◌||◌, List, [], None, take}
 use Rattle.h3_proto.specs.Config.{is_limit}
 use Rattle.h3_proto.specs.declared.stream.Side.{Side}
-use Rattle.h3_connection.specs.Announcing.{section_of}
-use Rattle.h3_connection.specs.OwnIds.{other}
 use Rattle.h3_connection.specs.declared.event.Fault.TheVariants.{Stream}
-use Rattle.h3_connection.specs.declared.event.Item.{Item}
 use Rattle.h3_connection.specs.declared.event.Malformation.{Malformation}
 use Rattle.h3_connection.specs.declared.event.Pull.{Pull}
 use Rattle.h3_connection.specs.declared.event.Pull.TheVariants.{Fault}
 use Rattle.h3_connection.specs.declared.event.StreamFault.TheVariants.{Malformed}
 use Rattle.h3_connection.specs.declared.setup.Announced.{Announced}
 use Rattle.h3_world.specs.Headline.{is_memory}
-use Rattle.h3_world.specs.Items.{HasCome, handed_out}
 use Rattle.h3_world.specs.Lists.{pull_of}
-use Rattle.h3_world.specs.Order.{next_part}
 use Rattle.h3_world.specs.Pulling.{settled}
 use Rattle.h3_world.specs.Run.{Run}
-use Rattle.h3_world.specs.Sending.{given_up}
 use Rattle.h3_world.specs.Setup.{announced_at}
-use Rattle.h3_world.specs.Streams.{flow}
-use Rattle.h3_world.specs.World.{World, empty_world}
+use Rattle.h3_world.specs.World.{empty_world}
 use Rattle.h3_world.specs.declared.event.Answer.{Answer}
 use Rattle.h3_world.specs.declared.event.Answer.TheVariants as answer
 use Rattle.h3_world.specs.declared.event.Event.{Event}
@@ -28,6 +21,7 @@ use Rattle.h3_world.specs.declared.event.Event.TheVariants as event
 use Rattle.h3_world.specs.declared.setup.Setup.{Setup}
 use Rattle.h3_memory.specs.Kept.{KeepingWorld, caught_up, nothing_kept, with_kept}
 use Rattle.h3_memory.specs.MemoryStep.{HappensWithMemory}
+use Rattle.h3_strict.specs.GivesUp.{GivesUp}
 use Rattle.h3_strict.specs.PlainEnds.{is_malformed_refusal, plain_setup}
 use Rattle.h3_faithful.specs.Faithful.{asks_for_strict, is_without_fault}
 
@@ -44,12 +38,6 @@ is_strict_send setup (event.Trailer side id trailer) = asks_for_strict setup sid
 is_strict_send setup (event.TrailerFields side id fields) = asks_for_strict setup side
 is_strict_send setup (event.Finish side id) = asks_for_strict setup side
 is_strict_send setup _ = false
-
--- The side gives the message up that comes next on the stream: at once, or behind its next part, which it takes and hands to nobody.
-pub data GivesUp (setup : Setup) (w : World) (side : Side) (id : ℕ) (why : Malformation) (new : World) : Type 0 where
-  AtOnce : new ≡ given_up w side id (Malformed why) → GivesUp setup w side id why new
-  BehindPart : (i : Item) → HasCome (section_of (announced_at setup side)) (flow w (other side) id) (next_part (flow w (other side) id)) i
-      → new ≡ given_up (handed_out w side id i) side id (Malformed why) → GivesUp setup w side id why new
 
 -- A pull of a side that judges more, which finds the message malformed once all that the side keeps is read.
 pub record PullsMalformed (setup : Setup) (k : KeepingWorld) (side : Side) (id : ℕ) (p : Pull) (new : KeepingWorld) : Type 0 where

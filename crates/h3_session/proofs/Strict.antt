@@ -139,6 +139,7 @@ module _ (setup : Setup) (laws : LawsOfEnds setup) where
   -- and over all of them
   pub runs_to_end : (events : List Event) (answers : List Answer) (client server : EndpointState) → AllByRecursion IsTyped events → RunsTo (new_ends setup) events answers client server → AreFew setup events
       → one_judges_more setup ≡ true → TakesWhatIsSent setup events answers → RunsToEnd setup events answers client server
+  unfolding by_world
   runs_to_end events answers client server typed h few more takes =
       let sendable = few_are_sendable setup events typed few in
       let none = finds_none events sendable (subst (TakesWhatIsSent setup events) h.answered_so takes) in

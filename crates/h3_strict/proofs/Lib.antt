@@ -1,5 +1,6 @@
 mod PlainStreams
 mod PlainPulls
+mod Verdicts
 mod PlainCalls
 mod PlainSends
 mod InstructionReading
@@ -26,6 +27,7 @@ mod SendEvents
 mod CallEvents
 mod QuietEvents
 mod PullEvents
+mod PullsAnyhow
 mod PulledTallies
 mod PullTally
 mod NoneJudges

@@ -74,7 +74,7 @@ module _ (e : EndpointHistory) (id : ℕ) where
       le-ltb e.announced.limits.blocked (heads_waiting e.decoding.decoder (set_stream e.incoming id p.incoming))
       (omega (arith, count_set e.decoding.decoder.table.inserted e.incoming id p.incoming less, few))
 
-  given_plain : (p : Pulled) → pulled (plainly e) id (plain_pulled p) ≡ plain_result (pulled e id p)
+  pub given_plain : (p : Pulled) → pulled (plainly e) id (plain_pulled p) ≡ plain_result (pulled e id p)
   given_plain p =
       ap (λ (s : Streams Incoming). after_answer p.answer (record (plainly (replied (with_incoming e id p.incoming) p.replies)) { incoming = s })) (set_each plain_incoming e.incoming id p.incoming)
       ∙ after_plain p.answer (replied (with_incoming e id p.incoming) p.replies)
@@ -83,7 +83,7 @@ module _ (e : EndpointHistory) (id : ℕ) where
   too_many_plain true p = refl
   too_many_plain false p = refl
 
-  limit_plain : (p : Pulled) → within_limit (plainly e) id (plain_pulled p) ≡ plain_pulled (within_limit e id p)
+  pub limit_plain : (p : Pulled) → within_limit (plainly e) id (plain_pulled p) ≡ plain_pulled (within_limit e id p)
   limit_plain p =
       let most = e.decoding.decoder.table.inserted in
       ap (λ n. if_too_many (nat_lt e.announced.limits.blocked n) (plain_pulled p))

@@ -7,3 +7,4 @@ pub mod StrictPull
 pub mod Tallies
 pub mod Unbroken
 pub mod Limits
+pub mod GivesUp

@@ -110,3 +110,13 @@ pub fn what_refused_memory_leaves_is_sound()
     h3_qpack::laws::every_session_is_sound();
     h3_qpack::laws::encoders_without_insertions_use_no_table();
 }
+
+ghost use Rattle.std.specs.Prelude.{None};
+ghost use Rattle.h3_connection.specs.OwnIds.{other};
+ghost use Rattle.h3_connection.specs.declared.event.StreamFault.{StreamFault};
+ghost use Rattle.h3_world.specs.Sending.{given_up};
+
+/// A sound world is sound once a side gave up what comes on a stream, for whatever fault, that it had not given up.
+pub fn a_side_gives_a_stream_up()
+    ensures { (setup : Setup) (w : World) (receiver : Side) (id : ℕ) (fault : StreamFault) → IsSoundWorld setup w → is_open w receiver id ≡ true → (flow w (other receiver) id).fault ≡ None → IsSoundWorld setup (given_up w receiver id fault) }
+{}
