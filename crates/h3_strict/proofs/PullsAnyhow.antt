@@ -25,7 +25,7 @@ use Rattle.h3_connection.specs.declared.event.Pull.{Pull}
 use Rattle.h3_connection.specs.declared.event.Pull.TheVariants as pull
 use Rattle.h3_connection.specs.declared.event.StreamFault.{StreamFault}
 use Rattle.h3_connection.specs.declared.event.StreamFault.TheVariants.{Malformed}
-use Rattle.h3_world.specs.Ends.{Ends, answered, end_at, with_end}
+use Rattle.h3_world.specs.Ends.{Ends, answered, end_at, was_pulled, with_end}
 use Rattle.h3_world.specs.Headline.{is_connection_fault, tells_connection_fault}
 use Rattle.h3_world.specs.Pulling.{PullsNext, settled}
 use Rattle.h3_world.specs.Sending.{given_up as gives_up}
@@ -247,7 +247,8 @@ module _ (laws : Laws) (giving : GivingSound) (setup : Setup) (made : IsMadeSetu
 
         other_pulls : (b : Bool) → other_many ≡ b → answered (plain_ends ends) (event.Pull side id) ≡ (answer.Pulled (pulled (plainly e) id (if_too_many b q)).0, with_end (plain_ends ends) side (pulled (plainly e) id (if_too_many b q)).1)
         other_pulls b k =
-            ap (λ z. let x : Answer × Ends = (answer.Pulled (pulls z id).0, with_end (plain_ends ends) side (pulls z id).1) in x) (end_of ends side)
+            pulled_is (plain_ends ends) side (pulls (end_at (plain_ends ends) side) id)
+            ∙ ap (λ z. let x : Answer × Ends = (answer.Pulled (pulls z id).0, with_end (plain_ends ends) side (pulls z id).1) in x) (end_of ends side)
             ∙ ap (λ z. let x : Answer × Ends = (answer.Pulled z.0, with_end (plain_ends ends) side z.1) in x) (plain_is ∙ ap (λ c. pulled (plainly e) id (if_too_many c q)) k)
 
         item_out : (x : Pulled) → x.answer ≡ pull.Item it → pulled (plainly e) id x ≡ (pull.Item it, replied (with_incoming (plainly e) id x.incoming) x.replies)
