@@ -28,6 +28,7 @@ mod CallEvents
 mod QuietEvents
 mod PullEvents
 mod PullsAnyhow
+mod StepsAnyhow
 mod PulledTallies
 mod PullTally
 mod NoneJudges

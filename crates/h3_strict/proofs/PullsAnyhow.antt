@@ -6,6 +6,7 @@ use Rattle.h3_field.specs.Instruction.{DecoderInstruction}
 use Rattle.h3_field.specs.Instruction.DecoderInstruction.{CancelStream}
 use Rattle.h3_proto.specs.declared.stream.Side.{Side}
 use Rattle.h3_proto.specs.declared.stream.Side.TheVariants.{Client, Server}
+use Rattle.h3_connection.specs.Coming.{fields_behind}
 use Rattle.h3_connection.specs.Delivering.{with_incoming}
 use Rattle.h3_connection.specs.Endpoint.{EndpointHistory, Kind, heads_waiting, kind_of, replied}
 use Rattle.h3_connection.specs.Endpoint.Kind.{OwnUnidirectional, PeerUnidirectional, Request, ServerOpened}
@@ -25,8 +26,9 @@ use Rattle.h3_connection.specs.declared.event.Pull.{Pull}
 use Rattle.h3_connection.specs.declared.event.Pull.TheVariants as pull
 use Rattle.h3_connection.specs.declared.event.StreamFault.{StreamFault}
 use Rattle.h3_connection.specs.declared.event.StreamFault.TheVariants.{Malformed}
-use Rattle.h3_world.specs.Ends.{Ends, answered, end_at, was_pulled, with_end}
+use Rattle.h3_world.specs.Ends.{Ends, answered, end_at, was_listed, was_pulled, with_end}
 use Rattle.h3_world.specs.Headline.{is_connection_fault, tells_connection_fault}
+use Rattle.h3_world.specs.Lists.{listed_pull}
 use Rattle.h3_world.specs.Pulling.{PullsNext, settled}
 use Rattle.h3_world.specs.Sending.{given_up as gives_up}
 use Rattle.h3_world.specs.Setup.{IsMadeSetup, JudgesPlainly}
@@ -60,7 +62,7 @@ use Rattle.h3_strict.specs.Plainly.{plain, plain_incoming, plainly}
 abbrev pub GivingSound : Type 0
 GivingSound = (setup : Setup) (w : World) (receiver : Side) (id : ℕ) (fault : StreamFault) → IsSoundWorld setup w → is_open w receiver id ≡ true → (flow w (other receiver) id).fault ≡ None → IsSoundWorld setup (gives_up w receiver id fault)
 
-end_of : (ends : Ends) (side : Side) → end_at (plain_ends ends) side ≡ plainly (end_at ends side)
+pub end_of : (ends : Ends) (side : Side) → end_at (plain_ends ends) side ≡ plainly (end_at ends side)
 end_of ends Client = refl
 end_of ends Server = refl
 
@@ -71,6 +73,13 @@ end_set ends Server e = refl
 set_twice : (ends : Ends) (side : Side) (e f : EndpointHistory) → with_end (with_end ends side e) side f ≡ with_end ends side f
 set_twice ends Client e f = refl
 set_twice ends Server e f = refl
+
+-- what a pull leads to
+pub pulled_is : (ends : Ends) (side : Side) (x : Pull × EndpointHistory) → was_pulled ends side x ≡ (answer.Pulled x.0, with_end ends side x.1)
+pulled_is ends side (a, e) = refl
+
+pub listed_is : (ends : Ends) (side : Side) (id : ℕ) (x : Pull × EndpointHistory) → was_listed ends side id x ≡ (answer.Listed (listed_pull (fields_behind (end_at ends side).kept (end_at ends side) id) x.0), with_end ends side x.1)
+listed_is ends side id (a, e) = refl
 
 -- what an end receives of a stream that is there
 pub record ReceivesOn (w : World) (side : Side) (id : ℕ) (i : Incoming) : Type 0 where

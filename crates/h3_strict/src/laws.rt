@@ -110,3 +110,17 @@ pub fn a_pull_gives_a_message_up()
     h3_world::laws::a_side_gives_a_stream_up();
     h3_headline::laws::what_is_cited_holds();
 }
+
+ghost use Rattle.h3_strict.specs.GivesUp.{RunsAnyhow};
+
+/// So two endpoints run in a world over every schedule of events that may be sent, up to a fault of the connection, whatever they judge. The
+/// answers are those of a run, in each step of which an event happens as between sides without strict messages and limits, or a send is
+/// refused as malformed and nothing changes, or a pull gives a message up. Both ends without that stand in the last world.
+pub fn any_endpoints_run_in_a_world()
+    ensures { (setup : Setup) (events : List Event) → IsMadeSetup setup → AllByRecursion (IsSendable setup) events → list_any is_connection_fault (answers_of_ends (new_ends setup) events) ≡ false →
+        RunsAnyhow setup (empty_world (plain_setup setup)) (new_ends setup) events }
+{
+    h3_headline::laws::every_event_steps_on();
+    h3_headline::laws::two_endpoints_run_in_a_world();
+    a_pull_gives_a_message_up();
+}
