@@ -31,6 +31,7 @@ pub mod ListEventLaws
 pub mod ListeningLaws
 pub mod Messages
 pub mod MovedLaws
+pub mod GoneLaws
 pub mod MovesLaws
 pub mod OpeningLaws
 pub mod OwnDeliveredLaws

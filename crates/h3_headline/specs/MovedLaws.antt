@@ -75,11 +75,11 @@ does_cases : (P : Answer → World → Type 0) (o : Option Refusal) (w after new
 does_cases P (Some r) w after new success given refused done h = subst (λ x. P x new) (sym h.0) (subst (P (answer.Refused r)) (sym h.1) (refused r))
 does_cases P None w after new success given refused done h = subst (λ x. P x new) (sym h.0) (subst (P success) (sym h.1) (done refl))
 
-not_refused : (there : Bool) (rules : List (Bool × Refusal)) → first_of ((not there, refusal.NotOpen) ∷ rules) ≡ None → there ≡ true
+pub not_refused : (there : Bool) (rules : List (Bool × Refusal)) → first_of ((not there, refusal.NotOpen) ∷ rules) ≡ None → there ≡ true
 not_refused true rules e = refl
 not_refused false rules e = cc
 
-not_critical : (critical there : Bool) (rules : List (Bool × Refusal)) → first_of ((critical, refusal.Critical) ∷ (not there, refusal.NotOpen) ∷ rules) ≡ None → there ≡ true
+pub not_critical : (critical there : Bool) (rules : List (Bool × Refusal)) → first_of ((critical, refusal.Critical) ∷ (not there, refusal.NotOpen) ∷ rules) ≡ None → there ≡ true
 not_critical true there rules e = cc
 not_critical false there rules e = not_refused there rules e
 
@@ -371,7 +371,7 @@ listed_moves setup w new side i (answer.Shown limits sizes n) writer id h step =
 listed_moves setup w new side i (answer.Refused r) writer id h step = absurd step
 
 -- the world after a delivery
-world_is : (a : Answer) (new : World) (next : Answer × World) → (a, new) ≡ next → new ≡ next.1
+pub world_is : (a : Answer) (new : World) (next : Answer × World) → (a, new) ≡ next → new ≡ next.1
 world_is a new next e = ap (λ (x : Answer × World). x.1) e
 
 -- **What each event changes of each flow.**
