@@ -43,7 +43,7 @@ use Rattle.h3_strict.specs.PlainEnds.{is_malformed_refusal, plain_setup}
 use Rattle.h3_faithful.specs.Faithful.{AcceptsNext, IsAccepted, asks_for_strict}
 use Rattle.h3_faithful.specs.Sends.{awaits_head, goes_on, is_between, is_head, is_next, opens, resets_on, sends_list, takes_size}
 use Rattle.h3_faithful.specs.Steps.{AsPlainly, GivesMessageUp, HappensAnywhere, LacksMemory, PullsOn, RefusesMalformed, is_strict_send}
-use Rattle.h3_faithful.proofs.Takes.{both_of, opposite, takes_body_next, takes_end_next, takes_head_next}
+use Rattle.h3_faithful.proofs.Takes.{both_of, opposite, takes_body_next, takes_end_next, takes_head_next, three_of}
 
 -- What the events and their answers say of a stream of a side holds of it in the world.
 pub record Tells (w : World) (side : Side) (id : ℕ) (before : List Event) (given : List Answer) : Type 0 where
@@ -110,13 +110,13 @@ module _ (setup : Setup) (w : World) (side : Side) (id : ℕ) (before : List Eve
   third = not (any_of (resets_on side id) before given)
 
   here : is_open w side id ≡ true
-  here = t.opened (both_of first (second && third) on).0
+  here = t.opened (three_of first second third on).0
 
   unfinished : has_end f.sent ≡ false
-  unfinished = t.end_is ∙ opposite (has_finished side id before given) (both_of second third (both_of first (second && third) on).1).0
+  unfinished = t.end_is ∙ opposite (has_finished side id before given) (three_of first second third on).1
 
   live : f.is_reset ≡ false
-  live = t.not_reset (opposite (any_of (resets_on side id) before given) (both_of second third (both_of first (second && third) on).1).1)
+  live = t.not_reset (opposite (any_of (resets_on side id) before given) (three_of first second third on).2)
 
   takes_head_here : awaits_head all ≡ true → takes_head (outgoing_of f) ≡ true
   takes_head_here h = takes_head_next t.party f t.sound live unfinished (ap awaits_head t.sent_is ∙ h)
@@ -127,35 +127,31 @@ module _ (setup : Setup) (w : World) (side : Side) (id : ℕ) (before : List Eve
   -- on the side's own stream
   head_placed : (head : Fields) → (awaits_head all && is_for (other side) head && takes_size setup side (head_fields head)) ≡ true → IsInOrder ps w (event.Head side id head)
   head_placed head h =
-      let a = both_of (awaits_head all) (is_for (other side) head && takes_size setup side (head_fields head)) h in
-      let b = both_of (is_for (other side) head) (takes_size setup side (head_fields head)) a.1 in
-      (here, takes_head_here a.0, b.0, fits_known setup w side (head_fields head) b.1)
+      let a = three_of (awaits_head all) (is_for (other side) head) (takes_size setup side (head_fields head)) h in
+      (here, takes_head_here a.0, a.1, fits_known setup w side (head_fields head) a.2)
 
   trailer_placed : (trailer : Fields) → (is_between all && not (has_pseudo trailer) && takes_size setup side (head_fields trailer)) ≡ true → IsInOrder ps w (event.Trailer side id trailer)
   trailer_placed trailer h =
-      let a = both_of (is_between all) (not (has_pseudo trailer) && takes_size setup side (head_fields trailer)) h in
-      let b = both_of (not (has_pseudo trailer)) (takes_size setup side (head_fields trailer)) a.1 in
-      (here, takes_body_here a.0, opposite (has_pseudo trailer) b.0, fits_known setup w side (head_fields trailer) b.1)
+      let a = three_of (is_between all) (not (has_pseudo trailer)) (takes_size setup side (head_fields trailer)) h in
+      (here, takes_body_here a.0, opposite (has_pseudo trailer) a.1, fits_known setup w side (head_fields trailer) a.2)
 
   fields_placed : (fields : List Field) → (awaits_head all && is_for (other side) (head_of_fields fields) && takes_size setup side fields) ≡ true → IsPlaced ps w (event.Fields side id fields)
   fields_placed fields h = by_reading (unreadable (takes_any (announced_at ps side)) fields) refl
     where
       by_reading : (o : Option Malformation) → unreadable (takes_any (announced_at ps side)) fields ≡ o → IsPlaced ps w (event.Fields side id fields)
       by_reading None e =
-          let a = both_of (awaits_head all) (is_for (other side) (head_of_fields fields) && takes_size setup side fields) h in
-          let b = both_of (is_for (other side) (head_of_fields fields)) (takes_size setup side fields) a.1 in
-          inl (here, takes_head_here a.0, e, b.0, fits_known setup w side fields b.1)
-      by_reading (Some why) e = inr (here, takes_head_here (both_of (awaits_head all) (is_for (other side) (head_of_fields fields) && takes_size setup side fields) h).0, why, e)
+          let a = three_of (awaits_head all) (is_for (other side) (head_of_fields fields)) (takes_size setup side fields) h in
+          inl (here, takes_head_here a.0, e, a.1, fits_known setup w side fields a.2)
+      by_reading (Some why) e = inr (here, takes_head_here (three_of (awaits_head all) (is_for (other side) (head_of_fields fields)) (takes_size setup side fields) h).0, why, e)
 
   trailer_fields_placed : (fields : List Field) → (is_between all && not (has_pseudo (head_of_fields fields)) && takes_size setup side fields) ≡ true → IsPlaced ps w (event.TrailerFields side id fields)
   trailer_fields_placed fields h = by_reading (unreadable (takes_any (announced_at ps side)) fields) refl
     where
       by_reading : (o : Option Malformation) → unreadable (takes_any (announced_at ps side)) fields ≡ o → IsPlaced ps w (event.TrailerFields side id fields)
       by_reading None e =
-          let a = both_of (is_between all) (not (has_pseudo (head_of_fields fields)) && takes_size setup side fields) h in
-          let b = both_of (not (has_pseudo (head_of_fields fields))) (takes_size setup side fields) a.1 in
-          inl (here, takes_body_here a.0, e, opposite (has_pseudo (head_of_fields fields)) b.0, fits_known setup w side fields b.1)
-      by_reading (Some why) e = inr (here, takes_body_here (both_of (is_between all) (not (has_pseudo (head_of_fields fields)) && takes_size setup side fields) h).0, why, e)
+          let a = three_of (is_between all) (not (has_pseudo (head_of_fields fields))) (takes_size setup side fields) h in
+          inl (here, takes_body_here a.0, e, opposite (has_pseudo (head_of_fields fields)) a.1, fits_known setup w side fields a.2)
+      by_reading (Some why) e = inr (here, takes_body_here (three_of (is_between all) (not (has_pseudo (head_of_fields fields))) (takes_size setup side fields) h).0, why, e)
 
   -- and on any that is it
   moved : (P : Side → ℕ → Type 0) (acting : Side) (i : ℕ) → is_on side id acting i ≡ true → P side id → P acting i

@@ -20,6 +20,11 @@ pub none_of : (a b : Bool) → (a || b) ≡ false → (a ≡ false) × (b ≡ fa
 none_of true b h = absurd (cc)
 none_of false b h = (refl, h)
 
+pub three_of : (a b c : Bool) → (a && b && c) ≡ true → (a ≡ true) × (b ≡ true) × (c ≡ true)
+three_of true true c h = (refl, refl, h)
+three_of true false c h = absurd (cc)
+three_of false b c h = absurd (cc)
+
 pub both_of : (a b : Bool) → (a && b) ≡ true → (a ≡ true) × (b ≡ true)
 both_of true b h = (refl, h)
 both_of false b h = absurd (cc)

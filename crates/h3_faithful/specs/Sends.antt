@@ -54,11 +54,11 @@ is_between before = list_any is_head before && not (list_any is_trailer before)
 
 -- The event sends what is next on the side's stream, behind these contents, as the other side takes it.
 abbrev pub is_next : Setup → Side → ℕ → List MessageContent → Event → Bool
-is_next setup side id before (event.Head acting i head) = is_on side id acting i && awaits_head before && is_for (other side) head && takes_size setup side (head_fields head)
-is_next setup side id before (event.Fields acting i fields) = is_on side id acting i && awaits_head before && is_for (other side) (head_of_fields fields) && takes_size setup side fields
+is_next setup side id before (event.Head acting i head) = is_on side id acting i && (awaits_head before && is_for (other side) head && takes_size setup side (head_fields head))
+is_next setup side id before (event.Fields acting i fields) = is_on side id acting i && (awaits_head before && is_for (other side) (head_of_fields fields) && takes_size setup side fields)
 is_next setup side id before (event.Body acting i bytes) = is_on side id acting i && is_between before
-is_next setup side id before (event.Trailer acting i trailer) = is_on side id acting i && is_between before && not (has_pseudo trailer) && takes_size setup side (head_fields trailer)
-is_next setup side id before (event.TrailerFields acting i fields) = is_on side id acting i && is_between before && not (has_pseudo (head_of_fields fields)) && takes_size setup side fields
+is_next setup side id before (event.Trailer acting i trailer) = is_on side id acting i && (is_between before && not (has_pseudo trailer) && takes_size setup side (head_fields trailer))
+is_next setup side id before (event.TrailerFields acting i fields) = is_on side id acting i && (is_between before && not (has_pseudo (head_of_fields fields)) && takes_size setup side fields)
 is_next setup side id before (event.Finish acting i) = is_on side id acting i && list_any is_head before
 is_next setup side id before _ = false
 

@@ -54,10 +54,10 @@ use Rattle.h3_headline.specs.MovedLaws.{not_critical, not_refused, world_is}
 abbrev pub GoneStays : World → World → Type 0
 GoneStays w new = (writer : Side) (id : ℕ) → is_some (flow w writer id).fault ≡ true → is_some (flow new writer id).fault ≡ true
 
-stays_same : (w : World) → GoneStays w w
+pub stays_same : (w : World) → GoneStays w w
 stays_same w writer id h = h
 
-stays_then : (w mid new : World) → GoneStays w mid → GoneStays mid new → GoneStays w new
+pub stays_then : (w mid new : World) → GoneStays w mid → GoneStays mid new → GoneStays w new
 stays_then w mid new first later writer id h = later writer id (first writer id h)
 
 stays_flows : (w new : World) → ((writer : Side) (id : ℕ) → flow new writer id ≡ flow w writer id) → GoneStays w new
@@ -89,6 +89,14 @@ pub stays_given_up : (w : World) (receiver : Side) (i : ℕ) (fault : StreamFaul
 stays_given_up w receiver i fault there =
     let q : Party = record (party w receiver) { own = record (party w receiver).own { replies = (party w receiver).own.replies ++ CancelStream i ∷ [] } } in
     stays_on w receiver (other receiver) i q (record (flow w (other receiver) i) { fault = Some fault; waits_for = 0 }) there (λ h. refl)
+
+-- and that it is given up
+pub gone_given_up : (w : World) (receiver : Side) (i : ℕ) (fault : StreamFault) (writer : Side) (id : ℕ) → IsThere w i → is_on writer id (other receiver) i ≡ true → is_some (flow (given_up w receiver i fault) writer id).fault ≡ true
+gone_given_up w receiver i fault writer id there on =
+    let q : Party = record (party w receiver) { own = record (party w receiver).own { replies = (party w receiver).own.replies ++ CancelStream i ∷ [] } } in
+    let v : World = with_party w receiver q in
+    let g : Flow = record (flow w (other receiver) i) { fault = Some fault; waits_for = 0 } in
+    ap (λ (f : Flow). is_some f.fault) (flow_at v (other receiver) writer i id g (there-with_party w receiver q i there)) ∙ ap (λ (b : Bool). is_some (if b then g else flow v writer id).fault) on
 
 stays_own : (setup : Setup) (w : World) (s : Side) (i count : ℕ) → GoneStays w (delivered_own setup w s i count)
 stays_own setup w s i count =
@@ -162,6 +170,13 @@ piece_stays f bytes count = by_test (f.body_out + count == length bytes)
 item_stays : (f : Flow) (part : Option Part) (i : Item) → (after_item f part i).fault ≡ f.fault
 item_stays f (Some (Body bytes own)) (item.Body piece) = piece_stays f bytes (length piece)
 item_stays f part i = refl
+
+-- the stream is there behind an item
+pub there_handed : (w : World) (side : Side) (i : ℕ) (it : Item) → IsThere w i → IsThere (handed_out w side i it) i
+there_handed w side i it there =
+    let f = flow w (other side) i in
+    let q : Party = record (party w side) { own = record (party w side).own { replies = (party w side).own.replies ++ acknowledgment_of i (next_part f) } } in
+    there_with_flow (with_party w side q) (other side) i (after_item f (next_part f) it) (there-with_party w side q i there)
 
 pub stays_handed : (w : World) (side : Side) (i : ℕ) (it : Item) → IsThere w i → GoneStays w (handed_out w side i it)
 stays_handed w side i it there =

@@ -210,7 +210,7 @@ cancel_keeps w new side i none =
     (open_there w side i (not_critical (is_critical i) (is_open w side i) ((is_over (flow w (other side) i) || is_some (flow w (other side) i).fault, refusal.Ended) ∷ []) none))
 
 -- The side that pulls is the reader of what the other side writes.
-swapped : (writer side : Side) (id i : ℕ) → is_on (other writer) id side i ≡ is_on writer id (other side) i
+pub swapped : (writer side : Side) (id i : ℕ) → is_on (other writer) id side i ≡ is_on writer id (other side) i
 swapped Client Client id i = refl
 swapped Client Server id i = refl
 swapped Server Client id i = refl

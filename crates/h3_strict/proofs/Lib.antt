@@ -49,3 +49,5 @@ mod DeliveriesFit
 mod MadeLimits
 mod LimitCarries
 mod LimitEarly
+mod Advancing
+mod AnyhowMessages

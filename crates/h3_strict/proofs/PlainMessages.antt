@@ -22,7 +22,7 @@ malformed_is : (r : Refusal) → is_malformed r ≡ true → (why : Malformation
 malformed_is (refusal.Malformed why) is = (why, refl)
 malformed_is _ is = absurd (cc)
 
-refused_is : (a : Answer) → is_malformed_refusal a ≡ true → (why : Malformation) × (a ≡ answer.Refused (refusal.Malformed why))
+pub refused_is : (a : Answer) → is_malformed_refusal a ≡ true → (why : Malformation) × (a ≡ answer.Refused (refusal.Malformed why))
 refused_is (answer.Refused r) is = let m = malformed_is r is in (m.0, ap answer.Refused m.1)
 refused_is _ is = absurd (cc)
 
@@ -31,7 +31,7 @@ module _ (why : Malformation) where
   abbrev refused : Answer
   refused = answer.Refused (refusal.Malformed why)
 
-  sends_none : (side : Side) (id : ℕ) (e : Event) → sent_in side id e refused ≡ []
+  pub sends_none : (side : Side) (id : ℕ) (e : Event) → sent_in side id e refused ≡ []
   sends_none side id (event.Head acting i head) = refl
   sends_none side id (event.Body acting i bytes) = refl
   sends_none side id (event.Trailer acting i trailer) = refl
@@ -39,7 +39,7 @@ module _ (why : Malformation) where
   sends_none side id (event.TrailerFields acting i fields) = refl
   sends_none side id _ = refl
 
-  finishes_none : (side : Side) (id : ℕ) (e : Event) → finished_in side id e refused ≡ false
+  pub finishes_none : (side : Side) (id : ℕ) (e : Event) → finished_in side id e refused ≡ false
   finishes_none side id (event.Finish acting i) = refl
   finishes_none side id _ = refl
 
@@ -47,7 +47,7 @@ module _ (why : Malformation) where
   none_if true = refl
   none_if false = refl
 
-  pulls_none : (side : Side) (id : ℕ) (e : Event) → pulled_in side id e refused ≡ []
+  pub pulls_none : (side : Side) (id : ℕ) (e : Event) → pulled_in side id e refused ≡ []
   pulls_none side id (event.Pull acting i) = none_if _
   pulls_none side id (event.PullFields acting i) = none_if _
   pulls_none side id _ = refl
@@ -56,7 +56,7 @@ module _ (why : Malformation) where
   not_both true = refl
   not_both false = refl
 
-  ends_none : (side : Side) (id : ℕ) (e : Event) → ended_in side id e refused ≡ false
+  pub ends_none : (side : Side) (id : ℕ) (e : Event) → ended_in side id e refused ≡ false
   ends_none side id (event.Pull acting i) = not_both _
   ends_none side id (event.PullFields acting i) = not_both _
   ends_none side id _ = refl

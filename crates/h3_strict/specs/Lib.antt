@@ -8,3 +8,4 @@ pub mod Tallies
 pub mod Unbroken
 pub mod Limits
 pub mod GivesUp
+pub mod Accounts

@@ -124,3 +124,18 @@ pub fn any_endpoints_run_in_a_world()
     h3_headline::laws::two_endpoints_run_in_a_world();
     a_pull_gives_a_message_up();
 }
+
+/// By their own answers, whatever both judge: up to a fault of the connection, what a side pulled from a stream is a front of what the other side
+/// sent on it, and all of that with the end.
+pub fn any_endpoints_hand_out_what_was_sent()
+    ensures front { (setup : Setup) (events : List Event) (side : Side) (id : ℕ) → IsMadeSetup setup → AllByRecursion (IsSendable setup) events → list_any is_connection_fault (answers_of_ends (new_ends setup) events) ≡ false →
+        IsFrontOf (reader_at setup side) (pulled side id events (answers_of_ends (new_ends setup) events)) (sent (other side) id events (answers_of_ends (new_ends setup) events)) }
+    ensures end { (setup : Setup) (events : List Event) (side : Side) (id : ℕ) → IsMadeSetup setup → AllByRecursion (IsSendable setup) events → list_any is_connection_fault (answers_of_ends (new_ends setup) events) ≡ false →
+        has_pulled_end side id events (answers_of_ends (new_ends setup) events) ≡ true →
+        IsAllOf (reader_at setup side) (pulled side id events (answers_of_ends (new_ends setup) events)) (sent (other side) id events (answers_of_ends (new_ends setup) events))
+        × (has_finished (other side) id events (answers_of_ends (new_ends setup) events) ≡ true) }
+{
+    h3_headline::laws::every_event_steps_on();
+    h3_headline::laws::two_endpoints_run_in_a_world();
+    a_pull_gives_a_message_up();
+}
