@@ -55,7 +55,7 @@ pub record Tells (w : World) (side : Side) (id : ℕ) (before : List Event) (giv
   pub sound : IsSoundFlow party (flow w side id)
 
 -- the call is the side's, on the stream
-on_same : (side acting : Side) (id i : ℕ) → is_on side id acting i ≡ true → (acting ≡ side) × (i ≡ id)
+pub on_same : (side acting : Side) (id i : ℕ) → is_on side id acting i ≡ true → (acting ≡ side) × (i ≡ id)
 on_same Client Client id i h = (refl, same_number i id h)
 on_same Server Server id i h = (refl, same_number i id h)
 on_same Client Server id i h = absurd (cc)

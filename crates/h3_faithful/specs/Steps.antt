@@ -1,5 +1,5 @@
 -- The world of any two sides, memory refused or not: as that of sides that ask for no strict messages and limit nothing, with two steps more.
-use Rattle.std.specs.Prelude.{◌≡◌, ℕ, Bool, true, false, ◌||◌, List, [], None, take}
+use Rattle.std.specs.Prelude.{◌≡◌, ℕ, Bool, true, false, ◌||◌, ◌∷◌, List, [], None, drop, take}
 use Rattle.h3_proto.specs.Config.{is_limit}
 use Rattle.h3_proto.specs.declared.stream.Side.{Side}
 use Rattle.h3_connection.specs.declared.event.Fault.TheVariants.{Stream}
@@ -8,7 +8,7 @@ use Rattle.h3_connection.specs.declared.event.Pull.{Pull}
 use Rattle.h3_connection.specs.declared.event.Pull.TheVariants.{Fault}
 use Rattle.h3_connection.specs.declared.event.StreamFault.TheVariants.{Malformed}
 use Rattle.h3_connection.specs.declared.setup.Announced.{Announced}
-use Rattle.h3_world.specs.Headline.{is_memory}
+use Rattle.h3_world.specs.Headline.{is_connection_fault, is_memory}
 use Rattle.h3_world.specs.Lists.{pull_of}
 use Rattle.h3_world.specs.Pulling.{settled}
 use Rattle.h3_world.specs.Run.{Run}
@@ -69,5 +69,16 @@ pub record RunsAnywhere (setup : Setup) (events : List Event) (answers : List An
   pub world : KeepingWorld
   pub run : Run (HappensAnywhere setup) (nothing_kept (empty_world (plain_setup setup))) events answers world
 
-abbrev pub RunsUntilFault : Setup → List Event → List Answer → Type 0
-RunsUntilFault setup events answers = (n : ℕ) → is_without_fault n answers → RunsAnywhere setup (take n events) (take n answers)
+abbrev pub is_send : Event → Bool
+is_send (event.Head side id head) = true
+is_send (event.Fields side id fields) = true
+is_send (event.Body side id bytes) = true
+is_send (event.Trailer side id trailer) = true
+is_send (event.TrailerFields side id fields) = true
+is_send (event.Finish side id) = true
+is_send _ = false
+
+-- No send finds such a fault.
+pub record RunsUntilFault (setup : Setup) (events : List Event) (answers : List Answer) : Type 0 where
+  pub runs : (n : ℕ) → is_without_fault n answers → RunsAnywhere setup (take n events) (take n answers)
+  pub sends : (n : ℕ) (e : Event) (a : Answer) (later : List Event) (others : List Answer) → is_without_fault n answers → drop n events ≡ e ∷ later → drop n answers ≡ a ∷ others → is_send e ≡ true → is_connection_fault a ≡ false

@@ -82,11 +82,10 @@ delivered_answers =
     answer.Opened 0 ∷ answer.Delivered 0 ∷ answer.Delivered 1 ∷ answer.Done ∷ answer.Delivered 5 ∷
     answer.Pulled (pull.Item (item.Head (status 200))) ∷ answer.Short 0 ∷ answer.Short 0 ∷ answer.Listed list.Pending ∷ []
 
--- A strict client reads a tunnel of a server that is not strict: a trailer in it is a fault of the connection (RFC 9114, section 4.4). The request of
--- CONNECT is 18 bytes long: two of its frame, two of the prefix, one for the method (static entry 15), and 13 for the authority. A response of a status
--- has 5 bytes, and the trailer 10: two of its frame, two of the prefix, four for its name and two for its value
+-- A strict client reads a tunnel of a server that is not strict: a trailer in it is a fault of the connection (RFC 9114, section 4.4). A response of a
+-- status has 5 bytes, and the trailer 10: two of its frame, two of the prefix, four for its name and two for its value
 abbrev pub connect : Fields
-connect = record home { method = Some (codes "CONNECT"); scheme = None; path = None }
+connect = record home { method = Some (codes "CONNECT"); scheme = None; authority = Some (codes "a:443"); path = None }
 
 abbrev pub one_strict : Setup
 one_strict = between strict (plain 1000 0 0)
