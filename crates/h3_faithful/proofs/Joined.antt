@@ -127,7 +127,7 @@ module _ (accepted : OrderedAccepted) (setup : Setup) (events : List Event) (ans
       let l = last_step setup first r.world n events answers e a later others at_e at_a r.run in
       accepts_next accepted setup (take n events) (take n answers) l.mid r.world e a (λ s i. tells setup (take n events) (take n answers) l.mid (may n) l.before s i) l.last side id on next
 
-  AllCame : ℕ → Side → ℕ → Type 0
+  abbrev AllCame : ℕ → Side → ℕ → Type 0
   AllCame n side id = IsAllOf (reader_at setup side) (pulled side id (take n events) (take n answers)) (sent (other side) id (take n events) (take n answers))
 
   -- three steps behind a front
