@@ -1,5 +1,5 @@
 -- One event at any two ends is a step of the world of both, memory refused or not.
-use Rattle.std.proofs.Common.{◌≡◌, ℕ, true, false, None, List}
+use Rattle.std.proofs.Common.{◌≡◌, ℕ, true, false, None}
 use Rattle.h3_proto.specs.declared.stream.Side.{Side}
 use Rattle.h3_connection.specs.declared.event.Fault.TheVariants as fault
 use Rattle.h3_connection.specs.declared.event.Malformation.{Malformation}
@@ -9,7 +9,7 @@ use Rattle.h3_world.specs.Ends.{Ends, answered, end_at}
 use Rattle.h3_world.specs.Headline.{is_connection_fault, is_memory}
 use Rattle.h3_world.specs.Pulling.{settled}
 use Rattle.h3_world.specs.Sendable.{IsSendable}
-use Rattle.h3_world.specs.Setup.{IsMadeSetup, JudgesPlainly}
+use Rattle.h3_world.specs.Setup.{IsMadeSetup}
 use Rattle.h3_world.specs.declared.event.Answer.{Answer}
 use Rattle.h3_world.specs.declared.event.Answer.TheVariants as answer
 use Rattle.h3_world.specs.declared.event.Event.{Event}
@@ -37,7 +37,7 @@ pub record GivesUpAt (setup : Setup) (k : KeepingWorld) (ends : Ends) (side : Si
   pub stands : StandsKeeping (plain_setup setup) after (plain_ends (answered ends (event.Pull side id)).1)
 
 pub pull_gives_up : (setup : Setup) (k : KeepingWorld) (ends : Ends) (side : Side) (id : ℕ) (why : Malformation) → IsMadeSetup setup → StandsKeeping (plain_setup setup) k (plain_ends ends)
-    → is_judged (end_at ends side) id ≡ true → settled (caught_up setup k side) side id ≡ None
+    → is_judged (end_at ends side) id ≡ true → settled (caught_up (plain_setup setup) k side) side id ≡ None
     → (answered ends (event.Pull side id)).0 ≡ answer.Pulled (pull.Fault (fault.Stream (stream_fault.Malformed why))) → GivesUpAt setup k ends side id why
 pull_gives_up = ?
 

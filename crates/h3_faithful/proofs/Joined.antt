@@ -27,7 +27,7 @@ use Rattle.h3_strict.specs.PlainEnds.{plain_setup}
 use Rattle.h3_faithful.specs.Faithful.{AcceptsNext, Faithful, JudgeAlike, PausesDelivered, is_pause, is_without_fault, pauses_on}
 use Rattle.h3_faithful.specs.Sends.{is_next, resets_on}
 use Rattle.h3_faithful.specs.Steps.{HappensAnywhere, RunsUntilFault, is_send}
-use Rattle.h3_faithful.proofs.Accounts.{RunsSo, hands_out}
+use Rattle.h3_faithful.proofs.Accounts.{MemoryMoves, hands_out}
 use Rattle.h3_faithful.proofs.Delivered.{all_came_out, nothing_waits}
 use Rattle.h3_faithful.proofs.Ordered.{OrderedAccepted, accepts_next, on_same}
 use Rattle.h3_faithful.proofs.Takes.{both_of, three_of}
@@ -113,7 +113,7 @@ pauses_no_fault side id (event.Pull acting i) (answer.Pulled p) h = pause_no_fau
 pauses_no_fault side id (event.PullFields acting i) (answer.Listed l) h = pause_no_fault (pull_of l) (both_of (is_on side id acting i) (is_pause (pull_of l)) h).1
 pauses_no_fault side id e a h = absurd (cc)
 
-module _ (accepted : OrderedAccepted) (setup : Setup) (events : List Event) (answers : List Answer) (sendable : AllByRecursion (IsSendable setup) events) (runs : RunsUntilFault setup events answers) where
+module _ (laws : MemoryMoves) (accepted : OrderedAccepted) (setup : Setup) (events : List Event) (answers : List Answer) (sendable : AllByRecursion (IsSendable setup) events) (runs : RunsUntilFault setup events answers) where
   abbrev first : KeepingWorld
   first = nothing_kept (empty_world (plain_setup setup))
 
@@ -159,9 +159,9 @@ module _ (accepted : OrderedAccepted) (setup : Setup) (events : List Event) (ans
       let waits2 = nothing_waits setup l2.mid l3.mid writer id deliver2 in
       all_came_out setup (take n events) (take n answers) l1.mid r.world side id e a (may n) l1.before
       ((tells setup (take n events) (take n answers) l1.mid (may n) l1.before writer id).not_reset no_reset)
-      (subst (λ z. waiting (plain_setup setup) (caught_up setup l1.mid z) writer encoder ≡ zero) (other-other side) waits1.0)
-      (subst (λ z. waiting (plain_setup setup) (caught_up setup l1.mid z) writer id ≡ zero) (other-other side)
-      (subst (λ z. waiting (plain_setup setup) (caught_up setup z (other writer)) writer id ≡ zero) waits1.1 waits2.0))
+      (subst (λ z. waiting (plain_setup setup) (caught_up (plain_setup setup) l1.mid z) writer encoder ≡ zero) (other-other side) waits1.0)
+      (subst (λ z. waiting (plain_setup setup) (caught_up (plain_setup setup) l1.mid z) writer id ≡ zero) (other-other side)
+      (subst (λ z. waiting (plain_setup setup) (caught_up (plain_setup setup) z (other writer)) writer id ≡ zero) waits1.1 waits2.0))
       (subst (λ z. HappensAnywhere setup z e a r.world) (waits2.1 ∙ waits1.1) l3.last) three.2
 
   comes_at : (n : ℕ) (side : Side) (id : ℕ) → is_without_fault n answers → any_of (resets_on (other side) id) (take n events) (take n answers) ≡ false → PausesDelivered side id (drop n events) (drop n answers) → AllCame n side id
@@ -173,12 +173,12 @@ module _ (accepted : OrderedAccepted) (setup : Setup) (events : List Event) (ans
       by_lists es given at_e at_a h = absurd h
 
 -- **The statement.**
-pub faithful : OrderedAccepted → (setup : Setup) (events : List Event) (answers : List Answer) → AllByRecursion (IsSendable setup) events → RunsUntilFault setup events answers → (JudgeAlike setup → list_any is_connection_fault answers ≡ false)
+pub faithful : MemoryMoves → OrderedAccepted → (setup : Setup) (events : List Event) (answers : List Answer) → AllByRecursion (IsSendable setup) events → RunsUntilFault setup events answers → (JudgeAlike setup → list_any is_connection_fault answers ≡ false)
     → Faithful setup events answers
-faithful accepted setup events answers sendable runs no_fault =
+faithful laws accepted setup events answers sendable runs no_fault =
     record {
-      hands_out = λ n none. let r = runs.runs n none in hands_out setup (take n events) (take n answers) r.world (may accepted setup events answers sendable runs n) r.run;
-      accepts = accepts_at accepted setup events answers sendable runs;
-      comes_out = comes_at accepted setup events answers sendable runs;
+      hands_out = λ n none. let r = runs.runs n none in hands_out laws setup (take n events) (take n answers) r.world (may laws accepted setup events answers sendable runs n) r.run;
+      accepts = accepts_at laws accepted setup events answers sendable runs;
+      comes_out = comes_at laws accepted setup events answers sendable runs;
       no_connection_fault = no_fault;
     }

@@ -1,4 +1,5 @@
 mod AnyStep
+mod SoundSteps
 mod Accounts
 mod Takes
 mod Ordered

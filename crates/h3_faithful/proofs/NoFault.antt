@@ -1,5 +1,5 @@
 -- No fault of the connection between two sides that judge alike.
-use Rattle.std.proofs.Common.{◌≡◌, ℕ, false, List}
+use Rattle.std.proofs.Common.{◌≡◌, false, List}
 use Rattle.std.specs.List.{AllByRecursion, list_any}
 use Rattle.h3_world.specs.Ends.{Ends, new_ends}
 use Rattle.h3_world.specs.Headline.{is_connection_fault}

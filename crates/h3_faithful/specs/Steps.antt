@@ -44,8 +44,8 @@ pub record PullsMalformed (setup : Setup) (k : KeepingWorld) (side : Side) (id :
   pub more : judges_more (announced_at setup side) ≡ true
   pub why : Malformation
   pub told : p ≡ Fault (Stream (Malformed why))
-  pub unsettled : settled (caught_up setup k side) side id ≡ None
-  pub given_up : GivesUp setup (caught_up setup k side) side id why new.world
+  pub unsettled : settled (caught_up (plain_setup setup) k side) side id ≡ None
+  pub given_up : GivesUp (plain_setup setup) (caught_up (plain_setup setup) k side) side id why new.world
   pub kept : new ≡ with_kept k side new.world []
 
 abbrev pub PullsOn : Setup → KeepingWorld → Event → Answer → KeepingWorld → Type 0

@@ -60,13 +60,13 @@ stays_same w writer id h = h
 pub stays_then : (w mid new : World) → GoneStays w mid → GoneStays mid new → GoneStays w new
 stays_then w mid new first later writer id h = later writer id (first writer id h)
 
-stays_flows : (w new : World) → ((writer : Side) (id : ℕ) → flow new writer id ≡ flow w writer id) → GoneStays w new
+pub stays_flows : (w new : World) → ((writer : Side) (id : ℕ) → flow new writer id ≡ flow w writer id) → GoneStays w new
 stays_flows w new same writer id h = ap (λ (f : Flow). is_some f.fault) (same writer id) ∙ h
 
-stays_party : (w : World) (s : Side) (p : Party) → GoneStays w (with_party w s p)
+pub stays_party : (w : World) (s : Side) (p : Party) → GoneStays w (with_party w s p)
 stays_party w s p = stays_flows w (with_party w s p) (λ writer id. flow-with_party w s writer p id)
 
-stays_flow : (w : World) (s : Side) (i : ℕ) (g : Flow) → IsThere w i → (is_some (flow w s i).fault ≡ true → is_some g.fault ≡ true) → GoneStays w (with_flow w s i g)
+pub stays_flow : (w : World) (s : Side) (i : ℕ) (g : Flow) → IsThere w i → (is_some (flow w s i).fault ≡ true → is_some g.fault ≡ true) → GoneStays w (with_flow w s i g)
 stays_flow w s i g there keeps writer id h = ap (λ (f : Flow). is_some f.fault) (flow_at w s writer i id g there) ∙ by_on (is_on writer id s i) refl
   where
     by_on : (b : Bool) → is_on writer id s i ≡ b → is_some (if b then g else flow w writer id).fault ≡ true
@@ -107,7 +107,7 @@ stays_own setup w s i count =
 abbrev StaysAfter : World → Answer × World → Type 0
 StaysAfter w next = GoneStays w next.1
 
-stays_delivery : (setup : Setup) (w : World) (s : Side) (i count : ℕ) → StaysAfter w (delivery setup w s i count)
+pub stays_delivery : (setup : Setup) (w : World) (s : Side) (i count : ℕ) → StaysAfter w (delivery setup w s i count)
 stays_delivery setup w s i count = by_tests (has_outgoing w s i) (nat_lt (waiting setup w s i) count) (is_closed w s i) (is_own s i) refl refl
   where
     by_tests : (there short closed own : Bool) → has_outgoing w s i ≡ there → is_own s i ≡ own
@@ -119,7 +119,7 @@ stays_delivery setup w s i count = by_tests (has_outgoing w s i) (nat_lt (waitin
     by_tests true false false true t o = stays_own setup w s i count
     by_tests true false false false t o = stays_flow w s i (record (flow w s i) { delivered = (flow w s i).delivered + count; seen = true }) (request_there w s i t o) (λ h. h)
 
-stays_end : (setup : Setup) (w : World) (s : Side) (i : ℕ) → StaysAfter w (end_delivery setup w s i)
+pub stays_end : (setup : Setup) (w : World) (s : Side) (i : ℕ) → StaysAfter w (end_delivery setup w s i)
 stays_end setup w s i = by_tests (has_outgoing w s i) (may_end setup w s i) (is_closed w s i) refl refl
   where
     request : may_end setup w s i ≡ true → is_own s i ≡ false
@@ -132,7 +132,7 @@ stays_end setup w s i = by_tests (has_outgoing w s i) (may_end setup w s i) (is_
     by_tests true true true t m = stays_same w
     by_tests true true false t m = stays_flow w s i (record (flow w s i) { seen = true; ended = true }) (request_there w s i t (request m)) (λ h. h)
 
-stays_reset : (w : World) (s : Side) (i : ℕ) → StaysAfter w (reset_delivery w s i)
+pub stays_reset : (w : World) (s : Side) (i : ℕ) → StaysAfter w (reset_delivery w s i)
 stays_reset w s i = by_tests (has_outgoing w s i) (is_own s i || not (flow w s i).is_reset) (is_closed w s i) refl refl
   where
     marked : Flow

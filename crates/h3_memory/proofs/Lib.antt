@@ -38,6 +38,7 @@ pub mod LooseBack
 pub mod MemoryAnswers
 pub mod MemoryKept
 pub mod MemoryMoves
+pub mod MemoryGone
 pub mod MemoryRuns
 pub mod NothingKept
 pub mod Noticed
@@ -50,6 +51,7 @@ pub mod PartRuns
 pub mod PartSteps
 pub mod PartsHeld
 pub mod PartsKept
+pub mod PartsGone
 pub mod PartsLoose
 pub mod PartsRead
 pub mod PullSpares

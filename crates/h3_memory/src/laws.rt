@@ -62,6 +62,22 @@ pub fn each_step_keeps_worlds_sound()
     h3_headline::laws::what_is_cited_holds();
 }
 
+ghost use Rattle.h3_world.specs.Sound.{IsSoundWorld};
+ghost use Rattle.h3_headline.specs.Contents.{KeepsParts, MovesBy};
+ghost use Rattle.h3_headline.specs.GoneLaws.{GoneStays};
+
+/// What each step changes of each stream: what is sent on it, and what is handed out. What was given up stays so. What a side keeps is sent
+/// and handed out no more once it is read.
+pub fn each_step_moves_messages()
+    ensures begins { (setup : Setup) → IsSoundKeeping setup (nothing_kept (empty_world setup)) }
+    ensures moves { (setup : Setup) (k new : KeepingWorld) (e : Event) (a : Answer) (writer : Side) (id : ℕ) → IsSoundKeeping setup k → StepWithMemory setup k e a new → MovesBy setup k.world e writer id a new.world }
+    ensures gone { (setup : Setup) (k new : KeepingWorld) (e : Event) (a : Answer) → IsSoundKeeping setup k → StepWithMemory setup k e a new → GoneStays k.world new.world }
+    ensures caught { (setup : Setup) (k : KeepingWorld) (side : Side) → IsSoundKeeping setup k → KeepsParts k.world (caught_up setup k side) × GoneStays k.world (caught_up setup k side) × IsSoundWorld setup (caught_up setup k side) }
+{
+    h3_world::laws::what_refused_memory_leaves_is_sound();
+    h3_headline::laws::what_is_cited_holds();
+}
+
 /// If no answer reports out of memory and nothing is kept, a run is one of the world, and nothing is kept at its end.
 pub fn without_memory_answers_a_run_is_one_of_the_world()
     ensures run { (setup : Setup) (w : World) (events : List Event) (answers : List Answer) (new : KeepingWorld) → list_any is_memory answers ≡ false →

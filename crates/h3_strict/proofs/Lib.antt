@@ -49,5 +49,4 @@ mod DeliveriesFit
 mod MadeLimits
 mod LimitCarries
 mod LimitEarly
-mod Advancing
 mod AnyhowMessages

@@ -9,3 +9,6 @@ pub mod Unbroken
 pub mod Limits
 pub mod GivesUp
 pub mod Accounts
+pub mod AdvanceLaws
+pub mod GivingUpLaws
+pub mod MalformedLaws

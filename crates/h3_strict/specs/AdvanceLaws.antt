@@ -1,5 +1,5 @@
 -- What a step changes of what a flow tells of what was sent and handed out.
-use Rattle.std.proofs.Common.{◌≡◌, ℕ, Bool, true, false, List, [], ◌∷◌, ◌++◌, append_assoc, append-nil, refl, ap, sym, ◌∙◌, subst}
+use Rattle.std.proofs.Common.{◌≡◌, Bool, true, false, List, [], ◌∷◌, ◌++◌, append_assoc, append-nil, refl, ap, sym, ◌∙◌, subst}
 use Rattle.std.specs.Prelude.{◌||◌, is_some}
 use Rattle.h3_world.specs.Flow.{Flow}
 use Rattle.h3_world.specs.Order.{is_over}
