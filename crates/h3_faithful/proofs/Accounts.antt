@@ -36,14 +36,15 @@ use Rattle.h3_strict.specs.GivingUpLaws.{AdvancesBy, AnswersNothing, KeepsOn, al
 use Rattle.h3_strict.specs.PlainEnds.{plain_setup}
 use Rattle.h3_faithful.specs.Faithful.{HandsOut}
 use Rattle.h3_faithful.specs.Steps.{AsPlainly, GivesMessageUp, HappensAnywhere, LacksMemory, PullsMalformed, PullsOn, RefusesMalformed}
-use Rattle.h3_faithful.proofs.SoundSteps.{sound_step}
+use Rattle.h3_faithful.proofs.SoundSteps.{EachSound, sound_step}
 
--- `each_step_moves_messages` of `h3_memory`
+-- `each_step_moves_messages` of `h3_memory`, and `each_step_keeps_worlds_sound`
 pub record MemoryMoves : Type 0 where
   pub begins : (setup : Setup) → IsSoundKeeping setup (nothing_kept (empty_world setup))
   pub moves : (setup : Setup) (k new : KeepingWorld) (e : Event) (a : Answer) (writer : Side) (id : ℕ) → IsSoundKeeping setup k → StepWithMemory setup k e a new → MovesBy setup k.world e writer id a new.world
   pub gone : (setup : Setup) (k new : KeepingWorld) (e : Event) (a : Answer) → IsSoundKeeping setup k → StepWithMemory setup k e a new → GoneStays k.world new.world
   pub caught : (setup : Setup) (k : KeepingWorld) (side : Side) → IsSoundKeeping setup k → KeepsParts k.world (caught_up setup k side) × GoneStays k.world (caught_up setup k side) × IsSoundWorld setup (caught_up setup k side)
+  pub sound : EachSound
 
 abbrev pub AccountsAt : Setup → KeepingWorld → List Event → List Answer → Side → ℕ → Type 0
 AccountsAt setup k events answers side id =
@@ -142,7 +143,7 @@ module _ (laws : MemoryMoves) (setup : Setup) where
   run_told k new [] [] writer id sendable sound run = subst (λ v. Told setup k v [] [] writer id) (sym run) (record { sound = sound; advances = keeps (reader_of ps writer) (flow k.world writer id) })
   run_told k new (e ∷ es) (a ∷ later) writer id sendable sound run =
       let mid = run.0 in
-      let rest = run_told mid new es later writer id sendable.1 (sound_step setup k mid e a sendable.0 sound run.1) run.2 in
+      let rest = run_told mid new es later writer id sendable.1 (sound_step laws.sound setup k mid e a sendable.0 sound run.1) run.2 in
       record {
         sound = rest.sound;
         advances = advances_then (reader_of ps writer) (flow k.world writer id) (flow mid.world writer id) (flow new.world writer id) (sent_in writer id e a) (sent writer id es later) (finished_in writer id e a) (has_finished writer id es later)
