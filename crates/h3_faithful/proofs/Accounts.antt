@@ -23,16 +23,15 @@ use Rattle.h3_world.specs.declared.event.Event.TheVariants as event
 use Rattle.h3_world.specs.declared.lists.ListPull.TheVariants as list
 use Rattle.h3_world.specs.declared.setup.Setup.{Setup}
 use Rattle.h3_headline.specs.ContentLaws.{out_front, stays}
-use Rattle.h3_headline.specs.Contents.{Carries, KeepsParts, MovesBy, contents, out, reader_of}
-use Rattle.h3_headline.specs.GoneLaws.{GoneStays}
+use Rattle.h3_headline.specs.Contents.{Carries, GoneStays, KeepsParts, MovesBy, contents, out, reader_of}
 use Rattle.h3_headline.specs.Messages.{IsAllOf, IsFrontOf, MessageContent, Reader, contents_of, ended_in, finished_in, has_finished, has_pulled_end, is_end_of, is_on, pulled, pulled_in, reader_at, sent, sent_in}
 use Rattle.h3_headline.specs.PulledAndSentLaws.{is_complete}
 use Rattle.h3_memory.specs.Kept.{KeepingWorld, caught_up, is_settled, nothing_kept}
 use Rattle.h3_memory.specs.MemoryStep.{Answers, Pulls, StepOf, StepWithMemory}
 use Rattle.h3_memory.specs.SoundKeeping.{IsSoundKeeping}
-use Rattle.h3_strict.specs.Accounts.{Accounts, Advances}
-use Rattle.h3_strict.specs.AdvanceLaws.{Quiet, advances, advances_then, front_more, keeps, quiet_none, says}
-use Rattle.h3_strict.specs.GivingUpLaws.{AdvancesBy, AnswersNothing, KeepsOn, alive_before, gives_up_advances, none_if, not_both, nothing_yet, quiet_on, quiet_step, refused_advances, told_nothing, unused_accounts}
+use Rattle.h3_strict.specs.Accounts.{Accounts, Advances, AdvancesBy, AnswersNothing, KeepsOn, Quiet}
+use Rattle.h3_strict.specs.AdvanceLaws.{advances, advances_then, front_more, keeps, quiet_none, says}
+use Rattle.h3_strict.specs.GivingUpLaws.{alive_before, gives_up_advances, none_if, not_both, nothing_yet, quiet_on, quiet_step, refused_advances, told_nothing, unused_accounts}
 use Rattle.h3_strict.specs.PlainEnds.{plain_setup}
 use Rattle.h3_faithful.specs.Faithful.{HandsOut}
 use Rattle.h3_faithful.specs.Steps.{AsPlainly, GivesMessageUp, HappensAnywhere, LacksMemory, PullsMalformed, PullsOn, RefusesMalformed}

@@ -1,5 +1,5 @@
-//! Worked schedules, and what the statement says of them: these laws compute. The answers were worked out from the standards. Where memory
-//! is refused, they are some that the contracts of the calls allow.
+//! Worked schedules, and what the statement says of them: these laws compute. The answers were worked out from the standards. If an
+//! allocation fails, they are some that the contracts of the calls allow.
 
 ghost use Rattle.std.specs.Prelude.{◌≡◌, true, false, [], ◌∷◌, take, drop};
 ghost use Rattle.std.specs.List.{list_any};
@@ -14,7 +14,7 @@ ghost use Rattle.h3_faithful.specs.Faithful.{PausesDelivered};
 ghost use Rattle.h3_faithful.specs.WorkedFaithful.{control_answers, control_run, delivered_answers, delivered_run, early_pulled, early_sent, limited_answers, limited_client, limited_run, listed_sent, mixed_pulled, nexts, one_strict, reset_answers, reset_run, status_pulled, status_sent, strict_pulled, strict_sent, tunnel_answers, tunnel_run};
 ghost use Rattle.h3_faithful.specs.WorkedMemory.{again_answers, again_run, again_sent, kept_answers, kept_run, later_answers, later_run, verdict_answers, verdict_run};
 
-/// A list that is sent and pulled as a list, with a body, a trailer and the end behind it.
+/// A list that is sent and pulled as a list, with a body, a trailer and the end after it.
 pub fn lists_are_handed_out()
     ensures sent { sent Server 0 listed_run listed_answers ≡ listed_sent }
     ensures handed { pulled Client 0 listed_run listed_answers ≡ listed_sent }
@@ -52,7 +52,7 @@ pub fn control_streams_open_no_request()
     ensures next { nexts no_tables Client 0 control_run control_answers ≡ false ∷ false ∷ false ∷ true ∷ [] }
 {}
 
-/// Behind a reset nothing is next on the stream, and the other direction goes on.
+/// After a reset nothing is next on the stream, and the other direction goes on.
 pub fn reset_streams_go_on_no_more()
     ensures answers { answers_of_ends (new_ends no_tables) reset_run ≡ reset_answers }
     ensures client { nexts no_tables Client 0 reset_run reset_answers ≡ false ∷ true ∷ false ∷ false ∷ false ∷ false ∷ false ∷ false ∷ [] }
@@ -60,7 +60,7 @@ pub fn reset_streams_go_on_no_more()
     ensures handed { pulled Client 0 reset_run reset_answers ≡ status_pulled }
 {}
 
-/// With nothing left to deliver a pull pauses behind all that was sent.
+/// With nothing left to deliver a pull pauses after all that was sent.
 pub fn with_all_delivered_all_comes_out()
     ensures answers { answers_of_ends (new_ends no_tables) delivered_run ≡ delivered_answers }
     ensures pauses { PausesDelivered Client 0 (drop 6 delivered_run) (drop 6 delivered_answers) }
@@ -84,20 +84,20 @@ pub fn lists_that_are_too_long_end_their_stream()
     ensures other { pulled Client 4 limited_run limited_answers ≡ status_pulled }
 {}
 
-/// What is sent again, since memory was refused for it, is sent once.
+/// What is sent again, since an allocation failed, is sent once.
 pub fn what_memory_was_refused_for_is_sent_once()
     ensures nexts { nexts no_tables Client 0 again_run again_answers ≡ false ∷ true ∷ false ∷ true ∷ true ∷ true ∷ true ∷ [] }
     ensures sent { sent Client 0 again_run again_answers ≡ again_sent }
     ensures finished { has_finished Client 0 again_run again_answers ≡ true }
 {}
 
-/// What is pulled again is handed out once.
+/// What is pulled again comes once.
 pub fn what_memory_was_refused_for_is_pulled_once()
     ensures handed { pulled Client 0 later_run later_answers ≡ status_pulled }
     ensures sent { sent Server 0 later_run later_answers ≡ status_sent }
 {}
 
-/// What is kept, since memory was refused for it, is handed out later.
+/// What is kept, since an allocation failed, comes later.
 pub fn what_is_kept_is_handed_out_later()
     ensures handed { pulled Client 0 kept_run kept_answers ≡ status_pulled }
     ensures sent { sent Server 0 kept_run kept_answers ≡ status_sent }

@@ -11,7 +11,7 @@ use Rattle.h3_connection.specs.Delivering.{incoming_at, give_up, given_up_by, ca
 use Rattle.h3_connection.specs.Endpoint.{EndpointHistory, replied}
 use Rattle.h3_connection.specs.Incoming.{Incoming, nothing_came}
 use Rattle.h3_connection.specs.Refusals.{first_of}
-use Rattle.h3_connection.specs.StreamSets.{stream_at, set_stream}
+use Rattle.h3_connection.specs.StreamSets.{stream_at}
 use Rattle.h3_connection.specs.declared.event.Refusal.{Refusal}
 use Rattle.h3_connection.specs.declared.event.Refusal.TheVariants as refusal
 use Rattle.h3_world.specs.declared.setup.Setup.{Setup}
@@ -35,6 +35,7 @@ use Rattle.h3_headline.specs.Calls.{Does, Serves, saying_more}
 use Rattle.h3_headline.specs.ComingLaws.{incoming_none, incoming_there}
 use Rattle.h3_headline.specs.DeliverLaws.{sends_same}
 use Rattle.h3_headline.specs.FewLaws.{open_is_small}
+use Rattle.h3_headline.specs.GivenUp.{giving_up, gone}
 use Rattle.h3_headline.specs.FlowLaws.{flow-with_flow, flow-with_party, flow-with_peer, is_open-own, is_open-peer_kept, is_open-with_party, open_there, party-with_flow, party-with_other, party-with_party, same_both, same_number, there-with_party}
 use Rattle.h3_headline.specs.MovesLaws.{receiver_stands, sender_stands}
 use Rattle.h3_headline.specs.ReceivingLaws.{is_given_up}
@@ -87,13 +88,6 @@ no_fault_of : (a : Bool) (o : Option StreamFault) → (a || is_some o) ≡ false
 no_fault_of true o e = cc
 no_fault_of false None e = refl
 no_fault_of false (Some x) e = cc
-
--- A side gives up what comes on a stream, for any fault: its end keeps nothing of it, and its decoder says so.
-abbrev gone : Flow → StreamFault → Flow
-gone f why = record f { fault = Some why; waits_for = 0 }
-
-abbrev pub giving_up : EndpointHistory → ℕ → Incoming → EndpointHistory
-giving_up e id j = record e { incoming = set_stream e.incoming id j; own = saying e.own (CancelStream id ∷ []) }
 
 module _ (setup : Setup) (w : World) (ends : Ends) (side : Side) (id : ℕ) (h : Stands setup w ends) (opened : is_open w side id ≡ true) where
   given_up_does : (why : StreamFault) (j : Incoming) → ReceivesFlow (gone (flow w (other side) id) why) j

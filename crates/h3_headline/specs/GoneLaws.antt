@@ -37,6 +37,7 @@ use Rattle.h3_connection.specs.declared.event.Pull.{Pull}
 use Rattle.h3_world.specs.Pulling.{settled, PullsNext, Pulls}
 use Rattle.h3_world.specs.Delivering.{delivery, end_delivery, reset_delivery}
 use Rattle.h3_world.specs.declared.event.Event.{Event}
+use Rattle.h3_headline.specs.Contents.{GoneStays, StaysAfter}
 use Rattle.h3_headline.specs.FlowLaws.{and_first, flow-with_party, open_there, there-with_party}
 use Rattle.h3_headline.specs.KeepsPartsLaws.{flow_at, same_flow}
 use Rattle.h3_headline.specs.Messages.{is_on}
@@ -50,9 +51,6 @@ use Rattle.h3_connection.specs.declared.event.StreamFault.TheVariants as stream_
 use Rattle.h3_world.specs.Delivering.{delivered_end, delivered_message, delivered_own, delivered_reset, further, having_listened, is_closed, may_end, reset_code}
 use Rattle.h3_headline.specs.KeepsPartsLaws.{neither, not_is, request_there, there_with_flow}
 use Rattle.h3_headline.specs.MovedLaws.{not_critical, not_refused, world_is}
-
-abbrev pub GoneStays : World → World → Type 0
-GoneStays w new = (writer : Side) (id : ℕ) → is_some (flow w writer id).fault ≡ true → is_some (flow new writer id).fault ≡ true
 
 pub stays_same : (w : World) → GoneStays w w
 stays_same w writer id h = h
@@ -102,10 +100,6 @@ stays_own : (setup : Setup) (w : World) (s : Side) (i count : ℕ) → GoneStays
 stays_own setup w s i count =
     let v = with_party w s (further (party w s) s i count) in
     stays_then w v (delivered_own setup w s i count) (stays_party w s (further (party w s) s i count)) (stays_party v (other s) (having_listened setup w v s))
-
--- deliveries
-abbrev StaysAfter : World → Answer × World → Type 0
-StaysAfter w next = GoneStays w next.1
 
 pub stays_delivery : (setup : Setup) (w : World) (s : Side) (i count : ℕ) → StaysAfter w (delivery setup w s i count)
 stays_delivery setup w s i count = by_tests (has_outgoing w s i) (nat_lt (waiting setup w s i) count) (is_closed w s i) (is_own s i) refl refl

@@ -4,6 +4,7 @@ pub mod AnnouncedLaws
 pub mod Arriving
 pub mod BeginningLaws
 pub mod Calls
+pub mod GivenUp
 pub mod CancelLaws
 pub mod Cited
 pub mod ComesLaws

@@ -22,8 +22,9 @@ use Rattle.h3_world.specs.Sending.{cut_off}
 use Rattle.h3_world.specs.Step.{Does}
 use Rattle.h3_world.specs.Streams.{flow}
 use Rattle.h3_world.specs.World.{World}
+use Rattle.h3_headline.specs.Contents.{GoneStays}
 use Rattle.h3_headline.specs.FlowLaws.{open_there}
-use Rattle.h3_headline.specs.GoneLaws.{GoneStays, gone_stays, stays_delivery, stays_end, stays_flow, stays_reset, stays_same, stays_then}
+use Rattle.h3_headline.specs.GoneLaws.{gone_stays, stays_delivery, stays_end, stays_flow, stays_reset, stays_same, stays_then}
 use Rattle.h3_memory.specs.Kept.{Delivery, Bytes, End, Reset, KeepingWorld, kept_at, with_kept, caught_up, is_settled, noticed_all}
 use Rattle.h3_memory.specs.MemoryStep.{Answers, HandsNothingOut, Keeps, LacksMemory, Pulls, StepOf, StepWithMemory, read_behind}
 use Rattle.h3_memory.specs.SoundKeeping.{IsSoundKeeping}

@@ -13,8 +13,9 @@ use Rattle.h3_world.specs.Sending.{given_up}
 use Rattle.h3_world.specs.Sound.{IsSoundWorld}
 use Rattle.h3_world.specs.Streams.{flow, with_flow, is_open, has_outgoing}
 use Rattle.h3_world.specs.World.{World, party}
+use Rattle.h3_headline.specs.Contents.{GoneStays}
 use Rattle.h3_headline.specs.FlowLaws.{open_there}
-use Rattle.h3_headline.specs.GoneLaws.{GoneStays, stays_flow, stays_flows, stays_given_up, stays_party, stays_same, stays_then}
+use Rattle.h3_headline.specs.GoneLaws.{stays_flow, stays_flows, stays_given_up, stays_party, stays_same, stays_then}
 use Rattle.h3_headline.specs.OwnWorldLaws.{streams_after}
 use Rattle.h3_headline.specs.Steps.{IsThere}
 use Rattle.h3_memory.specs.Kept.{Delivery, Bytes, End, Reset, ReadsPart, noticed, noticed_all, read_delivery, read_deliveries, stream_of}

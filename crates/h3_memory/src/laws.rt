@@ -63,11 +63,10 @@ pub fn each_step_keeps_worlds_sound()
 }
 
 ghost use Rattle.h3_world.specs.Sound.{IsSoundWorld};
-ghost use Rattle.h3_headline.specs.Contents.{KeepsParts, MovesBy};
-ghost use Rattle.h3_headline.specs.GoneLaws.{GoneStays};
+ghost use Rattle.h3_headline.specs.Contents.{GoneStays, KeepsParts, MovesBy};
 
-/// What each step changes of each stream: what is sent on it, and what is handed out. What was given up stays so. What a side keeps is sent
-/// and handed out no more once it is read.
+/// What each step changes of each stream: what a side sends on it, and what the other side pulls. A stream that was given up stays so. When a
+/// side reads what it keeps, no message changes.
 pub fn each_step_moves_messages()
     ensures begins { (setup : Setup) → IsSoundKeeping setup (nothing_kept (empty_world setup)) }
     ensures moves { (setup : Setup) (k new : KeepingWorld) (e : Event) (a : Answer) (writer : Side) (id : ℕ) → IsSoundKeeping setup k → StepWithMemory setup k e a new → MovesBy setup k.world e writer id a new.world }

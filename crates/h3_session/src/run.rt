@@ -99,7 +99,7 @@ fn beside<A: Drop, B: Drop>(first: A, second: Result<B, AllocError>) -> Result<(
 ///   and has not read counts as not delivered there. An answer that does not report out of memory is one of that world, and one that does
 ///   loses nothing; no connection fault arises. The endpoints that are returned stand in its last world, with what they keep.
 /// - `front`: in every setup, with both sides strict, one or none, with limits or without. The answers up to the first that reports out of
-///   memory are those of a run of the world of a connection. In each of its steps all that `headline` says holds, and each side is handed
+///   memory are those of a run of the world of a connection. In each of its steps all that `headline` says holds, and each side receives
 ///   what the other side sent. The bounds are those of `headline` on what is sent alone. If a side is strict or limits what is unfinished, a
 ///   send that is refused as malformed changes nothing, and the sides have to take what they send each other (`TakesWhatIsSent`).
 ///   - Two strict sides do, as two with the defaults of the library for C. The server pulled the header section of a request before it sends

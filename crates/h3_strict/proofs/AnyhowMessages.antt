@@ -26,10 +26,10 @@ use Rattle.h3_headline.specs.PulledAndSentLaws.{is_complete}
 use Rattle.h3_headline.specs.Standing.{Stands}
 use Rattle.h3_strict.specs.AdvanceLaws.{advances, advances_then, front_more, keeps, says}
 use Rattle.h3_strict.proofs.StepsAnyhow.{EveryPull, EveryStep, any_event}
-use Rattle.h3_strict.specs.Accounts.{Accounts, Advances}
+use Rattle.h3_strict.specs.Accounts.{Accounts, Advances, AdvancesBy}
 use Rattle.h3_strict.specs.GivesUp.{AsPlainly, FaultsAnyhow, GivesUpBy, GivesUpSo, GoesAnyhow, HappensAnyhow, RefusesSo, StepsAnyhow}
 use Rattle.h3_strict.specs.PlainEnds.{plain_ends, plain_setup}
-use Rattle.h3_strict.specs.GivingUpLaws.{AdvancesBy, gives_up_advances, none_if, not_both, nothing_yet, plain_advances, refused_advances, told_nothing, unused_accounts}
+use Rattle.h3_strict.specs.GivingUpLaws.{gives_up_advances, none_if, not_both, nothing_yet, plain_advances, refused_advances, told_nothing, unused_accounts}
 
 -- Each kind of step.
 any_advances : (setup : Setup) (w new : World) (e : Event) (a : Answer) (writer : Side) (id : ℕ) → IsSoundWorld (plain_setup setup) w → HappensAnyhow setup w e a new → AdvancesBy (plain_setup setup) w e writer id a new

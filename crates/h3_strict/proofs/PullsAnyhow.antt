@@ -1,6 +1,6 @@
 -- A pull at any end, beside the same end that judges plainly and stands in a world: it is answered alike, or by a fault of the connection, or it gives
 -- a message up as malformed, and stands in the world without that.
-use Rattle.std.proofs.Common.{◌≡◌, ℕ, Bool, true, false, List, [], ◌∷◌, ◌++◌, append_assoc, refl, ap, sym, ◌∙◌, subst, Option, Some, None, if◌then◌else◌}
+use Rattle.std.proofs.Common.{◌≡◌, ℕ, Bool, true, false, List, [], ◌∷◌, ◌++◌, append_assoc, refl, ap, sym, ◌∙◌, subst, Option, Some, None}
 use Rattle.std.specs.Prelude.{MatchOption, nat_lt, option_map}
 use Rattle.h3_field.specs.Instruction.{DecoderInstruction}
 use Rattle.h3_field.specs.Instruction.DecoderInstruction.{CancelStream}
@@ -16,7 +16,7 @@ use Rattle.h3_connection.specs.OwnIds.{other}
 use Rattle.h3_connection.specs.Pulling.{Pulled, malformed, pull_stream}
 use Rattle.h3_connection.specs.Sending.{if_too_many, pull_at, pull_peer, pull_request, pull_unless, pulled, pulled_unidirectional, within_limit}
 use Rattle.h3_connection.specs.StreamSetLaws.{set-here, set-set}
-use Rattle.h3_connection.specs.StreamSets.{Streams, set_stream, stream_at}
+use Rattle.h3_connection.specs.StreamSets.{set_stream, stream_at}
 use Rattle.h3_connection.specs.Unidirectional.{Unidirectional, pull_unidirectional}
 use Rattle.h3_connection.specs.declared.event.Fault.TheVariants.{Connection, Stream}
 use Rattle.h3_connection.specs.declared.event.Item.{Item}
@@ -40,16 +40,16 @@ use Rattle.h3_world.specs.declared.event.Answer.{Answer}
 use Rattle.h3_world.specs.declared.event.Answer.TheVariants as answer
 use Rattle.h3_world.specs.declared.event.Event.TheVariants as event
 use Rattle.h3_world.specs.declared.setup.Setup.{Setup}
-use Rattle.h3_headline.specs.CancelLaws.{given_up_stands, giving_up}
+use Rattle.h3_headline.specs.CancelLaws.{given_up_stands}
 use Rattle.h3_headline.specs.Cited.{Laws}
 use Rattle.h3_headline.specs.ComingLaws.{incoming_none, incoming_there}
+use Rattle.h3_headline.specs.GivenUp.{giving_up}
 use Rattle.h3_headline.specs.PullEventLaws.{pull_on}
 use Rattle.h3_headline.specs.PullLaws.{none_settled}
 use Rattle.h3_headline.specs.Standing.{ReceivesFlow, Stands, StandsAt}
 use Rattle.h3_headline.specs.Steps.{StandsOn}
 use Rattle.h3_strict.proofs.PlainCalls.{plain_result}
 use Rattle.h3_strict.proofs.PlainPulled.{given_plain, limit_plain}
-use Rattle.h3_strict.proofs.PlainPulls.{plain_pulled}
 use Rattle.h3_strict.proofs.PlainStreams.{at_each, set_each}
 use Rattle.h3_strict.proofs.PullEvents.{given_up_again, over_again}
 use Rattle.h3_strict.proofs.SentTallies.{stands_at}

@@ -6,12 +6,7 @@ use Rattle.h3_world.specs.Order.{is_over}
 use Rattle.h3_headline.specs.ContentLaws.{all_joined, front_of_all, stays}
 use Rattle.h3_headline.specs.Contents.{HasSameParts, Moves, contents, has_end, out, out_of}
 use Rattle.h3_headline.specs.Messages.{IsAllOf, IsFrontOf, MessageContent, Reader}
-use Rattle.h3_strict.specs.Accounts.{Accounts, Advances}
-
--- nothing is handed out of a flow that was given up
-pub record Quiet (f : Flow) (handing : List MessageContent) (ending : Bool) : Type 0 where
-  pub none : is_some f.fault ≡ true → handing ≡ []
-  pub no_end : is_some f.fault ≡ true → ending ≡ false
+use Rattle.h3_strict.specs.Accounts.{Accounts, Advances, Quiet}
 
 pub quiet_none : (f : Flow) → Quiet f [] false
 quiet_none f = record { none = λ e. refl; no_end = λ e. refl }

@@ -30,24 +30,20 @@ use Rattle.h3_world.specs.declared.lists.ListPull.{ListPull}
 use Rattle.h3_world.specs.declared.lists.ListPull.TheVariants as list
 use Rattle.h3_world.specs.declared.setup.Setup.{Setup}
 use Rattle.h3_headline.specs.ContentLaws.{moves_then, stays}
-use Rattle.h3_headline.specs.Contents.{HasSameParts, Moves, contents, reader_of}
+use Rattle.h3_headline.specs.Contents.{GoneStays, HasSameParts, Moves, contents, reader_of}
 use Rattle.h3_headline.specs.FlowLaws.{open_there, same_both}
-use Rattle.h3_headline.specs.GoneLaws.{GoneStays, gone_given_up, gone_stays, stays_given_up, stays_same, stays_then, there_handed}
+use Rattle.h3_headline.specs.GoneLaws.{gone_given_up, gone_stays, stays_given_up, stays_same, stays_then, there_handed}
 use Rattle.h3_headline.specs.KeepsPartsLaws.{keeps_given_up, keeps_same, same_flow}
 use Rattle.h3_headline.specs.Messages.{MessageContent, Reader, contents_of, ended_in, finished_in, is_end_item, is_end_of, is_on, item_contents, pulled_in, sent_in}
 use Rattle.h3_headline.specs.MovedLaws.{moved, swapped}
 use Rattle.h3_headline.specs.Pulls.{SaysNothing}
 use Rattle.h3_headline.specs.SettledLaws.{settled_alive, settled_gone, settled_none}
 use Rattle.h3_headline.specs.Steps.{IsThere}
-use Rattle.h3_strict.specs.Accounts.{Accounts, Advances}
+use Rattle.h3_strict.specs.Accounts.{Accounts, AdvancesBy, AnswersNothing, KeepsOn, Quiet}
 use Rattle.h3_strict.specs.MalformedLaws.{ends_none, finishes_none, pulls_none, refused_is, sends_none}
 use Rattle.h3_strict.specs.PlainEnds.{is_malformed_refusal}
-use Rattle.h3_strict.specs.AdvanceLaws.{keeps, says, Quiet, advances, gives_up_on, quiet_none}
+use Rattle.h3_strict.specs.AdvanceLaws.{keeps, says, advances, gives_up_on, quiet_none}
 use Rattle.h3_strict.specs.GivesUp.{AtOnce, BehindPart, GivesUp}
-
--- it hands out nothing, and no end
-abbrev pub AnswersNothing : Answer → Type 0
-AnswersNothing a = (contents_of a ≡ []) × (is_end_of a ≡ false)
 
 not_true : (b : Bool) → (b ≡ true → false ≡ true) → b ≡ false
 not_true true h = sym (h refl)
@@ -96,13 +92,6 @@ pub alive_before : (a b : Bool) → (a ≡ true → b ≡ true) → b ≡ false 
 alive_before true b h e = sym (h refl) ∙ e
 alive_before false b h e = refl
 
-abbrev pub AdvancesBy : Setup → World → Event → Side → ℕ → Answer → World → Type 0
-AdvancesBy setup w e writer id a new =
-    Advances (reader_of setup writer) (flow w writer id) (flow new writer id) (sent_in writer id e a) (finished_in writer id e a) (pulled_in (other writer) id e a) (ended_in (other writer) id e a)
-
-abbrev pub KeepsOn : Setup → World → Side → ℕ → World → Type 0
-KeepsOn setup w writer id new = Advances (reader_of setup writer) (flow w writer id) (flow new writer id) [] false [] false
-
 pub plain_advances : (setup : Setup) (w new : World) (e : Event) (a : Answer) (writer : Side) (id : ℕ) → IsSoundWorld setup w → Step setup w e a new → AdvancesBy setup w e writer id a new
 plain_advances setup w new e a writer id sound step =
     advances (reader_of setup writer) (flow w writer id) (flow new writer id) (sent_in writer id e a) (finished_in writer id e a) (pulled_in (other writer) id e a) (ended_in (other writer) id e a)
@@ -114,32 +103,29 @@ module _ (setup : Setup) (w : World) (side : Side) (i : ℕ) (why : Malformation
   there : IsThere w i
   there = open_there w side i (settled_none w side i unsettled).is_there
 
-  abbrev r : Reader
-  r = reader_of setup writer
-
-  gone_from : (m : World) (q : List MessageContent) (d : Bool) → Moves r (flow w writer id) (flow m writer id) [] false (if is_on (other writer) id side i then q else []) (is_on (other writer) id side i && d) → IsThere m i
+  gone_from : (m : World) (q : List MessageContent) (d : Bool) → Moves (reader_of setup writer) (flow w writer id) (flow m writer id) [] false (if is_on (other writer) id side i then q else []) (is_on (other writer) id side i && d) → IsThere m i
       → GoneStays w m → KeepsOn setup w writer id (given_up m side i (Malformed why))
   gone_from m q d moves there_then goes = by_on (is_on (other writer) id side i) (sym (swapped writer side id i)) moves
     where
       same : HasSameParts (flow m writer id) (flow (given_up m side i (Malformed why)) writer id)
       same = keeps_given_up m side i (Malformed why) there_then writer id
 
-      by_on : (b : Bool) → is_on writer id (other side) i ≡ b → Moves r (flow w writer id) (flow m writer id) [] false (if b then q else []) (b && d) → KeepsOn setup w writer id (given_up m side i (Malformed why))
+      by_on : (b : Bool) → is_on writer id (other side) i ≡ b → Moves (reader_of setup writer) (flow w writer id) (flow m writer id) [] false (if b then q else []) (b && d) → KeepsOn setup w writer id (given_up m side i (Malformed why))
       by_on true e h =
-          gives_up_on r (flow w writer id) (flow m writer id) (flow (given_up m side i (Malformed why)) writer id) q d h same (gone_given_up m side i (Malformed why) writer id there_then e)
+          gives_up_on (reader_of setup writer) (flow w writer id) (flow m writer id) (flow (given_up m side i (Malformed why)) writer id) q d h same (gone_given_up m side i (Malformed why) writer id there_then e)
           (ap is_over (same_flow w (other side) writer i id e) ∙ (settled_none w side i unsettled).not_over)
       by_on false e h =
-          advances r (flow w writer id) (flow (given_up m side i (Malformed why)) writer id) [] false [] false
-          (moves_then r (flow w writer id) (flow m writer id) (flow (given_up m side i (Malformed why)) writer id) [] [] false false [] [] false false h (stays r (flow m writer id) (flow (given_up m side i (Malformed why)) writer id) false same (λ x. absurd (let never : false ≡ true = x in cc))))
+          advances (reader_of setup writer) (flow w writer id) (flow (given_up m side i (Malformed why)) writer id) [] false [] false
+          (moves_then (reader_of setup writer) (flow w writer id) (flow m writer id) (flow (given_up m side i (Malformed why)) writer id) [] [] false false [] [] false false h (stays (reader_of setup writer) (flow m writer id) (flow (given_up m side i (Malformed why)) writer id) false same (λ x. absurd (let never : false ≡ true = x in cc))))
           (quiet_none (flow w writer id))
           (alive_before (is_some (flow w writer id).fault) (is_some (flow (given_up m side i (Malformed why)) writer id).fault) (stays_then w m (given_up m side i (Malformed why)) goes (stays_given_up m side i (Malformed why) there_then) writer id))
 
-  no_moves : Moves r (flow w writer id) (flow w writer id) [] false (if is_on (other writer) id side i then [] else []) (is_on (other writer) id side i && false)
+  no_moves : Moves (reader_of setup writer) (flow w writer id) (flow w writer id) [] false (if is_on (other writer) id side i then [] else []) (is_on (other writer) id side i && false)
   no_moves = by_on (is_on (other writer) id side i)
     where
-      by_on : (b : Bool) → Moves r (flow w writer id) (flow w writer id) [] false (if b then [] else []) (b && false)
-      by_on true = stays r (flow w writer id) (flow w writer id) false (keeps_same w writer id) (λ x. absurd (let never : false ≡ true = x in cc))
-      by_on false = stays r (flow w writer id) (flow w writer id) false (keeps_same w writer id) (λ x. absurd (let never : false ≡ true = x in cc))
+      by_on : (b : Bool) → Moves (reader_of setup writer) (flow w writer id) (flow w writer id) [] false (if b then [] else []) (b && false)
+      by_on true = stays (reader_of setup writer) (flow w writer id) (flow w writer id) false (keeps_same w writer id) (λ x. absurd (let never : false ≡ true = x in cc))
+      by_on false = stays (reader_of setup writer) (flow w writer id) (flow w writer id) false (keeps_same w writer id) (λ x. absurd (let never : false ≡ true = x in cc))
 
   pub gives_up_advances : (new : World) → GivesUp setup w side i why new → KeepsOn setup w writer id new
   gives_up_advances new (AtOnce is) = subst (KeepsOn setup w writer id) (sym is) (gone_from w [] false no_moves there (stays_same w))

@@ -102,7 +102,7 @@ pub fn schedules_that_judge_nothing_find_no_fault()
 ghost use Rattle.h3_strict.specs.GivesUp.{PullsAnyhow};
 
 /// A pull at any end whose other self, without strict messages and limits, stands in a world is one of these. It is answered as by that. Or
-/// it is answered by a fault of the connection. Or it finds a message malformed, and gives it up: at once, or behind the section that comes
+/// it is answered by a fault of the connection. Or it finds a message malformed, and gives it up: at once, or after the section that comes
 /// next, which it hands to nobody. Then the ends stand in the world in which that side gave the stream up.
 pub fn a_pull_gives_a_message_up()
     ensures { (setup : Setup) (w : World) (ends : Ends) (side : Side) (id : ℕ) → IsMadeSetup setup → Stands (plain_setup setup) w (plain_ends ends) → PullsAnyhow setup w ends side id }

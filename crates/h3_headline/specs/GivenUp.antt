@@ -1,0 +1,16 @@
+-- A stream that a side gives up.
+use Rattle.std.specs.Prelude.{ℕ, [], ◌∷◌, Some}
+use Rattle.h3_field.specs.Instruction.DecoderInstruction.{CancelStream}
+use Rattle.h3_connection.specs.Endpoint.{EndpointHistory}
+use Rattle.h3_connection.specs.Incoming.{Incoming}
+use Rattle.h3_connection.specs.StreamSets.{set_stream}
+use Rattle.h3_connection.specs.declared.event.StreamFault.{StreamFault}
+use Rattle.h3_world.specs.Flow.{Flow}
+use Rattle.h3_headline.specs.Arriving.{saying}
+
+-- A side gives up what comes on a stream, for any fault: its end keeps nothing of it, and its decoder says so.
+abbrev pub gone : Flow → StreamFault → Flow
+gone f why = record f { fault = Some why; waits_for = 0 }
+
+abbrev pub giving_up : EndpointHistory → ℕ → Incoming → EndpointHistory
+giving_up e id j = record e { incoming = set_stream e.incoming id j; own = saying e.own (CancelStream id ∷ []) }
