@@ -11,3 +11,4 @@ pub mod BlockPullLaws
 pub mod SurveyLaws
 pub mod SomePieces
 pub mod BodyPieces
+pub mod DataHeads

@@ -10,11 +10,11 @@ use super::Connection;
 use crate::items::PulledItem;
 use crate::numbers::{OK, Told, delivered, or_memory};
 use bytes::Bytes;
-use h3_coding::coding::BufExt;
 use h3_connection::event::{DeliverError, Refusal};
 use h3_incoming::answer::{Plain, pause};
 use h3_incoming::{BlockPull, BodyPlace, Told as PulledTold};
 use h3_proto::stream::StreamId;
+use h3_wire::proto::frame::FrameHead;
 use std::alloc::Global;
 
 impl Connection {
@@ -219,21 +219,17 @@ fn placed(place: BodyPlace) -> PulledItem
 
 // How many bytes the frame has that they begin with (RFC 9114, section 7.1), if so many are there: of DATA its type and length, if no
 // payload follows. Else all.
-#[tactic(auto, using(h3_coding::specs::VarintLaws::shorter))]
 fn first_frame_len(bytes: &[u8]) -> usize
     ensures within { result ≤ length bytes.now }
     ensures some { 0 < length bytes.now → 0 < result }
 {
-    let mut left = bytes;
-    let Ok(kind) = left.get_var() else {
+    let Some(head) = FrameHead::at_front(bytes) else {
         return bytes.len();
     };
-    let Ok(size) = left.get_var() else {
-        return bytes.len();
-    };
+    let size = head.number as usize;
     // a stream of WebTransport has no length there
-    if size as usize > left.len() || kind == 0x41 || (kind == 0 && size > 0) {
+    if size > bytes.len() - head.size || head.kind == 0x41 || (head.kind == 0 && size > 0) {
         return bytes.len();
     }
-    bytes.len() - left.len() + size as usize
+    head.size + size
 }

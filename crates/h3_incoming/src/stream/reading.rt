@@ -1,16 +1,15 @@
 //! A piece of a body that is read where it lies, in bytes that are lent to the call alone.
-ghost use Rattle.std.specs.Prelude.{◌≡◌, ◌-◌, ◌<◌, ◌≤◌, ◌^◌, [], None, true, drop, length, if◌then◌else◌, IfSome, IsNone, Some};
-ghost use Rattle.h3_coding.specs.Varint.{varint_at};
+ghost use Rattle.std.specs.Prelude.{◌≡◌, ◌-◌, ◌<◌, ◌≤◌, [], None, true, drop, length, if◌then◌else◌, IfSome, IsNone, Some};
 ghost use Rattle.h3_connection.specs.Incoming.{is_body};
 ghost use Rattle.h3_messages.specs.Content.{left_behind};
 ghost use Rattle.h3_incoming.specs.BodyPlaces.{body_place, data_at, keeps_nothing, piece_at, place_behind, ReadsPiece};
 
 use super::IncomingStream;
 use crate::body_place::BodyPlace;
-use h3_coding::coding::BufExt;
 use h3_connection::place::Place;
 use h3_messages::Content;
 use h3_wire::frame::FrameBuffer;
+use h3_wire::proto::frame::FrameHead;
 use std::alloc::Global;
 
 impl IncomingStream {
@@ -108,30 +107,16 @@ fn piece_at(offset: usize, size: usize, came: usize) -> Option<BodyPlace>
 }
 
 // The length of the DATA frame that the bytes begin with, and how many bytes its type and length have.
+#[tactic(auto, using(crate::proofs::DataHeads::data_head, crate::proofs::DataHeads::other_head, crate::proofs::DataHeads::no_head))]
 fn data_at(bytes: &[u8]) -> Option<(usize, usize)>
     ensures some { IfSome result (λ p. data_at bytes.now ≡ Some (p.0, drop p.1 bytes.now)) }
     ensures inside { IfSome result (λ p. p.1 ≤ length bytes.now) }
     ensures none { IsNone result → data_at bytes.now ≡ None }
 {
-    let (kind, of_kind) = number_at(bytes)?;
+    let head = FrameHead::at_front(bytes)?;
     // the type of DATA
-    if kind != 0 {
+    if head.kind != 0 {
         return None;
     }
-    let (size, of_size) = number_at(&bytes[of_kind..])?;
-    Some((size as usize, of_kind + of_size))
-}
-
-// The number that the bytes begin with (RFC 9000, section 16), and how many of them it has.
-fn number_at(bytes: &[u8]) -> Option<(u64, usize)>
-    ensures some { IfSome result (λ p. varint_at bytes.now ≡ Some (p.0, drop p.1 bytes.now)) }
-    ensures inside { IfSome result (λ p. p.1 ≤ length bytes.now) }
-    ensures below { IfSome result (λ p. p.0 < 2 ^ 62) }
-    ensures none { IsNone result → varint_at bytes.now ≡ None }
-{
-    let mut left = bytes;
-    let Ok(number) = left.get_var() else {
-        return None;
-    };
-    Some((number, bytes.len() - left.len()))
+    Some((head.number as usize, head.size))
 }

@@ -19,7 +19,7 @@ mod show;
 
 pub(crate) use encode::{write_head, write_numbers, write_settings};
 pub use h3_proto::frame::{SettingId, Settings, SettingsError};
-pub(crate) use head::FrameHead;
+pub use head::FrameHead;
 pub(crate) use payload::Lent;
 pub use payload::{Payload, PayloadMut};
 

@@ -1,26 +1,29 @@
 //! The type and length of a frame (RFC 9114, section 7.1), if their bytes lie together.
-ghost use Rattle.std.specs.Prelude.{◌≡◌, ◌^◌, ◌<◌, ◌≤◌, length, drop, IfSome, Some};
+ghost use Rattle.std.specs.Prelude.{◌≡◌, ◌^◌, ◌<◌, ◌≤◌, false, length, drop, IfSome, IsNone, None, Some};
 ghost use Rattle.h3_coding.specs.Varint.{varint_at};
-ghost use Rattle.h3_wire.specs.Frames.{BeginsWithHead};
+ghost use Rattle.h3_wire.specs.Frames.{BeginsWithHead, has_head};
 
 use h3_coding::coding::BufExt;
 
 /// A type and the number after it: a length, or of a WebTransport stream a session id.
 #[derive(Clone, Copy)]
-pub(crate) struct FrameHead {
-    pub(crate) kind: u64,
-    pub(crate) number: u64,
+pub struct FrameHead {
+    /// The type.
+    pub kind: u64,
+    /// The number after it.
+    pub number: u64,
     /// How many bytes both have.
-    pub(crate) size: usize,
+    pub size: usize,
 }
 
 impl FrameHead {
-    /// The type and the number that lie whole at the front of the bytes.
+    /// The type and the number that the bytes begin with, or `None` if they do not lie whole in them.
     #[inline(always)]
-    pub(crate) fn at_front(bytes: &[u8]) -> Option<FrameHead>
+    pub fn at_front(bytes: &[u8]) -> Option<FrameHead>
         ensures begins { IfSome result (λ h. BeginsWithHead h.kind h.number bytes.now (drop h.size bytes.now)) }
         ensures inside { IfSome result (λ h. (0 < h.size) × (h.size ≤ length bytes.now)) }
         ensures below { IfSome result (λ h. h.number < 2 ^ 62) }
+        ensures none { IsNone result → has_head bytes.now ≡ false }
     {
         let (kind, of_kind) = number_at(bytes)?;
         let (number, of_number) = number_at(&bytes[of_kind..])?;
@@ -39,6 +42,7 @@ fn number_at(bytes: &[u8]) -> Option<(u64, usize)>
     ensures number { IfSome result (λ p. varint_at bytes.now ≡ Some (p.0, drop p.1 bytes.now)) }
     ensures inside { IfSome result (λ p. (0 < p.1) × (p.1 ≤ length bytes.now)) }
     ensures below { IfSome result (λ p. p.0 < 2 ^ 62) }
+    ensures none { IsNone result → varint_at bytes.now ≡ None }
 {
     if bytes.len() < 2 {
         return long_number_at(bytes);
@@ -58,6 +62,7 @@ fn long_number_at(bytes: &[u8]) -> Option<(u64, usize)>
     ensures number { IfSome result (λ p. varint_at bytes.now ≡ Some (p.0, drop p.1 bytes.now)) }
     ensures inside { IfSome result (λ p. (0 < p.1) × (p.1 ≤ length bytes.now)) }
     ensures below { IfSome result (λ p. p.0 < 2 ^ 62) }
+    ensures none { IsNone result → varint_at bytes.now ≡ None }
 {
     let mut left = bytes;
     let Ok(number) = left.get_var() else {
