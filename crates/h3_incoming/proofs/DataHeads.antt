@@ -1,12 +1,12 @@
 -- The type and length of a DATA frame, as the bytes begin with them.
-use Rattle.std.proofs.Common.{◌≡◌, ◌∙◌, ℕ, ◌×◌, ◌==◌, Bool, true, false, if◌then◌else◌, List, refl, ap}
+use Rattle.std.proofs.Common.{◌≡◌, ◌∙◌, ℕ, ◌==◌, Bool, true, false, if◌then◌else◌, List, refl, ap}
 use Rattle.std.specs.Prelude.{Option, Some, None, is_some}
 use Rattle.h3_coding.specs.Varint.{varint_at}
 use Rattle.h3_wire.specs.Frames.{BeginsWithHead, has_head, is_followed}
 use Rattle.h3_incoming.specs.BodyPlaces.{data_at, length_of_data}
 
 pub data_head : (kind number : ℕ) (bytes behind : List ℕ) → BeginsWithHead kind number bytes behind → kind ≡ 0 → data_at bytes ≡ Some (number, behind)
-data_head kind number bytes behind (mid, at, is) data = ap length_of_data at ∙ ap (λ k. if k == 0 then varint_at mid else None) data ∙ is
+data_head kind number bytes behind (mid, at, is) zero = ap length_of_data at ∙ ap (λ k. if k == 0 then varint_at mid else None) zero ∙ is
 
 pub other_head : (kind number : ℕ) (bytes behind : List ℕ) → BeginsWithHead kind number bytes behind → (kind == 0) ≡ false → data_at bytes ≡ None
 other_head kind number bytes behind (mid, at, is) other = ap length_of_data at ∙ ap (λ b. if b then varint_at mid else None) other
