@@ -3,7 +3,7 @@
 use crate::report::{Failure, Report, answer};
 use bytes::{Buf, Bytes};
 use h3_wire::buf::BufList;
-use h3_wire::frame::{FrameDecoder, MessageFrame};
+use h3_wire::frame::FrameDecoder;
 use h3_wire::proto::frame::{Frame, PayloadLen};
 use std::alloc::Global;
 use std::marker::Model;
@@ -70,24 +70,6 @@ impl Reader {
         if self.left > 0 {
             return self.take_payload(report);
         }
-        match self.decoder.decode_first(&mut self.unread) {
-            Some(Some(MessageFrame::Data(PayloadLen(len)))) => {
-                self.left = len;
-                report.add(1, 0);
-                Ok(true)
-            }
-            Some(Some(MessageFrame::Headers(section))) => {
-                report.add(1, section.len());
-                Ok(true)
-            }
-            Some(None) => Ok(false),
-            None => self.take_anywhere(alloc, report),
-        }
-    }
-
-    /// The same, if the frame does not lie in the first piece.
-    #[inline(never)]
-    fn take_anywhere(&mut self, alloc: Global, report: &mut Report) -> Result<bool, Failure> {
         match self.decoder.decode(alloc, &mut self.unread) {
             Ok(Some(Frame::Data(PayloadLen(len)))) => {
                 self.left = len;
