@@ -136,7 +136,7 @@ impl FrameDecoder {
     /// The same, if the next frame is HEADERS and lies in the first piece, or DATA whose type and length do, or if fewer bytes are there
     /// than the next try needs. Otherwise `None`, which changes nothing.
     #[inline(always)]
-    pub fn decode_first(&mut self, src: &mut BufList<Bytes>) -> Option<Option<MessageFrame>>
+    pub(super) fn decode_first(&mut self, src: &mut BufList<Bytes>) -> Option<Option<MessageFrame>>
         requires expects { Expects self.old (concat src.old.pieces) }
         ensures gives { IfSome result (λ o. Gives (Ok (any_frame o)) (concat src.old.pieces) (concat src.new.pieces)) }
         ensures expects { Expects self.new (concat src.new.pieces) }
