@@ -36,4 +36,5 @@ pub mod OneAnswer
 pub mod Starting
 pub mod Codes
 pub mod ExcessiveFrames
+pub mod FirstFrames
 pub mod ExcessiveLaws

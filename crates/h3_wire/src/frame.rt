@@ -25,6 +25,7 @@ mod buffer;
 mod decoder;
 mod errors;
 mod excess;
+mod first;
 mod let_go;
 mod payload_left;
 mod sparing;

@@ -2,6 +2,7 @@
 ghost use Rattle.std.specs.Prelude.{◌≡◌, ◌+◌, ◌^◌, ◌<◌, ◌≤◌, ◌++◌, [], None, Ok, false, true, length, IfOk, IfErr, IfSome, IfNone, IsNone, OnOk, OnErr};
 ghost use Rattle.std.specs.List.{concat};
 ghost use Rattle.h3_wire.specs.ExcessiveFrames.{begins_section, is_excessive};
+ghost use Rattle.h3_wire.specs.FirstFrames.{begins_other};
 ghost use Rattle.h3_wire.specs.Known.{Gives, known};
 ghost use Rattle.h3_wire.specs.MessageFrames.{any_frame};
 ghost use Rattle.h3_wire.specs.Pieces.{chunk_of, ending, first_of, with_piece};
@@ -170,6 +171,14 @@ impl FrameBuffer {
         ensures { result ≡ begins_section (known (concat self.now.pieces)) }
     {
         self.unread.begins_section()
+    }
+
+    /// Whether the bytes begin with the type and the length of a frame that is not SETTINGS (RFC 9114, section 7.2.4). Its payload need
+    /// not be there. Nothing is taken.
+    pub fn begins_other(&self) -> bool
+        ensures { result ≡ begins_other (concat self.now.pieces) }
+    {
+        self.unread.begins_other()
     }
 
     /// The first piece's first bytes, `max` or all of it, when no frame is under way at the front. Nothing is copied. An `Err` changes

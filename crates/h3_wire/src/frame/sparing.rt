@@ -3,6 +3,7 @@ ghost use Rattle.std.specs.Prelude.{◌≡◌, ◌+◌, ◌^◌, ◌<◌, ◌≤
 ghost use Rattle.std.specs.List.{concat};
 ghost use Rattle.h3_proto.specs.Config.{is_limit};
 ghost use Rattle.h3_wire.specs.ExcessiveFrames.{begins_section, is_excessive};
+ghost use Rattle.h3_wire.specs.FirstFrames.{begins_other};
 ghost use Rattle.h3_wire.specs.Known.{Gives, known};
 ghost use Rattle.h3_wire.specs.MessageFrames.{any_frame};
 ghost use Rattle.h3_wire.specs.Pieces.{IsRest, chunk_of, ending, first_of, with_piece};
@@ -11,8 +12,8 @@ ghost use Rattle.h3_wire.specs.UnknownSize.{AreLetGo, IsSpared, is_known_type, i
 
 use super::decoder::{FrameDecoder, MessageFrame};
 use super::errors::FrameStreamError;
-use super::excess;
 use super::let_go::LetGo;
+use super::{excess, first};
 use crate::buf::BufList;
 use crate::proto::frame::{Frame, FrameHead, PayloadLen};
 use bytes::{Buf, Bytes};
@@ -216,6 +217,17 @@ impl FrameBytes {
             return false;
         }
         excess::begins_section(&self.kept, self.passing - self.gone)
+    }
+
+    /// Whether the bytes begin with the type and the length of a frame that is not SETTINGS: an unknown frame under way is one. Nothing
+    /// is taken.
+    pub(super) fn begins_other(&self) -> bool
+        ensures { result ≡ begins_other (concat self.now.pieces) }
+    {
+        if self.passing > 0 {
+            return true;
+        }
+        first::begins_other(&self.kept)
     }
 
     /// Whether an unknown frame is under way at the front. A frame has to begin there.
