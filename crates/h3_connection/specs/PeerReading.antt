@@ -87,8 +87,8 @@ at_front go side p bytes (Unfinished least) = (with_unread p bytes, None)
 abbrev pub unless_excessive : ℕ → List ℕ → Peer → PeerFound → PeerFound
 unless_excessive limit bytes p found = if is_excessive limit bytes then (with_unread p [], Some excessive_load) else found
 
--- Frames of unknown types are passed over before the settings too: that SETTINGS comes first (RFC 9114, section 6.2.1) is not
--- enforced against those.
+-- Frames of unknown types are passed over before the settings too: that SETTINGS comes first (RFC 9114, section 6.2.1) is enforced against
+-- those by an endpoint that asks for a strict connection, in front of this reading.
 abbrev pub read_within : ℕ → ℕ → Side → Peer → PeerFound
 read_within zero limit side p = (p, None)
 read_within (suc most) limit side p =

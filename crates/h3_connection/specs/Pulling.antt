@@ -24,6 +24,7 @@ use Rattle.h3_connection.specs.Incoming.{Incoming, given_up, is_body}
 use Rattle.h3_connection.specs.declared.place.Place.{Place}
 use Rattle.h3_connection.specs.declared.place.Place.TheVariants.{BeforeHead, InBody, AfterTrailer, InSession}
 use Rattle.h3_connection.specs.Skipping.{skipped}
+use Rattle.h3_connection.specs.StrictConnection.{is_no_session}
 use Rattle.h3_connection.specs.StrictMessages.{broken_rule, content_at, large_content_at, response_at, if_whole}
 pub use Rattle.h3_messages.specs.Content.{is_digit}
 use Rattle.h3_messages.specs.Content.{is_interim_status, left_behind, is_exceeded, may_end, takes_trailer}
@@ -181,6 +182,11 @@ raw_of i (Some bytes, pieces) = just (pull.Item (item.Raw bytes)) (record i { un
 abbrev pub raw : Incoming → Pulled
 raw i = raw_of i (first_of i.unread)
 
+-- A session of WebTransport stands in the place of a message, and is named by a request stream where the endpoint asks for that
+abbrev pub at_session : Announced → Incoming → ℕ → Pulled
+at_session own i session =
+    if is_no_session own session then connection_fault id_error i else just (pull.Item (item.Session session)) (record i { place = InSession })
+
 module _ (side : Side) (own : Announced) (id : ℕ) (r : DecoderState) where
   -- RFC 9114 4.2.2: size of a section, received
   abbrev pub read_section : Incoming → List DecoderInstruction → List Field → Pulled
@@ -225,7 +231,7 @@ module _ (side : Side) (own : Announced) (id : ℕ) (r : DecoderState) where
   at_frame _ i BeforeHead (frame.Headers bytes) = new_section i bytes
   at_frame _ i InBody (frame.Headers bytes) = at_trailer i bytes
   at_frame _ i InBody (frame.Data len) = at_payload id (begun_payload i len.0)
-  at_frame Server i BeforeHead (frame.WebTransportStream session) = just (pull.Item (item.Session session)) (record i { place = InSession })
+  at_frame Server i BeforeHead (frame.WebTransportStream session) = at_session own i session
   at_frame Client i place (frame.PushPromise promise) = connection_fault id_error i
   at_frame _ i place _ = connection_fault frame_unexpected i
 

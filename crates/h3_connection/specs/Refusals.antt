@@ -1,6 +1,6 @@
 -- Why a call of a sender is refused: the first rule that refuses it, in the order in which an endpoint judges. A world, the history of an endpoint,
 -- and what an endpoint stores state their refusals by these: each says what sender it stands for.
-use Rattle.std.specs.Prelude.{ℕ, ◌^◌, ◌-◌, Bool, false, not, ◌&&◌, List, [], ◌∷◌, if◌then◌else◌, nat_le, nat_lt, Option, Some, None, unwrap_or}
+use Rattle.std.specs.Prelude.{ℕ, ◌^◌, ◌-◌, Bool, true, false, not, ◌&&◌, List, [], ◌∷◌, if◌then◌else◌, nat_le, nat_lt, Option, Some, None, unwrap_or}
 use Rattle.h3_field.specs.Field.{Field, section_size}
 use Rattle.h3_header.specs.Head.{Head, has_pseudo}
 use Rattle.h3_proto.specs.Settings.{value_of}
@@ -36,11 +36,12 @@ pub record SenderStream : Type 0 where
 abbrev pub seen : Bool → Outgoing → SenderStream
 seen is_open o = record { is_open = is_open; takes_head = takes_head o; takes_body = takes_body o; takes_end = takes_end o }
 
--- What a sender sees: which side it is, its stream, and the other side's settings once they came.
+-- What a sender sees: which side it is, its stream, the other side's settings once they came, and the GOAWAY after which it begins no message.
 pub record Sender : Type 0 where
   pub side : Side
   pub stream : SenderStream
   pub settings : Option (List (ℕ × ℕ))
+  pub going : Option ℕ
 
 -- RFC 9114 4.2.2: size of a section, sent
 -- the other side takes sections of at most this size (RFC 9114, section 4.2.2), unknown until its settings come
@@ -51,6 +52,11 @@ is_too_large (Some pairs) fields = nat_lt (unwrap_or (value_of 6 pairs) (2 ^ 62 
 -- The rules of sending: what refuses a call, and how it is told. First that of the stream: it is open, and takes what is sent.
 abbrev pub not_next : SenderStream → Bool → List (Bool × Refusal) → List (Bool × Refusal)
 not_next stream takes later = (not stream.is_open, refusal.NotOpen) ∷ (not takes, refusal.OutOfOrder) ∷ later
+
+-- no message begins after a GOAWAY of the other side (RFC 9114, section 5.2)
+abbrev pub unless_going : Option ℕ → List (Bool × Refusal) → List (Bool × Refusal)
+unless_going None later = later
+unless_going (Some id) later = (true, refusal.GoingAway id) ∷ later
 
 -- a head is one of the own side
 abbrev pub wrong_side : Side → Head → Bool × Refusal
@@ -73,10 +79,10 @@ abbrev pub of_list : Option Malformation → Option (List (ℕ × ℕ)) → List
 of_list broken settings fields = unless_malformed broken (too_large settings fields ∷ [])
 
 -- RFC 9114 4.1: a header section in its place, sent
--- A head, that goes out as these fields, comes first, has a protocol that is taken, and is one of the own side (RFC 9114, section 4.1).
+-- A head, that goes out as these fields, comes first and after no GOAWAY, has a protocol that is taken, and is one of the own side (RFC 9114, section 4.1).
 abbrev pub refusal_of_head : Sender → Option Malformation → Option Malformation → Head → List Field → Option Refusal
 refusal_of_head s protocol broken head fields =
-    first_of (not_next s.stream s.stream.takes_head (unless_malformed protocol (wrong_side s.side head ∷ of_list broken s.settings fields)))
+    first_of (not_next s.stream s.stream.takes_head (unless_going s.going (unless_malformed protocol (wrong_side s.side head ∷ of_list broken s.settings fields))))
 
 -- RFC 9114 4.1: a body in its place, sent
 -- A body comes behind a head, and before the trailer. A strict sender refuses more of it than the head says.
