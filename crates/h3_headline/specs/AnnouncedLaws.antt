@@ -6,7 +6,12 @@ use Rattle.h3_proto.specs.declared.config.Config.{Config}
 use Rattle.h3_proto.specs.declared.frame.SettingsError.TheVariants.{InvalidSettingValue}
 use Rattle.h3_connection.specs.declared.setup.Announced.{Announced}
 use Rattle.h3_world.specs.Setup.{IsMade, IsMadeSetup, announced_at}
-use Rattle.std.proofs.lemmas.Bool.{ne_eqb}
+use Rattle.h3_world.specs.TakesLaws.{refusal_is}
+use Rattle.std.proofs.lemmas.Bool.{eqb-true, ne_eqb}
+use Rattle.std.specs.Prelude.{◌&&◌, ◌||◌, find, Option, Some, option_map}
+use Rattle.h3_proto.specs.Config.{is_enabled}
+use Rattle.h3_connection.specs.OwnIds.{other}
+use Rattle.h3_connection.specs.StrictConnection.{is_strict, judges_connect, refuses_settings, settings_refused}
 use Rattle.h3_proto.specs.Ids.{reserved}
 use Rattle.h3_proto.specs.Settings.{is_known, value_of, settings_of}
 use Rattle.h3_proto.specs.declared.config.Settings.{Settings}
@@ -21,7 +26,6 @@ use Rattle.h3_world.specs.Following.{opening}
 use Rattle.std.specs.Prelude.{unwrap_or}
 use Rattle.h3_proto.specs.ReceivedLaws.{announced_received_with_table}
 use Rattle.h3_proto.specs.declared.stream.Side.{Side}
-use Rattle.h3_proto.specs.declared.stream.Side.TheVariants.{Client, Server}
 use Rattle.h3_world.specs.declared.setup.Setup.{Setup}
 use Rattle.h3_headline.specs.PeerStreams.{Announces, Parts}
 use Rattle.h3_headline.specs.Standing.{with_meaning}
@@ -133,6 +137,46 @@ announces a made =
       low = p.table;
     }
 
+-- settings with a meaning have the values of all
+same_value : (id : ℕ) (pairs : List (ℕ × ℕ)) → is_known id ≡ true → value_of id (with_meaning pairs) ≡ value_of id pairs
+same_value id [] known = refl
+same_value id (p ∷ pairs) known = by_known (same_value id pairs known) (is_known p.0) (p.0 == id) refl refl
+  where
+    rest : Option ℕ
+    rest = value_of id pairs
+
+    first : (b : Bool) → Option ℕ
+    first b = option_map (λ (q : ℕ × ℕ). q.1) (if b then Some p else find (λ (q : ℕ × ℕ). q.0 == id) pairs)
+
+    found : (m : Bool) → Option ℕ
+    found m = value_of id (if m then p ∷ with_meaning pairs else with_meaning pairs)
+
+    kept : (b : Bool) → Option ℕ
+    kept b = option_map (λ (q : ℕ × ℕ). q.1) (if b then Some p else find (λ (q : ℕ × ℕ). q.0 == id) (with_meaning pairs))
+
+    by_known : value_of id (with_meaning pairs) ≡ value_of id pairs → (m b : Bool) → is_known p.0 ≡ m → (p.0 == id) ≡ b → found m ≡ first b
+    by_known behind true true k e = ap kept e
+    by_known behind true false k e = ap kept e ∙ behind
+    by_known behind false true k e = let same : p.0 ≡ id = eqb-true p.0 id e in let wrong : false ≡ true = sym k ∙ ap is_known same ∙ known in absurd (cc)
+    by_known behind false false k e = behind
+
+-- so what is judged of them is judged of all
+judged_alike : (side : Side) (own : Announced) (pairs : List (ℕ × ℕ)) → refuses_settings side own (with_meaning pairs) ≡ refuses_settings side own pairs
+judged_alike side own pairs =
+    ap (judged (value_of 0x33 (with_meaning pairs)) (value_of 0x2b603742 (with_meaning pairs))) (same_value 8 pairs refl)
+    ∙ ap (λ d. judged d (value_of 0x2b603742 (with_meaning pairs)) (value_of 8 pairs)) (same_value 0x33 pairs refl)
+    ∙ ap (λ w. judged (value_of 0x33 pairs) w (value_of 8 pairs)) (same_value 0x2b603742 pairs refl)
+  where
+    judged : Option ℕ → Option ℕ → Option ℕ → Bool
+    judged d w c =
+        is_strict own && ((judges_connect side && nat_lt 1 (unwrap_or c 0)) || nat_lt 1 (unwrap_or d 0)
+        || (is_enabled 0x2b603742 own.settings && (nat_lt 1 (unwrap_or w 0) || (not (unwrap_or w 0 == 0) && not (not (unwrap_or d 0 == 0))))))
+
+-- **Each side takes the settings of the other one.**
+pub takes_at : (setup : Setup) (side : Side) → IsMadeSetup setup → settings_refused side (announced_at setup side) (Some (with_meaning (announced_at setup (other side)).settings)) ≡ false
+takes_at setup side made =
+    judged_alike side (announced_at setup side) (announced_at setup (other side)).settings
+    ∙ refusal_is side (announced_at setup side) (announced_at setup (other side)) (made.sides side) (made.sides (other side)) ∙ made.take side
+
 pub announces_at : (setup : Setup) (side : Side) → IsMadeSetup setup → Announces (announced_at setup side)
-announces_at setup Client made = announces setup.client made.client
-announces_at setup Server made = announces setup.server made.server
+announces_at setup side made = announces (announced_at setup side) (made.sides side)

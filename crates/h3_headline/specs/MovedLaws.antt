@@ -10,7 +10,7 @@ use Rattle.h3_connection.specs.declared.event.Refusal.{Refusal}
 use Rattle.h3_world.specs.declared.event.Answer.{Answer}
 use Rattle.h3_world.specs.declared.event.Answer.TheVariants as answer
 use Rattle.h3_world.specs.Step.{Does, Step}
-use Rattle.h3_connection.specs.Refusals.{first_of, is_too_large, of_list, with_pseudo, wrong_side}
+use Rattle.h3_connection.specs.Refusals.{first_of, is_too_large, of_list, unless_going, with_pseudo, wrong_side}
 use Rattle.h3_connection.specs.StrictSending.{unless_malformed}
 use Rattle.h3_connection.specs.declared.event.Refusal.TheVariants as refusal
 use Rattle.std.specs.Prelude.{if◌then◌else◌, map, fold, ◌||◌, is_some, IfSome, option_map}
@@ -26,7 +26,7 @@ use Rattle.h3_connection.specs.OwnIds.{other}
 use Rattle.h3_connection.specs.Pulling.{is_for, is_interim}
 use Rattle.h3_world.specs.declared.event.Event.TheVariants as event
 use Rattle.h3_world.specs.Came.{settings_known}
-use Rattle.h3_world.specs.Refusals.{head_refusal, body_refusal, trailer_refusal, finish_refusal, is_critical, reset_refusal, cancel_refusal, next_id, open_refusal, goaway_refusal, fields_refusal, trailer_fields_refusal}
+use Rattle.h3_world.specs.Refusals.{none_after, head_refusal, body_refusal, trailer_refusal, finish_refusal, is_critical, reset_refusal, cancel_refusal, next_id, open_refusal, goaway_refusal, fields_refusal, trailer_fields_refusal}
 use Rattle.h3_wire.specs.Encoded.{frame_encoding}
 use Rattle.h3_connection.specs.declared.event.StreamFault.TheVariants.{Canceled}
 use Rattle.h3_proto.specs.declared.stream.Side.TheVariants.{Client, Server}
@@ -146,8 +146,8 @@ head_moves setup w new side i head a writer id h step =
     does_cases (MovesBy setup w (event.Head side i head) writer id) (head_refusal setup w side i head) w (sent_head w side i head) new answer.Done a (λ r. kept_at setup w w writer id (keeps_same w))
     (λ none.
     let there = open_there w side i (not_refused (is_open w side i) (
-    (not (takes_head (outgoing_of (flow w side i))), refusal.OutOfOrder) ∷ (not (is_for (other side) head), refusal.WrongSide) ∷
-    (is_too_large (settings_known setup w side) (head_fields head), refusal.TooLarge (section_size (head_fields head))) ∷ []) none) in
+    (not (takes_head (outgoing_of (flow w side i))), refusal.OutOfOrder) ∷ unless_going (none_after setup w side) ((not (is_for (other side) head), refusal.WrongSide) ∷
+    (is_too_large (settings_known setup w side) (head_fields head), refusal.TooLarge (section_size (head_fields head))) ∷ [])) none) in
     let s = section_sent (party w side) i (head_fields head) (flow w side i) in
     let interim = is_interim head.status in
     section_on setup w side i (having_encoded (party w side) i (head_fields head)) ((if interim then Interim else Head) s) (head_section head.status false (head_fields head) ∷ []) writer id h there (head_is interim s) (no_end interim s)) step
@@ -182,7 +182,7 @@ fields_moves setup w new side i fields a writer id h step =
     let head = head_of_fields fields in
     let there = open_there w side i (not_refused (is_open w side i) (
     (not (takes_head (outgoing_of (flow w side i))), refusal.OutOfOrder) ∷
-    unless_malformed (unreadable (takes_any (announced_at setup side)) fields) (wrong_side side head ∷ of_list None (settings_known setup w side) fields)) none) in
+    unless_going (none_after setup w side) (unless_malformed (unreadable (takes_any (announced_at setup side)) fields) (wrong_side side head ∷ of_list None (settings_known setup w side) fields))) none) in
     let s = section_sent (party w side) i fields (flow w side i) in
     let interim = is_interim head.status in
     section_on setup w side i (having_encoded (party w side) i fields) ((if interim then Interim else Head) s) (head_section (fold status_after None fields) true fields ∷ []) writer id h there

@@ -5,10 +5,11 @@ use Rattle.h3_world.specs.declared.setup.Setup.{Setup}
 use Rattle.h3_world.specs.Sound.{IsSoundWorld, IsSoundParty}
 use Rattle.h3_world.specs.World.{World, party, Party}
 use Rattle.std.proofs.Common.{◌≡◌, ℕ, Option, Some, None, ap, ◌∙◌, ◌+◌, ◌++◌, drop, flat_map, refl, ◌-◌, length, sym, subst, take, arith, Bool, true, false, if◌then◌else◌, List, ◌≤◌, []}
-use Rattle.h3_connection.specs.Endpoint.{EndpointHistory, bytes_waiting, own_waiting, Own, goaway_encoding}
+use Rattle.h3_connection.specs.Endpoint.{EndpointHistory, bytes_waiting, own_waiting, Own, goaway_encoding, first_decoder}
 use Rattle.h3_connection.specs.Outgoing.{Outgoing, part_bytes_waiting}
 use Rattle.h3_connection.specs.StreamSets.{stream_at}
 use Rattle.h3_world.specs.Setup.{TakesAnyLength, announced_at, IsMadeSetup}
+use Rattle.h3_connection.specs.StrictConnection.{settings_refused}
 use Rattle.h3_connection.specs.OwnIds.{control_id, encoder_id, decoder_id, other}
 use Rattle.h3_connection.specs.declared.setup.Announced.{Announced}
 use Rattle.h3_world.specs.OwnStreams.{settings_bytes}
@@ -18,14 +19,13 @@ use Rattle.h3_connection.specs.Sending.{advance, advance_at, own_advanced}
 use Rattle.h3_connection.specs.Control.{increment}
 use Rattle.h3_world.specs.Delivering.{delivered_own}
 use Rattle.h3_qpack.specs.WholeInstructions.{whole_in, insertions_in, decoder_instructions_in}
-use Rattle.h3_qpack.specs.DecoderState.{announcing}
 use Rattle.std.specs.Prelude.{is_some}
 use Rattle.h3_qpack.specs.Instructions.{AreAccepted}
 use Rattle.h3_world.specs.Following.{replies_left}
 use Rattle.h3_connection.specs.declared.setup.Limits.{Limits}
 use Rattle.h3_connection.specs.Unidirectional.Role.{Control}
 use Rattle.h3_headline.specs.AcceptedLaws.{counts_all, replies_accepted}
-use Rattle.h3_headline.specs.AnnouncedLaws.{announces_at}
+use Rattle.h3_headline.specs.AnnouncedLaws.{announces_at, takes_at}
 use Rattle.h3_headline.specs.Arriving.{saying}
 use Rattle.h3_headline.specs.Cited.{IsRead, StreamLaws}
 use Rattle.h3_headline.specs.DecoderStreamLaws.{between_accepted}
@@ -37,7 +37,7 @@ use Rattle.h3_headline.specs.OwnMovesLaws.{controlling_stands, hearing_stands, l
 use Rattle.h3_headline.specs.OwnStreams.{GoesOver, Takes, further_own, insertions_of, left_of, listened_to, party_of, read_of, writing}
 use Rattle.h3_headline.specs.OwnWorldLaws.{advanced_control, advanced_decoder, advanced_encoder, insertions_listened, listened_writes, reader_after, replies_listened, settings_listened, streams_after, writer_after}
 use Rattle.h3_headline.specs.PeerStreams.{added_since, after_control, controlling, encoder_then, peer_by, replies_between, role_by, with_role}
-use Rattle.h3_headline.specs.Standing.{IsWritable, StandsAt, are_settings_there, came_on}
+use Rattle.h3_headline.specs.Standing.{IsWritable, StandsAt, are_settings_there, came_on, with_meaning}
 use Rattle.h3_headline.specs.UnitLaws.{whole_within}
 
 pub party_sound : (setup : Setup) (w : World) (side : Side) → IsSoundWorld setup w → IsSoundParty setup w side
@@ -94,10 +94,10 @@ takes setup w side e h = record { side_is = h.side_is; any = subst TakesAnyLengt
 
 -- the instructions that came, once more came, are read
 pub reads_all : (laws : StreamLaws) (setup : Setup) (w : World) (side : Side) (n : ℕ) → IsMadeSetup setup → IsSoundWorld setup w
-    → IsRead (announced_at setup side).limits.table (take (whole_in encoder_bytes n (party w (other side)).own.instructions) (party w (other side)).own.instructions)
+    → IsRead (first_decoder (announced_at setup side)) (take (whole_in encoder_bytes n (party w (other side)).own.instructions) (party w (other side)).own.instructions)
 reads_all laws setup w side n made sound =
     let is = (party w (other side)).own.instructions in
-    subst (λ s. IsRead (announced_at setup s).limits.table (take (whole_in encoder_bytes n is) is)) (other-other side)
+    subst (λ s. IsRead (first_decoder (announced_at setup s)) (take (whole_in encoder_bytes n is) is)) (other-other side)
     (instructions_read laws setup w (other side) (whole_in encoder_bytes n is) made (party_sound setup w (other side) sound) (whole_within encoder_bytes n is))
 
 -- **The encoder stream.**
@@ -115,7 +115,7 @@ encoder_over laws setup w side count e made sound writable h =
     let many = own.encoder_taken + count - 1 in
     let after = reads_all laws setup w side many made sound in
     let more = increment (added_since e.decoding.decoder after.decoder) in
-    let first = announcing (announced_at setup side).limits.table in
+    let first = first_decoder (announced_at setup side) in
     let old = (counts_all first e.decoding.decoder (take (whole_in encoder_bytes few is) is) h.encoder_stream.decoder).sum in
     let new = (counts_all first after.decoder (take (whole_in encoder_bytes many is) is) after.reads).sum in
     let sizes : insertions_in many is - insertions_in few is ≡ added_since e.decoding.decoder after.decoder = omega (arith, old, new) in
@@ -207,7 +207,7 @@ control_over laws setup w side count e made sound writable h =
     record {
       after = f;
       arrived = control_delivered laws setup side e own.control_taken count own.goaways own.decoder_taken replies (takes setup w side e h) h.control
-          (record { side_is = h.side_is; any = subst TakesAnyLength (sym h.announced) h.any; announces = announces_at setup (other side) made; goaways = writable.goaways; left = h.decoder_stream.left; written = writable.replies; accepted = fits });
+          (record { side_is = h.side_is; any = subst TakesAnyLength (sym h.announced) h.any; announces = announces_at setup (other side) made; takes = ap (λ a. settings_refused side a (Some (with_meaning (announced_at setup (other side)).settings))) h.announced ∙ takes_at setup side made; goaways = writable.goaways; left = h.decoder_stream.left; written = writable.replies; accepted = fits });
       stands = controlling_stands setup w v side e count knew knows h (streams_after setup w (other side) id count) refl refl order f refl there (ap (λ (q : Party). q.own) now) (ap (λ (q : Party). q.encoder) now);
       next_id = same_next knew knows x a.limits own.decoder_taken replies;
     }

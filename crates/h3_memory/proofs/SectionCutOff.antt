@@ -14,7 +14,7 @@ use Rattle.h3_connection.specs.Endpoint.{EndpointHistory, Own}
 use Rattle.h3_connection.specs.OwnIds.{other, encoder_id}
 use Rattle.h3_connection.specs.Sections.{own_instructions}
 use Rattle.h3_connection.specs.Sections as sections
-use Rattle.h3_connection.specs.Refusals.{first_of}
+use Rattle.h3_connection.specs.Refusals.{first_of, unless_going}
 use Rattle.h3_connection.specs.StreamSets.{stream_at}
 use Rattle.h3_connection.specs.declared.event.Refusal.{Refusal}
 use Rattle.h3_connection.specs.declared.event.Refusal.TheVariants as refusal
@@ -172,12 +172,22 @@ unless : (b : Bool) (o p : Option Refusal) → NeverMalformed o → NeverMalform
 unless true o p h g = h
 unless false o p h g = g
 
-pub head_judged : (a b c d : Bool) (size : ℕ) → NeverMalformed (first_of ((a, refusal.NotOpen) ∷ (b, refusal.OutOfOrder) ∷ (c, refusal.WrongSide) ∷ (d, refusal.TooLarge size) ∷ []))
-head_judged a b c d size =
-    let large : Option Refusal = if d then Some (refusal.TooLarge size) else None in
-    let placed : Option Refusal = if c then Some refusal.WrongSide else large in
-    let ordered : Option Refusal = if b then Some refusal.OutOfOrder else placed in
-    unless a (Some refusal.NotOpen) ordered tt (unless b (Some refusal.OutOfOrder) placed tt (unless c (Some refusal.WrongSide) large tt (unless d (Some (refusal.TooLarge size)) None tt tt)))
+pub head_judged : (a b : Bool) (going : Option ℕ) (c d : Bool) (size : ℕ)
+    → NeverMalformed (first_of ((a, refusal.NotOpen) ∷ (b, refusal.OutOfOrder) ∷ unless_going going ((c, refusal.WrongSide) ∷ (d, refusal.TooLarge size) ∷ [])))
+head_judged a b going c d size = unless a (Some refusal.NotOpen) ordered tt (unless b (Some refusal.OutOfOrder) (begun going) tt (by_goaway going))
+  where
+    large : Option Refusal
+    large = if d then Some (refusal.TooLarge size) else None
+
+    begun : Option ℕ → Option Refusal
+    begun o = first_of (unless_going o ((c, refusal.WrongSide) ∷ (d, refusal.TooLarge size) ∷ []))
+
+    ordered : Option Refusal
+    ordered = if b then Some refusal.OutOfOrder else begun going
+
+    by_goaway : (o : Option ℕ) → NeverMalformed (begun o)
+    by_goaway None = unless c (Some refusal.WrongSide) large tt (unless d (Some (refusal.TooLarge size)) None tt tt)
+    by_goaway (Some last) = tt
 
 pub trailer_judged : (a b c d : Bool) (size : ℕ) → NeverMalformed (first_of ((a, refusal.NotOpen) ∷ (b, refusal.OutOfOrder) ∷ (c, refusal.PseudoInTrailer) ∷ (d, refusal.TooLarge size) ∷ []))
 trailer_judged a b c d size =

@@ -173,7 +173,7 @@ module _ (qpack : KeptLaws) (laws : Laws) (setup : Setup) where
           let q = refusals.head_refusal setup k.world side id head in
           let same = refuses_alike setup k ends h side (λ e. sender.send_head e id head) q _ on.new answer.Done answer.Done (head_calls laws setup k ends h side (plain side) id head) refl refl on.happens.step in
           let cut = section_cut qpack laws setup k ends new side id (head_fields head) q
-          (head_judged (not (is_open k.world side id)) (not (takes_head (outgoing_of (flow k.world side id)))) (not (is_for (other side) head)) (is_too_large (settings_known setup k.world side) (head_fields head)) (section_size (head_fields head))) sendable.section.of_bytes sendable.section.small h (subst (λ r. refused.CutsSection r ends side id (head_fields head) new) same l) in
+          (head_judged (not (is_open k.world side id)) (not (takes_head (outgoing_of (flow k.world side id)))) (refusals.none_after setup k.world side) (not (is_for (other side) head)) (is_too_large (settings_known setup k.world side) (head_fields head)) (section_size (head_fields head))) sendable.section.of_bytes sendable.section.small h (subst (λ r. refused.CutsSection r ends side id (head_fields head) new) same l) in
           record { new = cut.next; step = cut.cuts; exact = tt; stands = cut.stands }
       lacks k ends new a sendable h IsKept m l = absurd l
       lacks k ends new a sendable h PullLacks m l = absurd l

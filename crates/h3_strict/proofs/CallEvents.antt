@@ -18,7 +18,7 @@ use Rattle.h3_connection.specs.OwnIds.{other}
 use Rattle.h3_connection.specs.Pulling.{is_for, is_interim}
 use Rattle.h3_connection.specs.Sections.{written_section}
 use Rattle.h3_connection.specs.Sending as sender
-use Rattle.h3_connection.specs.Refusals.{first_of, is_too_large, of_list, with_pseudo, wrong_side}
+use Rattle.h3_connection.specs.Refusals.{first_of, is_too_large, of_list, unless_going, with_pseudo, wrong_side}
 use Rattle.h3_connection.specs.Sending.{appended as part_appended, counted, does, encoded, fields_cost, outgoing_at, sent_bytes, with_outgoing}
 use Rattle.h3_connection.specs.StreamSets.{Streams, set_stream, stream_at}
 use Rattle.h3_connection.specs.StrictSending.{broken_protocol, unless_malformed}
@@ -34,7 +34,7 @@ use Rattle.h3_world.specs.Ends.{Ends, done, end_at, with_end}
 use Rattle.h3_world.specs.Flow.{Part, flow_bytes}
 use Rattle.h3_world.specs.Flow.Part.{Body, End, Head as HeadPart, Interim, Trailer}
 use Rattle.h3_world.specs.Order.{outgoing_of}
-use Rattle.h3_world.specs.Refusals.{body_refusal, fields_refusal, finish_refusal, head_refusal, trailer_fields_refusal, trailer_refusal}
+use Rattle.h3_world.specs.Refusals.{body_refusal, fields_refusal, finish_refusal, head_refusal, none_after, trailer_fields_refusal, trailer_refusal}
 use Rattle.h3_world.specs.Sending.{appended, finished, having_encoded, section_sent, sent_body, sent_fields, sent_head, with_section, sent_trailer, sent_trailer_fields}
 use Rattle.h3_world.specs.Setup.{announced_at, takes_any}
 use Rattle.h3_world.specs.Step.{Does}
@@ -48,7 +48,7 @@ use Rattle.h3_headline.specs.FlowLaws.{open_there}
 use Rattle.h3_headline.specs.Messages.{is_on}
 use Rattle.h3_headline.specs.Standing.{Stands}
 use Rattle.h3_headline.specs.Steps.{IsThere}
-use Rattle.h3_strict.proofs.KeepsCounts.{SameCounts, out_set, same_counts}
+use Rattle.h3_strict.proofs.KeepsCounts.{SameCounts, head_keeps, out_set, same_counts}
 use Rattle.h3_strict.proofs.SendEvents.{flows_with, flows_with_party, interim_tally, part_tally, request_tally, response_tally, sends_part}
 use Rattle.h3_strict.proofs.SentLaws.{TakesBody, TakesEnd, TakesHead, TakesTrailer, body_is_behind, body_rules, finish_rules, head_rules, is_head_part, trailer_is_late, trailer_rules, head_judged, trailer_judged}
 use Rattle.h3_strict.proofs.SentTallies.{after_head, side_of}
@@ -127,8 +127,9 @@ module _ (setup : Setup) (w : World) (ends : Ends) (known : ℕ → Bool) (h : S
       head_goes s i (broken_protocol (end_at ends s).announced head) head (head_fields head) (head_refusal (plain_setup setup) w s i head) v a next is
       (not_refused (is_open w s i) (
       (not (takes_head (outgoing_of (flow w s i))), refusal.OutOfOrder) ∷
+      unless_going (none_after (plain_setup setup) w s) (
       (not (is_for (other s) head), refusal.WrongSide) ∷
-      (is_too_large (settings_known (plain_setup setup) w s) (head_fields head), refusal.TooLarge (section_size (head_fields head))) ∷ [])) step knows
+      (is_too_large (settings_known (plain_setup setup) w s) (head_fields head), refusal.TooLarge (section_size (head_fields head))) ∷ []))) step knows
 
   pub fields_event : (s : Side) (i : ℕ) (fields : List Field) (v : World) (a : Answer) (next : Ends) → (a, next) ≡ done ends s answer.Done (send_fields (end_at ends s) i fields)
       → Does (fields_refusal (plain_setup setup) w s i fields) w answer.Done (sent_fields w s i fields) a v → (s ≡ Server → a ≡ answer.Done → is_interim (head_of_fields fields).status ≡ false → known i ≡ true) → Tallies setup v next known
@@ -136,7 +137,8 @@ module _ (setup : Setup) (w : World) (ends : Ends) (known : ℕ → Bool) (h : S
       head_goes s i (unreadable (takes_any (end_at ends s).announced) fields) (head_of_fields fields) fields (fields_refusal (plain_setup setup) w s i fields) v a next is
       (not_refused (is_open w s i) (
       (not (takes_head (outgoing_of (flow w s i))), refusal.OutOfOrder) ∷
-      unless_malformed (unreadable (takes_any (announced_at (plain_setup setup) s)) fields) (wrong_side s (head_of_fields fields) ∷ of_list None (settings_known (plain_setup setup) w s) fields))) step knows
+      unless_going (none_after (plain_setup setup) w s) (
+      unless_malformed (unreadable (takes_any (announced_at (plain_setup setup) s)) fields) (wrong_side s (head_of_fields fields) ∷ of_list None (settings_known (plain_setup setup) w s) fields)))) step knows
 
   -- A part behind the head.
   behind_head : (s : Side) (i : ℕ) (part : Part) (p : Outgoing) (e : EndpointHistory) (v : World) → IsThere w i → ((writer : Side) (id : ℕ) → flow v writer id ≡ (if is_on writer id s i then appended (flow w s i) part else flow w writer id))
@@ -147,7 +149,8 @@ module _ (setup : Setup) (w : World) (ends : Ends) (known : ℕ → Bool) (h : S
   behind_head s i part p e v there flows out in_same announced none fine =
       part_tally setup w v ends known s i part p e
       (sends_part w v ends s i part p e flows (λ id. ap (λ (l : Streams Outgoing). unwrap_or (stream_at l id) nothing_sent) out ∙ out_set (end_at ends s).outgoing i p id)
-      (λ id. subst (λ (l : Streams Incoming). SameCounts (incoming_at (end_at ends s) id) (unwrap_or (stream_at l id) nothing_came)) (sym in_same) (same_counts (incoming_at (end_at ends s) id))) announced)
+      (λ id. head_keeps s (incoming_at (end_at ends s) id) (incoming_at e id)
+      (subst (λ (l : Streams Incoming). SameCounts (incoming_at (end_at ends s) id) (unwrap_or (stream_at l id) nothing_came)) (sym in_same) (same_counts (incoming_at (end_at ends s) id)))) announced)
       (sound_flow (plain_setup setup) w s i h.sound there).out none fine.0 fine.1 t
 
   -- **A body.**

@@ -6,7 +6,8 @@ use Rattle.h3_proto.specs.Settings.{value_of}
 use Rattle.h3_connection.specs.Arrivals.{stream_of}
 use Rattle.h3_connection.specs.declared.arrival.Arrival.TheVariants.{BytesCame, EndCame, ResetCame}
 use Rattle.h3_connection.specs.declared.arrival.Arrival.{Arrival}
-use Rattle.h3_connection.specs.Control.{Found, after_peer, if_learned, is_table_usable, kept_unread, listened_to, read_control, read_decoder, then_decoder, with_table}
+use Rattle.h3_connection.specs.Codes.{missing_settings, settings_error}
+use Rattle.h3_connection.specs.Control.{Found, after_peer, are_refused, holding, if_learned, is_table_usable, kept_unread, lacks_settings, listened_to, read_control, read_decoder, read_held, settings_alone, taken_peer, then_decoder, with_table}
 use Rattle.h3_connection.specs.Delivering.{bytes_at, closed_by, delivery_refusal, end_at, given_up_by, given_up_once, heard_as, incoming_at, kept, opened, opened_at, read_unidirectional, reset_at, taken, unidirectional_at, unless_second, with_end}
 use Rattle.h3_connection.specs.Endpoint.{EndpointHistory, limit_of, Kind, is_second, kind_of}
 use Rattle.h3_connection.specs.Endpoint.Kind.{OwnUnidirectional, PeerUnidirectional, Request, ServerOpened}
@@ -14,7 +15,7 @@ use Rattle.h3_connection.specs.ExcessiveInstructions.{listen_up_to}
 use Rattle.h3_connection.specs.Incoming.{Incoming, nothing_came}
 use Rattle.h3_connection.specs.Keeping.{arrives, arrives_behind, read_arrival}
 use Rattle.h3_connection.specs.Outgoing.{Outgoing, nothing_sent, takes_end}
-use Rattle.h3_connection.specs.PeerReading.{PeerFound, read_peer, with_unread}
+use Rattle.h3_connection.specs.PeerReading.{PeerFound, read_peer}
 use Rattle.h3_connection.specs.Sending.{advance, advance_at, outgoing_at}
 use Rattle.h3_connection.specs.StreamSets.{Streams, set_stream, stream_at}
 use Rattle.h3_connection.specs.Unidirectional.{Role, Unidirectional, role_after}
@@ -25,6 +26,10 @@ use Rattle.h3_connection.specs.declared.event.StreamFault.TheVariants as stream_
 use Rattle.h3_headline.specs.MovesLaws.{set_at}
 use Rattle.h3_strict.specs.Plainly.{is_malformation}
 use Rattle.h3_strict.specs.Tallies.{IsFine}
+use Rattle.h3_messages.specs.declared.content.Content.{Content}
+use Rattle.h3_messages.specs.declared.content.Content.TheVariants.{Tunnel, Unanswered, Unsaid}
+use Rattle.h3_proto.specs.declared.stream.Side.{Side}
+use Rattle.h3_proto.specs.declared.stream.Side.TheVariants.{Client, Server}
 
 -- What is counted of a stream that is received is the same.
 pub record SameCounts (i j : Incoming) : Type 0 where
@@ -41,6 +46,25 @@ pub record IsLost (i j : Incoming) : Type 0 where
 
 abbrev pub KeepsAt : Incoming → Incoming → Type 0
 KeepsAt i j = SameCounts i j ⊎ IsLost i j
+
+-- A server that sends a response may answer a CONNECT that it read: behind that any bytes come.
+abbrev pub MayAnswer : Content → Content → Type 0
+MayAnswer before after = (after ≡ before) ⊎ ((before ≡ Unanswered) × ((after ≡ Tunnel) ⊎ (after ≡ Unsaid)))
+
+pub record HasAnswered (i j : Incoming) : Type 0 where
+  pub fault : j.fault ≡ i.fault
+  pub content : MayAnswer i.content j.content
+  pub left : j.body_left ≡ i.body_left
+  pub response : j.response ≡ i.response
+
+-- what the own head of a side leaves of what it receives, but on the stream of a request that it sends
+abbrev pub HeadKeeps : Side → Incoming → Incoming → Type 0
+HeadKeeps Client i j = SameCounts i j
+HeadKeeps Server i j = HasAnswered i j
+
+pub head_keeps : (side : Side) (i j : Incoming) → SameCounts i j → HeadKeeps side i j
+head_keeps Client i j h = h
+head_keeps Server i j h = record { fault = h.fault; content = inl h.content; left = h.left; response = h.response }
 
 pub record SendsSame (o p : Outgoing) : Type 0 where
   pub takes : takes_end p ≡ true → takes_end o ≡ true
@@ -114,14 +138,25 @@ then_decoder_same None (Some pairs) e None = decoder_same e []
 then_decoder_same None None e None = same_streams e
 then_decoder_same (Some pairs) after e None = same_streams e
 
-after_peer_same : (e : EndpointHistory) (p : PeerFound) → SameStreams e (after_peer e p).0
-after_peer_same e (p, fault) =
+taken_same : (e : EndpointHistory) (p : PeerFound) → SameStreams e (taken_peer e p).0
+taken_same e (p, fault) =
     let f = if_learned e.peer.settings p.settings (record e { peer = p }) in
     let first : SameStreams e (record e { peer = p }) = record { incoming = refl; outgoing = refl; announced = refl } in
     then_same e f _ (then_same e (record e { peer = p }) f first (if_learned_same e.peer.settings p.settings (record e { peer = p }))) (then_decoder_same e.peer.settings p.settings f fault)
 
+either_same : (b : Bool) (e : EndpointHistory) (x y : Found) → SameStreams e x.0 → SameStreams e y.0 → SameStreams e (if◌then◌else◌ {A = Found} b x y).0
+either_same true e x y h k = h
+either_same false e x y h k = k
+
+held_same : (e : EndpointHistory) → SameStreams e (read_held e).0
+held_same e =
+    let x = read_peer (limit_of e) e.side e.peer in
+    either_same (lacks_settings e) e (e, Some missing_settings) (after_peer e x) (same_streams e)
+    (either_same (are_refused e e.peer.settings x.0.settings) e (record e { peer = settings_alone e.peer x.0.settings }, Some settings_error) (taken_peer e x)
+    (record { incoming = refl; outgoing = refl; announced = refl }) (taken_same e x))
+
 control_same : (e : EndpointHistory) (bytes : List ℕ) → SameStreams e (read_control e bytes).0
-control_same e bytes = after_peer_same e (read_peer (limit_of e) e.side (with_unread e.peer (e.peer.unread ++ bytes)))
+control_same e bytes = then_same e (holding e bytes) _ (record { incoming = refl; outgoing = refl; announced = refl }) (held_same (holding e bytes))
 
 second_same : (b : Bool) (e : EndpointHistory) (x : Found) → SameStreams e x.0 → SameStreams e (unless_second b e x).0
 second_same true e x h = same_streams e

@@ -13,6 +13,8 @@ mod UnbrokenLaws
 mod SameWorlds
 mod KeepsCounts
 mod SentLaws
+mod StrictCodes
+mod AnnouncedEnds
 mod PlainRuns
 mod BoundedEnds
 mod PlainLists

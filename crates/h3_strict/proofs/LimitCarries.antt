@@ -7,7 +7,8 @@ use Rattle.h3_proto.specs.StreamIds.{is_request_stream}
 use Rattle.h3_proto.specs.declared.stream.Side.{Side}
 use Rattle.h3_proto.specs.declared.stream.Side.TheVariants.{Client, Server}
 use Rattle.h3_wire.specs.StreamHeaders.{control_encoding}
-use Rattle.h3_connection.specs.Endpoint.{EndpointHistory, Own, bytes_waiting, goaway_encoding, limit_of}
+use Rattle.h3_connection.specs.StrictConnection.{is_strict}
+use Rattle.h3_connection.specs.Endpoint.{EndpointHistory, Own, bytes_waiting, goaway_encoding, limit_of, first_decoder}
 use Rattle.h3_connection.specs.Listeners.{Decoding}
 use Rattle.h3_connection.specs.OwnIds.{control_id, decoder_id, encoder_id, is_own, other}
 use Rattle.h3_connection.specs.PeerReading.{Peer}
@@ -15,7 +16,7 @@ use Rattle.h3_connection.specs.Shown.{has_outgoing}
 use Rattle.h3_connection.specs.StreamSets.{stream_at}
 use Rattle.h3_connection.specs.Unidirectional.Role.{Control, Decoder, Encoder}
 use Rattle.h3_connection.specs.declared.setup.Announced.{Announced}
-use Rattle.h3_qpack.specs.DecoderState.{announcing, decoder_after_all}
+use Rattle.h3_qpack.specs.DecoderState.{decoder_after_all}
 use Rattle.h3_qpack.specs.InstructionSizes.{most_instruction}
 use Rattle.h3_qpack.specs.ShortInstructionLaws.{taken_instructions_short}
 use Rattle.h3_qpack.specs.WholeInstructions.{rest_in}
@@ -47,7 +48,6 @@ use Rattle.h3_strict.specs.Plainly.{plainly}
 record SameStreams (e f : EndpointHistory) : Type 0 where
   side : f.side ≡ e.side
   kept : f.kept ≡ e.kept
-  closed : f.closed ≡ e.closed
   unidirectional : f.unidirectional ≡ e.unidirectional
   peer : f.peer ≡ e.peer
   decoding : f.decoding ≡ e.decoding
@@ -56,12 +56,12 @@ record SameStreams (e f : EndpointHistory) : Type 0 where
   has : (id : ℕ) → has_outgoing f id ≡ has_outgoing e id
 
 unlimited_same : (e : EndpointHistory) → SameStreams e (limited_end (2 ^ 62 - 1) e)
-unlimited_same e = record { side = refl; kept = refl; closed = refl; unidirectional = refl; peer = refl; decoding = refl; decoder_unread = refl; waits_for = λ id. refl; has = λ id. refl }
+unlimited_same e = record { side = refl; kept = refl; unidirectional = refl; peer = refl; decoding = refl; decoder_unread = refl; waits_for = λ id. refl; has = λ id. refl }
 
 plain_same : (e : EndpointHistory) → SameStreams e (plainly (limited_end (2 ^ 62 - 1) e))
 plain_same e =
     let f : EndpointHistory = limited_end (2 ^ 62 - 1) e in
-    record { side = refl; kept = refl; closed = refl; unidirectional = refl; peer = refl; decoding = refl; decoder_unread = refl; waits_for = λ id. waits f id; has = λ id. has_one f id }
+    record { side = refl; kept = refl; unidirectional = refl; peer = refl; decoding = refl; decoder_unread = refl; waits_for = λ id. waits f id; has = λ id. has_one f id }
 
 own_control : (s : Side) → is_own s (control_id s) ≡ true
 own_control Client = refl
@@ -94,7 +94,7 @@ instructions_short streams X w writer made sound =
     let is = (party w writer).own.instructions in
     let most = (announced_at X (other writer)).limits.table in
     let read = instructions_read streams X w writer (length is) made (party_sound X w writer sound) (omega arith) in
-    taken_instructions_short most is read.decoder (ap (decoder_after_all (Some (announcing most))) (sym (take-length is)) ∙ read.reads)
+    taken_instructions_short (is_strict (announced_at X (other writer))) most is read.decoder (ap (decoder_after_all (Some (first_decoder (announced_at X (other writer))))) (sym (take-length is)) ∙ read.reads)
 
 -- a reader and a writer of which those stand there
 module _ (streams : StreamLaws) (setup X : Setup) (made : IsMadeSetup setup) (stated : IsMadeSetup X) (w : World) (s : Side) (er ew fr fw : EndpointHistory) (reads : SameStreams er fr) (writes : SameStreams ew fw)
@@ -117,7 +117,6 @@ module _ (streams : StreamLaws) (setup X : Setup) (made : IsMadeSetup setup) (st
   carries = record {
     side_is = sym reads.side ∙ hr.side_is ∙ sym (other-other s);
     nothing_kept = sym reads.kept ∙ hr.nothing_kept;
-    no_fault = sym reads.closed ∙ hr.no_fault;
     limit_is = limit;
     control_is = subst (λ l. IsPeerStream own.control_taken Control (stream_at l (control_id (other s)))) reads.unidirectional hr.control.stream_is;
     encoder_is = subst (λ l. IsPeerStream own.encoder_taken Encoder (stream_at l (encoder_id (other s)))) reads.unidirectional hr.encoder_stream.stream_is;

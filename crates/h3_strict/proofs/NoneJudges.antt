@@ -15,6 +15,7 @@ use Rattle.h3_connection.specs.Keeping.{pulls}
 use Rattle.h3_connection.specs.Outgoing.{nothing_sent}
 use Rattle.h3_connection.specs.OwnIds.{other}
 use Rattle.h3_connection.specs.Sending.{outgoing_at}
+use Rattle.h3_connection.specs.StrictConnection.{is_strict}
 use Rattle.h3_connection.specs.declared.setup.Announced.{Announced}
 use Rattle.h3_proto.specs.StreamIds.{is_request_stream}
 use Rattle.h3_connection.specs.declared.event.Pull.{Pull}
@@ -125,7 +126,7 @@ module _ (laws : Laws) (setup : Setup) (made : IsMadeSetup (plain_setup setup)) 
 
   -- what comes is never too long
   none_too_long : (s : Side) (ends : Ends) → (end_at ends s).announced ≡ announced_at setup s → TakesAnyLength (announced_at setup s) → (a : Answer) → was_too_long ends s a ≡ false
-  none_too_long s ends same any a = and_right (is_excess (refused_by a)) (is_limit (limit_of (end_at ends s))) (subst TakesAnyLength (sym same) any)
+  none_too_long s ends same any a = and_right (is_excess (is_strict (end_at ends s).announced) (refused_by a)) (is_limit (limit_of (end_at ends s))) (subst TakesAnyLength (sym same) any)
 
   none_here : (e : Event) (w : World) (ends : Ends) (known : ℕ → Bool) → Stands (plain_setup setup) w (plain_ends ends) → Tallies setup w ends known → judges ends e ≡ false
   none_here (event.Pull s i) w ends known h t = not_judged laws setup made w ends known h t strict s i

@@ -3,20 +3,22 @@ use Rattle.std.proofs.Common.{◌≡◌, ℕ, ◌+◌, Bool, true, false, if◌t
 use Rattle.std.specs.Prelude.{not, ◌||◌, is_some, option_map, unwrap_or}
 use Rattle.h3_field.specs.Field.{Field, section_size}
 use Rattle.h3_header.specs.Head.{Head, head_fields, has_pseudo}
-use Rattle.h3_messages.specs.Content.{awaited_by, may_end}
+use Rattle.h3_messages.specs.Content.{may_end}
 use Rattle.h3_messages.specs.declared.content.Content.{Content}
+use Rattle.h3_connection.specs.Lasts.{last_id}
 use Rattle.h3_connection.specs.OwnIds.{other}
 use Rattle.h3_connection.specs.Pulling.{is_for}
 use Rattle.h3_connection.specs.Delivering.{incoming_at, opened_at, given_up_by, give_up}
 use Rattle.h3_connection.specs.Endpoint.{EndpointHistory, is_critical_id}
-use Rattle.h3_connection.specs.Incoming.{Incoming, nothing_came, awaiting}
+use Rattle.h3_connection.specs.Incoming.{Incoming, nothing_came, having_told}
 use Rattle.h3_connection.specs.Outgoing.{Outgoing, OwnPart, nothing_sent, takes_head, takes_body, takes_end, is_sent_off, with_body, with_finish, with_reset, with_said}
 use Rattle.h3_connection.specs.Outgoing.OwnPart.{OwnTrailer}
 use Rattle.h3_connection.specs.Sections.{written_section}
-use Rattle.h3_connection.specs.Refusals.{first_of, is_too_large}
-use Rattle.h3_connection.specs.Sending.{closed_or, open_refusal, open_request, body_refusal, finish_refusal, reset_refusal, goaway_refusal, goaway, cancel_refusal, cancel, send_head, send_body, send_trailer, finish, reset, sent_bytes, counted, encoded, appended, head_part, fields_cost, outgoing_at, asked, awaiting_at, content_of_own, known_of, remembers, saying_at, advance_at, advance, does}
+use Rattle.h3_connection.specs.Refusals.{first_of, is_too_large, unless_going}
+use Rattle.h3_connection.specs.Sending.{closed_or, open_refusal, open_request, body_refusal, finish_refusal, reset_refusal, goaway_refusal, goaway, cancel_refusal, cancel, send_head, send_body, send_trailer, finish, reset, sent_bytes, counted, encoded, appended, head_part, fields_cost, outgoing_at, asked, content_of_own, known_of, saying_at, advance_at, advance, does, broken_head_at, telling_at}
 use Rattle.h3_connection.specs.StreamSets.{Streams, stream_at, set_stream}
-use Rattle.h3_connection.specs.StrictSending.{broken_head, broken_protocol, broken_trailer, early_trailer, passes_content, unless_malformed}
+use Rattle.h3_connection.specs.StrictConnection.{begins_none_after}
+use Rattle.h3_connection.specs.StrictSending.{broken_protocol, broken_trailer, early_trailer, passes_content, unless_malformed}
 use Rattle.h3_connection.specs.declared.event.Malformation.{Malformation}
 use Rattle.h3_connection.specs.declared.event.Malformation.TheVariants as malformation
 use Rattle.h3_connection.specs.declared.event.Refusal.{Refusal}
@@ -28,7 +30,10 @@ use Rattle.h3_world.specs.EndLists.{after_trailer_fields, send_fields, send_trai
 use Rattle.h3_world.specs.Lists.{unreadable}
 use Rattle.h3_world.specs.Setup.{takes_any}
 use Rattle.h3_strict.proofs.SentLaws.{head_judged, trailer_judged}
-use Rattle.h3_strict.specs.Plainly.{each_stream, plain_incoming, plain_outgoing, plainly}
+use Rattle.h3_proto.specs.declared.stream.Side.{Side}
+use Rattle.h3_proto.specs.declared.stream.Side.TheVariants.{Client, Server}
+use Rattle.h3_connection.specs.declared.setup.Announced.{Announced}
+use Rattle.h3_strict.specs.Plainly.{each_stream, plain, plain_incoming, plain_outgoing, plainly}
 use Rattle.h3_strict.proofs.PlainCalls.{CallsPlainly, RulesPlainly, Agrees, behind, if_broken, unless_broken, if_open, does_plainly}
 use Rattle.h3_strict.proofs.PlainStreams.{at_each, set_each, set_alike, in_at, out_at}
 
@@ -44,14 +49,22 @@ with_out : (e f : EndpointHistory) (id : ℕ) (g : Outgoing → Outgoing) → ((
 with_out e f id g same = ap (λ (t : Streams Outgoing). record (plainly f) { outgoing = t }) (sets_out e id g same)
 
 -- the rules of a sender, by what is there of the stream
-abbrev head_rules : EndpointHistory → Option Outgoing → Head → List Field → Option Malformation → Option Malformation → Option Refusal
-head_rules e o head fields protocol broken = closed_or e.closed (first_of (
+abbrev going_of : EndpointHistory → Option ℕ
+going_of e = begins_none_after e.announced e.side (last_id e.peer.goaways)
+
+going_plain : (own : Announced) (side : Side) (last : Option ℕ) → begins_none_after (plain own) side last ≡ begins_none_after own side last
+going_plain own Client last = refl
+going_plain own Server last = refl
+
+abbrev head_rules : EndpointHistory → Option ℕ → Option Outgoing → Head → List Field → Option Malformation → Option Malformation → Option Refusal
+head_rules e going o head fields protocol broken = closed_or e.closed (first_of (
     (not (is_some o), refusal.NotOpen) ∷
     (not (takes_head (unwrap_or o nothing_sent)), refusal.OutOfOrder) ∷
+    unless_going going (
     unless_malformed protocol (
     (not (is_for (other e.side) head), refusal.WrongSide) ∷
     unless_malformed broken (
-    (is_too_large e.peer.settings fields, refusal.TooLarge (section_size fields)) ∷ []))))
+    (is_too_large e.peer.settings fields, refusal.TooLarge (section_size fields)) ∷ [])))))
 
 abbrev body_rules : EndpointHistory → Option Outgoing → ℕ → Option Refusal
 body_rules e o size = closed_or e.closed (first_of (
@@ -106,26 +119,34 @@ module _ (e : EndpointHistory) (id : ℕ) where
   both_unless None one two h = h
   both_unless (Some why) one two h = Agrees refl
 
-  head_rules_plain : (head : Head) (fields : List Field) (protocol broken : Option Malformation) (o : Option Outgoing) → RulesPlainly (head_rules e o head fields protocol broken) (head_rules e (option_map plain_outgoing o) head fields protocol None)
+  both_going : (going : Option ℕ) (one two : List (Bool × Refusal)) → RulesPlainly (first_of one) (first_of two) → RulesPlainly (first_of (unless_going going one)) (first_of (unless_going going two))
+  both_going None one two h = h
+  both_going (Some last) one two h = Agrees refl
+
+  head_rules_plain : (head : Head) (fields : List Field) (protocol broken : Option Malformation) (o : Option Outgoing)
+      → RulesPlainly (head_rules e (going_of e) o head fields protocol broken) (head_rules e (going_of e) (option_map plain_outgoing o) head fields protocol None)
   head_rules_plain head fields protocol broken None = if_open e.closed _ _ (Agrees refl)
   head_rules_plain head fields protocol broken (Some o) =
       let size = too_large fields in
       let judges = unless_malformed broken size in
       let sides : Bool × Refusal = (not (is_for (other e.side) head), refusal.WrongSide) in
-      if_open e.closed _ _ (behind (not (takes_head o)) refusal.OutOfOrder (unless_malformed protocol (sides ∷ judges)) (unless_malformed protocol (sides ∷ size))
-      (both_unless protocol (sides ∷ judges) (sides ∷ size) (behind sides.0 sides.1 judges size (unless_broken broken size size (Agrees refl)))))
+      let one = unless_malformed protocol (sides ∷ judges) in
+      let two = unless_malformed protocol (sides ∷ size) in
+      if_open e.closed _ _ (behind (not (takes_head o)) refusal.OutOfOrder (unless_going (going_of e) one) (unless_going (going_of e) two)
+      (both_going (going_of e) one two (both_unless protocol (sides ∷ judges) (sides ∷ size) (behind sides.0 sides.1 judges size (unless_broken broken size size (Agrees refl))))))
 
   -- a head that goes out as these fields
   head_as_plainly : (protocol : Option Malformation) (head : Head) (fields : List Field)
       → CallsPlainly e (does (head_judged e id protocol head fields) e (head_sent e id head fields)) (does (head_judged (plainly e) id protocol head fields) (plainly e) (head_sent (plainly e) id head fields))
   head_as_plainly protocol head fields =
       does_plainly (head_judged e id protocol head fields) (head_judged (plainly e) id protocol head fields) e _ _
-      (found (λ o. RulesPlainly (head_rules e sent head fields protocol broken) (head_rules e o head fields protocol None)) (head_rules_plain head fields protocol broken sent))
+      (subst (λ g. RulesPlainly (head_rules e (going_of e) sent head fields protocol broken) (head_rules e g (stream_at (plainly e).outgoing id) head fields protocol None)) (sym (going_plain e.announced e.side (last_id e.peer.goaways)))
+      (found (λ o. RulesPlainly (head_rules e (going_of e) sent head fields protocol broken) (head_rules e (going_of e) o head fields protocol None)) (head_rules_plain head fields protocol broken sent)))
       (ap (λ (t : Streams Outgoing). record (plainly new) { incoming = each_stream plain_incoming e.incoming; outgoing = t }) outgoing_is
       ∙ ap (λ (s : Streams Incoming). record (plainly new) { incoming = s }) (sym incoming_is))
     where
       broken : Option Malformation
-      broken = broken_head e.side e.announced e.peer.settings fields
+      broken = broken_head_at e id fields
 
       part : OwnPart
       part = head_part head (written_section e.encoder id fields)
@@ -142,16 +163,16 @@ module _ (e : EndpointHistory) (id : ℕ) where
       new : EndpointHistory
       new = asked (counted (appended (encoded e id fields) id part) (fields_cost fields)) id fields
 
-      awaits : (o : Option Incoming) → stream_at e.incoming id ≡ o → each_stream plain_incoming (awaiting_at e.incoming id (awaited_by fields) o) ≡ each_stream plain_incoming e.incoming
-      awaits None is = refl
-      awaits (Some i) is = set_alike plain_incoming e.incoming id i (awaiting i (awaited_by fields)) is refl
+      tells : (o : Option Incoming) → stream_at e.incoming id ≡ o → each_stream plain_incoming (telling_at e.side e.incoming id fields o) ≡ each_stream plain_incoming e.incoming
+      tells None is = refl
+      tells (Some i) is = set_alike plain_incoming e.incoming id i (having_told e.side i fields) is refl
 
-      if_asked : (b : Bool) → each_stream plain_incoming (if b then awaiting_at e.incoming id (awaited_by fields) (stream_at e.incoming id) else e.incoming) ≡ each_stream plain_incoming e.incoming
-      if_asked true = awaits (stream_at e.incoming id) refl
+      if_asked : (b : Bool) → each_stream plain_incoming (if b then telling_at e.side e.incoming id fields (stream_at e.incoming id) else e.incoming) ≡ each_stream plain_incoming e.incoming
+      if_asked true = tells (stream_at e.incoming id) refl
       if_asked false = refl
 
       incoming_is : each_stream plain_incoming new.incoming ≡ each_stream plain_incoming e.incoming
-      incoming_is = if_asked (remembers e.side e.announced)
+      incoming_is = if_asked e.announced.choices.strict_messages
 
       says : (o : Option Outgoing) → stream_at now id ≡ o → each_stream plain_outgoing (saying_at now id said o) ≡ each_stream plain_outgoing now
       says None is = refl

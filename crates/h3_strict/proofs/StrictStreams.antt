@@ -84,7 +84,7 @@ same_section s t e = ap (λ o. unwrap_or o s) e
 
 module _ (lists : ListsAreTheirValue) (side : Side) (own : Announced) (id : ℕ) (r : DecoderState) (strict : own.choices.strict_messages ≡ true) (any : TakesAnyLength own) (awaited : Content) (known : Option Content) where
   -- an answer that hands out nothing and tells nothing of the message
-  stays : (f : Flow) (q : Pull) (j : Incoming) → tells_malformed q ≡ false → flow_after f q ≡ f → response_after q side (next_part f) known ≡ known → Counting side awaited known f j
+  stays : (f : Flow) (q : Pull) (j : Incoming) → tells_malformed false q ≡ false → flow_after f q ≡ f → response_after q side (next_part f) known ≡ known → Counting side awaited known f j
       → PullsOn side awaited known f (just q j)
   stays f q j quiet same knows h = record { judges_not = quiet; counts = subst (λ g. CountsFlow side awaited g j) (sym same) h.counts; responds = h.response ∙ sym knows }
 

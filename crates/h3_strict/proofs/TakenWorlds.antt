@@ -14,7 +14,7 @@ use Rattle.h3_wire.specs.Encoded.{frame_encoding}
 use Rattle.h3_connection.specs.Outgoing.{takes_body, takes_end, takes_head}
 use Rattle.h3_connection.specs.OwnIds.{other}
 use Rattle.h3_connection.specs.Pulling.{is_for, is_interim}
-use Rattle.h3_connection.specs.Refusals.{first_of, is_too_large, of_list, with_pseudo, wrong_side}
+use Rattle.h3_connection.specs.Refusals.{first_of, is_too_large, of_list, unless_going, with_pseudo, wrong_side}
 use Rattle.h3_connection.specs.StrictSending.{unless_malformed}
 use Rattle.h3_connection.specs.declared.event.Pull.{Pull}
 use Rattle.h3_connection.specs.declared.event.Pull.TheVariants as pull
@@ -30,7 +30,7 @@ use Rattle.h3_world.specs.Items.{after_item, acknowledgment_of, handed_out}
 use Rattle.h3_world.specs.Order.{is_over, is_sent_off, next_part, outgoing_of}
 use Rattle.h3_world.specs.Pauses.{paused}
 use Rattle.h3_world.specs.Pulling.{Pulls, PullsNext, settled}
-use Rattle.h3_world.specs.Refusals.{body_refusal, cancel_refusal, finish_refusal, goaway_refusal, head_refusal, is_critical, next_id, open_refusal, reset_refusal, trailer_refusal, fields_refusal, trailer_fields_refusal}
+use Rattle.h3_world.specs.Refusals.{body_refusal, cancel_refusal, finish_refusal, goaway_refusal, head_refusal, is_critical, none_after, next_id, open_refusal, reset_refusal, trailer_refusal, fields_refusal, trailer_fields_refusal}
 use Rattle.h3_world.specs.Run.{Run}
 use Rattle.h3_world.specs.Sending.{appended, cut_off, finished, given_up, having_encoded, opened, section_sent, sent_body, sent_head, sent_trailer, with_goaway, sent_fields, sent_trailer_fields}
 use Rattle.h3_world.specs.Lists.{pull_of, unreadable}
@@ -117,8 +117,8 @@ module _ (setup : Setup) where
     head_step w v s i head a step within t =
         does (head_refusal world w s i head) w (sent_head w s i head) v answer.Done a step t (λ none done.
         let there = open_there w s i (not_refused (is_open w s i) (
-        (not (takes_head (outgoing_of (flow w s i))), refusal.OutOfOrder) ∷ (not (is_for (other s) head), refusal.WrongSide) ∷
-        (is_too_large (settings_known world w s) (head_fields head), refusal.TooLarge (section_size (head_fields head))) ∷ []) none) in
+        (not (takes_head (outgoing_of (flow w s i))), refusal.OutOfOrder) ∷ unless_going (none_after world w s) ((not (is_for (other s) head), refusal.WrongSide) ∷
+        (is_too_large (settings_known world w s) (head_fields head), refusal.TooLarge (section_size (head_fields head))) ∷ [])) none) in
         section_goes w s i (head_fields head) ((if is_interim head.status then Interim else Head) (section_sent (party w s) i (head_fields head) (flow w s i))) there
         (head_taken (is_interim head.status) (limit_at setup (other s)) (section_sent (party w s) i (head_fields head) (flow w s i)) (section_taken (limit_at setup (other s)) (party w s) i (head_fields head) (flow w s i) (within (ap is_done done)))) t)
 
@@ -137,8 +137,8 @@ module _ (setup : Setup) where
         does (fields_refusal world w s i fields) w (sent_fields w s i fields) v answer.Done a step t (λ none done.
         let head = head_of_fields fields in
         let there = open_there w s i (not_refused (is_open w s i) (
-        (not (takes_head (outgoing_of (flow w s i))), refusal.OutOfOrder) ∷
-        unless_malformed (unreadable (takes_any (announced_at world s)) fields) (wrong_side s head ∷ of_list None (settings_known world w s) fields)) none) in
+        (not (takes_head (outgoing_of (flow w s i))), refusal.OutOfOrder) ∷ unless_going (none_after world w s) (
+        unless_malformed (unreadable (takes_any (announced_at world s)) fields) (wrong_side s head ∷ of_list None (settings_known world w s) fields))) none) in
         section_goes w s i fields ((if is_interim head.status then Interim else Head) (section_sent (party w s) i fields (flow w s i))) there
         (head_taken (is_interim head.status) (limit_at setup (other s)) (section_sent (party w s) i fields (flow w s i)) (section_taken (limit_at setup (other s)) (party w s) i fields (flow w s i) (within (ap is_done done)))) t)
 

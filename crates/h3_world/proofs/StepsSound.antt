@@ -11,7 +11,7 @@ use Rattle.h3_connection.specs.Announcing.{section_of}
 use Rattle.h3_connection.specs.Outgoing.{takes_head, takes_body, takes_end}
 use Rattle.h3_connection.specs.OwnIds.{other, control_id, encoder_id, decoder_id, is_own}
 use Rattle.h3_connection.specs.Pulling.{is_interim}
-use Rattle.h3_connection.specs.Refusals.{first_of, not_next, of_list, with_pseudo, wrong_side}
+use Rattle.h3_connection.specs.Refusals.{first_of, not_next, of_list, unless_going, with_pseudo, wrong_side}
 use Rattle.h3_connection.specs.StrictSending.{unless_malformed}
 use Rattle.h3_connection.specs.declared.event.Pull.{Pull}
 use Rattle.h3_connection.specs.declared.event.Pull.TheVariants as pull
@@ -32,7 +32,7 @@ use Rattle.h3_world.specs.Came.{insertions_came, settings_known}
 use Rattle.h3_world.specs.Lists.{pull_of, unreadable}
 use Rattle.h3_world.specs.Streams.{flow, is_open, has_outgoing, waiting}
 use Rattle.h3_world.specs.Order.{last_part, next_part, is_over, is_finished, is_sent_off, outgoing_of}
-use Rattle.h3_world.specs.Refusals.{is_critical, body_refusal, finish_refusal, reset_refusal, cancel_refusal, seen_at}
+use Rattle.h3_world.specs.Refusals.{is_critical, none_after, body_refusal, finish_refusal, reset_refusal, cancel_refusal, seen_at}
 use Rattle.h3_world.specs.Sending.{appended, with_section, sent_body, finished, cut_off, given_up}
 use Rattle.h3_world.specs.Delivering.{delivered, delivered_own, delivered_message, delivered_end, delivered_reset, is_closed, may_end, delivery, end_delivery, reset_delivery}
 use Rattle.h3_world.specs.Pauses.{pause_before, pause_of}
@@ -331,11 +331,12 @@ pull_sound setup w side id p new h pulls exact = by_settled (settled w side id) 
 pub step_sound : QpackLaws → (setup : Setup) (w new : World) (e : Event) (a : Answer) → IsSendable setup e → Step setup w e a new → IsExact w e a → IsSoundWorld setup w → IsSoundWorld setup new
 step_sound laws setup w new (event.OpenRequest side) a send step exact h = does_sound setup _ w _ _ a new step h (λ e. opened_sound setup w h)
 step_sound laws setup w new (event.Head side id head) a send step exact h =
-    does_sound setup _ w _ _ a new step h (head_sound laws setup w side id (is_interim head.status) (head_fields head) (wrong_side side head ∷ of_list None (settings_known setup w side) (head_fields head)) h send.section)
+    does_sound setup _ w _ _ a new step h (head_sound laws setup w side id (is_interim head.status) (head_fields head) (unless_going (none_after setup w side) (wrong_side side head ∷ of_list None (settings_known setup w side) (head_fields head))) h send.section)
 step_sound laws setup w new (event.Fields side id fields) a send step exact h =
     let head = head_of_fields fields in
     does_sound setup _ w _ _ a new step h
-    (head_sound laws setup w side id (is_interim head.status) fields (unless_malformed (unreadable (takes_any (announced_at setup side)) fields) (wrong_side side head ∷ of_list None (settings_known setup w side) fields)) h send.section)
+    (head_sound laws setup w side id (is_interim head.status) fields
+    (unless_going (none_after setup w side) (unless_malformed (unreadable (takes_any (announced_at setup side)) fields) (wrong_side side head ∷ of_list None (settings_known setup w side) fields))) h send.section)
 step_sound laws setup w new (event.Body side id bytes) a send step exact h = does_sound setup _ w _ _ a new step h (body_is_sound setup w side id bytes h send)
 step_sound laws setup w new (event.Trailer side id trailer) a send step exact h =
     does_sound setup _ w _ _ a new step h (trailer_sound laws setup w side id (head_fields trailer) (with_pseudo trailer ∷ of_list None (settings_known setup w side) (head_fields trailer)) h send.section)

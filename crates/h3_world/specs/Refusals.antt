@@ -9,6 +9,7 @@ use Rattle.h3_connection.specs.Lasts.{last_id}
 use Rattle.h3_connection.specs.OwnIds.{other, is_own}
 use Rattle.h3_connection.specs.Refusals.{Sender, SenderStream, seen, refusal_of_head, refusal_of_body, refusal_of_trailer, refusal_of_end, refusal_to_stop, refusal_to_open, refusal_of_goaway}
 use Rattle.h3_connection.specs.declared.event.Refusal.{Refusal}
+use Rattle.h3_connection.specs.StrictConnection.{begins_none_after}
 use Rattle.h3_world.specs.declared.setup.Setup.{Setup}
 use Rattle.h3_world.specs.Lists.{unreadable}
 use Rattle.h3_world.specs.Setup.{announced_at, takes_any}
@@ -30,8 +31,18 @@ open_refusal setup w side = refusal_to_open side (last_id (goaways_came setup w 
 abbrev pub seen_at : World → Side → ℕ → SenderStream
 seen_at w side id = seen (is_open w side id) (outgoing_of (flow w side id))
 
+-- the GOAWAY after which the side begins no message, if it asks for a strict connection (RFC 9114, section 5.2)
+abbrev pub none_after : Setup → World → Side → Option ℕ
+none_after setup w side = begins_none_after (announced_at setup side) side (last_id (goaways_came setup w (other side)))
+
 abbrev pub sender_at : Setup → World → Side → ℕ → Sender
-sender_at setup w side id = record { side = side; stream = seen_at w side id; settings = settings_known setup w side }
+sender_at setup w side id =
+    record {
+      side = side;
+      stream = seen_at w side id;
+      settings = settings_known setup w side;
+      going = none_after setup w side;
+    }
 
 abbrev pub head_refusal : Setup → World → Side → ℕ → Head → Option Refusal
 head_refusal setup w side id head = refusal_of_head (sender_at setup w side id) None None head (head_fields head)
