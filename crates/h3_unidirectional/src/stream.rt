@@ -49,7 +49,9 @@ pub enum Received {
     Decoder(Bytes),
     /// The stream is a push stream.
     Push,
-    /// For none: the bytes are of a session, which is pulled, or are thrown away, or tell no role yet.
+    /// The stream is one of the WebTransport session with this id, and its bytes are pulled.
+    Session(u64),
+    /// For none: the bytes are thrown away, or tell no role yet.
     Nothing,
 }
 
@@ -234,7 +236,7 @@ impl UnidirectionalStream {
     {
         match kind {
             Kind::Session(session) => match self.keep(session, bytes, passed) {
-                Ok(()) => Ok(Received::Nothing),
+                Ok(()) => Ok(Received::Session(session.into_inner())),
                 Err(back) => Err(back),
             },
             Kind::Control => {
