@@ -232,6 +232,7 @@ static void choose(h3_config *config, const char *word) {
       {"any_protocol", offsetof(h3_config, any_protocol)},
       {"guard_secrets", offsetof(h3_config, guard_secrets)},
       {"shortest_strings", offsetof(h3_config, shortest_strings)},
+      {"strict_connection", offsetof(h3_config, strict_connection)},
   };
   size_t len = strcspn(word, "=");
   uint64_t value = word[len] ? strtoull(word + len + 1, NULL, 10) : 1;
@@ -257,6 +258,7 @@ static void begin(char **words, size_t count) {
   c.any_protocol = 0;
   c.guard_secrets = 0;
   c.shortest_strings = 0;
+  c.strict_connection = 0;
   c.server = words[1][0] == 's';
   c.max_field_section_size = strtoull(words[2], NULL, 10);
   c.table = strtoull(words[3], NULL, 10);

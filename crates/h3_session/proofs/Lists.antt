@@ -12,11 +12,11 @@ use Rattle.h3_connection.specs.Endpoint.{EndpointHistory}
 use Rattle.h3_connection.specs.OwnIds.{other}
 use Rattle.h3_connection.specs.Pulling.{is_for, is_interim}
 use Rattle.h3_connection.specs.Outgoing.{takes_head, takes_body}
-use Rattle.h3_connection.specs.Refusals.{first_of, is_too_large, or_later, wrong_side}
-use Rattle.h3_connection.specs.Sending.{does, closed_or, is_open, outgoing_at}
+use Rattle.h3_connection.specs.Refusals.{first_of, is_too_large, or_later, wrong_side, unless_going}
+use Rattle.h3_connection.specs.Sending.{does, closed_or, is_open, outgoing_at, sender_at, broken_head_at}
 use Rattle.h3_connection.specs.SendingContracts.{CutsOff, MayLackMemory}
 use Rattle.h3_connection.specs.State.{EndpointState, RequestState, StandsFor, kept_at}
-use Rattle.h3_connection.specs.StrictSending.{broken_head, broken_protocol, broken_trailer, early_trailer, unless_malformed}
+use Rattle.h3_connection.specs.StrictSending.{broken_protocol, broken_trailer, early_trailer, unless_malformed}
 use Rattle.h3_connection.specs.declared.event.Malformation.{Malformation}
 use Rattle.h3_connection.specs.declared.event.Malformation.TheVariants as malformation
 use Rattle.h3_connection.specs.declared.setup.Announced.{Announced}
@@ -24,12 +24,12 @@ use Rattle.h3_connection.specs.declared.event.Refusal.{Refusal}
 use Rattle.h3_connection.specs.declared.event.Refusal.TheVariants as refusal
 use Rattle.h3_connection.specs.declared.place.SendPlace.{SendPlace}
 use Rattle.h3_connection.specs.declared.place.SendPlace.TheVariants.{NothingSent, HeadSent}
-use Rattle.h3_requests.specs.Refused.{head_refused_at, body_refused_at, seen_in}
+use Rattle.h3_requests.specs.Refused.{body_refused_at, seen_in}
 use Rattle.h3_session.specs.JudgedLists.{head_list_refusal, trailer_list_refusal, IsHeadAt, IsTrailer}
-use Rattle.h3_session.specs.Refused.{own_head_refused, own_trailer_refused, side_refused, pseudo_refused}
+use Rattle.h3_session.specs.Refused.{own_head_refused, own_trailer_refused, side_refused, pseudo_refused, head_refused_in, sender_on}
 use Rattle.h3_session.specs.SendingLists.{SendsList, SendsFieldList, SendsTrailerList, SendsJudged, SendsJudgedHead, SendsJudgedTrailer, NotMalformed, IsReadable, MayLackSize, MayLackMap, refusal_after, malformed, order_refusal, place_refusal, send_fields, send_trailer_fields, send_read_head, send_read_trailer, send_listed_head, send_listed_trailer, listed_head_refusal, listed_trailer_refusal, after_head, after_trailer}
 use Rattle.h3_session.proofs.SendingCalls.{same_itself}
-use Rattle.h3_session.proofs.SendingRefusals.{place_refusal_is, order_refusal_is}
+use Rattle.h3_session.proofs.SendingRefusals.{place_refusal_is, order_refusal_is, going_takes_none}
 use Rattle.h3_session.proofs.SendingSections.{not_begun}
 
 -- The call with a header of these fields, as one with the list.
@@ -107,6 +107,23 @@ sized_rest None true b p q rest is = absurd (cc)
 sized_rest None false true p q rest is = absurd (cc)
 sized_rest None false false p q rest is = refl
 
+-- the same of a head, with the GOAWAY behind its place
+going_first : (closed : Option ℕ) (a b : Bool) (p q : Refusal) (going : Option ℕ) (rest : List (Bool × Refusal)) (r : Refusal)
+    → closed_or closed (first_of ((a, p) ∷ (b, q) ∷ unless_going going [])) ≡ Some r → closed_or closed (first_of ((a, p) ∷ (b, q) ∷ unless_going going rest)) ≡ Some r
+going_first (Some code) a b p q going rest r is = is
+going_first None true b p q going rest r is = is
+going_first None false true p q going rest r is = is
+going_first None false false p q (Some id) rest r is = is
+going_first None false false p q None rest r is = absurd (cc)
+
+going_rest : (closed : Option ℕ) (a b : Bool) (p q : Refusal) (going : Option ℕ) (rest : List (Bool × Refusal))
+    → closed_or closed (first_of ((a, p) ∷ (b, q) ∷ unless_going going [])) ≡ None → closed_or closed (first_of ((a, p) ∷ (b, q) ∷ unless_going going rest)) ≡ first_of rest
+going_rest (Some code) a b p q going rest is = absurd (cc)
+going_rest None true b p q going rest is = absurd (cc)
+going_rest None false true p q going rest is = absurd (cc)
+going_rest None false false p q (Some id) rest is = absurd (cc)
+going_rest None false false p q None rest is = refl
+
 abbrev is_no_memory : Refusal → Bool
 is_no_memory refusal.OutOfMemory = true
 is_no_memory _ = false
@@ -147,8 +164,13 @@ not_memory_at true b is = absurd (cc)
 not_memory_at false true is = absurd (cc)
 not_memory_at false false is = absurd (cc)
 
-head_not_memory : (there : Option RequestState) → head_refused_at there ≢ Some refusal.OutOfMemory
-head_not_memory there is = let v = seen_in there in not_memory_at (not v.is_open) (not v.takes_head) is
+not_memory_in : (a b : Bool) (going : Option ℕ) → or_later (first_of ((a, refusal.NotOpen) ∷ (b, refusal.OutOfOrder) ∷ [])) (first_of (unless_going going [])) ≢ Some refusal.OutOfMemory
+not_memory_in true b going is = absurd (cc)
+not_memory_in false true going is = absurd (cc)
+not_memory_in false false going is = going_takes_none going is
+
+head_not_memory : (s : EndpointState) (id : ℕ) → head_refused_in s id ≢ Some refusal.OutOfMemory
+head_not_memory s id is = let v = seen_in (kept_at s.requests id) in not_memory_in (not v.is_open) (not v.takes_head) (sender_on s id).going is
 
 body_not_memory : (there : Option RequestState) → body_refused_at there ≢ Some refusal.OutOfMemory
 body_not_memory there is = let v = seen_in there in not_memory_at (not v.is_open) (not v.takes_body) is
@@ -218,7 +240,7 @@ module _ (s : EndpointState) (id : ℕ) (fields : List Field) where
 
   -- the rules of a head behind those of its stream
   abbrev sides : EndpointHistory → Head → List (Bool × Refusal)
-  sides e head = (not (is_for (other e.side) head), refusal.WrongSide) ∷ unless_malformed (broken_head e.side e.announced e.peer.settings fields) ((is_too_large e.peer.settings fields, refusal.TooLarge (section_size fields)) ∷ [])
+  sides e head = (not (is_for (other e.side) head), refusal.WrongSide) ∷ unless_malformed (broken_head_at e id fields) ((is_too_large e.peer.settings fields, refusal.TooLarge (section_size fields)) ∷ [])
 
   as_fields : (new : EndpointState) (told : Option Refusal) → SendsList (λ e. send_read_head e id fields read) s new id fields told → SendsList (λ e. send_fields e id fields) s new id fields told
   as_fields new told h =
@@ -228,13 +250,13 @@ module _ (s : EndpointState) (id : ℕ) (fields : List Field) where
   head_first : (r : HeadRead) (e : EndpointHistory) (x : Refusal) → place_refusal e id ≡ Some x → send_read_head e id fields r ≡ (Some x, e)
   head_first (IsHead head) e x is =
       ap (λ o. does o e (after_head e id head fields))
-      (sized_first e.closed (not (is_open e id)) (not (takes_head (outgoing_at e id))) refusal.NotOpen refusal.OutOfOrder
-      (first_of (unless_malformed (broken_protocol e.announced head) (sides e head))) x is)
+      (going_first e.closed (not (is_open e id)) (not (takes_head (outgoing_at e id))) refusal.NotOpen refusal.OutOfOrder (sender_at e id).going
+      (unless_malformed (broken_protocol e.announced head) (sides e head)) x is)
   head_first (IsNone why) e x is = ap (λ o. (Some (refusal_after o (malformed why)), e)) is
 
   head_behind : (e : EndpointHistory) (head : Head) → place_refusal e id ≡ None
       → listed_head_refusal e id head fields ≡ first_of (unless_malformed (broken_protocol e.announced head) (sides e head))
-  head_behind e head is = sized_rest e.closed (not (is_open e id)) (not (takes_head (outgoing_at e id))) refusal.NotOpen refusal.OutOfOrder _ is
+  head_behind e head is = going_rest e.closed (not (is_open e id)) (not (takes_head (outgoing_at e id))) refusal.NotOpen refusal.OutOfOrder (sender_at e id).going (unless_malformed (broken_protocol e.announced head) (sides e head)) is
 
   head_begins : (r : HeadRead) (later : Refusal) → IsTakenBy r → (later ≢ refusal.OutOfMemory → head_list_refusal s.side r ≡ Some later) → (later ≡ refusal.OutOfMemory → 24576 < length fields)
       → Begins (λ e. send_read_head e id fields r) (λ e. place_refusal e id) s id fields later
@@ -245,7 +267,7 @@ module _ (s : EndpointState) (id : ℕ) (fields : List Field) where
             let here : first_of (wrong_side e.side head ∷ []) ≡ Some later
             = subst (λ side. side_refused side head ≡ Some later) stands.side (errs differs) in
             ap (λ o. does o e (after_head e id head fields))
-            (head_behind e head is ∙ ap (λ p. first_of (unless_malformed p (sides e head))) (taken_in e head stands (is_taken head refl)) ∙ behind_rule (not (is_for (other e.side) head)) refusal.WrongSide (judged_last (broken_head e.side e.announced e.peer.settings fields) (is_too_large e.peer.settings fields) (section_size fields)) later here)
+            (head_behind e head is ∙ ap (λ p. first_of (unless_malformed p (sides e head))) (taken_in e head stands (is_taken head refl)) ∙ behind_rule (not (is_for (other e.side) head)) refusal.WrongSide (judged_last (broken_head_at e id fields) (is_too_large e.peer.settings fields) (section_size fields)) later here)
             ∙ ap (λ t. (Some t, e)) (refused_later (not (is_for (other e.side) head)) refusal.WrongSide later here);
         map = λ memory. (
           many memory,
@@ -253,7 +275,7 @@ module _ (s : EndpointState) (id : ℕ) (fields : List Field) where
               subst MayLackMap (sym (head_behind e head is)
               ∙ sym (told_of (listed_head_refusal e id head fields) e (after_head e id head fields)))
               (may_malformed (broken_protocol e.announced head) (sides e head)
-              (may_behind (not (is_for (other e.side) head)) refusal.WrongSide (broken_head e.side e.announced e.peer.settings fields) (is_too_large e.peer.settings fields) (section_size fields) tt)),
+              (may_behind (not (is_for (other e.side) head)) refusal.WrongSide (broken_head_at e id fields) (is_too_large e.peer.settings fields) (section_size fields) tt)),
         );
       }
   head_begins (IsNone why) later is_taken errs many =
@@ -268,22 +290,22 @@ module _ (s : EndpointState) (id : ℕ) (fields : List Field) where
       as_fields s (Some (refusal.Closed code))
       (refuses (λ e. send_read_head e id fields read) s id fields (refusal.Closed code)
       (λ e stands. head_first read e (refusal.Closed code)
-      (ap (λ c. closed_or c (first_of ((not (is_open e id), refusal.NotOpen) ∷ (not (takes_head (outgoing_at e id)), refusal.OutOfOrder) ∷ []))) (sym stands.closed ∙ closed))) (λ same. absurd (cc)))
+      (ap (λ c. closed_or c (first_of ((not (is_open e id), refusal.NotOpen) ∷ (not (takes_head (outgoing_at e id)), refusal.OutOfOrder) ∷ unless_going (sender_at e id).going []))) (sym stands.closed ∙ closed))) (λ same. absurd (cc)))
 
-  pub head_list_early : (r : Refusal) → s.closed ≡ None → head_refused_at (kept_at s.requests id) ≡ Some r → SendsFieldList s s id fields (Err r)
+  pub head_list_early : (r : Refusal) → s.closed ≡ None → head_refused_in s id ≡ Some r → SendsFieldList s s id fields (Err r)
   head_list_early r closed is =
       as_fields s (Some r)
       (refuses (λ e. send_read_head e id fields read) s id fields r
-      (λ e stands. head_first read e r (sym (place_refusal_is s e id stands) ∙ ap (λ c. closed_or c (head_refused_at (kept_at s.requests id))) closed ∙ is))
-      (λ same. head_not_memory (kept_at s.requests id) (is ∙ (let memory : r ≡ refusal.OutOfMemory = cc in ap Some memory))))
+      (λ e stands. head_first read e r (sym (place_refusal_is s e id stands) ∙ ap (λ c. closed_or c (head_refused_in s id)) closed ∙ is))
+      (λ same. head_not_memory s id (is ∙ (let memory : r ≡ refusal.OutOfMemory = cc in ap Some memory))))
 
   pub head_list_refused : (later told : Refusal) → s.closed ≡ None → (later ≢ refusal.OutOfMemory → head_list_refusal s.side read ≡ Some later) → (later ≡ refusal.OutOfMemory → 24576 < length fields)
-      → told ≡ refusal_after (head_refused_at (kept_at s.requests id)) later → SendsFieldList s s id fields (Err told)
+      → told ≡ refusal_after (head_refused_in s id) later → SendsFieldList s s id fields (Err told)
   head_list_refused later told closed errs many is =
       subst (λ t. SendsFieldList s s id fields (Err t)) (sym is)
-      (as_fields s (Some (refusal_after (head_refused_at (kept_at s.requests id)) later))
-      (by_stream (λ e. send_read_head e id fields read) (λ e. place_refusal e id) s id fields later (head_refused_at (kept_at s.requests id)) (head_begins read later taken errs many)
-      (λ e stands. sym (place_refusal_is s e id stands) ∙ ap (λ c. closed_or c (head_refused_at (kept_at s.requests id))) closed) (head_not_memory (kept_at s.requests id))))
+      (as_fields s (Some (refusal_after (head_refused_in s id) later))
+      (by_stream (λ e. send_read_head e id fields read) (λ e. place_refusal e id) s id fields later (head_refused_in s id) (head_begins read later taken errs many)
+      (λ e stands. sym (place_refusal_is s e id stands) ∙ ap (λ c. closed_or c (head_refused_in s id)) closed) (head_not_memory s id)))
 
   pub head_list_sent : (new : EndpointState) (place : SendPlace) (answer : Result Unit Refusal) → IsHeadAt s.side read place
       → ((head : Head) → own_head_refused s.announced s.side head ≡ None → place ≡ (if is_interim head.status then NothingSent else HeadSent) → SendsJudgedHead s new id head fields answer)

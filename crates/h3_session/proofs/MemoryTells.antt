@@ -20,7 +20,7 @@ use Rattle.h3_connection.specs.Pulling.{is_client, is_for}
 use Rattle.h3_connection.specs.Refusals as refusals
 use Rattle.h3_connection.specs.Sending as sender
 use Rattle.h3_connection.specs.StreamSets.{stream_at}
-use Rattle.h3_connection.specs.StrictSending.{broken_head, broken_protocol, broken_trailer, early_trailer, passes_content, unless_malformed}
+use Rattle.h3_connection.specs.StrictSending.{broken_protocol, broken_trailer, early_trailer, passes_content, unless_malformed}
 use Rattle.h3_connection.specs.Unidirectional.{is_closed}
 use Rattle.h3_connection.specs.declared.arrival.Arrival.{Arrival}
 use Rattle.h3_messages.specs.Content.{may_end}
@@ -132,33 +132,42 @@ malformed_tells : (why : Option Malformation) (rules : List (Bool × Refusal)) �
 malformed_tells None rules h = h
 malformed_tells (Some why) rules h = refl
 
+-- nor does one that begins a message after a GOAWAY
+begun_tells : (going : Option ℕ) (rules : List (Bool × Refusal)) → TellsNoMemory (refusals.first_of rules) → TellsNoMemory (refusals.first_of (refusals.unless_going going rules))
+begun_tells None rules h = h
+begun_tells (Some id) rules h = refl
+
 pub head_tells : (e : EndpointHistory) (id : ℕ) (head : Head) → TellsNoMemory (sender.send_head e id head).0
 head_tells e id head =
-    let broken = broken_head e.side e.announced e.peer.settings (head_fields head) in
+    let broken = sender.broken_head_at e id (head_fields head) in
     let listed = by_list broken (refusals.is_too_large e.peer.settings (head_fields head)) (section_size (head_fields head)) in
     let rules = unless_malformed broken ((refusals.is_too_large e.peer.settings (head_fields head), refusal.TooLarge (section_size (head_fields head))) ∷ []) in
     let sides : Bool × Refusal = (not (is_for (other e.side) head), refusal.WrongSide) in
+    let going = (sender.sender_at e id).going in
     does_tells (sender.head_refusal e id head) e _
     (unless_closed_tells e.closed _
-    (unordered_tells (not (sender.is_open e id)) (not (takes_head (sender.outgoing_at e id))) (refusals.first_of (unless_malformed (broken_protocol e.announced head) (sides ∷ rules)))
+    (unordered_tells (not (sender.is_open e id)) (not (takes_head (sender.outgoing_at e id))) (refusals.first_of (refusals.unless_going going (unless_malformed (broken_protocol e.announced head) (sides ∷ rules))))
+    (begun_tells going (unless_malformed (broken_protocol e.announced head) (sides ∷ rules))
     (malformed_tells (broken_protocol e.announced head) (sides ∷ rules)
     (if_tells (not (is_for (other e.side) head)) (Some refusal.WrongSide) listed refl
-    (list_tells broken (refusals.is_too_large e.peer.settings (head_fields head)) (section_size (head_fields head)))))))
+    (list_tells broken (refusals.is_too_large e.peer.settings (head_fields head)) (section_size (head_fields head))))))))
 
 -- and a list that goes out as it is
 pub fields_tell : (e : EndpointHistory) (id : ℕ) (fields : List Field) → TellsNoMemory (lists.send_fields e id fields).0
 fields_tell e id fields =
     let unread = unreadable (takes_any e.announced) fields in
-    let broken = broken_head e.side e.announced e.peer.settings fields in
+    let broken = sender.broken_head_at e id fields in
     let large = refusals.is_too_large e.peer.settings fields in
     let rules = unless_malformed broken ((large, refusal.TooLarge (section_size fields)) ∷ []) in
     let wrong = not (is_for (other e.side) (head_of_fields fields)) in
     let sides : Bool × Refusal = (wrong, refusal.WrongSide) in
+    let going = (sender.sender_at e id).going in
     does_tells (lists.fields_refusal e id fields) e _
     (unless_closed_tells e.closed _
-    (unordered_tells (not (sender.is_open e id)) (not (takes_head (sender.outgoing_at e id))) (refusals.first_of (unless_malformed unread (sides ∷ rules)))
+    (unordered_tells (not (sender.is_open e id)) (not (takes_head (sender.outgoing_at e id))) (refusals.first_of (refusals.unless_going going (unless_malformed unread (sides ∷ rules))))
+    (begun_tells going (unless_malformed unread (sides ∷ rules))
     (malformed_tells unread (sides ∷ rules)
-    (if_tells wrong (Some refusal.WrongSide) (by_list broken large (section_size fields)) refl (list_tells broken large (section_size fields))))))
+    (if_tells wrong (Some refusal.WrongSide) (by_list broken large (section_size fields)) refl (list_tells broken large (section_size fields)))))))
 
 -- more content than the head said, or less
 content_tells : (b : Bool) → TellsNoMemory (if b then Some (refusal.Malformed malformation.ContentLength) else None)

@@ -23,7 +23,7 @@ use Rattle.h3_connection.specs.OwnIds.{other}
 use Rattle.h3_strict.specs.Limits.{AsksForStrict, EarlyAreTaken, IsTaken, is_early}
 use Rattle.h3_strict.specs.ServerKnows.{ServerKnows}
 use Rattle.h3_strict.specs.Tallies.{JudgesStrictly}
-use Rattle.h3_strict.specs.PlainEnds.{RunsPlainly, answers_without_malformed, finds_fault, plain_ends, plain_setup, without_malformed}
+use Rattle.h3_strict.specs.PlainEnds.{RunsPlainly, answers_without_malformed, asks_strictly, finds_fault, plain_ends, plain_setup, without_malformed}
 use Rattle.h3_session.specs.Messages.{HandsOutWhatWasSent}
 use Rattle.h3_session.specs.Running.{AnswersEach, RunsTo}
 use Rattle.h3_session.specs.Strict.{BothStrict, FindsNone, RunsBetween, RunsToEnd, RunsUntilMemory, TakesWhatIsSent, judges_more, one_judges_more}
@@ -43,7 +43,7 @@ abbrev pub HandsOutByEnds : Setup → List Event → Type 0
 HandsOutByEnds setup events = HandsOutWhatWasSent setup events (answers_of_ends (new_ends setup) events)
 
 abbrev pub FindsNoFault : Setup → List Event → Type 0
-FindsNoFault setup events = list_any finds_fault (answers_of_ends (new_ends setup) events) ≡ false
+FindsNoFault setup events = list_any (finds_fault (asks_strictly (new_ends setup))) (answers_of_ends (new_ends setup) events) ≡ false
 
 -- The laws on such schedules: of sides that judge plainly, and of those that may judge more and find no fault; and that two strict sides find none.
 pub record LawsOfEnds (setup : Setup) : Type 0 where

@@ -8,17 +8,18 @@ use Rattle.h3_outgoing.specs.Sent.{is_sent_off}
 use Rattle.h3_proto.specs.declared.stream.Side.{Side}
 use Rattle.h3_connection.specs.Endpoint.{kind_of}
 use Rattle.h3_connection.specs.Lasts.{last_id}
-use Rattle.h3_connection.specs.Refusals.{Sender, first_of, needed, of_list, or_later, refusal_of_goaway, refusal_to_open, refusal_to_stop, too_large, with_pseudo, wrong_side}
+use Rattle.h3_connection.specs.Refusals.{Sender, first_of, needed, of_list, or_later, refusal_of_goaway, refusal_to_open, refusal_to_stop, too_large, unless_going, with_pseudo, wrong_side}
 use Rattle.h3_connection.specs.Sending.{closed_or}
 use Rattle.h3_connection.specs.State.{EndpointState, OutgoingState, kept_at}
+use Rattle.h3_connection.specs.StrictConnection.{begins_none_after}
 use Rattle.h3_connection.specs.StrictMessages.{malformation_by}
-use Rattle.h3_connection.specs.StrictSending.{broken_protocol, unless_malformed, violation_of_own_head}
+use Rattle.h3_connection.specs.StrictSending.{broken_protocol, unless_malformed, violation_of_own_head, broken_head}
 use Rattle.h3_connection.specs.declared.event.Malformation.{Malformation}
 use Rattle.h3_connection.specs.declared.event.Refusal.{Refusal}
 use Rattle.h3_connection.specs.declared.setup.Announced.{Announced}
 use Rattle.h3_connection.specs.declared.place.SendPlace.{SendPlace}
 use Rattle.h3_connection.specs.declared.place.SendPlace.TheVariants.{NothingSent, HeadSent, TrailerSent}
-use Rattle.h3_requests.specs.Refused.{body_refused_at, data_refused_at, early_trailer_at, end_refused_at, head_refused_at, outgoing_in, seen_in}
+use Rattle.h3_requests.specs.Refused.{body_refused_at, data_refused_at, early_trailer_at, end_refused_at, head_refused_at, outgoing_in, seen_in, known_in}
 use Rattle.h3_streams.specs.Placed.{StreamsState, is_critical_at}
 
 -- the sender's part of a request stream
@@ -27,7 +28,8 @@ sender_in s id = option_map (λ r. r.outgoing) (kept_at s.requests id)
 
 -- the sender on a stream
 abbrev pub sender_on : EndpointState → ℕ → Sender
-sender_on s id = record { side = s.side; stream = seen_in (kept_at s.requests id); settings = s.peer.settings }
+sender_on s id =
+    record { side = s.side; stream = seen_in (kept_at s.requests id); settings = s.peer.settings; going = begins_none_after s.announced s.side (last_id s.peer.goaways) }
 
 -- The rules of a sender in the parts in which a call asks them: that of the stream, what a head or a trailer is judged by before its list is made, what
 -- was sent in front of a trailer, and the list.
@@ -47,9 +49,17 @@ own_head_refused own side head = or_later (protocol_refused own head) (side_refu
 abbrev pub own_trailer_refused : Announced → Head → Option Refusal
 own_trailer_refused own trailer = or_later (protocol_refused own trailer) (pseudo_refused trailer)
 
+-- no request begins
+abbrev pub going_refused : EndpointState → Option Refusal
+going_refused s = first_of (unless_going (begins_none_after s.announced s.side (last_id s.peer.goaways)) [])
+
+-- the stream takes no head, whatever is in it
+abbrev pub head_refused_in : EndpointState → ℕ → Option Refusal
+head_refused_in s id = or_later (head_refused_at (kept_at s.requests id)) (going_refused s)
+
 -- a head, its list apart
 abbrev pub head_refused : EndpointState → ℕ → Head → Option Refusal
-head_refused s id head = closed_or s.closed (or_later (head_refused_at (kept_at s.requests id)) (own_head_refused s.announced s.side head))
+head_refused s id head = closed_or s.closed (or_later (head_refused_in s id) (own_head_refused s.announced s.side head))
 
 -- a trailer, its list apart
 abbrev pub trailer_refused : EndpointState → ℕ → Head → Option Refusal
@@ -95,14 +105,18 @@ open_refused s = closed_or s.closed (refusal_to_open s.side (last_id s.peer.goaw
 abbrev pub goaway_refused : EndpointState → ℕ → Option Refusal
 goaway_refused s id = closed_or s.closed (refusal_of_goaway s.side id s.last_goaway)
 
--- The rule that a list breaks, where rules are asked, by the place of its message behind it: as a trailer, or as a head.
-abbrev pub violation_behind : SendPlace → EndpointState → List Field → Option Violation
-violation_behind TrailerSent s fields = violation_of_own_trailer fields
-violation_behind HeadSent s fields = violation_of_own_head s.side s.peer.settings fields
-violation_behind NothingSent s fields = violation_of_own_head s.side s.peer.settings fields
+-- The rule that a list breaks on a stream, where rules are asked, by the place of its message behind it: as a trailer, or as a head.
+abbrev pub violation_behind : SendPlace → EndpointState → ℕ → List Field → Option Violation
+violation_behind TrailerSent s id fields = violation_of_own_trailer fields
+violation_behind HeadSent s id fields = violation_of_own_head s.side s.peer.settings (known_in (kept_at s.requests id)) fields
+violation_behind NothingSent s id fields = violation_of_own_head s.side s.peer.settings (known_in (kept_at s.requests id)) fields
 
-abbrev pub broken_behind : SendPlace → EndpointState → List Field → Option Malformation
-broken_behind place s fields = if s.announced.choices.strict_messages then option_map malformation_by (violation_behind place s fields) else None
+abbrev pub broken_behind : SendPlace → EndpointState → ℕ → List Field → Option Malformation
+broken_behind place s id fields = if s.announced.choices.strict_messages then option_map malformation_by (violation_behind place s id fields) else None
+
+-- as a head
+abbrev pub broken_head_in : EndpointState → ℕ → List Field → Option Malformation
+broken_head_in s id fields = broken_head s.side s.announced s.peer.settings (known_in (kept_at s.requests id)) fields
 
 -- The size of a section is judged last, and by the peer's settings.
 abbrev pub size_refused : Option (List (ℕ × ℕ)) → List Field → Option Refusal
@@ -112,5 +126,5 @@ abbrev pub list_refused : Option Malformation → Option (List (ℕ × ℕ)) →
 list_refused broken settings fields = first_of (of_list broken settings fields)
 
 -- what refuses a section by its list, by the place of its message behind it
-abbrev pub refused_behind : EndpointState → SendPlace → List Field → Option Refusal
-refused_behind s place fields = list_refused (broken_behind place s fields) s.peer.settings fields
+abbrev pub refused_behind : EndpointState → ℕ → SendPlace → List Field → Option Refusal
+refused_behind s id place fields = list_refused (broken_behind place s id fields) s.peer.settings fields

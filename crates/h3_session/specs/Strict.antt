@@ -14,7 +14,7 @@ use Rattle.h3_world.specs.Setup.{JudgesPlainly}
 use Rattle.h3_world.specs.World.{World, empty_world}
 use Rattle.h3_headline.specs.Standing.{Stands}
 use Rattle.h3_strict.specs.Limits.{AsksForStrict, EarlyAreTaken}
-use Rattle.h3_strict.specs.PlainEnds.{finds_fault, is_malformed_refusal, plain_ends, plain_setup}
+use Rattle.h3_strict.specs.PlainEnds.{asks_strictly, finds_fault, is_malformed_refusal, plain_ends, plain_setup}
 use Rattle.h3_strict.specs.ServerKnows.{ServerKnows}
 use Rattle.h3_session.specs.Messages.{HandsOutWhatWasSent}
 
@@ -36,14 +36,14 @@ pub record RunsBetween (setup : Setup) (events : List Event) (answers : List Ans
   pub world : World
   pub run : Run (HappensBetween setup) (empty_world setup) events answers world
   pub hands_out : HandsOutWhatWasSent setup events answers
-  pub strict : AsksForStrict setup → list_any finds_fault answers ≡ false
+  pub strict : AsksForStrict setup → list_any (finds_fault (asks_strictly (new_ends setup))) answers ≡ false
 
 -- Two sides that judge more take what they send each other: both ask for strict messages, the server knows what was asked before it answers, and what
 -- was sent before the reader's settings came is within its limit. Or it was so, by the answers: none tells that a message was found malformed, a frame at
--- the wrong place or one too long.
+-- the wrong place or one too long. An error of a stream of instructions counts only if a side asks for a strict connection.
 pub data TakesWhatIsSent (setup : Setup) (events : List Event) (answers : List Answer) : Type 0 where
   BothStrict : AsksForStrict setup → ServerKnows events answers → EarlyAreTaken setup (new_ends setup) events → TakesWhatIsSent setup events answers
-  FindsNone : list_any finds_fault answers ≡ false → TakesWhatIsSent setup events answers
+  FindsNone : list_any (finds_fault (asks_strictly (new_ends setup))) answers ≡ false → TakesWhatIsSent setup events answers
 
 -- So it is of the answers up to the first that tells of refused memory, of sides that judge plainly or take what they send each other.
 abbrev pub RunsUntilMemory : Setup → List Event → List Answer → Type 0

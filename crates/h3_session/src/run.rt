@@ -107,8 +107,9 @@ fn beside<A: Drop, B: Drop>(first: A, second: Result<B, AllocError>) -> Result<(
 ///     side's settings is within that side's limit (`EarlyAreTaken`): without a limit it always is
 ///     (`crate::laws::sides_without_limits_take_all`). Then no answer tells of a malformed message either.
 ///   - Any two sides did, if no answer tells otherwise: of a message that a pull found malformed, a frame at the wrong place or one too
-///     long. (`finds_fault`: a malformed message, H3_FRAME_UNEXPECTED, or H3_EXCESSIVE_LOAD, which a delivery may tell too.) A connection
-///     fault of another code does not arise.
+///     long. (`finds_fault`: a malformed message, H3_FRAME_UNEXPECTED, or H3_EXCESSIVE_LOAD, which a delivery may tell too. If a side asks
+///     for a strict connection, these are two more: QPACK_ENCODER_STREAM_ERROR and QPACK_DECODER_STREAM_ERROR, which such a side tells of
+///     an instruction that is too long.) A connection fault of another code does not arise.
 ///
 /// If no answer reports out of memory:
 /// - `runs`: the answers are those of two endpoints of the definitions with the bytes carried between them, and the endpoints that are

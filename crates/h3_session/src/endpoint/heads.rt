@@ -15,8 +15,8 @@ ghost use Rattle.h3_connection.specs.SendingContracts.{SendsHead, SendsTrailer, 
 ghost use Rattle.h3_connection.specs.State.{StandsFor, kept_at};
 ghost use Rattle.h3_connection.specs.declared.event.Refusal.TheVariants.{OutOfMemory};
 ghost use Rattle.h3_connection.specs.declared.place.SendPlace.TheVariants.{TrailerSent};
-ghost use Rattle.h3_requests.specs.Refused.{head_refused_at, body_refused_at, early_trailer_at};
-ghost use Rattle.h3_session.specs.Refused.{broken_behind, own_head_refused, own_trailer_refused, protocol_refused, side_refused, pseudo_refused, size_refused, refused_behind};
+ghost use Rattle.h3_requests.specs.Refused.{body_refused_at, early_trailer_at};
+ghost use Rattle.h3_session.specs.Refused.{broken_behind, head_refused_in, own_head_refused, own_trailer_refused, protocol_refused, side_refused, pseudo_refused, size_refused, refused_behind};
 ghost use Rattle.h3_session.specs.SendingFields.{Encodes, StopsEncoding, Queues, Remembers, SendsFields, IsJudged, asking};
 ghost use Rattle.h3_session.specs.SentHeads.{IsReadOf, IsSaid};
 
@@ -47,14 +47,24 @@ const MANY_FIELDS: usize = 64;
 /// No section of so many bytes fits into memory.
 const SIZE_LIMIT: u64 = 1 << 62;
 
+/// The one that comes first.
+fn first_refusal(first: Option<Refusal>, later: Option<Refusal>) -> Option<Refusal>
+    ensures { result ≡ or_later first later }
+{
+    match first {
+        Some(refusal) => Some(refusal),
+        None => later,
+    }
+}
+
 impl Endpoint {
     /// Sends a header section on a stream: an encoded field section in a HEADERS frame (RFC 9114, section 4.3), and its insertions on the
     /// encoder stream. One with a status from 100 to 199 is not the last one. Refused are first every call after a connection fault, then a
-    /// stream that is not open, then one whose final header section or end was sent. Next is a header section with another protocol than the
-    /// two names of `Protocol`, unless the configuration takes any (`Config::with_any_protocol`), and then one of the other side's messages.
-    /// An endpoint that asks for strict messages then refuses one that a strict peer would call malformed. Last is one whose size is above
-    /// what the peer's settings allow. If an allocation fails the encoder stream may have gained whole instructions, and the stream is as
-    /// it was.
+    /// stream that is not open, then one whose final header section or end was sent. A client that asks for a strict connection then
+    /// refuses each, once the peer's GOAWAY came. Next is a header section with another protocol than the two names of `Protocol`, unless
+    /// the configuration takes any (`Config::with_any_protocol`), and then one of the other side's messages. An endpoint that asks for
+    /// strict messages then refuses one that a strict peer would call malformed. Last is one whose size is above what the peer's settings
+    /// allow. If an allocation fails the encoder stream may have gained whole instructions, and the stream is as it was.
     pub fn send_head(&mut self, id: StreamId, head: &Header) -> Result<(), Refusal>
         ensures { SendsHead self.old self.new id head.now result }
     {
@@ -72,7 +82,9 @@ impl Endpoint {
         self.send_head_section(room, fields.as_slice(), place_behind(head), None)
     }
 
-    // Room for the frame of a header section on a stream that takes one, unless `later` refuses it. The streams are found as they were.
+    // Room for the frame of a header section on a stream that takes one, unless the peer is going away or `later` refuses it. The streams are
+    // found as they were.
+    #[tactic(auto, using(crate::proofs::SendingRefusals::later_twice))]
     pub(super) fn reserve_head(
         &mut self,
         id: StreamId,
@@ -80,11 +92,12 @@ impl Endpoint {
     ) -> Result<SectionRoom, Refusal>
         ensures room { IfOk result (λ room. room ≡ id) }
         ensures rest { self.new ≡ record self.old { requests = self.new.requests } }
-        ensures taken { OnOk result (or_later (head_refused_at (kept_at self.old.requests id)) later ≡ None) }
-        ensures why { IfErr result (λ r. r ≡ unwrap_or (or_later (head_refused_at (kept_at self.old.requests id)) later) OutOfMemory) }
+        ensures taken { OnOk result (or_later (head_refused_in self.old id) later ≡ None) }
+        ensures why { IfErr result (λ r. r ≡ unwrap_or (or_later (head_refused_in self.old id) later) OutOfMemory) }
         ensures same { AllSame self.old.requests self.new.requests }
     {
-        self.requests.reserve_head(id, later)
+        let behind = first_refusal(self.going_refusal(), later);
+        self.requests.reserve_head(id, behind)
     }
 
     /// Sends a trailer on a stream, as `send_head` sends a header section, and ends the message's fields. Refused are first every call
@@ -136,11 +149,11 @@ impl Endpoint {
         requires { IfSome known (IsReadOf self.old.side self.old.peer.settings fields.now) }
         ensures { place ≢ TrailerSent → SendsFields (asking room fields.now) self.old self.new room fields.now place (call_refused result) }
     {
-        let said = match self.read_sent(fields, place, known) {
+        let id = room.id();
+        let said = match self.read_sent(id, fields, place, known) {
             Ok(said) => said,
             Err(why) => return Err(Refusal::Malformed(why)),
         };
-        let id = room.id();
         match self.send_section(room, fields, place) {
             Ok(()) => {
                 self.await_response(id, said);
@@ -170,7 +183,7 @@ impl Endpoint {
     ) -> Result<(), Refusal>
         ensures { SendsFields (λ e. e) self.old self.new room fields.now TrailerSent (call_refused result) }
     {
-        match self.read_sent(fields, SendPlace::TrailerSent, None) {
+        match self.read_sent(room.id(), fields, SendPlace::TrailerSent, None) {
             Ok(_) => self.send_section(room, fields, SendPlace::TrailerSent),
             Err(why) => Err(Refusal::Malformed(why)),
         }
@@ -183,7 +196,7 @@ impl Endpoint {
         fields: &[HeaderField],
         place: SendPlace,
     ) -> Result<(), Refusal>
-        requires { broken_behind place self.old fields.now ≡ None }
+        requires { broken_behind place self.old room fields.now ≡ None }
         ensures { SendsFields (λ e. e) self.old self.new room fields.now place (call_refused result) }
     {
         let sum = match self.judge_size(fields) {
@@ -200,17 +213,18 @@ impl Endpoint {
     // Why a list is refused for itself: it breaks a rule that is asked, or the peer does not allow its size.
     pub(super) fn judge_list(
         &self,
+        id: StreamId,
         fields: &[HeaderField],
         place: SendPlace,
         known: Option<SentRead>,
     ) -> Result<(), Refusal>
         requires { IfSome known (IsReadOf self.now.side self.now.peer.settings fields.now) }
-        ensures fits { OnOk result (refused_behind self.now place fields.now ≡ None) }
-        ensures kept { OnOk result (broken_behind place self.now fields.now ≡ None) }
-        ensures unbroken { IfErr result (λ refusal. refusal ≡ Refusal.OutOfMemory → broken_behind place self.now fields.now ≡ None) }
-        ensures err { IfErr result (λ refusal. refusal ≢ Refusal.OutOfMemory → refused_behind self.now place fields.now ≡ Some refusal) }
+        ensures fits { OnOk result (refused_behind self.now id place fields.now ≡ None) }
+        ensures kept { OnOk result (broken_behind place self.now id fields.now ≡ None) }
+        ensures unbroken { IfErr result (λ refusal. refusal ≡ Refusal.OutOfMemory → broken_behind place self.now id fields.now ≡ None) }
+        ensures err { IfErr result (λ refusal. refusal ≢ Refusal.OutOfMemory → refused_behind self.now id place fields.now ≡ Some refusal) }
     {
-        if let Err(why) = self.read_sent(fields, place, known) {
+        if let Err(why) = self.read_sent(id, fields, place, known) {
             return Err(Refusal::Malformed(why));
         }
         match self.judge_size(fields) {

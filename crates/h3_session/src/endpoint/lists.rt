@@ -6,9 +6,9 @@ ghost use Rattle.h3_connection.specs.Answers.{call_refused};
 ghost use Rattle.h3_connection.specs.Pulling.{is_interim};
 ghost use Rattle.h3_connection.specs.State.{kept_at};
 ghost use Rattle.h3_connection.specs.declared.event.Refusal.TheVariants as refusal;
-ghost use Rattle.h3_requests.specs.Refused.{head_refused_at, body_refused_at};
+ghost use Rattle.h3_requests.specs.Refused.{body_refused_at};
 ghost use Rattle.h3_session.specs.InvalidFields.{NamesField};
-ghost use Rattle.h3_session.specs.Refused.{own_head_refused, own_trailer_refused};
+ghost use Rattle.h3_session.specs.Refused.{head_refused_in, own_head_refused, own_trailer_refused};
 ghost use Rattle.h3_session.specs.SendingLists.{IsJudgedOr, SendsFieldList, SendsTrailerList, SendsJudgedHead, SendsJudgedTrailer, refusal_after};
 ghost use Rattle.h3_incoming.specs.Outline.{is_sent_outline, list_read};
 ghost use Rattle.h3_messages.specs.InvalidField.{invalid_field};
@@ -32,6 +32,7 @@ impl Endpoint {
     /// made of them. It refuses, in this order:
     /// - every call after a connection fault (`Refusal::Closed`),
     /// - a stream that is not open (`NotOpen`), or whose final header section or end was sent (`OutOfOrder`),
+    /// - if the endpoint asks for a strict connection, each by a client after the peer's GOAWAY (`GoingAway`),
     /// - a list that `Header::try_from` refuses (`Malformed` of `Name`, `Value` or `TooMany`); with `Config::with_any_protocol` the value of
     ///   `:protocol` may be any token of at most 31 bytes,
     /// - a header section of the other side's messages (`WrongSide`),
@@ -138,7 +139,7 @@ impl Endpoint {
 
     // Why a list is refused as a header section that is refused by itself: the stream's own refusal comes first.
     fn refusal_of_head(&self, id: StreamId, later: Refusal) -> Refusal
-        ensures { result ≡ refusal_after (head_refused_at (kept_at self.now.requests id)) later }
+        ensures { result ≡ refusal_after (head_refused_in self.now id) later }
     {
         match self.head_order_refusal(id) {
             Some(refusal) => refusal,
@@ -171,7 +172,7 @@ impl Endpoint {
     {
         let room = match self.reserve_head(id, None) {
             Ok(room) => room,
-            Err(refusal) => return Err(self.judged_or(refusal, fields, place, read)),
+            Err(refusal) => return Err(self.judged_or(id, refusal, fields, place, read)),
         };
         self.send_head_section(room, fields, place, read)
     }
@@ -185,7 +186,7 @@ impl Endpoint {
         let room = match self.reserve_trailer(id, None) {
             Ok(room) => room,
             Err(refusal) => {
-                return Err(self.judged_or(refusal, fields, SendPlace::TrailerSent, None));
+                return Err(self.judged_or(id, refusal, fields, SendPlace::TrailerSent, None));
             }
         };
         self.send_trailer_section(room, fields)
@@ -194,18 +195,19 @@ impl Endpoint {
     // Why a list is not sent for which no room was made: it is at hand, so its own refusal comes before out of memory.
     fn judged_or(
         &self,
+        id: StreamId,
         refusal: Refusal,
         fields: &[HeaderField],
         place: SendPlace,
         known: Option<SentRead>,
     ) -> Refusal
         requires { IfSome known (IsReadOf self.now.side self.now.peer.settings fields.now) }
-        ensures { IsJudgedOr self.now place fields.now refusal result }
+        ensures { IsJudgedOr self.now id place fields.now refusal result }
     {
         if refusal != Refusal::OutOfMemory {
             return refusal;
         }
-        match self.judge_list(fields, place, known) {
+        match self.judge_list(id, fields, place, known) {
             Ok(_) => Refusal::OutOfMemory,
             Err(why) => why,
         }

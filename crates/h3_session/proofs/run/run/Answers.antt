@@ -1,9 +1,17 @@
 use Rattle.h3_world.specs.Ends.{new_ends}
+use Rattle.h3_strict.specs.PlainEnds.{asks_strictly}
 use Rattle.h3_session.proofs.Headlines.{runs_in_keeping_world, runs_in_world}
 use Rattle.h3_session.proofs.Messages.{hands_out, hands_out_always}
 use Rattle.h3_session.proofs.Runs.{answers_each, ran, runs_to}
 use Rattle.h3_session.proofs.Strict.{LawsOfEnds, runs_to_end, runs_until_memory}
+use Rattle.h3_proto.specs.declared.stream.Side.TheVariants.{Client, Server}
 use Rattle.h3_session.proofs.run.run.Goals as goal
+
+pub announcing-client-requires : goal.announcing-client-requires
+announcing-client-requires c = (c.requires.sides Client).table
+
+pub announcing-server-requires : goal.announcing-server-requires
+announcing-server-requires c = (c.requires.sides Server).table
 
 pub returns-clause-calls : goal.returns-clause-calls
 returns-clause-calls c =
@@ -69,7 +77,7 @@ returns-clause-front c = λ few.
           (λ side id. c.strict_endpoints_hand_out_what_was_sent.ensures.front setup front side id c.requires sendable plainly)
           (λ side id ended. c.strict_endpoints_hand_out_what_was_sent.ensures.end setup front side id c.requires sendable plainly ended);
       strict = λ front sendable strict knows early.
-          c.schedules_that_judge_nothing_find_no_fault.ensures setup front c.requires sendable (c.two_strict_limited_endpoints_run_in_a_world.ensures.none setup front c.requires strict sendable knows early);
+          c.schedules_that_judge_nothing_find_no_fault.ensures setup front (asks_strictly (new_ends setup)) c.requires sendable (c.two_strict_limited_endpoints_run_in_a_world.ensures.none setup front c.requires strict sendable knows early);
     } in
     runs_until_memory setup laws c.args.events.now answers c.events_are_typed.ensures (answers_each (new_ends setup) c.args.events.now answers _ _ calls) few
 
@@ -90,6 +98,6 @@ returns-clause-judged c = λ whole few more takes.
           (λ side id. c.strict_endpoints_hand_out_what_was_sent.ensures.front setup front side id c.requires sendable plainly)
           (λ side id ended. c.strict_endpoints_hand_out_what_was_sent.ensures.end setup front side id c.requires sendable plainly ended);
       strict = λ front sendable strict knows early.
-          c.schedules_that_judge_nothing_find_no_fault.ensures setup front c.requires sendable (c.two_strict_limited_endpoints_run_in_a_world.ensures.none setup front c.requires strict sendable knows early);
+          c.schedules_that_judge_nothing_find_no_fault.ensures setup front (asks_strictly (new_ends setup)) c.requires sendable (c.two_strict_limited_endpoints_run_in_a_world.ensures.none setup front c.requires strict sendable knows early);
     } in
     runs_to_end setup laws c.args.events.now answers _ _ c.events_are_typed.ensures (runs_to (new_ends setup) c.args.events.now answers _ _ calls whole) few more takes
