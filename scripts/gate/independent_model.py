@@ -208,17 +208,18 @@ class Incoming:
 
 class Endpoint:
     """The calls of one side. `section`, `capacity` and `blocked` are what it announces (RFC 9114, 7.2.4.1; RFC 9204, 5). If it `guards`, it sends
-    each field that is a secret as one that is never indexed."""
+    each field that is a secret as one that is never indexed. If it is `strict`, it holds its peer to rules that else pass, of settings, of the
+    first frame, of sessions and of what a field section may name, and keeps one itself after a GOAWAY."""
 
-    def __init__(self, side, section, capacity, blocked, guards=False):
-        self.side, self.section, self.blocked, self.guards = side, section, blocked, guards
+    def __init__(self, side, section, capacity, blocked, guards=False, strict=False):
+        self.side, self.section, self.blocked, self.guards, self.strict = side, section, blocked, guards, strict
         self.bit = 0 if side == CLIENT else 1
         self.ids = [2 + self.bit, 6 + self.bit, 10 + self.bit]
         pairs = [(SECTION_SIZE, section), (8, 0), (0x2B603742, 0), (0x33, 0), (0x2B603743, 0), (CAPACITY, capacity), (BLOCKED, blocked)]
         payload = b"".join(varint(id) + varint(value) for id, value in pairs)
         self.own = {self.ids[0]: varint(CONTROL) + varint(SETTINGS) + varint(len(payload)) + payload, self.ids[1]: varint(ENCODER), self.ids[2]: varint(DECODER)}
         self.fault, self.settings = None, None
-        self.sender, self.receiver = Sender(), Receiver(capacity)
+        self.sender, self.receiver = Sender(), Receiver(capacity, strict)
         self.outgoing_streams, self.incoming = {}, {}
         self.critical = {}  # of control, encoder and decoder stream of the peer: the bytes not yet read
         self.opened, self.goaways, self.own_goaways, self.max_push = 0, [], [], None
@@ -279,17 +280,24 @@ class Endpoint:
 
     def send_head(self, id, head):
         """RFC 9114, 4.1: interim responses may go ahead of the final one. The head is the list that the caller's `Header` gives."""
-        return self.not_sent(id, "head") or self.send_head_as(id, head, head)
+        return self.head_not_sent(id) or self.send_head_as(id, head, head)
 
     def send_fields(self, id, fields):
         """A head as a list that is no `Header`: it goes out as it stands, and is judged as the head that it stands for, if it is one."""
-        refused = self.not_sent(id, "head")
+        refused = self.head_not_sent(id)
         if refused:
             return refused
         try:
             return self.send_head_as(id, head_of(fields), fields)
         except Malformed as malformed:
             return ("Malformed", malformed.args[0])
+
+    def head_not_sent(self, id):
+        """why no head goes out at all. RFC 9114, 5.2: no new request after a GOAWAY, on a stream that was opened before either"""
+        refused = self.not_sent(id, "head")
+        if not refused and self.strict and self.side == CLIENT and self.goaways:
+            return ("GoingAway", self.goaways[-1])
+        return refused
 
     def send_head_as(self, id, head, fields):
         """the head, which is written as these fields"""
@@ -478,6 +486,7 @@ class Endpoint:
             if s.kind == PUSH:  # RFC 9114, 6.2.2: no client pushes, and no push was allowed
                 raise Fault(STREAM_CREATION_ERROR if self.side == SERVER else ID_ERROR)
         if s.kind == WEBTRANSPORT_UNI:
+            self.named(s.session)
             return
         data, s.pieces = s.unread(), []
         if s.kind in self.critical:
@@ -502,6 +511,8 @@ class Endpoint:
 
     def read_control(self):
         known_before = self.settings is not None
+        if self.strict and not known_before:
+            self.settings_first()
         while True:
             try:
                 kind, payload, used = frame(self.critical[CONTROL])
@@ -512,6 +523,21 @@ class Endpoint:
                 self.control_frame(kind, payload)
         if not known_before and DECODER in self.critical:
             self.read_decoder()
+
+    def settings_first(self):
+        """RFC 9114, 6.2.1: no other frame is the first, one of unknown type either. The type and the length tell it"""
+        r = Reader(self.critical[CONTROL])
+        try:
+            kind, _ = r.varint(), r.varint()
+        except Short:
+            return
+        if kind != SETTINGS:
+            raise Fault(MISSING_SETTINGS)
+
+    def named(self, session):
+        """a session of WebTransport has the id of a request stream"""
+        if self.strict and not self.is_request(session):
+            raise Fault(ID_ERROR)
 
     def control_frame(self, kind, payload):
         """RFC 9114, 6.2.1 and 7.2"""
@@ -536,6 +562,9 @@ class Endpoint:
     def take_settings(self, pairs):
         """RFC 9204, 3.2.3: the table is used where capacity and limit are ones that this project can have"""
         self.settings = pairs
+        flags = (8, 0x33) if self.side == CLIENT else (0x33,)  # RFC 8441, 3; RFC 9297, 2.1.1
+        if self.strict and any(pairs.get(id, 0) > 1 for id in flags):
+            raise Fault(SETTINGS_ERROR)
         capacity, limit = pairs.get(CAPACITY, 0), pairs.get(BLOCKED, 0)
         if 1 <= capacity < 2**30 and limit <= 65535:
             self.sender.table.capacity, self.sender.limit = capacity, limit
@@ -627,6 +656,7 @@ class Endpoint:
         return ("Body", taken)
 
     def begin_session(self, s, session):
+        self.named(session)
         s.place = "session"
         return ("Session", session)
 

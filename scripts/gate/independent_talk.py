@@ -209,12 +209,12 @@ def talk(script):
 # ---- the wider language
 
 # of h3_config_default, what a peer of the model can see
-WIDE_DEFAULT = {"max_field_section_size": 65536, "table": 4096, "blocked": 16, "guard_secrets": 1}
+WIDE_DEFAULT = {"max_field_section_size": 65536, "table": 4096, "blocked": 16, "guard_secrets": 1, "strict_connection": 1}
 HIDDEN = {"strict", "count_acknowledgments", "encoder_table", "economical_table", "unfinished_limit", "kept_ids", "reject_requests", "any_protocol", "shortest_strings"}
 
 
 def chosen(words):
-    limits = {"max_field_section_size": GREATEST, "table": 0, "blocked": 0, "guard_secrets": 0}
+    limits = {"max_field_section_size": GREATEST, "table": 0, "blocked": 0, "guard_secrets": 0, "strict_connection": 0}
     for word in words:
         name, _, value = word.partition("=")
         if name == "default":
