@@ -209,7 +209,7 @@ class Incoming:
 class Endpoint:
     """The calls of one side. `section`, `capacity` and `blocked` are what it announces (RFC 9114, 7.2.4.1; RFC 9204, 5). If it `guards`, it sends
     each field that is a secret as one that is never indexed. If it is `strict`, it holds its peer to rules that else pass, of settings, of the
-    first frame and of sessions, and keeps one itself after a GOAWAY."""
+    first frame, of sessions and of what a field section may name, and keeps one itself after a GOAWAY."""
 
     def __init__(self, side, section, capacity, blocked, guards=False, strict=False):
         self.side, self.section, self.blocked, self.guards, self.strict = side, section, blocked, guards, strict
@@ -219,7 +219,7 @@ class Endpoint:
         payload = b"".join(varint(id) + varint(value) for id, value in pairs)
         self.own = {self.ids[0]: varint(CONTROL) + varint(SETTINGS) + varint(len(payload)) + payload, self.ids[1]: varint(ENCODER), self.ids[2]: varint(DECODER)}
         self.fault, self.settings = None, None
-        self.sender, self.receiver = Sender(), Receiver(capacity)
+        self.sender, self.receiver = Sender(), Receiver(capacity, strict)
         self.outgoing_streams, self.incoming = {}, {}
         self.critical = {}  # of control, encoder and decoder stream of the peer: the bytes not yet read
         self.opened, self.goaways, self.own_goaways, self.max_push = 0, [], [], None

@@ -6,10 +6,10 @@
 
 enum { CLIENT, SERVER };
 enum { LIMIT = 16384 }; /* on what is unfinished: the least beside a table of 4,096 bytes */
-enum { STREAM_ERROR_OF_ENCODER = 0x201, STREAM_ERROR_OF_DECODER = 0x202, EXCESSIVE_LOAD = 0x107, ID_ERROR = 0x108, SETTINGS_ERROR = 0x109, MISSING_SETTINGS = 0x10a };
+enum { DECOMPRESSION_FAILED = 0x200, STREAM_ERROR_OF_ENCODER = 0x201, STREAM_ERROR_OF_DECODER = 0x202, EXCESSIVE_LOAD = 0x107, ID_ERROR = 0x108, SETTINGS_ERROR = 0x109, MISSING_SETTINGS = 0x10a };
 
 static h3_endpoint end = H3_NONE_YET;
-static field_list request;
+static field_list request, wanted;
 
 /* the peer's streams, of an endpoint of this side */
 static uint64_t control_of(int side) { return side == CLIENT ? 3 : 2; }
@@ -134,6 +134,88 @@ static void of_instructions(void) {
     }
 }
 
+/* The header section of this prefix and this last line comes on stream 0, behind a table of 4,096 bytes with the entries a: b and c: d, or
+ * without a table. It is a head with this field behind its pseudo-header fields, or with none (NULL), or it is bad: "bad". */
+static void section_comes(int side, int strict, int has_table, const char *prefix, const char *line, size_t line_len, const char *name, const char *value) {
+  static const char insertions[] = "\2\x3f\xe1\x1f\x41\x61\1\x62\x41\x63\1\x64";
+  static const char of_request[] = "\xd1\xd7\x50\x81\x1f\xc1"; /* GET https a / */
+  char frame[32] = "\1";
+  size_t len = 4;
+  int is_bad = name && !strcmp(name, "bad");
+  h3_config config;
+  h3_item item;
+  h3_config_default(&config);
+  config.server = (uint64_t)side;
+  config.strict_connection = (uint64_t)strict;
+  if (!has_table) config.table = config.blocked = 0;
+  h3_free(&end);
+  end = (h3_endpoint)H3_NONE_YET;
+  IS(h3_new(&end, &config, NULL), H3_OK);
+  if (side == CLIENT) {
+    uint64_t id;
+    IS(h3_open_request(&end, &id, NULL), H3_OK);
+    IS(send_list(&end, id, &request), H3_OK);
+    begin_response(&wanted, "200");
+    frame[len++] = (char)0xd9;
+  } else {
+    begin_request(&wanted, "GET");
+    memcpy(frame + len, of_request, sizeof of_request - 1);
+    len += sizeof of_request - 1;
+  }
+  if (name) add_field(&wanted, name, value);
+  memcpy(frame + 2, prefix, 2);
+  memcpy(frame + len, line, line_len);
+  len += line_len;
+  frame[1] = (char)(len - 2);
+  if (has_table) IS(h3_deliver(&end, encoder_of(side), insertions, sizeof insertions - 1, NULL), H3_OK);
+  IS(h3_deliver(&end, 0, frame, len, NULL), H3_OK);
+  IS(h3_pull(&end, 0, &item), H3_OK);
+  HOLDS(item.kind == (is_bad ? H3_FAULT_CONNECTION : H3_HEAD));
+  if (is_bad) HOLDS(item.number == DECOMPRESSION_FAILED);
+  else HOLDS(is_list(&end, &item, &wanted));
+}
+
+/* RFC 9204, sections 2.2.1 and 2.2.3: no line names an entry from the required insert count on. The count may be larger than is needed. And
+ * sections 4.5.1.1 and 4.5.1.2: without a table the encoded count and the sign are 0 */
+static void of_sections(void) {
+  static const struct {
+    const char *prefix, *line;
+    size_t len;
+    const char *name, *value;
+    int bad_if_strict;
+  } of[] = {
+      {"\2\0", BYTES("\x80"), "a", "b", 0},         /* count 1: the entry below the base, 1 */
+      {"\2\x80", BYTES("\x10"), "a", "b", 0},       /* the entry from the base on, 0 */
+      {"\3\x80", BYTES("\x10"), "c", "d", 0},       /* count 2 */
+      {"\3\0", BYTES("\x81"), "a", "b", 0},         /* larger than is needed */
+      {"\3\0", BYTES("\x41\1x"), "a", "x", 0},      /* a name alone */
+      {"\2\x80", BYTES("\0\1x"), "a", "x", 0},
+      {"\2\0", BYTES("\x10"), "c", "d", 1},         /* count 1, and entry 2 is named, from the base on */
+      {"\2\1", BYTES("\x80"), "c", "d", 1},         /* below the base */
+      {"\2\0", BYTES("\0\1x"), "c", "x", 1},        /* its name alone */
+      {"\2\1", BYTES("\x40\1x"), "c", "x", 1},
+      {"\0\0", BYTES("\x10"), "a", "b", 1},         /* count 0 */
+      {"\0\1", BYTES("\x80"), "a", "b", 1},
+  };
+  static const struct {
+    const char *prefix;
+    int bad_if_strict;
+  } without[] = {{"\0\0", 0}, {"\0\5", 0}, {"\1\0", 1}, {"\2\0", 1}, {"\0\x80", 1}, {"\0\x85", 1}, {"\1\x80", 1}};
+  for (int side = 0; side < 2; side++)
+    for (int strict = 0; strict < 2; strict++) {
+      for (size_t i = 0; i < sizeof of / sizeof *of; i++) {
+        int is_bad = strict && of[i].bad_if_strict;
+        section_comes(side, strict, 1, of[i].prefix, of[i].line, of[i].len, is_bad ? "bad" : of[i].name, is_bad ? "" : of[i].value);
+      }
+      section_comes(side, strict, 1, "\3\0", BYTES("\x11"), "bad", ""); /* an entry that never came */
+      for (size_t i = 0; i < sizeof without / sizeof *without; i++) {
+        int is_bad = strict && without[i].bad_if_strict;
+        section_comes(side, strict, 0, without[i].prefix, "", 0, is_bad ? "bad" : NULL, "");
+      }
+      section_comes(side, strict, 0, "\0\5", BYTES("\x80"), "bad", ""); /* no entry is there */
+    }
+}
+
 /* a session is named by the id of a request stream */
 static void of_sessions(void) {
   for (int side = 0; side < 2; side++) {
@@ -181,6 +263,7 @@ int main(void) {
   of_settings();
   of_own_settings();
   of_instructions();
+  of_sections();
   of_sessions();
   of_requests();
   h3_free(&end);

@@ -14,14 +14,13 @@ use Rattle.h3_connection.specs.Endpoint.Kind.{Request, ServerOpened, OwnUnidirec
 use Rattle.h3_connection.specs.Delivering.{closed_refusal}
 use Rattle.h3_connection.specs.CallLists.{Call, called}
 use Rattle.h3_connection.specs.CallLists.Call.{OpenRequest, SendHead, SendBody, SendTrailer, Finish, Reset, Goaway, Advance, TakeEnd, Outgoing, Deliver, DeliverEnd, DeliverReset, PullStream, Cancel, Show}
-use Rattle.h3_connection.specs.Isolation.{Front, Sight, IsSight, AreEncoders, Before, GoesOn, FindsNoFault, StepIsSeen, sees, seen, unless_refused, with_front, hears, brought_on, is_encoder_type, encoders_in, is_peer, first_sight, seen_pull, where_open, before_first_fault, front, with_awaited}
+use Rattle.h3_connection.specs.Isolation.{Front, Sight, IsSight, AreEncoders, Before, GoesOn, FindsNoFault, StepIsSeen, sees, seen, unless_refused, with_front, hears, brought_on, is_encoder_type, encoders_in, is_peer, first_sight, seen_pull, where_open, before_first_fault, front, with_told}
 use Rattle.h3_connection.proofs.SeenEncoder.{by_eq, to_eq}
 use Rattle.h3_connection.proofs.Isolated.{each_step, before_next, true_not_false}
 use Rattle.h3_connection.proofs.SameSetups.{same_setup}
 use Rattle.h3_connection.proofs.Fronts.{OnlyPeers, any_peer, are_peers, peers_step}
-use Rattle.h3_messages.specs.Content.{awaited_by}
-use Rattle.h3_messages.specs.declared.content.Content.{Content}
 use Rattle.h3_header.specs.Head.{head_fields}
+use Rattle.h3_field.specs.Field.{Field}
 
 -- a stream read so far as its front says agrees with the test, whatever comes
 record GoodRole (t : Bool) (role : Role) (coming : List ℕ) : Type 0 where
@@ -154,9 +153,9 @@ closing_agrees T side s p cs h q peer =
 abbrev after_seen : Side → ℕ → EndpointHistory → Sight → Call → Sight
 after_seen side id e s c = if sees (any_peer side) id e c then (seen e.side e.announced id s c).1 else s
 
-awaited_same : (T : ℕ → Bool) (side : Side) (s : Sight) (expected : Content) (at : Option Incoming) (cs : List Call) → Agrees T side s.fronts cs → Agrees T side (with_awaited s expected at).fronts cs
-awaited_same T side s expected None cs h = h
-awaited_same T side s expected (Some i) cs h = h
+told_same : (T : ℕ → Bool) (side teller : Side) (s : Sight) (fields : List Field) (at : Option Incoming) (cs : List Call) → Agrees T side s.fronts cs → Agrees T side (with_told teller s fields at).fronts cs
+told_same T side teller s fields None cs h = h
+told_same T side teller s fields (Some i) cs h = h
 
 fst_if : (b : Bool) (T : ℕ → Bool) (side : Side) (x y : Sight) (cs : List Call) → Agrees T side x.fronts cs → Agrees T side y.fronts cs → Agrees T side (if b then x else y).fronts cs
 fst_if true T side x y cs h k = h
@@ -184,7 +183,7 @@ reset_agrees T side id e s p code cs h false false is is_peer = rw (is, is_peer)
 
 agrees_step : (T : ℕ → Bool) (side : Side) (id : ℕ) (e : EndpointHistory) (s : Sight) (c : Call) (cs : List Call) → any_peer side id ≡ false → Agrees T side s.fronts (c ∷ cs) → Agrees T side (after_seen side id e s c).fronts cs
 agrees_step T side id e s OpenRequest cs blind h = fst_if _ T side _ _ cs h h
-agrees_step T side id e s (SendHead q head) cs blind h = fst_if _ T side _ _ cs (awaited_same T side s (awaited_by (head_fields head)) s.incoming cs h) h
+agrees_step T side id e s (SendHead q head) cs blind h = fst_if _ T side _ _ cs (told_same T side e.side s (head_fields head) s.incoming cs h) h
 agrees_step T side id e s (SendBody q bytes) cs blind h = h
 agrees_step T side id e s (SendTrailer q head) cs blind h = h
 agrees_step T side id e s (Finish q) cs blind h = h

@@ -13,7 +13,7 @@ use Rattle.h3_header.specs.Head.{Head, has_pseudo}
 use Rattle.h3_header.specs.HeadRead.{HeadRead, IsHead, IsNone, head_by}
 use Rattle.h3_messages.specs.Content.{left_behind, is_exceeded, may_end, takes_trailer}
 use Rattle.h3_messages.specs.declared.content.Content.{Content}
-use Rattle.h3_messages.specs.declared.content.Content.TheVariants.{Unsaid, Exactly, NoContent, Tunnel, Exceeded}
+use Rattle.h3_messages.specs.declared.content.Content.TheVariants.{Unsaid, Exactly, NoContent, Tunnel, Exceeded, Unanswered}
 use Rattle.h3_proto.specs.declared.stream.Side.{Side}
 use Rattle.h3_proto.specs.declared.stream.Side.TheVariants.{Client, Server}
 use Rattle.h3_wire.specs.ExcessiveFrames.{begins_section, is_excessive}
@@ -50,6 +50,7 @@ AreAll all n None (Exactly more) left = more + left + n ≡ all
 AreAll all n None Unsaid left = ⊥
 AreAll all n None NoContent left = ⊥
 AreAll all n None Tunnel left = ⊥
+AreAll all n None Unanswered left = ⊥
 AreAll all n None Exceeded left = ⊥
 
 abbrev Counts : ℕ → ℕ → Incoming → Type 0
@@ -83,6 +84,7 @@ module _ (all n : ℕ) where
   more_of None Unsaid left none h = absurd h
   more_of None NoContent left none h = absurd h
   more_of None Tunnel left none h = absurd h
+  more_of None Unanswered left none h = absurd h
   more_of None Exceeded left none h = absurd h
 
   going : (i : Incoming) → i.fault ≡ None → i.is_over ≡ false → Counts all n i → Going all n i
@@ -360,6 +362,7 @@ few all n None (Exactly more) left h = omega (arith, h)
 few all n None Unsaid left h = absurd h
 few all n None NoContent left h = absurd h
 few all n None Tunnel left h = absurd h
+few all n None Unanswered left h = absurd h
 few all n None Exceeded left h = absurd h
 
 counted : (side : Side) (own : Announced) (id all n : ℕ) (i : Incoming) → HandsOut side own id all n i → Counts all n i

@@ -22,7 +22,7 @@ use Rattle.h3_connection.specs.Delivering.{opened_at, closed_refusal, request_re
 use Rattle.h3_connection.specs.Endpoint.{EndpointHistory, Kind, kind_of, new_endpoint}
 use Rattle.h3_connection.specs.Endpoint.Kind.{Request, ServerOpened, OwnUnidirectional, PeerUnidirectional}
 use Rattle.h3_connection.specs.Incoming.{Incoming, nothing_came}
-use Rattle.h3_connection.specs.Isolation.{Before, GoesOn, FindsNoFault, Sight, IsSight, StepIsSeen, sees, seen, with_seen, with_awaited, seen_incoming, unless_refused, seen_pull, seen_encoder_bytes, seen_encoder_closing, first_sight, encoders_in}
+use Rattle.h3_connection.specs.Isolation.{Before, GoesOn, FindsNoFault, Sight, IsSight, StepIsSeen, sees, seen, with_seen, seen_incoming, unless_refused, seen_pull, seen_encoder_bytes, seen_encoder_closing, first_sight, encoders_in, with_told}
 use Rattle.h3_connection.specs.Outgoing.{Outgoing as Out, is_end_next}
 use Rattle.h3_connection.specs.Pulling.{Pulled, pull_stream, is_client}
 use Rattle.h3_connection.specs.Sending.{does, open_refusal, pull_at, pull_unless, pull_request, pull_peer, within_limit, after_answer, advance_at, sent_bytes, counted}
@@ -36,7 +36,6 @@ use Rattle.h3_connection.proofs.PullEnds.{EndedWell, pull_ends}
 use Rattle.h3_connection.proofs.ReadingStays.{bytes_stay, end_stays, reset_stays}
 use Rattle.h3_connection.proofs.RequestCuts.{some_refusal}
 use Rattle.h3_connection.proofs.SameSetups.{same_setup}
-use Rattle.h3_messages.specs.Content.{awaited_by}
 use Rattle.h3_header.specs.Head.{head_fields}
 
 -- ids of requests go up
@@ -229,7 +228,7 @@ module _ (side : Side) (own : Announced) (id : ℕ) where
           by_over false over = given (is_some i.fault) over
   seen_known T e s (SendHead q head) next sees_it k opens = by_stream s.incoming refl
     where
-      by_stream : (at : Option Incoming) → s.incoming ≡ at → KnownOf side id next (with_awaited s (awaited_by (head_fields head)) at).incoming
+      by_stream : (at : Option Incoming) → s.incoming ≡ at → KnownOf side id next (with_told side s (head_fields head) at).incoming
       by_stream None is = k
       by_stream (Some i) is =
           let there : KnownOf side id next (Some i) = subst (KnownOf side id next) is k in

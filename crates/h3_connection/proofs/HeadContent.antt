@@ -19,7 +19,7 @@ use Rattle.h3_wire.specs.declared.proto.frame.Frame.TheVariants as frame
 use Rattle.h3_connection.specs.Announcing.{section_of}
 use Rattle.h3_connection.specs.Incoming.{Incoming, is_body}
 use Rattle.h3_connection.specs.Skipping.{skipped}
-use Rattle.h3_connection.specs.StrictMessages.{broken_rule, content_of_head, content_behind, content_at, response_of_head, response_behind, response_at, if_whole}
+use Rattle.h3_connection.specs.StrictMessages.{broken_rule, content_read, content_behind, content_at, response_of_head, response_behind, response_at, if_whole}
 use Rattle.h3_messages.specs.Content.{is_exceeded, may_end, takes_trailer}
 use Rattle.h3_messages.specs.declared.content.Content.{Content}
 use Rattle.h3_connection.specs.CountedContent.{HasItsContent, HeadsHaveTheirContent}
@@ -44,7 +44,7 @@ module _ (side : Side) (own : Announced) (strict : own.choices.strict_messages �
   Before i = (i.content ≡ awaited) × (i.response ≡ known)
 
   abbrev Behind : List Field → Incoming → Type 0
-  Behind fields i = (i.content ≡ content_of_head side awaited fields) × (i.response ≡ response_of_head side known fields)
+  Behind fields i = (i.content ≡ content_read side awaited fields) × (i.response ≡ response_of_head side known fields)
 
   either : (b : Bool) (x y : Pulled) → Sets x → Sets y → Sets (if b then x else y)
   either true x y h k = h
@@ -81,7 +81,7 @@ module _ (side : Side) (own : Announced) (strict : own.choices.strict_messages �
       either (nat_lt (section_of own) (told_size fields)) _ _ tt
       (judged_sets (with_content side own i fields) replies (if_whole i.content (broken_rule side own i.place fields)) fields (head_by own.choices.extensions.any_protocol fields) refl
       (λ at. (
-        ap (λ place. content_at side own place i.content fields) at ∙ ap (λ b. if b then content_behind side BeforeHead i.content fields else i.content) strict ∙ ap (λ c. content_of_head side c fields) same.0,
+        ap (λ place. content_at side own place i.content fields) at ∙ ap (λ b. if b then content_behind side BeforeHead i.content fields else i.content) strict ∙ ap (λ c. content_read side c fields) same.0,
         ap (λ place. response_at side own place i.response fields) at ∙ ap (λ b. if b then response_behind side BeforeHead i.response fields else i.response) strict ∙ ap (λ k. response_of_head side k fields) same.1,
       )))
 

@@ -10,7 +10,8 @@ use Rattle.h3_wire.specs.FirstFrames.{begins_other, is_other}
 use Rattle.h3_connection.specs.Announcing.{unless_alone, unless_below}
 use Rattle.h3_connection.specs.Codes.{id_error, missing_settings, settings_error}
 use Rattle.h3_connection.specs.Control.{are_refused, after_peer, holding, if_learned, lacks_settings, read_control, read_held, settings_alone, taken_peer, then_decoder}
-use Rattle.h3_connection.specs.Endpoint.{EndpointHistory, limit_of}
+use Rattle.h3_qpack.specs.DecoderState.{announcing, checking}
+use Rattle.h3_connection.specs.Endpoint.{EndpointHistory, first_decoder, limit_of}
 use Rattle.h3_connection.specs.Incoming.{Incoming}
 use Rattle.h3_connection.specs.FirstSettingsLaws.{first_still, other_stays}
 use Rattle.h3_connection.specs.PeerReading.{Peer, PeerFound, read_peer, with_unread}
@@ -37,6 +38,9 @@ any_session own id off = ap (λ b. if b && not (is_request_stream id) then Some 
 pub any_place : (own : Announced) (i : Incoming) (session : ℕ) → is_strict own ≡ false → at_session own i session ≡ just (pull.Item (item.Session session)) (record i { place = InSession })
 any_place own i session off =
     ap (λ b. if b && not (is_request_stream session) then connection_fault id_error i else just (pull.Item (item.Session session)) (record i { place = InSession })) off
+
+pub checks_none : (own : Announced) → is_strict own ≡ false → first_decoder own ≡ announcing own.limits.table
+checks_none own off = ap (λ b. checking b (announcing own.limits.table)) off
 
 pub begins_any : (own : Announced) (side : Side) (last : Option ℕ) → is_strict own ≡ false → begins_none_after own side last ≡ None
 begins_any own Client last off = ap (λ b. if b then last else None) off

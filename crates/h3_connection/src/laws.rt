@@ -2,7 +2,7 @@
 ghost use Rattle.std.specs.Prelude.{◌≡◌, ℕ, List, [], Some, Bool};
 ghost use Rattle.h3_proto.specs.declared.stream.Side.{Side};
 ghost use Rattle.h3_connection.specs.declared.setup.Announced.{Announced};
-ghost use Rattle.h3_connection.specs.Endpoint.{EndpointHistory, kind_of, new_endpoint};
+ghost use Rattle.h3_connection.specs.Endpoint.{EndpointHistory, first_decoder, kind_of, new_endpoint};
 ghost use Rattle.h3_connection.specs.Endpoint.Kind.{Request};
 ghost use Rattle.h3_connection.specs.CallLists.{Call, called, endpoint_after};
 ghost use Rattle.h3_connection.specs.Isolation.{IsIsolated, IsIsolatedUpToFault, IsIsolatedInFront, Before, GoesOn, FindsNoFault, Sight, IsSight, view, sight_after, answers_seen, fold_seen, first_sight, view_of, answers_to_view, before_first_fault, view_before_fault, answers_before_fault, encoders_in};
@@ -157,7 +157,7 @@ pub fn unknown_streams_change_nothing_else()
 {}
 
 ghost use Rattle.std.specs.List.{concat};
-ghost use Rattle.h3_qpack.specs.DecoderState.{DecoderState};
+ghost use Rattle.h3_qpack.specs.DecoderState.{DecoderState, announcing};
 ghost use Rattle.h3_connection.specs.Delivering.{with_incoming};
 ghost use Rattle.h3_connection.specs.Incoming.{Incoming};
 ghost use Rattle.h3_connection.specs.PeerReading.{Peer, with_unread, read_peer};
@@ -297,6 +297,7 @@ ghost use Rattle.h3_field.specs.Instruction.{DecoderInstruction};
 ghost use Rattle.h3_connection.specs.Pulling.{read_section};
 ghost use Rattle.h3_connection.specs.Sending.{fields_cost};
 ghost use Rattle.h3_connection.specs.StrictSending.{broken_head, broken_trailer};
+ghost use Rattle.h3_messages.specs.declared.content.Content.{Content};
 
 /// Whichever flag each field of a list gets (RFC 9204, section 4.5.4), the list has the same size, costs the same to send, and breaks the
 /// same rule as what a strict endpoint sends. What a pull answers of a section is the same too, with any flags, and with those that an
@@ -304,8 +305,8 @@ ghost use Rattle.h3_connection.specs.StrictSending.{broken_head, broken_trailer}
 pub fn lists_are_judged_without_flags()
     ensures size { (flag : Field → Bool) (fields : List Field) → section_size (with_flags flag fields) ≡ section_size fields }
     ensures cost { (flag : Field → Bool) (fields : List Field) → fields_cost (with_flags flag fields) ≡ fields_cost fields }
-    ensures head { (flag : Field → Bool) (side : Side) (own : Announced) (settings : Option (List (ℕ × ℕ))) (fields : List Field) →
-        broken_head side own settings (with_flags flag fields) ≡ broken_head side own settings fields }
+    ensures head { (flag : Field → Bool) (side : Side) (own : Announced) (settings : Option (List (ℕ × ℕ))) (known : Option Content) (fields : List Field) →
+        broken_head side own settings known (with_flags flag fields) ≡ broken_head side own settings known fields }
     ensures trailer { (flag : Field → Bool) (own : Announced) (fields : List Field) → broken_trailer own (with_flags flag fields) ≡ broken_trailer own fields }
     ensures read { (flag : Field → Bool) (side : Side) (own : Announced) (id : ℕ) (r : DecoderState) (i : Incoming) (replies : List DecoderInstruction) (fields : List Field) →
         read_section side own id r i replies (with_flags flag fields) ≡ read_section side own id r i replies fields }
@@ -322,8 +323,8 @@ ghost use Rattle.h3_connection.specs.declared.place.Place.TheVariants.{InSession
 ghost use Rattle.std.specs.Prelude.{Option, false};
 
 /// If an endpoint does not ask for a strict connection, it judges by no rule of `Config::with_strict_connection`: neither settings, nor the
-/// first frame of the control stream (`control`), nor the ids of sessions (`stream`, `place`), nor what it sends after a GOAWAY (`begins`) or
-/// announces (`announces`). A fault of the encoder or decoder stream keeps its code (`fault`).
+/// first frame of the control stream (`control`), nor the ids of sessions (`stream`, `place`), nor what a section names (`decoder`), nor what
+/// it sends after a GOAWAY (`begins`) or announces (`announces`). A fault of the encoder or decoder stream keeps its code (`fault`).
 pub fn without_a_strict_connection_nothing_more_is_judged()
     ensures settings { (side : Side) (own : Announced) (settings : Option (List (ℕ × ℕ))) → is_strict own ≡ false → settings_refused side own settings ≡ false }
     ensures control { (e : EndpointHistory) (bytes : List ℕ) → is_strict e.announced ≡ false →
@@ -332,6 +333,7 @@ pub fn without_a_strict_connection_nothing_more_is_judged()
     ensures stream { (own : Announced) (id : ℕ) → is_strict own ≡ false → session_fault own id ≡ None }
     ensures place { (own : Announced) (i : Incoming) (session : ℕ) → is_strict own ≡ false →
         at_session own i session ≡ just (answer.Item (item.Session session)) (record i { place = InSession }) }
+    ensures decoder { (own : Announced) → is_strict own ≡ false → first_decoder own ≡ announcing own.limits.table }
     ensures begins { (own : Announced) (side : Side) (last : Option ℕ) → is_strict own ≡ false → begins_none_after own side last ≡ None }
     ensures announces { (own : Announced) → is_strict own ≡ false → unless_alone own ≡ unless_below own }
 {}

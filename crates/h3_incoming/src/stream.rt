@@ -1,8 +1,11 @@
 //! What came on a request stream, and how much of it was returned.
-ghost use Rattle.std.specs.Prelude.{◌≡◌, ◌+◌, ◌<◌, ◌≤◌, ◌^◌, ◌++◌, length, true, IfErr, OnOk, OnErr};
+ghost use Rattle.std.specs.Prelude.{◌≡◌, ◌+◌, ◌<◌, ◌≤◌, ◌^◌, ◌++◌, List, length, true, IfErr, OnOk, OnErr};
 ghost use Rattle.std.specs.List.{concat};
 ghost use Rattle.h3_connection.specs.declared.event.StreamFault.TheVariants.{Reset, Canceled};
-ghost use Rattle.h3_connection.specs.Incoming.{nothing_came, given_up, awaits_head, awaiting};
+ghost use Rattle.h3_connection.specs.Incoming.{nothing_came, given_up, goes_on, awaits_head, awaiting, having_told};
+ghost use Rattle.h3_field.specs.Field.{Field};
+ghost use Rattle.h3_messages.specs.ResponseSaid.{response_said};
+ghost use Rattle.h3_proto.specs.declared.stream.Side.TheVariants.{Server};
 ghost use Rattle.h3_connection.specs.Delivering.{kept, with_end, given_up_once, cancellation};
 ghost use Rattle.h3_incoming.specs.Replying.{encodings};
 
@@ -10,7 +13,7 @@ use crate::replies::reply;
 use bytes::Bytes;
 use h3_connection::event::StreamFault;
 use h3_connection::place::Place;
-use h3_messages::Content;
+use h3_messages::{Content, ResponseSaid};
 use h3_proto::stream::StreamId;
 use h3_wire::frame::FrameBuffer;
 use std::alloc::{AllocError, Global};
@@ -213,6 +216,17 @@ impl IncomingStream {
         }
     }
 
+    /// A response with such a header section is sent to its request. A final one answers a CONNECT that was read: a 2xx one begins the
+    /// tunnel (RFC 9114, section 4.4). A stream of which nothing more comes stays as it is.
+    pub fn answer(&mut self, said: ResponseSaid)
+        ensures told { (fields : List Field) → said ≡ response_said fields → self.new ≡ having_told Server self.old fields }
+        ensures waits { self.new.waits_for ≡ self.old.waits_for }
+    {
+        if self.goes_on() {
+            self.content = said.answering(self.content);
+        }
+    }
+
     // Whether its header section is still to come.
     fn awaits_head(&self) -> bool
         ensures { result ≡ awaits_head self.now }
@@ -220,6 +234,13 @@ impl IncomingStream {
         let Place::BeforeHead = self.place else {
             return false;
         };
+        self.goes_on()
+    }
+
+    // Whether its end was not returned, and it was not given up.
+    fn goes_on(&self) -> bool
+        ensures { result ≡ goes_on self.now }
+    {
         !(self.is_over || self.fault.is_some())
     }
 

@@ -1,12 +1,11 @@
 -- What is kept of the unidirectional streams, as a part of what an endpoint keeps.
 use Rattle.std.specs.Prelude.{◌≡◌, ℕ, List, [], Option, Some, None, unwrap_or, Bool, ◌||◌, true, false, if◌then◌else◌}
-use Rattle.h3_qpack.specs.DecoderState.{announcing}
 use Rattle.h3_qpack.specs.EncoderState.{encoder_state}
 use Rattle.h3_proto.specs.declared.stream.Side.{Side}
 use Rattle.h3_connection.specs.Calls.{Sets, AllSame}
 use Rattle.h3_connection.specs.Codes.{closed_critical_stream}
 use Rattle.h3_connection.specs.Control.{Found}
-use Rattle.h3_connection.specs.Endpoint.{EndpointHistory, Kind, first_encoder, is_read_as}
+use Rattle.h3_connection.specs.Endpoint.{first_decoder, EndpointHistory, Kind, first_encoder, is_read_as}
 use Rattle.h3_connection.specs.Endpoint.Kind.{Request, ServerOpened, OwnUnidirectional, PeerUnidirectional}
 use Rattle.h3_connection.specs.Listeners.{Decoding, Encoding}
 use Rattle.h3_connection.specs.OwnIds.{other, is_own}
@@ -55,7 +54,7 @@ first_streams announced =
       encoder_on = None;
       decoder_on = None;
       peer = nothing_read;
-      decoding = record { decoder = announcing announced.limits.table; unread = [] };
+      decoding = record { decoder = first_decoder announced; unread = [] };
       encoding = record { encoder = encoder_state (first_encoder announced); unread = [] };
       own = first_own announced.settings;
     }

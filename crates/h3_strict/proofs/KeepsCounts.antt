@@ -26,6 +26,10 @@ use Rattle.h3_connection.specs.declared.event.StreamFault.TheVariants as stream_
 use Rattle.h3_headline.specs.MovesLaws.{set_at}
 use Rattle.h3_strict.specs.Plainly.{is_malformation}
 use Rattle.h3_strict.specs.Tallies.{IsFine}
+use Rattle.h3_messages.specs.declared.content.Content.{Content}
+use Rattle.h3_messages.specs.declared.content.Content.TheVariants.{Tunnel, Unanswered, Unsaid}
+use Rattle.h3_proto.specs.declared.stream.Side.{Side}
+use Rattle.h3_proto.specs.declared.stream.Side.TheVariants.{Client, Server}
 
 -- What is counted of a stream that is received is the same.
 pub record SameCounts (i j : Incoming) : Type 0 where
@@ -42,6 +46,25 @@ pub record IsLost (i j : Incoming) : Type 0 where
 
 abbrev pub KeepsAt : Incoming → Incoming → Type 0
 KeepsAt i j = SameCounts i j ⊎ IsLost i j
+
+-- A server that sends a response may answer a CONNECT that it read: behind that any bytes come.
+abbrev pub MayAnswer : Content → Content → Type 0
+MayAnswer before after = (after ≡ before) ⊎ ((before ≡ Unanswered) × ((after ≡ Tunnel) ⊎ (after ≡ Unsaid)))
+
+pub record HasAnswered (i j : Incoming) : Type 0 where
+  pub fault : j.fault ≡ i.fault
+  pub content : MayAnswer i.content j.content
+  pub left : j.body_left ≡ i.body_left
+  pub response : j.response ≡ i.response
+
+-- what the own head of a side leaves of what it receives, but on the stream of a request that it sends
+abbrev pub HeadKeeps : Side → Incoming → Incoming → Type 0
+HeadKeeps Client i j = SameCounts i j
+HeadKeeps Server i j = HasAnswered i j
+
+pub head_keeps : (side : Side) (i j : Incoming) → SameCounts i j → HeadKeeps side i j
+head_keeps Client i j h = h
+head_keeps Server i j h = record { fault = h.fault; content = inl h.content; left = h.left; response = h.response }
 
 pub record SendsSame (o p : Outgoing) : Type 0 where
   pub takes : takes_end p ≡ true → takes_end o ≡ true

@@ -3,22 +3,22 @@ use Rattle.std.proofs.Common.{◌≡◌, ℕ, ◌+◌, Bool, true, false, if◌t
 use Rattle.std.specs.Prelude.{not, ◌||◌, is_some, option_map, unwrap_or}
 use Rattle.h3_field.specs.Field.{Field, section_size}
 use Rattle.h3_header.specs.Head.{Head, head_fields, has_pseudo}
-use Rattle.h3_messages.specs.Content.{awaited_by, may_end}
+use Rattle.h3_messages.specs.Content.{may_end}
 use Rattle.h3_messages.specs.declared.content.Content.{Content}
 use Rattle.h3_connection.specs.Lasts.{last_id}
 use Rattle.h3_connection.specs.OwnIds.{other}
 use Rattle.h3_connection.specs.Pulling.{is_for}
 use Rattle.h3_connection.specs.Delivering.{incoming_at, opened_at, given_up_by, give_up}
 use Rattle.h3_connection.specs.Endpoint.{EndpointHistory, is_critical_id}
-use Rattle.h3_connection.specs.Incoming.{Incoming, nothing_came, awaiting}
+use Rattle.h3_connection.specs.Incoming.{Incoming, nothing_came, having_told}
 use Rattle.h3_connection.specs.Outgoing.{Outgoing, OwnPart, nothing_sent, takes_head, takes_body, takes_end, is_sent_off, with_body, with_finish, with_reset, with_said}
 use Rattle.h3_connection.specs.Outgoing.OwnPart.{OwnTrailer}
 use Rattle.h3_connection.specs.Sections.{written_section}
 use Rattle.h3_connection.specs.Refusals.{first_of, is_too_large, unless_going}
-use Rattle.h3_connection.specs.Sending.{closed_or, open_refusal, open_request, body_refusal, finish_refusal, reset_refusal, goaway_refusal, goaway, cancel_refusal, cancel, send_head, send_body, send_trailer, finish, reset, sent_bytes, counted, encoded, appended, head_part, fields_cost, outgoing_at, asked, awaiting_at, content_of_own, known_of, remembers, saying_at, advance_at, advance, does}
+use Rattle.h3_connection.specs.Sending.{closed_or, open_refusal, open_request, body_refusal, finish_refusal, reset_refusal, goaway_refusal, goaway, cancel_refusal, cancel, send_head, send_body, send_trailer, finish, reset, sent_bytes, counted, encoded, appended, head_part, fields_cost, outgoing_at, asked, content_of_own, known_of, saying_at, advance_at, advance, does, broken_head_at, telling_at}
 use Rattle.h3_connection.specs.StreamSets.{Streams, stream_at, set_stream}
 use Rattle.h3_connection.specs.StrictConnection.{begins_none_after}
-use Rattle.h3_connection.specs.StrictSending.{broken_head, broken_protocol, broken_trailer, early_trailer, passes_content, unless_malformed}
+use Rattle.h3_connection.specs.StrictSending.{broken_protocol, broken_trailer, early_trailer, passes_content, unless_malformed}
 use Rattle.h3_connection.specs.declared.event.Malformation.{Malformation}
 use Rattle.h3_connection.specs.declared.event.Malformation.TheVariants as malformation
 use Rattle.h3_connection.specs.declared.event.Refusal.{Refusal}
@@ -146,7 +146,7 @@ module _ (e : EndpointHistory) (id : ℕ) where
       ∙ ap (λ (s : Streams Incoming). record (plainly new) { incoming = s }) (sym incoming_is))
     where
       broken : Option Malformation
-      broken = broken_head e.side e.announced e.peer.settings fields
+      broken = broken_head_at e id fields
 
       part : OwnPart
       part = head_part head (written_section e.encoder id fields)
@@ -163,16 +163,16 @@ module _ (e : EndpointHistory) (id : ℕ) where
       new : EndpointHistory
       new = asked (counted (appended (encoded e id fields) id part) (fields_cost fields)) id fields
 
-      awaits : (o : Option Incoming) → stream_at e.incoming id ≡ o → each_stream plain_incoming (awaiting_at e.incoming id (awaited_by fields) o) ≡ each_stream plain_incoming e.incoming
-      awaits None is = refl
-      awaits (Some i) is = set_alike plain_incoming e.incoming id i (awaiting i (awaited_by fields)) is refl
+      tells : (o : Option Incoming) → stream_at e.incoming id ≡ o → each_stream plain_incoming (telling_at e.side e.incoming id fields o) ≡ each_stream plain_incoming e.incoming
+      tells None is = refl
+      tells (Some i) is = set_alike plain_incoming e.incoming id i (having_told e.side i fields) is refl
 
-      if_asked : (b : Bool) → each_stream plain_incoming (if b then awaiting_at e.incoming id (awaited_by fields) (stream_at e.incoming id) else e.incoming) ≡ each_stream plain_incoming e.incoming
-      if_asked true = awaits (stream_at e.incoming id) refl
+      if_asked : (b : Bool) → each_stream plain_incoming (if b then telling_at e.side e.incoming id fields (stream_at e.incoming id) else e.incoming) ≡ each_stream plain_incoming e.incoming
+      if_asked true = tells (stream_at e.incoming id) refl
       if_asked false = refl
 
       incoming_is : each_stream plain_incoming new.incoming ≡ each_stream plain_incoming e.incoming
-      incoming_is = if_asked (remembers e.side e.announced)
+      incoming_is = if_asked e.announced.choices.strict_messages
 
       says : (o : Option Outgoing) → stream_at now id ≡ o → each_stream plain_outgoing (saying_at now id said o) ≡ each_stream plain_outgoing now
       says None is = refl

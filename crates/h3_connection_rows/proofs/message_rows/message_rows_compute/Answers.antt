@@ -117,7 +117,7 @@ unfolding encoding static_field static_name chars encode varint_at split_of bits
 returns-clause-interim_head_in_a_trailers_place c = refl
 
 pub returns-clause-content_counted : goal.returns-clause-content_counted
-unfolding violation_of_request encoding static_field static_name chars encode varint_at split_of bits code_word octets huffman static_table frame_at frame_of known is_token_byte is_utf8 kind_of head_of unhuffman hear_up_to listen_up_to fields_in decode_section skipped read_peer pull_stream
+unfolding violation_of_request violation_of_response violation_of_trailer encoding static_field static_name chars encode varint_at split_of bits code_word octets huffman static_table frame_at frame_of known is_token_byte is_utf8 kind_of head_of unhuffman hear_up_to listen_up_to fields_in decode_section skipped read_peer pull_stream
 returns-clause-content_counted c = refl
 
 pub returns-clause-response_content_counted : goal.returns-clause-response_content_counted

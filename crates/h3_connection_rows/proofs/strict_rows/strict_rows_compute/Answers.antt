@@ -86,3 +86,23 @@ returns-clause-long_instruction c = refl
 pub returns-clause-long_reply : goal.returns-clause-long_reply
 unfolding encoding static_field static_name chars encode varint_at split_of bits code_word octets huffman static_table frame_at frame_of known is_token_byte is_utf8 kind_of head_of unhuffman hear_up_to listen_up_to fields_in decode_section skipped read_peer pull_stream
 returns-clause-long_reply c = refl
+
+pub returns-clause-entry_at_the_count : goal.returns-clause-entry_at_the_count
+unfolding encoding static_field static_name chars encode varint_at split_of bits code_word octets huffman static_table frame_at frame_of known is_token_byte is_utf8 kind_of head_of unhuffman hear_up_to listen_up_to fields_in decode_section skipped read_peer pull_stream
+returns-clause-entry_at_the_count c = refl
+
+pub returns-clause-larger_count : goal.returns-clause-larger_count
+unfolding encoding static_field static_name chars encode varint_at split_of bits code_word octets huffman static_table frame_at frame_of known is_token_byte is_utf8 kind_of head_of unhuffman hear_up_to listen_up_to fields_in decode_section skipped read_peer pull_stream
+returns-clause-larger_count c = refl
+
+pub returns-clause-entry_at_the_count_loosely : goal.returns-clause-entry_at_the_count_loosely
+unfolding encoding static_field static_name chars encode varint_at split_of bits code_word octets huffman static_table frame_at frame_of known is_token_byte is_utf8 kind_of head_of unhuffman hear_up_to listen_up_to fields_in decode_section skipped read_peer pull_stream
+returns-clause-entry_at_the_count_loosely c = refl
+
+pub returns-clause-count_without_a_table : goal.returns-clause-count_without_a_table
+unfolding encoding static_field static_name chars encode varint_at split_of bits code_word octets huffman static_table frame_at frame_of known is_token_byte is_utf8 kind_of head_of unhuffman hear_up_to listen_up_to fields_in decode_section skipped read_peer pull_stream
+returns-clause-count_without_a_table c = refl
+
+pub returns-clause-sign_without_a_table : goal.returns-clause-sign_without_a_table
+unfolding encoding static_field static_name chars encode varint_at split_of bits code_word octets huffman static_table frame_at frame_of known is_token_byte is_utf8 kind_of head_of unhuffman hear_up_to listen_up_to fields_in decode_section skipped read_peer pull_stream
+returns-clause-sign_without_a_table c = refl

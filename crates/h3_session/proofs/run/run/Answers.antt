@@ -4,7 +4,14 @@ use Rattle.h3_session.proofs.Headlines.{runs_in_keeping_world, runs_in_world}
 use Rattle.h3_session.proofs.Messages.{hands_out, hands_out_always}
 use Rattle.h3_session.proofs.Runs.{answers_each, ran, runs_to}
 use Rattle.h3_session.proofs.Strict.{LawsOfEnds, runs_to_end, runs_until_memory}
+use Rattle.h3_proto.specs.declared.stream.Side.TheVariants.{Client, Server}
 use Rattle.h3_session.proofs.run.run.Goals as goal
+
+pub announcing-client-requires : goal.announcing-client-requires
+announcing-client-requires c = (c.requires.sides Client).table
+
+pub announcing-server-requires : goal.announcing-server-requires
+announcing-server-requires c = (c.requires.sides Server).table
 
 pub returns-clause-calls : goal.returns-clause-calls
 returns-clause-calls c =
