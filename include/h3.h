@@ -564,9 +564,9 @@ static inline uint32_t h3_send_head(h3_endpoint *endpoint, uint64_t id, const h3
                                     size_t len, uint64_t *detail);
 
 /* Sends a trailer section, after which only the end comes. Send no empty one: it is allowed, but
- * some peers close the connection over it. Refused as h3_send_head, but never by H3_GOING_AWAY, and
- * after the refusals of the list: H3_PSEUDO_IN_TRAILER, H3_MALFORMED (or H3_FIELD_VALUE),
- * H3_TOO_LARGE, H3_MEMORY. */
+ * some peers close the connection over it. Refused as h3_send_head except H3_GOING_AWAY, but after
+ * the refusals of the list: H3_PSEUDO_IN_TRAILER, H3_MALFORMED (or H3_FIELD_VALUE), H3_TOO_LARGE,
+ * H3_MEMORY. */
 static inline uint32_t h3_send_trailer(h3_endpoint *endpoint, uint64_t id,
                                        const h3_field_size *sizes, const uint8_t *flags,
                                        size_t count, const void *bytes, size_t len,

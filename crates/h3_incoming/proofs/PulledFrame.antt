@@ -70,7 +70,7 @@ session_told own i before after session told h same = subst (λ p. at_session ow
 
 -- the payload was begun
 begun_is : (i : Incoming) (size : ℕ) (content : Content) → content ≡ left_behind i.content size → (record i { body_left = size; content = content }) ≡ begun_payload i size
-begun_is i size content e = ap (λ c. let x : Incoming = record i { body_left = size; content = c } in x) e
+begun_is i size known e = ap (λ c. let x : Incoming = record i { body_left = size; content = c } in x) e
 
 pub gives_payload : (side : Side) (own : Announced) (id : ℕ) (r : DecoderState) (old stored : Incoming) (left : List (List ℕ)) (in_body : Bool) (f : Frame PayloadLen) (size : ℕ) (content : Content)
     (answer : Pull) (new : Incoming) (before after : List ℕ) → Reads old stored left in_body → FindsFrame in_body f (concat stored.unread) (concat left)

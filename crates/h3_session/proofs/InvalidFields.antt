@@ -17,7 +17,7 @@ use Rattle.h3_connection.specs.Calls.{IsSame}
 use Rattle.h3_connection.specs.Endpoint.{EndpointHistory}
 use Rattle.h3_connection.specs.OwnIds.{other}
 use Rattle.h3_connection.specs.Pulling.{is_for, is_interim}
-use Rattle.h3_connection.specs.Refusals.{first_of, is_too_large, or_later}
+use Rattle.h3_connection.specs.Refusals.{first_of, is_too_large, or_later, unless_going}
 use Rattle.h3_connection.specs.State.{EndpointState, RequestState, kept_at}
 use Rattle.h3_connection.specs.StrictMessages.{malformation_by}
 use Rattle.h3_connection.specs.StrictSending.{peer_connects, unless_malformed, violation_of_own_head}
@@ -28,11 +28,11 @@ use Rattle.h3_connection.specs.declared.event.Refusal.TheVariants as refusal
 use Rattle.h3_connection.specs.declared.place.SendPlace.{SendPlace}
 use Rattle.h3_connection.specs.declared.place.SendPlace.TheVariants.{NothingSent, HeadSent, TrailerSent}
 use Rattle.h3_connection.specs.declared.setup.Announced.{Announced}
-use Rattle.h3_requests.specs.Refused.{head_refused_at, body_refused_at, early_trailer_at, outgoing_in, seen_in}
+use Rattle.h3_requests.specs.Refused.{body_refused_at, early_trailer_at, outgoing_in, seen_in}
 use Rattle.h3_session.proofs.Remembering.{before_trailer}
 use Rattle.h3_session.specs.InvalidFields.{NamesField}
 use Rattle.h3_session.specs.JudgedLists.{head_list_refusal, trailer_list_refusal, IsHeadAt, IsTrailer}
-use Rattle.h3_session.specs.Refused.{broken_behind, refused_behind, violation_behind}
+use Rattle.h3_session.specs.Refused.{broken_behind, head_refused_in, refused_behind, sender_on, violation_behind}
 use Rattle.h3_session.specs.SendingFields.{SendsFields}
 use Rattle.h3_session.specs.SendingLists.{IsJudgedOr, malformed, refusal_after}
 
@@ -69,12 +69,20 @@ module _ (choices : Choices) (fields : List Field) where
   behind_stream false true later names = tt
   behind_stream false false later names = names
 
-  pub head_names : (side : Side) (there : Option RequestState) (later told : Refusal) → (later ≢ refusal.OutOfMemory → head_list_refusal side (head_by choices.extensions.any_protocol fields) ≡ Some later)
-      → told ≡ refusal_after (head_refused_at there) later → Names told
-  head_names side there later told errs is =
-      let v = seen_in there in
-      subst Names (sym is) (behind_stream (not v.is_open) (not v.takes_head) later
-      (unless_memory later (λ differs. names_head side (head_by choices.extensions.any_protocol fields) later refl (errs differs))))
+  -- and behind the peer's GOAWAY
+  behind_going : (a b : Bool) (going : Option ℕ) (later : Refusal) → Names later
+      → Names (refusal_after (or_later (first_of ((a, refusal.NotOpen) ∷ (b, refusal.OutOfOrder) ∷ [])) (first_of (unless_going going []))) later)
+  behind_going true b going later names = tt
+  behind_going false true going later names = tt
+  behind_going false false (Some id) later names = tt
+  behind_going false false None later names = names
+
+  pub head_names : (s : EndpointState) (id : ℕ) (later told : Refusal) → (later ≢ refusal.OutOfMemory → head_list_refusal s.side (head_by choices.extensions.any_protocol fields) ≡ Some later)
+      → told ≡ refusal_after (head_refused_in s id) later → Names told
+  head_names s id later told errs is =
+      let v = seen_in (kept_at s.requests id) in
+      subst Names (sym is) (behind_going (not v.is_open) (not v.takes_head) (sender_on s id).going later
+      (unless_memory later (λ differs. names_head s.side (head_by choices.extensions.any_protocol fields) later refl (errs differs))))
 
   pub trailer_names : (there : Option RequestState) (later told : Refusal) → (later ≢ refusal.OutOfMemory → trailer_list_refusal (head_by choices.extensions.any_protocol fields) ≡ Some later)
       → told ≡ refusal_after (body_refused_at there) later → Names told
@@ -158,10 +166,12 @@ module _ (s : EndpointState) (fields : List Field) where
     judged_broken refused told none h = subst (λ r. TellsBroken (Some r) place s fields) (sym (h.other (λ same. absurd (cc)))) (none_told refused none)
 
 -- What a stream refuses a section by names no field.
-head_none : (a b : Bool) → NamesNone (unwrap_or (or_later (first_of ((a, refusal.NotOpen) ∷ (b, refusal.OutOfOrder) ∷ [])) None) refusal.OutOfMemory)
-head_none true b = tt
-head_none false true = tt
-head_none false false = tt
+head_none : (a b : Bool) (going : Option ℕ)
+    → NamesNone (unwrap_or (or_later (or_later (first_of ((a, refusal.NotOpen) ∷ (b, refusal.OutOfOrder) ∷ [])) (first_of (unless_going going []))) None) refusal.OutOfMemory)
+head_none true b going = tt
+head_none false true going = tt
+head_none false false (Some id) = tt
+head_none false false None = tt
 
 trailer_none : (a b takes ends : Bool)
     → NamesNone (unwrap_or (or_later (first_of ((a, refusal.NotOpen) ∷ (b, refusal.OutOfOrder) ∷ []))
@@ -182,11 +192,11 @@ module _ (s mid : EndpointState) (fields : List Field) (place : SendPlace) (rest
   names_judged refused told none h =
       names_broken begun fields head reads (Some told) place (judged_broken begun fields place refused told none (subst (λ m. IsJudgedOr m place fields refused told) rest h))
 
-  pub head_judged_names : (id : ℕ) (refused told : Refusal) → refused ≡ unwrap_or (or_later (head_refused_at (kept_at s.requests id)) None) refusal.OutOfMemory
+  pub head_judged_names : (id : ℕ) (refused told : Refusal) → refused ≡ unwrap_or (or_later (head_refused_in s id) None) refusal.OutOfMemory
       → IsJudgedOr mid place fields refused told → NamesField (Some told) s.announced.choices fields
   head_judged_names id refused told why h =
       let v = seen_in (kept_at s.requests id) in
-      names_judged refused told (subst NamesNone (sym why) (head_none (not v.is_open) (not v.takes_head))) h
+      names_judged refused told (subst NamesNone (sym why) (head_none (not v.is_open) (not v.takes_head) (sender_on s id).going)) h
 
   pub trailer_judged_names : (id : ℕ) (refused told : Refusal) → refused ≡ unwrap_or (or_later (body_refused_at (kept_at s.requests id)) (or_later None (early_trailer_at (kept_at s.requests id)))) refusal.OutOfMemory
       → IsJudgedOr mid place fields refused told → NamesField (Some told) s.announced.choices fields

@@ -83,7 +83,7 @@ returns-in-Session-clause-answer g c = λ h.
     let begins = subst (λ b. IsBegun c.args.side c.self.inside.place c.self.inside.content found.0 b) c.in-Session.is found.1 in
     let small = rw c.in-Ok-Begun.field-0-is at c.in-Ok-Begun.ensures.within in
     gives_just _ _ _ _ _
-    (pulled_frame c.args.side c.args.announced.now c.args.id c.args.decoder.now _ _ _ _ found.0 _ reads found.2 small (begins.is c.args.announced.now c.args.id c.args.decoder.now _ refl) ∙ session_told _ _ _ _ _ _ c.begin_session.ensures.is refl) refl
+    (pulled_frame c.args.side c.args.announced.now c.args.id c.args.decoder.now _ _ _ _ found.0 _ reads found.2 small (begins.is c.args.announced.now c.args.id c.args.decoder.now _ refl) ∙ session_told c.args.announced.now _ c.self.inside.place _ c.in-Session.session _ c.begin_session.ensures.is refl) refl
 
 pub returns-in-Fault-clause-answer : goal.returns-in-Fault-clause-answer
 returns-in-Fault-clause-answer g c = λ h.
