@@ -1,5 +1,7 @@
 -- What a call leaves that was refused memory in reading: what came was read up to some point, and the rest is kept.
 use Rattle.std.specs.Prelude.{◌≡◌, ◌⊎◌, ℕ, ◌-◌, Bool, true, false, not, List, [], ◌∷◌, ◌++◌, Option, Some, None}
+use Rattle.h3_messages.specs.declared.content.Content.TheVariants.{Unsaid}
+use Rattle.h3_proto.specs.Config.{is_limit}
 use Rattle.h3_proto.specs.declared.stream.Side.{Side}
 use Rattle.h3_qpack.specs.EncoderHistory.{EncoderHistory}
 use Rattle.h3_connection.specs.declared.setup.Announced.{Announced}
@@ -135,10 +137,19 @@ pub record Resumes (side : Side) (own : Announced) (id : ℕ) (old new : Incomin
   pub lists : (r : DecoderState) (pieces : List (List ℕ)) (ended : Bool)
       → HasNoHeader (pull_stream side own id r (with_more old pieces ended)).answer ⊎ (fields_next r (with_more new pieces ended) ≡ fields_next r (with_more old pieces ended))
 
+-- the stream where nothing is known of its content
+abbrev pub unsaid : Incoming → Incoming
+unsaid i = record i { content = Unsaid; response = None }
+
+-- So it goes on where nothing is known of the content, at each end that limits nothing, whatever it judges.
+abbrev pub ResumesPlainly : Side → ℕ → Incoming → Incoming → Type 0
+ResumesPlainly side id old new = (own : Announced) → is_limit own.choices.unfinished_limit ≡ false → Resumes side own id (unsaid old) (unsaid new)
+
 -- What is stored is this endpoint, but for one request stream, which goes on as if it had not been asked.
 pub record StandsAsked (s : EndpointState) (e : EndpointHistory) (id : ℕ) : Type 0 where
   pub old : Incoming
   pub new : Incoming
   pub here : stream_at e.incoming id ≡ Some old
   pub resumes : Resumes e.side e.announced id old new
+  pub plainly : ResumesPlainly e.side id old new
   pub stands : StandsFor s (with_incoming e id new)

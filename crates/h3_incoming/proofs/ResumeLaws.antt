@@ -1,10 +1,11 @@
 -- A pull that memory cut short loses nothing.
 use Rattle.std.proofs.Common.{◌≡◌, ℕ, zero, suc, ◌<◌, ◌≤◌, Bool, true, false, if◌then◌else◌, ◌&&◌, ◌==◌, List, [], ◌++◌, length, refl, ap, sym, ◌∙◌, subst, arith, inl, inr, ◌⊎◌}
-use Rattle.std.specs.Prelude.{None, Some, Option, nat_lt}
+use Rattle.std.specs.Prelude.{None, Some, Option, nat_lt, ◌-◌}
+use Rattle.h3_coding.specs.Varint.{varint_at}
 use Rattle.std.specs.List.{concat}
 use Rattle.std.proofs.lemmas.List.{length-drop}
 use Rattle.std.proofs.lemmas.List.Folds.{concat-append}
-use Rattle.h3_wire.specs.ExcessiveFrames.{is_excessive}
+use Rattle.h3_wire.specs.ExcessiveFrames.{is_excessive, says_too_much}
 use Rattle.h3_wire.specs.Frames.{Whole, frame_at}
 use Rattle.h3_wire.specs.Pieces.{IsRest, chunk_of}
 use Rattle.h3_wire.specs.PieceLaws.{rest_behind, concat-without}
@@ -26,14 +27,15 @@ use Rattle.h3_messages.specs.Content.{is_exceeded}
 use Rattle.h3_connection.specs.Pulling.{Pulled, begun_section, begun_payload, left_with, at_payload, body_of, in_payload, malformed, new_section, connection_fault, excess, at_frame, next_frame, between_frames, pull_stream}
 use Rattle.h3_incoming.specs.Finding.{FindsFrame, KeepsWithin, PassesFrames}
 use Rattle.h3_incoming.specs.Placing.{is_session}
-use Rattle.h3_incoming.specs.Resuming.{Begins, Resumes, delivered}
+use Rattle.h3_connection.specs.PartReading.{unsaid}
+use Rattle.h3_incoming.specs.Resuming.{Begins, PullsAlike, Resumes, delivered}
 use Rattle.h3_connection.specs.SkippingLaws.{skipped-length, found_not_empty}
 use Rattle.h3_incoming.proofs.PullLaws.{pull_of_section, pull_of_payload, pull_of_frame, left_is, left_left, place_passed, between_frame}
 
 pub resumes_same : (own : Announced) (old new : Incoming) → new ≡ old → Resumes own old new
 resumes_same own old new e = subst (λ x. Resumes own old x) (sym e) (record {
-  pulls = λ side id r pieces ends. refl;
-  lists = λ side id r pieces ends. inr refl;
+  alike = record { pulls = λ side id r pieces ends. refl; lists = λ side id r pieces ends. inr refl };
+  plainly = λ other none. record { pulls = λ side id r pieces ends. refl; lists = λ side id r pieces ends. inr refl };
   gives_up = λ fault. refl;
   place = refl;
   response = refl;
@@ -85,21 +87,16 @@ between_passed old new p b = subst IsBetween (sym p.same) (record { no_fault = b
 none_next : (r : DecoderState) (i : Incoming) → i.section ≡ None → fields_next r i ≡ fields_in r (section_in (frame_at (skipped (is_body i.place) (concat i.unread))))
 none_next r i none = ap (λ s. fields_in r (next_section i s)) none
 
--- Some frames were passed, and the next was not read.
-pub resumes_passed : (own : Announced) (old new : Incoming) → IsBetween old → Passes old new → PassesFrames (is_body old.place) (concat old.unread) (concat new.unread) → Resumes own old new
-resumes_passed own old new b p skips = record {
-  pulls = λ side id r pieces ends. goes_on_alike side id r pieces ends;
-  lists = λ side id r pieces ends. inr (lists_alike r pieces ends);
-  gives_up = λ fault. ap {A = Incoming} (λ i. given_up i fault) p.same;
-  place = ap {A = Incoming} (λ i. i.place) p.same;
-  response = ap {A = Incoming} (λ i. i.response) p.same;
-  is_over = ap {A = Incoming} (λ i. i.is_over) p.same;
-  waits_for = ap {A = Incoming} (λ i. i.waits_for) p.same;
-  tries = ap {A = Incoming} (λ i. i.tries) p.same;
-  ended = ap {A = Incoming} (λ i. i.ended) p.same;
-  was_reset = ap {A = Incoming} (λ i. i.was_reset) p.same;
-  fault = ap {A = Incoming} (λ i. i.fault) p.same;
-}
+-- where nothing is known of the content
+between_unsaid : (i : Incoming) → IsBetween i → IsBetween (unsaid i)
+between_unsaid i b = record { no_fault = b.no_fault; goes_on = b.goes_on; message = b.message; none = b.none; closed = b.closed; waits = b.waits }
+
+passes_unsaid : (old new : Incoming) → Passes old new → Passes (unsaid old) (unsaid new)
+passes_unsaid old new p = record { same = ap unsaid p.same; rest = p.rest }
+
+-- Some frames were passed, and the next was not read: so it is at any end.
+passed_alike : (own : Announced) (old new : Incoming) → IsBetween old → Passes old new → PassesFrames (is_body old.place) (concat old.unread) (concat new.unread) → PullsAlike own old new
+passed_alike own old new b p skips = record { pulls = λ side id r pieces ends. goes_on_alike side id r pieces ends; lists = λ side id r pieces ends. inr (lists_alike r pieces ends) }
   where
     -- the next frame that gives something is the same
     next_alike : (pieces : List (List ℕ)) → skipped (is_body new.place) (concat (new.unread ++ pieces)) ≡ skipped (is_body old.place) (concat (old.unread ++ pieces))
@@ -131,6 +128,21 @@ resumes_passed own old new b p skips = record {
         ∙ ap (λ (i : Incoming). if is_excessive own.choices.unfinished_limit bytes then excess id n bytes else next_frame side own id r i bytes) left
         ∙ ap (λ x. if is_excessive own.choices.unfinished_limit bytes then x else next_frame side own id r (left_with o bytes) bytes) (let_go_alike id bytes o n behind)
         ∙ sym (between_pull side own id r old pieces ends b)
+
+pub resumes_passed : (own : Announced) (old new : Incoming) → IsBetween old → Passes old new → PassesFrames (is_body old.place) (concat old.unread) (concat new.unread) → Resumes own old new
+resumes_passed own old new b p skips = record {
+  alike = passed_alike own old new b p skips;
+  plainly = λ other none. passed_alike other (unsaid old) (unsaid new) (between_unsaid old b) (passes_unsaid old new p) skips;
+  gives_up = λ fault. ap {A = Incoming} (λ i. given_up i fault) p.same;
+  place = ap {A = Incoming} (λ i. i.place) p.same;
+  response = ap {A = Incoming} (λ i. i.response) p.same;
+  is_over = ap {A = Incoming} (λ i. i.is_over) p.same;
+  waits_for = ap {A = Incoming} (λ i. i.waits_for) p.same;
+  tries = ap {A = Incoming} (λ i. i.tries) p.same;
+  ended = ap {A = Incoming} (λ i. i.ended) p.same;
+  was_reset = ap {A = Incoming} (λ i. i.was_reset) p.same;
+  fault = ap {A = Incoming} (λ i. i.fault) p.same;
+}
 
 -- The next frame has begun what it gives.
 section_alike : (side : Side) (own : Announced) (id : ℕ) (r : DecoderState) (pieces : List (List ℕ)) (ends : Bool) (mid : Incoming) (bytes : List ℕ) → IsBetween mid
@@ -236,24 +248,12 @@ begun_lists side own id r pieces ends mid new (frame.MaxPushId push) place b h s
 begun_lists side own id r pieces ends mid new (frame.WebTransportStream session) place b h some = absurd h
 begun_lists side own id r pieces ends mid new (frame.Grease kind) place b h some = absurd h
 
-pub resumes_begun : (own : Announced) (old mid new : Incoming) (f : Frame PayloadLen) → IsBetween old → Passes old mid → FindsFrame (is_body old.place) f (concat old.unread) (concat mid.unread)
-    → KeepsWithin own.choices.unfinished_limit (is_body old.place) (concat old.unread) → Begins mid.place f mid new → Resumes own old new
-resumes_begun own old mid new f b p finds small begins =
+-- So it is at any end that takes the frame.
+begun_pulls : (own : Announced) (old mid new : Incoming) (f : Frame PayloadLen) → IsBetween old → Passes old mid → FindsFrame (is_body old.place) f (concat old.unread) (concat mid.unread)
+    → KeepsWithin own.choices.unfinished_limit (is_body old.place) (concat old.unread) → Begins mid.place f mid new → PullsAlike own old new
+begun_pulls own old mid new f b p finds small begins =
     let here = between_passed old mid p b in
-    let begun = is_begun mid new f mid.place here.waits begins in
-    record {
-      pulls = λ side id r pieces ends. goes_on_alike side id r pieces ends here;
-      lists = λ side id r pieces ends. lists_alike side id r pieces ends here;
-      gives_up = λ fault. begun.gives_up fault ∙ ap {A = Incoming} (λ i. given_up i fault) p.same;
-      place = begun.place ∙ ap {A = Incoming} (λ i. i.place) p.same;
-      response = begun.response ∙ ap {A = Incoming} (λ i. i.response) p.same;
-      is_over = begun.is_over ∙ ap {A = Incoming} (λ i. i.is_over) p.same;
-      waits_for = begun.waits_for ∙ sym b.waits;
-      tries = begun.tries ∙ ap {A = Incoming} (λ i. i.tries) p.same;
-      ended = begun.ended ∙ ap {A = Incoming} (λ i. i.ended) p.same;
-      was_reset = begun.was_reset ∙ ap {A = Incoming} (λ i. i.was_reset) p.same;
-      fault = begun.fault ∙ ap {A = Incoming} (λ i. i.fault) p.same;
-    }
+    record { pulls = λ side id r pieces ends. goes_on_alike side id r pieces ends here; lists = λ side id r pieces ends. lists_alike side id r pieces ends here }
   where
     -- the frame is found in what comes
     found_there : (pieces : List (List ℕ)) → frame_at (skipped (is_body old.place) (concat (old.unread ++ pieces))) ≡ Whole f (concat (mid.unread ++ pieces))
@@ -290,3 +290,40 @@ resumes_begun own old mid new f b p finds small begins =
             → HasNoHeader (pull_stream side own id r (delivered old pieces ends)).answer ⊎ (fields_next r (delivered new pieces ends) ≡ fields_next r (delivered old pieces ends))
         either (inl without) is same = inl (subst (λ (x : Pulled). HasNoHeader x.answer) same without)
         either (inr lists) is same = inr (lists ∙ sym is)
+
+-- what it gives is begun where nothing is known of the content
+begins_unsaid : (place : Place) (f : Frame PayloadLen) (old new : Incoming) → Begins place f old new → Begins place f (unsaid old) (unsaid new)
+begins_unsaid BeforeHead (frame.Headers bytes) old new h = (refl, ap unsaid h.1)
+begins_unsaid InBody (frame.Headers bytes) old new h = (refl, ap unsaid h.1)
+begins_unsaid AfterTrailer (frame.Headers bytes) old new h = (h.0, ap unsaid h.1)
+begins_unsaid InSession (frame.Headers bytes) old new h = (h.0, ap unsaid h.1)
+begins_unsaid place (frame.Data len) old new h = (h.0, ap unsaid h.1)
+begins_unsaid place (frame.CancelPush push) old new h = absurd h
+begins_unsaid place (frame.Settings settings) old new h = absurd h
+begins_unsaid place (frame.PushPromise promise) old new h = absurd h
+begins_unsaid place (frame.Goaway number) old new h = absurd h
+begins_unsaid place (frame.MaxPushId push) old new h = absurd h
+begins_unsaid place (frame.WebTransportStream session) old new h = absurd h
+begins_unsaid place (frame.Grease kind) old new h = absurd h
+
+pub resumes_begun : (own : Announced) (old mid new : Incoming) (f : Frame PayloadLen) → IsBetween old → Passes old mid → FindsFrame (is_body old.place) f (concat old.unread) (concat mid.unread)
+    → KeepsWithin own.choices.unfinished_limit (is_body old.place) (concat old.unread) → Begins mid.place f mid new → Resumes own old new
+resumes_begun own old mid new f b p finds small begins =
+    let here = between_passed old mid p b in
+    let begun = is_begun mid new f mid.place here.waits begins in
+    record {
+      alike = begun_pulls own old mid new f b p finds small begins;
+      plainly = λ other none.
+          begun_pulls other (unsaid old) (unsaid mid) (unsaid new) f (between_unsaid old b) (passes_unsaid old mid p) finds
+          (λ more. ap (λ b. b && says_too_much other.choices.unfinished_limit (varint_at (skipped (is_body old.place) (concat old.unread ++ more)))) none)
+          (begins_unsaid mid.place f mid new begins);
+      gives_up = λ fault. begun.gives_up fault ∙ ap {A = Incoming} (λ i. given_up i fault) p.same;
+      place = begun.place ∙ ap {A = Incoming} (λ i. i.place) p.same;
+      response = begun.response ∙ ap {A = Incoming} (λ i. i.response) p.same;
+      is_over = begun.is_over ∙ ap {A = Incoming} (λ i. i.is_over) p.same;
+      waits_for = begun.waits_for ∙ sym b.waits;
+      tries = begun.tries ∙ ap {A = Incoming} (λ i. i.tries) p.same;
+      ended = begun.ended ∙ ap {A = Incoming} (λ i. i.ended) p.same;
+      was_reset = begun.was_reset ∙ ap {A = Incoming} (λ i. i.was_reset) p.same;
+      fault = begun.fault ∙ ap {A = Incoming} (λ i. i.fault) p.same;
+    }

@@ -171,7 +171,7 @@ heard_same e id (Session session) bytes = same_streams e
 heard_same e id (Untold front) bytes = same_streams e
 heard_same e id Ignored bytes = same_streams e
 
-unidirectional_same : (e : EndpointHistory) (id : ℕ) (o : Unidirectional) (x : Role × List ℕ) → SameStreams e (read_unidirectional e id o x).0
+pub unidirectional_same : (e : EndpointHistory) (id : ℕ) (o : Unidirectional) (x : Role × List ℕ) → SameStreams e (read_unidirectional e id o x).0
 unidirectional_same e id o (role, bytes) = then_same e _ _ (record { incoming = refl; outgoing = refl; announced = refl }) (heard_same _ id role bytes)
 
 -- A stream that is set.

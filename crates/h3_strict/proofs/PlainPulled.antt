@@ -76,7 +76,7 @@ module _ (e : EndpointHistory) (id : ℕ) where
       le-ltb e.announced.limits.blocked (heads_waiting e.decoding.decoder (set_stream e.incoming id p.incoming))
       (omega (arith, count_set e.decoding.decoder.table.inserted e.incoming id p.incoming less, few))
 
-  given_plain : (p : Pulled) → pulled (plainly e) id (plain_pulled p) ≡ plain_result (pulled e id p)
+  pub given_plain : (p : Pulled) → pulled (plainly e) id (plain_pulled p) ≡ plain_result (pulled e id p)
   given_plain p =
       ap (λ (s : Streams Incoming). after_answer p.answer (record (plainly (replied (with_incoming e id p.incoming) p.replies)) { incoming = s })) (set_each plain_incoming e.incoming id p.incoming)
       ∙ after_plain p.answer (replied (with_incoming e id p.incoming) p.replies)
@@ -85,7 +85,7 @@ module _ (e : EndpointHistory) (id : ℕ) where
   too_many_plain true p = refl
   too_many_plain false p = refl
 
-  limit_plain : (p : Pulled) → within_limit (plainly e) id (plain_pulled p) ≡ plain_pulled (within_limit e id p)
+  pub limit_plain : (p : Pulled) → within_limit (plainly e) id (plain_pulled p) ≡ plain_pulled (within_limit e id p)
   limit_plain p =
       let most = e.decoding.decoder.table.inserted in
       ap (λ n. if_too_many (nat_lt e.announced.limits.blocked n) (plain_pulled p))
@@ -109,7 +109,7 @@ module _ (e : EndpointHistory) (id : ℕ) where
   told_plain : (x : Pull × Unidirectional) → pulled_unidirectional (plainly e) id x ≡ plain_result (pulled_unidirectional e id x)
   told_plain (a, o) = refl
 
-  peer_plain : (o : Option Unidirectional) → pull_peer (plainly e) id o ≡ plain_result (pull_peer e id o)
+  pub peer_plain : (o : Option Unidirectional) → pull_peer (plainly e) id o ≡ plain_result (pull_peer e id o)
   peer_plain None = refl
   peer_plain (Some o) = told_plain (pull_unidirectional o o.role)
 
@@ -144,13 +144,13 @@ module _ (e : EndpointHistory) (id : ℕ) where
       let p = pull_stream e.side e.announced id e.decoding.decoder i in
       ap (λ x. pulled (plainly e) id (within_limit (plainly e) id x)) (settled_pull i is) ∙ ap (pulled (plainly e) id) (limit_plain p) ∙ given_plain (within_limit e id p)
 
-  settled_kind : (k : Kind) → settles_at e id k ≡ true → pull_at (plainly e) id k ≡ plain_result (pull_at e id k)
+  pub settled_kind : (k : Kind) → settles_at e id k ≡ true → pull_at (plainly e) id k ≡ plain_result (pull_at e id k)
   settled_kind Request is = ap (pull_request (plainly e) id) (at_each plain_incoming e.incoming id) ∙ settled_request (stream_at e.incoming id) is
   settled_kind ServerOpened is = refl
   settled_kind OwnUnidirectional is = refl
   settled_kind PeerUnidirectional is = peer_plain (stream_at e.unidirectional id)
 
-  settles_alike : (k : Kind) → settles_at (plainly e) id k ≡ settles_at e id k
+  pub settles_alike : (k : Kind) → settles_at (plainly e) id k ≡ settles_at e id k
   settles_alike Request = ap is_settled_request (at_each plain_incoming e.incoming id) ∙ of (stream_at e.incoming id)
     where
       of : (o : Option Incoming) → is_settled_request (option_map plain_incoming o) ≡ is_settled_request o

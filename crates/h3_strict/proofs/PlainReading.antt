@@ -116,7 +116,7 @@ table_plain : (b : Bool) (e : EndpointHistory) (capacity blocked : ℕ) → (if 
 table_plain true e capacity blocked = refl
 table_plain false e capacity blocked = refl
 
-learned_plain : (before after : Option (List (ℕ × ℕ))) (e : EndpointHistory) → if_learned before after (plainly e) ≡ plainly (if_learned before after e)
+pub learned_plain : (before after : Option (List (ℕ × ℕ))) (e : EndpointHistory) → if_learned before after (plainly e) ≡ plainly (if_learned before after e)
 learned_plain None (Some pairs) e = table_plain _ e _ _
 learned_plain None None e = refl
 learned_plain (Some known) after e = refl
@@ -133,7 +133,7 @@ taken_plain e (p, fault) =
     (subst (λ own. ReadsPlainly own (then_decoder before p.settings g fault) (then_decoder before p.settings (plainly g) fault)) (if_learned_same before p.settings f).announced (then_plain before p.settings g fault))
 
 -- the same settings are refused
-bad_plain : (e : EndpointHistory) (before after : Option (List (ℕ × ℕ))) → are_refused (plainly e) before after ≡ are_refused e before after
+pub bad_plain : (e : EndpointHistory) (before after : Option (List (ℕ × ℕ))) → are_refused (plainly e) before after ≡ are_refused e before after
 bad_plain e None None = refl
 bad_plain e None (Some pairs) = refl
 bad_plain e (Some known) after = refl
@@ -242,10 +242,10 @@ unidirectional_plain e id o (role, bytes) = heard_plain (with_unidirectional e i
 
 -- a receiver changes
 module _ (e : EndpointHistory) (id : ℕ) where
-  opened_plain : opened (plainly e) id ≡ plainly (opened e id)
+  pub opened_plain : opened (plainly e) id ≡ plainly (opened e id)
   opened_plain = ap (opened_at (plainly e) id) (at_each plain_incoming e.incoming id) ∙ opens_as e id (stream_at e.incoming id)
 
-  with_in : (f : EndpointHistory) (i : Incoming) → with_incoming (plainly f) id (plain_incoming i) ≡ plainly (with_incoming f id i)
+  pub with_in : (f : EndpointHistory) (i : Incoming) → with_incoming (plainly f) id (plain_incoming i) ≡ plainly (with_incoming f id i)
   with_in f i = ap (λ (s : Streams Incoming). record (plainly f) { incoming = s }) (set_each plain_incoming f.incoming id i)
 
   -- at the stream that is opened, where it was not there
@@ -291,10 +291,10 @@ module _ (e : EndpointHistory) (id : ℕ) where
   refused_at OwnUnidirectional = refl
   refused_at PeerUnidirectional = refl
 
-  refused_plain : delivery_refusal (plainly e) id ≡ delivery_refusal e id
+  pub refused_plain : delivery_refusal (plainly e) id ≡ delivery_refusal e id
   refused_plain = refused_at (kind_of e.side id)
 
-arrival_plain : (e : EndpointHistory) (a : Arrival) → ReadsPlainly e.announced (read_arrival e a) (read_arrival (plainly e) a)
+pub arrival_plain : (e : EndpointHistory) (a : Arrival) → ReadsPlainly e.announced (read_arrival e a) (read_arrival (plainly e) a)
 arrival_plain e (BytesCame id bytes) = bytes_plain e id bytes (kind_of e.side id)
 arrival_plain e (EndCame id) = ReadsAlike (end_plain e id (kind_of e.side id))
 arrival_plain e (ResetCame id code) = ReadsAlike (reset_plain e id code (kind_of e.side id))
