@@ -491,8 +491,11 @@ typedef struct {
                                        * either (RFC 9114, section 6.2.1). With 0x201 and 0x202 in
                                        * place of 0x107 if an instruction is too long (RFC 9204,
                                        * section 7.4). With 0x108 if the id of a WebTransport
-                                       * session is that of no request stream. A client sends no
-                                       * header section after the peer's GOAWAY on a stream on which
+                                       * session is that of no request stream. If `webtransport` is
+                                       * not set, frames of type 0x41 and streams of type 0x54 are
+                                       * of unknown type: they are ignored (RFC 9114, section 9),
+                                       * and no H3_SESSION is returned. A client sends no header
+                                       * section after the peer's GOAWAY on a stream on which
                                        * nothing was sent: H3_GOING_AWAY (RFC 9114, section 5.2).
                                        * `webtransport` without `datagram` is refused: H3_SETTING */
 } h3_config;

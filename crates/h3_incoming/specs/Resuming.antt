@@ -37,7 +37,7 @@ pub record Resumes (own : Announced) (old new : Incoming) : Type 0 where
   pub pulls : (side : Side) (id : ℕ) (r : DecoderState) (pieces : List (List ℕ)) (ends : Bool)
       → pull_stream side own id r (delivered new pieces ends) ≡ pull_stream side own id r (delivered old pieces ends)
   pub lists : (side : Side) (id : ℕ) (r : DecoderState) (pieces : List (List ℕ)) (ends : Bool)
-      → HasNoHeader (pull_stream side own id r (delivered old pieces ends)).answer ⊎ (fields_next r (delivered new pieces ends) ≡ fields_next r (delivered old pieces ends))
+      → HasNoHeader (pull_stream side own id r (delivered old pieces ends)).answer ⊎ (fields_next own r (delivered new pieces ends) ≡ fields_next own r (delivered old pieces ends))
   pub gives_up : (fault : StreamFault) → given_up new fault ≡ given_up old fault
   -- where its message is
   pub place : new.place ≡ old.place

@@ -349,6 +349,9 @@ impl Config {
     ///   QPACK_ENCODER_STREAM_ERROR or QPACK_DECODER_STREAM_ERROR.
     /// - The id of a WebTransport session names a bidirectional stream that a client opened. Else H3_ID_ERROR.
     ///
+    /// Without WebTransport announced, the frames of type 0x41 and the streams of type 0x54 are of unknown type: they are ignored (RFC 9114,
+    /// section 9).
+    ///
     /// The local end keeps two rules itself: after a GOAWAY of its peer it sends no header section on a stream on which nothing was sent
     /// (RFC 9114, section 5.2), and it does not announce WebTransport without datagrams.
     pub fn with_strict_connection(mut self, strict: bool) -> Self

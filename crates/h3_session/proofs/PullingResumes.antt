@@ -62,7 +62,7 @@ goes_on_as_before side own id old new h none = record {
       ∙ sym (h.pulls side id r (some_pieces pieces) ends)
       ∙ sym (ap (pull_stream side own id r) (more_is new pieces ends (h.fault ∙ none)));
   lists = λ r pieces ends.
-      subst (λ (i : Incoming). HasNoHeader (pull_stream side own id r i).answer ⊎ (fields_next r (with_more new pieces ends) ≡ fields_next r i)) (sym (more_is old pieces ends none))
-      (subst (λ (i : Incoming). HasNoHeader (pull_stream side own id r (delivered old (some_pieces pieces) ends)).answer ⊎ (fields_next r i ≡ fields_next r (delivered old (some_pieces pieces) ends))) (sym (more_is new pieces ends (h.fault ∙ none)))
+      subst (λ (i : Incoming). HasNoHeader (pull_stream side own id r i).answer ⊎ (fields_next own r (with_more new pieces ends) ≡ fields_next own r i)) (sym (more_is old pieces ends none))
+      (subst (λ (i : Incoming). HasNoHeader (pull_stream side own id r (delivered old (some_pieces pieces) ends)).answer ⊎ (fields_next own r i ≡ fields_next own r (delivered old (some_pieces pieces) ends))) (sym (more_is new pieces ends (h.fault ∙ none)))
       (h.lists side id r (some_pieces pieces) ends));
 }
