@@ -159,8 +159,8 @@ module _ (does : (e : EndpointHistory) → DoesPlainly e) (ends new : Ends) wher
         old = plain_incoming a.old;
         asked = plain_incoming a.asked;
         here = (does after).stream id ∙ ap (option_map plain_incoming) a.here;
-        resumes = a.plainly (plain after.announced) refl;
-        plainly = λ own none. a.plainly own none;
+        resumes = a.plainly (plain after.announced) refl refl;
+        plainly = λ own known none. a.plainly own known none;
         is = at_end new side ∙ ap plainly a.is ∙ sym ((does after).sets id a.asked);
       }
 

@@ -72,7 +72,7 @@ pub record IsAsked (e : EndpointHistory) (id : ℕ) (new : EndpointHistory) : Ty
   pub asked : Incoming
   pub here : stream_at e.incoming id ≡ Some old
   pub resumes : Resumes e.side e.announced id old asked
-  pub plainly : ResumesPlainly e.side id old asked
+  pub plainly : ResumesPlainly e.side e.announced id old asked
   pub is : new ≡ with_incoming e id asked
 
 pub record LosesNothing (ends : Ends) (side : Side) (id : ℕ) (new : Ends) : Type 0 where

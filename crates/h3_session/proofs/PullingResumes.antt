@@ -63,8 +63,8 @@ goes_on side own id old new same alike none still = record {
       ∙ sym (alike.pulls side id r (some_pieces pieces) ends)
       ∙ sym (ap (pull_stream side own id r) (more_is new pieces ends still));
   lists = λ r pieces ends.
-      subst (λ (i : Incoming). HasNoHeader (pull_stream side own id r i).answer ⊎ (fields_next r (with_more new pieces ends) ≡ fields_next r i)) (sym (more_is old pieces ends none))
-      (subst (λ (i : Incoming). HasNoHeader (pull_stream side own id r (delivered old (some_pieces pieces) ends)).answer ⊎ (fields_next r i ≡ fields_next r (delivered old (some_pieces pieces) ends))) (sym (more_is new pieces ends still))
+      subst (λ (i : Incoming). HasNoHeader (pull_stream side own id r i).answer ⊎ (fields_next own r (with_more new pieces ends) ≡ fields_next own r i)) (sym (more_is old pieces ends none))
+      (subst (λ (i : Incoming). HasNoHeader (pull_stream side own id r (delivered old (some_pieces pieces) ends)).answer ⊎ (fields_next own r i ≡ fields_next own r (delivered old (some_pieces pieces) ends))) (sym (more_is new pieces ends still))
       (alike.lists side id r (some_pieces pieces) ends));
 }
 
@@ -72,6 +72,6 @@ pub goes_on_as_before : (side : Side) (own : Announced) (id : ℕ) (old new : In
 goes_on_as_before side own id old new h none = goes_on side own id old new (same_but own old new h) h.alike none (h.fault ∙ none)
 
 -- and so it does where nothing is known of the content
-pub goes_on_plainly : (side : Side) (own : Announced) (id : ℕ) (old new : Incoming) → Resumes own old new → old.fault ≡ None → ResumesPlainly side id old new
-goes_on_plainly side own id old new h none other no_limit =
-    goes_on side other id (unsaid old) (unsaid new) (ap unsaid (same_but own old new h)) (h.plainly other no_limit) none (h.fault ∙ none)
+pub goes_on_plainly : (side : Side) (own : Announced) (id : ℕ) (old new : Incoming) → Resumes own old new → old.fault ≡ None → ResumesPlainly side own id old new
+goes_on_plainly side own id old new h none other known no_limit =
+    goes_on side other id (unsaid old) (unsaid new) (ap unsaid (same_but own old new h)) (h.plainly other known no_limit) none (h.fault ∙ none)

@@ -32,6 +32,7 @@ use Rattle.h3_strict.proofs.PlainPulls.{PullsPlainly, Judged, Same, plain_pulled
 use Rattle.h3_strict.proofs.PlainReading.{IsTooLong, ReadsAlike, ReadsPlainly, all_plain, plain_found}
 use Rattle.h3_strict.proofs.PlainStreams.{at_each, set_each, count_each, count_set, waits_at}
 use Rattle.h3_strict.proofs.StrictCodes.{any_told}
+use Rattle.h3_connection.specs.declared.setup.Announced.{Announced}
 
 -- It judges, and tells so where no more streams wait than may.
 pub data PulledPlainly (strict : Bool) (few : Type 0) (judged : Bool) (x y : Pull × EndpointHistory) : Type 0 where
@@ -226,19 +227,19 @@ pub pulls_plainly : (e : EndpointHistory) (id : ℕ) → PulledPlainly (is_stric
 pulls_plainly e id = kept_plain e.kept e id
 
 -- The list that comes next is the same, where the answer has a header.
-section_plain : (i : Incoming) (o : Option (List ℕ)) → next_section (plain_incoming i) o ≡ next_section i o
-section_plain i None = refl
-section_plain i (Some bytes) = refl
+section_plain : (own : Announced) (i : Incoming) (o : Option (List ℕ)) → next_section own (plain_incoming i) o ≡ next_section own i o
+section_plain own i None = refl
+section_plain own i (Some bytes) = refl
 
 items_plain : (e : EndpointHistory) (id : ℕ) → fields_item (plainly e) id ≡ fields_item e id
 items_plain e id = by_kind (kind_of e.side id)
   where
-    at_stream : (o : Option Incoming) → fields_there e.decoding.decoder (option_map plain_incoming o) ≡ fields_there e.decoding.decoder o
+    at_stream : (o : Option Incoming) → fields_there e.announced e.decoding.decoder (option_map plain_incoming o) ≡ fields_there e.announced e.decoding.decoder o
     at_stream None = refl
-    at_stream (Some i) = ap (fields_in e.decoding.decoder) (section_plain i i.section)
+    at_stream (Some i) = ap (fields_in e.decoding.decoder) (section_plain e.announced i i.section)
 
     by_kind : (k : Kind) → fields_of_kind (plainly e) id k ≡ fields_of_kind e id k
-    by_kind Request = ap (fields_there e.decoding.decoder) (at_each plain_incoming e.incoming id) ∙ at_stream (stream_at e.incoming id)
+    by_kind Request = ap (fields_there e.announced e.decoding.decoder) (at_each plain_incoming e.incoming id) ∙ at_stream (stream_at e.incoming id)
     by_kind ServerOpened = refl
     by_kind OwnUnidirectional = refl
     by_kind PeerUnidirectional = refl

@@ -13,7 +13,7 @@ use Rattle.h3_proto.specs.declared.stream.Side.{Side}
 use Rattle.h3_proto.specs.declared.stream.Side.TheVariants.{Client, Server}
 use Rattle.h3_wire.specs.ExcessiveFrames.{begins_section, is_excessive}
 use Rattle.h3_wire.specs.ExcessiveLaws.{none_excessive}
-use Rattle.h3_wire.specs.Frames.{Front, Whole, Unknown, Refused, Unfinished, frame_at}
+use Rattle.h3_wire.specs.Frames.{Front, Whole, Unknown, Refused, Unfinished, frame_by}
 use Rattle.h3_wire.specs.Pieces.{chunk_of, first_of}
 use Rattle.h3_wire.specs.declared.proto.frame.PayloadLen.{PayloadLen}
 use Rattle.h3_wire.specs.declared.proto.frame.Frame.{Frame}
@@ -23,7 +23,7 @@ use Rattle.h3_connection.specs.Codes.{excessive_load, frame_unexpected}
 use Rattle.h3_connection.specs.Incoming.{Incoming, is_body}
 use Rattle.h3_connection.specs.Pulling.{Pulled, just, connection_fault, malformed, body_of, raw_of, unless_broken, whole_head, whole_trailer, head_or_trailer, judged, read_section, decoded, at_section, at_trailer, at_end, at_frame, framed, next_frame, between_frames, excess, in_message, next_item, pull_stream, in_payload, at_payload, begun_section, begun_payload, left_with, past_section, acknowledgment, is_for, is_client, is_interim, with_content, told_size}
 use Rattle.h3_connection.specs.Skipping.{skipped}
-use Rattle.h3_connection.specs.StrictConnection.{is_no_session}
+use Rattle.h3_connection.specs.StrictConnection.{is_no_session, kinds_of}
 use Rattle.h3_connection.specs.StrictMessages.{broken_rule, if_whole}
 use Rattle.h3_connection.specs.declared.event.Fault.TheVariants.{Connection, Stream}
 use Rattle.h3_connection.specs.declared.event.Item.{Item}
@@ -168,7 +168,7 @@ module _ (side : Side) (own : Announced) (id : ℕ) (r : DecoderState) where
 
   next_told : (i : Incoming) (bytes : List ℕ) → Verdict id (marks_of i) (next_frame side own id r i bytes) (next_frame side (plain own) id r (plain_incoming i) bytes)
   next_told i [] = either id (marks_of i) i.ended _ _ _ _ (end_told i i.place) (IsSame refl)
-  next_told i (byte ∷ bytes) = framed_told i (frame_at (byte ∷ bytes))
+  next_told i (byte ∷ bytes) = framed_told i (frame_by (kinds_of own) (byte ∷ bytes))
 
   excess_told : (i : Incoming) (bytes : List ℕ) (q : Pulled) → Verdict id (marks_of i) (excess id i bytes) q
   excess_told i bytes q = by_type (begins_section bytes)
@@ -180,7 +180,7 @@ module _ (side : Side) (own : Announced) (id : ℕ) (r : DecoderState) where
   message_told : (i : Incoming) (section : Option (List ℕ)) → Verdict id (marks_of i) (in_message side own id r i section) (in_message side (plain own) id r (plain_incoming i) section)
   message_told i (Some bytes) = at_told i bytes
   message_told i None =
-      let bytes = skipped (is_body i.place) (concat i.unread) in
+      let bytes = skipped (kinds_of own) (is_body i.place) (concat i.unread) in
       let next = next_frame side (plain own) id r (plain_incoming (left_with i bytes)) bytes in
       either id (marks_of i) (nat_lt 0 i.body_left) _ _ _ _ (payload_told id i)
       (subst (λ b. Verdict id (marks_of i) (between_frames side own id r i) (if b then excess id (plain_incoming i) bytes else next)) (sym (none_excessive (2 ^ 62 - 1) bytes refl))

@@ -11,7 +11,7 @@ returns-in-Err c = record {
   between = tt;
   on = tt;
   less = tt;
-  err = passes_known _ _ _ (refused_leaves _ _ _ c.in-Err.ensures.gives);
+  err = passes_known _ _ _ _ (refused_leaves _ _ _ _ c.in-Err.ensures.gives);
   rest = ending_rest _ _ _ c.next_begun.ensures.pieces;
 }
 
@@ -25,9 +25,9 @@ returns-then-begins_section-clause-rest c = rest_same _ _ refl
 pub returns-then-is_empty-clause-on : goal.returns-then-is_empty-clause-on
 returns-then-is_empty-clause-on c =
     let given = rw c.in-Ok-Some.field-0-is at c.in-Ok-Some.ensures.gives in
-    passes_empty _ _ _ given.0 given.2 (given.1.empty ∙ sym c.is_empty.ensures ∙ c.if-is_empty.true)
+    passes_empty _ _ _ _ given.0 given.2 (given.1.empty ∙ sym c.is_empty.ensures ∙ c.if-is_empty.true)
 
 pub returns-then-is_empty-clause-less : goal.returns-then-is_empty-clause-less
 returns-then-is_empty-clause-less c =
     let given = rw c.in-Ok-Some.field-0-is at c.in-Ok-Some.ensures.gives in
-    rest_shorter _ _ given.0 given.2
+    rest_shorter _ _ _ given.0 given.2
