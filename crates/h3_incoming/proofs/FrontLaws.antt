@@ -22,7 +22,7 @@ use Rattle.h3_connection.specs.Incoming.{Incoming, Passes, is_body}
 use Rattle.h3_connection.specs.Skipping.{is_empty_data, skip_front, skipped}
 use Rattle.h3_connection.specs.SkippingLaws.{skipped_step}
 use Rattle.h3_messages.specs.declared.content.Content.{Content}
-use Rattle.h3_incoming.specs.Finding.{Finds, FindsFrame, FindsLess, FindsRefused, IsWithin, KeepsWithin, PassesFrames, IsTooLong}
+use Rattle.h3_incoming.specs.Finding.{Finds, GivesBegun, FindsFrame, FindsLess, FindsRefused, IsWithin, KeepsWithin, PassesFrames, IsTooLong}
 use Rattle.h3_incoming.specs.declared.stream.front.Found.{Found}
 use Rattle.h3_incoming.specs.declared.stream.front.Found.TheVariants as found
 use Rattle.h3_wire.specs.declared.frame.kinds.FrameKinds.{FrameKinds}
@@ -52,12 +52,18 @@ pub none_empty : (in_body : Bool) → (in_body && false) ≡ false
 none_empty true = refl
 none_empty false = refl
 
--- any error leaves the bytes from the first known frame on
-pub refused_leaves : (kinds : FrameKinds) (e : FrameStreamError) (old new : List ℕ) → Gives kinds (Err e) old new → new ≡ known_by kinds old
-refused_leaves kinds (stream.Proto e) old new h = h.0
-refused_leaves kinds stream.OutOfMemory old new h = h.0
-refused_leaves kinds (stream.Quic e) old new h = absurd h
-refused_leaves kinds stream.UnexpectedEnd old new h = absurd h
+-- any error passes what gives nothing alone
+pub error_passes : (kinds : FrameKinds) (side : Side) (place : Place) (message : Content) (e : FrameStreamError) (old new : List ℕ) → GivesBegun kinds side place message (Err e) old new → PassesFrames kinds (is_body place) old new
+error_passes kinds side place message (stream.Proto e) old new h = passes_known kinds (is_body place) old new h.0
+error_passes kinds side place message stream.OutOfMemory old new h = h
+error_passes kinds side place message (stream.Quic e) old new h = absurd h
+error_passes kinds side place message stream.UnexpectedEnd old new h = absurd h
+
+pub error_gives : (kinds : FrameKinds) (side : Side) (place : Place) (message : Content) (e : FrameStreamError) (old new : List ℕ) → Gives kinds (Err e) old new → GivesBegun kinds side place message (Err e) old new
+error_gives kinds side place message (stream.Proto e) old new h = h
+error_gives kinds side place message stream.OutOfMemory old new h = passes_known kinds (is_body place) old new h.0
+error_gives kinds side place message (stream.Quic e) old new h = absurd h
+error_gives kinds side place message stream.UnexpectedEnd old new h = absurd h
 
 one_found : (kinds : FrameKinds) (in_body : Bool) (bytes rest : List ℕ) (f : Frame PayloadLen) → frame_by kinds (known_by kinds bytes) ≡ Whole f rest → (in_body && is_empty_data f) ≡ false → frame_by kinds (skipped kinds in_body bytes) ≡ Whole f rest
 one_found kinds in_body bytes rest f e t =

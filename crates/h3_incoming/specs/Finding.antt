@@ -3,6 +3,7 @@ use Rattle.std.specs.Prelude.{◌≡◌, ℕ, Bool, true, false, List, ◌++◌,
 use Rattle.h3_proto.specs.declared.stream.Side.{Side}
 use Rattle.h3_wire.specs.declared.frame.errors.FrameProtocolError.{FrameProtocolError}
 use Rattle.h3_wire.specs.declared.frame.errors.FrameStreamError.{FrameStreamError}
+use Rattle.h3_wire.specs.declared.frame.errors.FrameStreamError.TheVariants as stream
 use Rattle.h3_wire.specs.declared.frame.kinds.FrameKinds.{FrameKinds}
 use Rattle.h3_wire.specs.declared.proto.frame.PayloadLen.{PayloadLen}
 use Rattle.h3_wire.specs.declared.proto.frame.Frame.{Frame}
@@ -19,15 +20,17 @@ use Rattle.h3_incoming.specs.declared.stream.begun.Begun.{Begun}
 use Rattle.h3_incoming.specs.declared.stream.front.Found.{Found}
 use Rattle.h3_incoming.specs.declared.stream.front.Found.TheVariants as found
 
--- What the next known frame begins, which is taken; or what a buffer of frames answers where there is none.
-abbrev pub GivesBegun : FrameKinds → Side → Place → Content → Result (Option Begun) FrameStreamError → List ℕ → List ℕ → Type 0
-GivesBegun kinds side place content (Ok (Some b)) old new = (f : Frame PayloadLen) × IsBegun side place content f b × (frame_by kinds (known_by kinds old) ≡ Whole f new)
-GivesBegun kinds _ _ _ (Ok None) old new = Gives kinds (Ok None) old new
-GivesBegun kinds _ _ _ (Err e) old new = Gives kinds (Err e) old new
-
 -- The bytes that were passed give nothing, whatever follows.
 abbrev pub PassesFrames : FrameKinds → Bool → List ℕ → List ℕ → Type 0
 PassesFrames kinds in_body old new = (more : List ℕ) → skipped kinds in_body (new ++ more) ≡ skipped kinds in_body (old ++ more)
+
+-- What the next known frame begins, which is taken; or what a buffer of frames answers where there is none. If memory is refused, nothing but
+-- unknown frames was passed.
+abbrev pub GivesBegun : FrameKinds → Side → Place → Content → Result (Option Begun) FrameStreamError → List ℕ → List ℕ → Type 0
+GivesBegun kinds side place content (Ok (Some b)) old new = (f : Frame PayloadLen) × IsBegun side place content f b × (frame_by kinds (known_by kinds old) ≡ Whole f new)
+GivesBegun kinds _ _ _ (Ok None) old new = Gives kinds (Ok None) old new
+GivesBegun kinds _ place _ (Err stream.OutOfMemory) old new = PassesFrames kinds (is_body place) old new
+GivesBegun kinds _ _ _ (Err e) old new = Gives kinds (Err e) old new
 
 -- This frame stands behind those that give nothing, whatever follows, and was taken.
 abbrev pub FindsFrame : FrameKinds → Bool → Frame PayloadLen → List ℕ → List ℕ → Type 0
