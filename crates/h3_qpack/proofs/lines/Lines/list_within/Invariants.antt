@@ -1,0 +1,13 @@
+use Rattle.std.proofs.Common.{◌≡◌, ◌≤◌, length, vec_capacity}
+use Rattle.h3_qpack.specs.Sizes.{told_size}
+use Rattle.h3_qpack.proofs.FieldsIn.{AreRead, AskAlike}
+use Rattle.h3_qpack.proofs.lines.Lines.list_within.Given as goal
+
+abbrev pub invariant-lines : goal.invariant-lines
+invariant-lines l =
+    AreRead l.self.table l.self.base l.initial.ahead l.fields.items l.ahead × (l.mem_size ≡ told_size l.fields.items) × (l.mem_size ≤ l.max)
+    × (l.buf ≡ l.initial.buf) × AskAlike l.self.table l.self.base l.initial.ahead l.ahead
+    × (vec_capacity l.initial.fields ≤ vec_capacity l.fields)
+
+abbrev pub decreases-lines : goal.decreases-lines
+decreases-lines l = length l.ahead

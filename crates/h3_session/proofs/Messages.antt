@@ -1,0 +1,37 @@
+-- What is handed out in a run is what was sent, memory refused or not.
+use Rattle.std.proofs.Common.{ℕ, zero, suc, List, [], ◌∷◌, take, refl}
+use Rattle.std.specs.List.{AllByRecursion}
+use Rattle.h3_world.specs.declared.event.Answer.{Answer}
+use Rattle.h3_world.specs.declared.event.Event.{Event}
+use Rattle.h3_world.specs.declared.setup.Setup.{Setup}
+use Rattle.h3_world.specs.Few.{AreFew}
+use Rattle.h3_world.specs.Run.{Run}
+use Rattle.h3_world.specs.Sendable.{IsSendable}
+use Rattle.h3_world.specs.World.{empty_world}
+use Rattle.h3_memory.specs.Kept.{KeepingWorld, nothing_kept}
+use Rattle.h3_memory.specs.MemoryStep.{HappensWithMemory}
+use Rattle.h3_session.specs.Messages.{HandsOutAlways, HandsOutWhatWasSent}
+use Rattle.h3_session.specs.Typed.{IsTyped}
+use Rattle.h3_session.proofs.Headlines.{front_of_all}
+use Rattle.h3_session.proofs.Sendables.{few_are_sendable}
+
+-- The first events of a run are one.
+run_front : {W : Type 0} (step : W → Event → Answer → W → Type 0) (old new : W) (events : List Event) (answers : List Answer) (n : ℕ) → Run step old events answers new → (mid : W) × Run step old (take n events) (take n answers) mid
+run_front step old new events answers zero run = (old, refl)
+run_front step old new [] [] (suc n) run = (old, refl)
+run_front step old new (e ∷ events) (a ∷ answers) (suc n) run =
+    let rest = run_front step run.0 new events answers n run.2 in
+    (rest.0, (run.0, run.1, rest.1))
+run_front step old new [] (a ∷ answers) (suc n) run = absurd run
+run_front step old new (e ∷ events) [] (suc n) run = absurd run
+
+abbrev pub RunsFromNothing : Setup → List Event → List Answer → KeepingWorld → Type 0
+RunsFromNothing setup events answers k = Run (HappensWithMemory setup) (nothing_kept (empty_world setup)) events answers k
+
+-- Runs hand out so, by the law of `h3_memory`.
+pub hands_out_always : (setup : Setup) (events : List Event) (answers : List Answer) (k : KeepingWorld)
+    → ((front : List Event) (given : List Answer) (mid : KeepingWorld) → AllByRecursion (IsSendable setup) front → RunsFromNothing setup front given mid → HandsOutWhatWasSent setup front given)
+    → AllByRecursion IsTyped events → AreFew setup events → RunsFromNothing setup events answers k → HandsOutAlways setup events answers
+hands_out_always setup events answers k law typed few run = λ n.
+    let front = run_front (HappensWithMemory setup) (nothing_kept (empty_world setup)) k events answers n run in
+    law (take n events) (take n answers) front.0 (front_of_all (IsSendable setup) n events (few_are_sendable setup events typed few)) front.1

@@ -1,0 +1,14 @@
+pub mod FrameFronts
+pub mod ControlFronts
+pub mod KeptFronts
+mod InstructionFronts
+mod Excess
+mod WindowLaws
+mod Heard
+mod Listened
+mod Waits
+mod Unfinished
+mod Heads
+mod Behind
+mod OwnLaws
+mod PeerLaws
