@@ -65,6 +65,11 @@ exchange_kind short_connection(const list_sets *sets, size_t table, size_t block
   return one;
 }
 
+exchange_kind one_by_one(exchange_kind kind) {
+  kind.under_way = 1;
+  return kind;
+}
+
 exchange_kind in_place(exchange_kind kind) {
   kind.in_place = 1;
   return kind;
@@ -73,6 +78,7 @@ exchange_kind in_place(exchange_kind kind) {
 void name_kinds(const list_sets *sets, named_kind named[NAMED_KINDS]) {
   const named_kind all[NAMED_KINDS] = {
       {"small GET", small_get(sets)},
+      {"small GET one by one", one_by_one(small_get(sets))},
       {"small POST", small_post(sets)},
       {"real GET", real_get(sets)},
       {"real POST", real_post(sets)},

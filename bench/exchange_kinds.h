@@ -22,10 +22,12 @@ exchange_kind long_get(const list_sets *sets, size_t body, size_t piece);
 exchange_kind small_pieces(const list_sets *sets, size_t piece);
 /* A connection with one exchange of real lists: with dynamic tables of so many bytes, which so many streams may wait for. */
 exchange_kind short_connection(const list_sets *sets, size_t table, size_t blocked);
+/* The same, one exchange after the other, so that one stream at most is under way. */
+exchange_kind one_by_one(exchange_kind kind);
 /* The same, where nobody copies a body. */
 exchange_kind in_place(exchange_kind kind);
 
-enum { NAMED_KINDS = 16 };
+enum { NAMED_KINDS = 17 };
 typedef struct {
   const char *name;
   exchange_kind kind;

@@ -295,8 +295,10 @@ enum h3_answer {
   H3_UNFINISHED_LIMIT = 28,  /* `unfinished_limit` is not 0, and below 256 or four times
                               * max_field_section_size or `table` */
   /* of a list of fields: the first field that is refused decides */
-  H3_FIELD_NAME = 22,        /* a name is empty, not in lower case, or an unknown one with ':' */
-  H3_FIELD_VALUE = 23,       /* a value is not in the grammar of its name */
+  H3_FIELD_NAME = 22,        /* a name is empty, not in lower case, or an unknown one with ':';
+                                detail: the field's index in the list, from 0 */
+  H3_FIELD_VALUE = 23,       /* a value is not in the grammar of its name, or has white space around
+                                it at a strict endpoint; detail: the field's index, from 0 */
   H3_FIELD_COUNT = 24,       /* there are more different names than fit (24,576) */
   /* of what is read */
   H3_NONE = 25,              /* there is no such stream, field or setting */
@@ -479,14 +481,29 @@ typedef struct {
                                        * stands if its Huffman code is not shorter (RFC 9204,
                                        * section 4.1.2). Without this each is Huffman coded, and one
                                        * of rare bytes takes up to four times its length */
+  uint64_t strict_connection;         /* whether the peer's connection is judged by rules that else
+                                       * are not asked for. It closes the connection with 0x109 if a
+                                       * setting has another value than 0 and 1: 8 (at a client;
+                                       * RFC 8441, section 3), 0x33 (RFC 9297, section 2.1.1), and
+                                       * 0x2b603742 if `webtransport` is set; or if 0x2b603742 is 1
+                                       * and 0x33 is not. With 0x10a if the first frame of the
+                                       * control stream is not SETTINGS, not one of unknown type
+                                       * either (RFC 9114, section 6.2.1). With 0x201 and 0x202 in
+                                       * place of 0x107 if an instruction is too long (RFC 9204,
+                                       * section 7.4). With 0x108 if the id of a WebTransport
+                                       * session is that of no request stream. A client sends no
+                                       * header section after the peer's GOAWAY on a stream on which
+                                       * nothing was sent: H3_GOING_AWAY (RFC 9114, section 5.2).
+                                       * `webtransport` without `datagram` is refused: H3_SETTING */
 } h3_config;
 
 /* A client with limits for an untrusted peer: it takes field sections of at most 65,536 bytes, and
  * has a dynamic table of 4,096 bytes, for which 16 streams may wait. It counts acknowledgments, and
  * the table of its encoder has at most 4,096 bytes and is used economically. It is strict, keeps
- * 1,000 ids of canceled streams, and has reject_requests, any_protocol, guard_secrets and
- * shortest_strings set. All else is 0, so a frame or instruction that it keeps until it is whole
- * has at most 262,144 bytes: four times 65,536. SECURITY.md says what each limit bounds. */
+ * 1,000 ids of canceled streams, and has reject_requests, any_protocol, guard_secrets,
+ * shortest_strings and strict_connection set. All else is 0, so a frame or instruction that it
+ * keeps until it is whole has at most 262,144 bytes: four times 65,536. SECURITY.md says what each
+ * limit bounds. */
 static inline void h3_config_default(h3_config *config);
 
 /* Makes an endpoint in *endpoint, which is overwritten: what it held before is not freed. Its
@@ -537,17 +554,19 @@ typedef struct {
  * endpoint does not send it. A response with a status from 100 to 199 is an interim one: send a
  * further header section after it.
  * Refused, in this order: H3_ARGUMENT (id not below 2^62; len is not the sum; another flag),
- * H3_CLOSED, H3_NOT_OPEN, H3_OUT_OF_ORDER, H3_FIELD_NAME, H3_FIELD_VALUE and H3_FIELD_COUNT (the
- * first field that is refused decides), H3_WRONG_SIDE, H3_MALFORMED (for white space around a value
- * H3_FIELD_VALUE), H3_TOO_LARGE, H3_MEMORY. (If memory is needed to check or to send the list,
- * H3_MEMORY may come before the refusals after H3_OUT_OF_ORDER.) */
+ * H3_CLOSED, H3_NOT_OPEN, H3_OUT_OF_ORDER, H3_GOING_AWAY (with `strict_connection`, by a client
+ * after the peer's GOAWAY), H3_FIELD_NAME, H3_FIELD_VALUE and H3_FIELD_COUNT (the first field that
+ * is refused decides), H3_WRONG_SIDE, H3_MALFORMED (for white space around a value H3_FIELD_VALUE),
+ * H3_TOO_LARGE, H3_MEMORY. (If memory is needed to check or to send the list, H3_MEMORY may come
+ * before the refusals after H3_GOING_AWAY.) */
 static inline uint32_t h3_send_head(h3_endpoint *endpoint, uint64_t id, const h3_field_size *sizes,
                                     const uint8_t *flags, size_t count, const void *bytes,
                                     size_t len, uint64_t *detail);
 
 /* Sends a trailer section, after which only the end comes. Send no empty one: it is allowed, but
- * some peers close the connection over it. Refused as h3_send_head, but after the refusals of the
- * list: H3_PSEUDO_IN_TRAILER, H3_MALFORMED (or H3_FIELD_VALUE), H3_TOO_LARGE, H3_MEMORY. */
+ * some peers close the connection over it. Refused as h3_send_head, but never by H3_GOING_AWAY, and
+ * after the refusals of the list: H3_PSEUDO_IN_TRAILER, H3_MALFORMED (or H3_FIELD_VALUE),
+ * H3_TOO_LARGE, H3_MEMORY. */
 static inline uint32_t h3_send_trailer(h3_endpoint *endpoint, uint64_t id,
                                        const h3_field_size *sizes, const uint8_t *flags,
                                        size_t count, const void *bytes, size_t len,

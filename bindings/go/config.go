@@ -36,6 +36,9 @@ type Config struct {
 	GuardSecrets bool
 	// ShortestStrings: the local encoder writes a name or value as it stands if its Huffman code is not shorter.
 	ShortestStrings bool
+	// StrictConnection: the peer's settings, the first frame of its control stream and the ids of its sessions are held to the standards, and no
+	// request begins after its GOAWAY.
+	StrictConnection bool
 }
 
 // DefaultConfig has the limits of h3_config_default, which are fit for a peer that is not trusted. Header and trailer sections may have at
@@ -65,6 +68,7 @@ func DefaultConfig(server bool) Config {
 		AnyProtocol:             raw.any_protocol != 0,
 		GuardSecrets:            raw.guard_secrets != 0,
 		ShortestStrings:         raw.shortest_strings != 0,
+		StrictConnection:        raw.strict_connection != 0,
 	}
 }
 
@@ -99,5 +103,6 @@ func (c Config) raw() C.h3_config {
 	raw.any_protocol = number(c.AnyProtocol)
 	raw.guard_secrets = number(c.GuardSecrets)
 	raw.shortest_strings = number(c.ShortestStrings)
+	raw.strict_connection = number(c.StrictConnection)
 	return raw
 }

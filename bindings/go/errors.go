@@ -31,8 +31,8 @@ const (
 	BlockedLimit    Answer = C.H3_BLOCKED_LIMIT     // Blocked is above 65535
 	Setting         Answer = C.H3_SETTING           // a setting cannot be announced; detail: its id
 	UnfinishedLimit Answer = C.H3_UNFINISHED_LIMIT  // UnfinishedLimit is below four times what is announced
-	FieldName       Answer = C.H3_FIELD_NAME        // a name is empty, not in lower case, or an unknown one that begins with ':'
-	FieldValue      Answer = C.H3_FIELD_VALUE       // a value is not one of its name's grammar
+	FieldName       Answer = C.H3_FIELD_NAME        // a name is empty, not in lower case, or an unknown pseudo-header field; detail: the field's index
+	FieldValue      Answer = C.H3_FIELD_VALUE       // a value is not in the grammar of its name; detail: the field's index
 	FieldCount      Answer = C.H3_FIELD_COUNT       // there are more different names than fit
 	Malformed       Answer = C.H3_MALFORMED         // a strict peer would call the message malformed; detail: the Malformation
 	NoDatagrams     Answer = C.H3_NO_DATAGRAMS      // a side announced no HTTP datagrams, or the peer's settings have not come
@@ -86,7 +86,7 @@ func (a Answer) Error() string {
 // Error is a call that was refused.
 type Error struct {
 	Answer Answer
-	Detail uint64 // what the answer names: a code, an id, a size, a setting, a Malformation; else 0
+	Detail uint64 // what the answer names: a code, an id, a size, a setting, a field's index, a Malformation; else 0
 }
 
 func (e Error) Error() string {
@@ -95,6 +95,8 @@ func (e Error) Error() string {
 		return fmt.Sprintf("%s, %#x", e.Answer.Error(), e.Detail)
 	case Malformed:
 		return fmt.Sprintf("%s, %s", e.Answer.Error(), Malformation(e.Detail))
+	case FieldName, FieldValue:
+		return fmt.Sprintf("%s, field %d", e.Answer.Error(), e.Detail)
 	case GoingAway, TooLarge, Raised:
 		return fmt.Sprintf("%s, %d", e.Answer.Error(), e.Detail)
 	}

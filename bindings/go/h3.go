@@ -217,8 +217,8 @@ func (e *Endpoint) NextToSend(from uint64) (uint64, bool) {
 	return uint64(id), answer == C.H3_OK
 }
 
-// NextUnblocked returns the lowest id, from the given one on, of a stream that can be pulled again: it was Waiting for insertions, and they
-// have arrived. It returns false if there is none.
+// NextUnblocked returns the lowest id, from the given one on, of a stream that can be pulled again: its pull returned Waiting, and the
+// insertions that it needs have arrived. It returns false if there is none.
 func (e *Endpoint) NextUnblocked(from uint64) (uint64, bool) {
 	var id C.uint64_t
 	answer := C.h3_next_unblocked(&e.raw, C.uint64_t(from), &id)

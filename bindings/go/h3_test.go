@@ -280,7 +280,8 @@ func TestRefusals(t *testing.T) {
 	id, _ := client.OpenRequest()
 	is(t, client.SendBody(id, []byte("a")), Error{Answer: OutOfOrder})
 	is(t, client.SendHead(id, []Field{{Name: "Upper", Value: "a"}}), Error{Answer: FieldName})
-	is(t, client.SendHead(id, []Field{{Name: ":method", Value: "G T"}}), Error{Answer: FieldValue})
+	invalidSecond := []Field{{Name: ":scheme", Value: "https"}, {Name: ":method", Value: "G T"}}
+	is(t, client.SendHead(id, invalidSecond), Error{Answer: FieldValue, Detail: 1})
 	is(t, client.SendHead(id, []Field{{Name: ":status", Value: "200"}}), Error{Answer: WrongSide})
 	is(t, client.SendHead(id, append(get[:4:4], Field{Name: "connection", Value: "close"})), Error{Malformed, uint64(ConnectionField)})
 	is(t, client.SendTrailer(id, nil), Error{Answer: OutOfOrder})

@@ -92,8 +92,8 @@ type Event struct {
 	ID   uint64 // of EventGoaway: a server processes no request from this id on (RFC 9114, section 5.2)
 }
 
-// NextEvent returns the next event of the connection, each once. It returns false if there is none. Call it until then, after data on a
-// unidirectional stream of the peer. Of several GOAWAY frames it returns the last one.
+// NextEvent returns the next event of the connection, each once. After data on a unidirectional stream of the peer, call it until it
+// returns false: then there is none. Of several GOAWAY frames it returns the last one.
 func (e *Endpoint) NextEvent() (Event, bool) {
 	var kind C.uint32_t
 	var number C.uint64_t

@@ -75,7 +75,7 @@ EXPORT int nghttp3_conn_server_new_versioned(nghttp3_conn **to, int callbacks_ve
 EXPORT void nghttp3_conn_del(nghttp3_conn *connection) {
   if (!connection) return;
   h3_free(&connection->endpoint);
-  for (size_t i = 0; i < connection->places; i++)
+  for (size_t i = 0; connection->streams > 0; i++)
     for (stream *s = connection->table[i], *next; s; s = next) {
       next = s->next;
       stream_free(connection, s);

@@ -65,6 +65,8 @@ typedef struct {
 static inline uint8_t *field_list_flags(const field_list *list) { return (uint8_t *)(list->sizes + list->count); }
 static inline uint8_t *field_list_bytes(const field_list *list) { return field_list_flags(list) + list->count; }
 
+enum { MOST_HEAD = 16 }; /* bytes of a frame's type and length (RFC 9114, section 7.1) */
+
 /* RFC 9218, section 4. */
 typedef struct {
   uint32_t urgency;
@@ -87,6 +89,8 @@ typedef struct stream {
   bool awaits_data; /* read_data answered NGHTTP3_ERR_WOULDBLOCK */
   bool is_write_shut, has_ended, is_fin_offered, is_fin_taken;
   bool is_prioritized; /* the server's application has set the priority, and the client's counts no more */
+  uint8_t head_length; /* of the type and length of a DATA frame that the endpoint gets with the first byte of its payload; else 0 */
+  uint8_t head[MOST_HEAD];
   priority priority;
 
   nghttp3_read_data_callback read_data; /* NULL: there is no body, or all of it was read */

@@ -1,5 +1,6 @@
 /* receiving.c: the callbacks for what came on a stream, and the end of a stream. */
 #include <stdlib.h>
+#include <string.h>
 #include "input.h"
 
 /* ---- streams that are given up ---- */
@@ -145,6 +146,28 @@ static int next_item(nghttp3_conn *connection, stream *s, input *in, reading *no
   }
 }
 
+/* ---- the type and length of a DATA frame whose payload comes later ---- */
+
+/* How many bytes a variable-length integer has that begins with this one (RFC 9000, section 16). */
+static size_t number_length(uint8_t first) { return (size_t)1 << (first >> 6); }
+
+/* Are these bytes the type and length of a DATA frame that has a payload, and no more? */
+static bool is_data_head(const uint8_t *bytes, size_t length) {
+  if (length < 2 || bytes[0] != 0 || length != 1 + number_length(bytes[1])) return false;
+  unsigned some = bytes[1] & 0x3f;
+  for (size_t i = 2; i < length; i++) some |= bytes[i];
+  return some != 0;
+}
+
+/* Keeps them if they are all that is left in a body. The endpoint would copy them, and reads them where they lie if a byte of the payload
+ * comes after them. */
+static bool keep_head(stream *s, input *in, uint32_t before) {
+  if (in->has_fin || s->may_be_held || (before != H3_HEAD && before != H3_BODY_GIVEN) || !is_data_head(in->bytes, in->length)) return false;
+  memcpy(s->head, in->bytes, in->length);
+  s->head_length = (uint8_t)in->length, in->length = 0;
+  return true;
+}
+
 /* Passes all items that are there, of what came before and of `in`, from what was read of it on. */
 static int tell_items(nghttp3_conn *connection, stream *s, input *in, reading *now) {
   uint32_t before = 0; /* the kind of the item before, if that is a header or trailer section */
@@ -157,9 +180,50 @@ static int tell_items(nghttp3_conn *connection, stream *s, input *in, reading *n
     if (error == NOTHING_FOLLOWS) return 0;
     if (error || is_shut(s)) return error;
     before = is_section(kind) ? kind : 0;
-    if ((before || kind == H3_BODY_GIVEN) && is_all(s, in)) break;
+    if ((before || kind == H3_BODY_GIVEN) && (is_all(s, in) || keep_head(s, in, kind))) break;
   }
   return before ? tell_end_of_fields(connection, s, before, 0) : 0;
+}
+
+/* Passes all items of `in` from its front on. */
+static int tell_from_front(nghttp3_conn *connection, stream *s, input *in) {
+  reading now;
+  read_on(connection, s, *in, is_at_end(s, in), &now);
+  return tell_items(connection, s, in, &now);
+}
+
+static bool is_given_body(const reading *now) { return now->answer == H3_OK && now->item.kind == H3_BODY_GIVEN; }
+
+/* The same after one byte of a body, which `body` told: with what follows of that body it is one piece. */
+static int tell_from_body(nghttp3_conn *connection, stream *s, input *in, reading *body) {
+  reading next;
+  body->used = body->item.len = 1, body->item.number = 0;
+  if (in->length == 1) return tell_items(connection, s, in, body);
+  input rest = {in->bytes + 1, in->length - 1, in->has_fin};
+  read_on(connection, s, rest, false, &next);
+  if (is_given_body(&next) && next.item.number == 0) {
+    body->used += next.used, body->item.len += next.item.len;
+    return tell_items(connection, s, in, body);
+  }
+  body->given = in->bytes;
+  int error = tell_given_body(connection, s, body);
+  return error ? error : tell_items(connection, s, &rest, &next);
+}
+
+/* The same after the type and length of a DATA frame that were kept: the endpoint gets them now, with the first byte of `in`. */
+static APART int tell_after_head(nghttp3_conn *connection, stream *s, input *in) {
+  uint8_t bytes[MOST_HEAD + 1];
+  size_t first = in->length > 0;
+  reading now;
+  input head = {bytes, s->head_length + first, false};
+  memcpy(bytes, s->head, MOST_HEAD);
+  if (first) bytes[s->head_length] = *in->bytes;
+  s->head_length = 0;
+  read_on(connection, s, head, false, &now);
+  if (is_given_body(&now)) return tell_from_body(connection, s, in, &now);
+  in->bytes += first, in->length -= first;
+  int error = tell_items(connection, s, &head, &now);
+  return error || is_shut(s) ? error : tell_from_front(connection, s, in);
 }
 
 /* ---- credit ---- */
@@ -179,14 +243,14 @@ static inline size_t take_credit(nghttp3_conn *connection, stream *s) {
 /* Passes all items of what came on a request stream. `first`: what was read of it; NULL if nothing was. Answers for how many bytes credit
  * is due. */
 static APART nghttp3_ssize pass_items(nghttp3_conn *connection, stream *s, const uint8_t *bytes, size_t length, int fin,
-                                      const reading *first) {
-  reading now;
+                                      reading *first) {
   input in = {length > 0 ? bytes : (const uint8_t *)"", length, fin};
-  if (first) now = *first;
-  else read_on(connection, s, in, is_at_end(s, &in), &now);
+  int error;
   stream_hold(s);
   s->owed += length;
-  int error = tell_items(connection, s, &in, &now);
+  if (first) error = tell_items(connection, s, &in, first);
+  else if (s->head_length == 0) error = tell_from_front(connection, s, &in);
+  else error = length > 0 || fin ? tell_after_head(connection, s, &in) : 0;
   size_t credit = take_credit(connection, s);
   stream_release(connection, s);
   return error ? error : (nghttp3_ssize)credit;
@@ -326,7 +390,8 @@ static int reject(nghttp3_conn *connection, stream *s) {
 /* What came on a request stream that is there. */
 static inline nghttp3_ssize read_there(nghttp3_conn *connection, stream *s, const uint8_t *bytes, size_t length, int fin) {
   if (is_shut(s)) return (nghttp3_ssize)length;
-  return length == 0 || fin ? pass_items(connection, s, bytes, length, fin, NULL) : read_bytes(connection, s, bytes, length);
+  bool is_more = length == 0 || fin || s->head_length > 0;
+  return is_more ? pass_items(connection, s, bytes, length, fin, NULL) : read_bytes(connection, s, bytes, length);
 }
 
 /* What came on another stream than the one that was found last: a unidirectional one, another request stream, a new one, or one that is

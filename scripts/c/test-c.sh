@@ -135,6 +135,7 @@ checks() {
   compile excess excess "${wrapped[@]}"
   compile cancellations cancellations "${wrapped[@]}"
   compile shutdown shutdown
+  compile strict_connection strict_connection
   compile streams streams -Wl,--wrap=malloc,--wrap=realloc
   compile drained drained -Wl,--wrap=malloc,--wrap=realloc
   compile datagrams datagrams
@@ -163,6 +164,7 @@ checks() {
     run excess "$out/excess"
     run cancellations "$out/cancellations"
     run shutdown "$out/shutdown"
+    run "strict connections" "$out/strict_connection"
     run streams "$out/streams"
     run drained "$out/drained" 0 10000
     run datagrams "$out/datagrams"
@@ -186,6 +188,7 @@ checks() {
     compile lists lists_checked "${flags[@]}"
     compile never_indexed never_indexed_checked "${flags[@]}"
     compile shutdown shutdown_checked "${flags[@]}"
+    compile strict_connection strict_connection_checked "${flags[@]}"
     compile datagrams datagrams_checked "${flags[@]}"
     compile in_memory in_memory_checked "${flags[@]}"
     compile ../../examples/quickstart quickstart_checked "-I$lib" "${flags[@]}"
@@ -201,6 +204,7 @@ checks() {
       run "lists with sanitizers" "$out/lists_checked"
       run "never_indexed with sanitizers" "$out/never_indexed_checked"
       run "shutdown with sanitizers" "$out/shutdown_checked"
+      run "strict connections with sanitizers" "$out/strict_connection_checked"
       run "datagrams with sanitizers" "$out/datagrams_checked"
       printed "$out/in_memory_checked" tests/c/in_memory.stdout "in_memory with sanitizers"
     printed "$out/quickstart_checked" examples/quickstart.stdout "quickstart with sanitizers"

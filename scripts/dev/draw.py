@@ -77,8 +77,8 @@ def step(words, line, answer):
         return arrow(side, number, "end", answer, "ok")
     if verb == "gone":
         return arrow(side, number, "reset", answer, "ok")
-    if verb == "pull":
-        return Step(side, f"pull {number}: {answer}", pull_kind(answer))
+    if verb in ("pull", "pulls"):
+        return Step(side, f"{verb} {number}: {answer}", pull_kind(answer))
     if verb == "show":
         return Step(side, answer, "did")
     if verb == "open":

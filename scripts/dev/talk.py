@@ -17,7 +17,7 @@ and each later one an event of a side, c or s. ID is a stream's id, below 2^62; 
     open c                                               show SIDE
     head SIDE ID METHOD URI [name=value ..]              head SIDE ID STATUS [name=value ..]
     body SIDE ID BYTES                                   trailer SIDE ID [name=value ..]
-    finish, reset, cancel, pull SIDE ID                  goaway SIDE NUMBER
+    finish, reset, cancel, pull, pulls SIDE ID           goaway SIDE NUMBER
     deliver SIDE ID COUNT                                end, gone SIDE ID
 crates/h3_script/README.md says what each does, and what is answered."""
 import os
@@ -33,8 +33,8 @@ import kit  # noqa: E402
 
 ROOT = os.path.dirname(os.path.dirname(os.path.dirname(os.path.realpath(__file__))))
 SECONDS = 1800  # it takes a minute or two where nothing else runs
-PLAIN = {"open": "SIDE", "show": "SIDE", "finish": "SIDE ID", "reset": "SIDE ID", "cancel": "SIDE ID", "pull": "SIDE ID", "end": "SIDE ID", "gone": "SIDE ID",
-         "goaway": "SIDE NUMBER", "deliver": "SIDE ID COUNT"}
+PLAIN = {"open": "SIDE", "show": "SIDE", "finish": "SIDE ID", "reset": "SIDE ID", "cancel": "SIDE ID", "pull": "SIDE ID", "pulls": "SIDE ID", "end": "SIDE ID",
+         "gone": "SIDE ID", "goaway": "SIDE NUMBER", "deliver": "SIDE ID COUNT"}
 FORMS = {**PLAIN, "head": "SIDE ID METHOD URI [name=value ..], or SIDE ID STATUS [name=value ..]", "body": "SIDE ID BYTES, with a blank behind the id",
          "trailer": "SIDE ID [name=value ..]"}
 SETUP = "`config` with six numbers: section, table, blocked of the client, then of the server"

@@ -1,6 +1,6 @@
 #!/usr/bin/env bash
 # For each page that names definitions and functions of the crates: do they still stand there? One line 'ok PAGE' or
-# 'failed PAGE' a page, and the names that are missing. Where a page says '`WORD` in `PATH`', that file defines the word.
+# 'failed PAGE' a page, and the names that are missing. And does each rule have its marks (rules.py), each script its drawing?
 set -uo pipefail
 export LC_ALL=C
 cd "$(dirname "$0")/../.."
@@ -31,30 +31,6 @@ for page in docs/RFC.md docs/STATES.md docs/MODEL.md docs/model/*.md docs/ARCHIT
   fi
 done
 
-# the words that a page places in files: "WORD PATH" a line
-places() {
-  grep -oE '`\w+`( and `\w+`)? in `[a-z0-9_/]+[A-Za-z0-9_]*\.(rt|antt)`' "$1" | tr -d '`' |
-    sed -E 's/^(\w+) and (\w+) in (.*)$/\1 \3\n\2 \3/; s/^(\w+) in (.*)$/\1 \2/'
-}
-
-page=docs/ARCHITECTURE.md
-count=0
-missing=""
-while read -r word path; do
-  count=$((count + 1))
-  case $path in
-    *.rt) form="\\bfn $word\\b" ;;
-    *) form="^ *((abbrev|unfoldable|pub|data|record) )*$word\\b.* : " ;;
-  esac
-  grep -qE "$form" "crates/$path" 2>/dev/null || missing="$missing $word in $path;"
-done < <(places "$page")
-if [ -z "$missing" ] && [ "$count" -gt 0 ]; then
-  echo "ok $page: $count words are defined in the files that it names"
-else
-  echo "failed $page:$missing"
-  bad=1
-fi
-
 # the drawing of a script, and that each can be drawn as a picture
 room=$(mktemp -d)
 trap 'rm -rf "$words" "$room"' EXIT
@@ -77,6 +53,7 @@ else
   bad=1
 fi
 
+python3 scripts/gate/rules.py || bad=1
 python3 scripts/dev/pictures.py || bad=1
 python3 scripts/bench/bench_page.py --check || bad=1
 exit "$bad"

@@ -6,6 +6,7 @@
 
 - crates.txt has each crate behind those that it names.
 - A crate's line has no name that its sources, definitions and proofs do not use.
+- It has each library whose definitions or lemmas these name. `rt ci` asks for that; `over.py` and `rt try` do not.
 
 scripts/dev/pictures.py draws them (docs/crates.svg)."""
 import os
@@ -14,6 +15,10 @@ import sys
 
 from texts import ROOT, read, say, write
 
+
+CITED = re.compile(r"\bRattle\.(\w+)")
+# no line names it
+GIVEN = "std"
 
 
 def listed():
@@ -29,12 +34,25 @@ def out_of_order(crates):
         seen.add(name)
 
 
-def words_of(name):
-    texts = []
+def texts_of(name):
+    """each file of a crate, and its text"""
     for part in ("src", "specs", "proofs"):
-        for at, _, files in os.walk(f"{ROOT}/crates/{name}/{part}"):
-            texts += [read(os.path.join(at, it)) for it in files]
-    return set(re.findall(r"\w+", "\n".join(texts)))
+        for at, _, files in sorted(os.walk(f"{ROOT}/crates/{name}/{part}")):
+            yield from ((f"{at}/{it}", read(f"{at}/{it}")) for it in sorted(files))
+
+
+def words_of(name):
+    return set(re.findall(r"\w+", "\n".join(text for _, text in texts_of(name))))
+
+
+def lacking(crates):
+    for name, below in crates.items():
+        found = {}
+        for path, text in texts_of(name):
+            code = re.sub(r"//[^\n]*" if path.endswith(".rt") else r"--[^\n]*", "", text)
+            for it in CITED.findall(code):
+                found.setdefault(it, os.path.relpath(path, ROOT))
+        yield from (f"{name} lacks {it}, which {path} names" for it, path in sorted(found.items()) if it not in (name, GIVEN, *below))
 
 
 def unused(crates):
@@ -60,6 +78,7 @@ def main():
     crates = listed()
     fine = say(list(out_of_order(crates)), f"crates.txt: {len(crates)} crates, each behind those that it names", "crates.txt")
     fine &= say(list(unused(crates)), "crates.txt: each name of a line is used", "crates.txt")
+    fine &= say(list(lacking(crates)), "crates.txt: each library that a crate's definitions and proofs name is in its line", "crates.txt")
     sys.exit(0 if fine else 1)
 
 

@@ -5,7 +5,7 @@
 
 makes a script of it, with tables of 4,096 bytes and 100 streams that may wait, runs the program on it and holds each line that it
 writes against what scripts/gate/independent_model.py answers. So how many bytes each delivery carries comes from the model. Each stream has
-to give its head, its 7,000 bytes, in whatever pieces, and its end; no answer may tell of refused memory. It prints one line, 'ok
+to give its head, its 7,000 bytes, in whatever pieces, and its end, to pulls with headers and with lists; no answer may tell of refused memory. It prints one line, 'ok
 exchange' or 'failed exchange'. Without PROGRAM it prints the script.
 """
 import os
@@ -77,8 +77,8 @@ class Exchange:
                 raise AssertionError(f"a pull on {id}: {item}")
             item = reader.pull(id)
         self.given[side, id] = (head, body)
-        for _ in range(PULLS):
-            self.event(f"pull {side} {id}", (side, id))
+        for number in range(PULLS):
+            self.event(f"{'pulls' if number % 2 else 'pull'} {side} {id}", (side, id))
         self.carry_own()
 
     def show(self, side):

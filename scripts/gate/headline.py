@@ -15,38 +15,41 @@ import sys
 
 sys.path.insert(0, os.path.dirname(os.path.abspath(__file__)))
 import code_types  # noqa: E402
+import rules  # noqa: E402
 
 TOP = os.path.dirname(os.path.dirname(os.path.dirname(os.path.abspath(__file__))))
 CRATES = f"{TOP}/crates"
 CONTRACT = f"{CRATES}/h3_session/src/run.rt"
-# The parts: their headings, and from which names each part goes on. The last one takes what is left.
+# The parts: their headings, and from which names each part goes on, a name with dots by its module. The last one takes what is left.
 PARTS = (
     ("## All that it rests on", ("HandsOutAlways", "AreFew", "JudgesPlainly", "IsMadeSetup")),
-    ("## What is answered", ("RunsUntilMemory", "Run", "Happens", "empty_world")),
+    ("## How a list of fields is read", tuple(f"h3_world.specs.Lists.{name}" for name in ("unreadable", "as_flagged", "pull_of", "list_of"))),
+    ("## What is answered", ("Run", "Happens", "empty_world")),
     ("## The endpoints that are returned", ("RunsInWorld",)),
     ("## The same answers by two endpoints", ("RunsTo", "AnswersEach", "new_ends")),
     ("## What each call leaves", ("RunsByCalls",)),
-    ("## If a side is strict", ("RunsUntilFault", "RunsFaultless", "FindsNoFault", "ServerKnows", "AsksForStrict", "EarlyAreTaken")),
+    ("## If a side is strict", ("RunsUntilMemory", "RunsToEnd", "TakesWhatIsSent", "one_judges_more")),
     ("## If allocations fail", None),
 )
 # Behind these the values of the code: a heading, and from which types of the signature its rows come, and from those that which parts list.
 VALUES = (
-    ("## The values in the answers", ("Setup", "Event", "Answer"), PARTS[:2]),
-    ("## The values that are returned", ("Outcome",), PARTS[2:]),
+    ("## The values in the answers", ("Setup", "Event", "Answer"), PARTS[:3]),
+    ("## The values that are returned", ("Outcome",), PARTS[3:]),
 )
 # The pages, each with its parts in their order there.
 PAGES = {
     "docs/MESSAGES.md": (PARTS[0][0],),
-    "docs/HEADLINE.md": (PARTS[1][0], VALUES[0][0]),
-    "docs/headline/endpoints.md": (PARTS[2][0], VALUES[1][0]),
-    "docs/headline/calls.md": (PARTS[3][0], PARTS[4][0]),
-    "docs/headline/strict.md": (PARTS[5][0],),
-    "docs/headline/memory.md": (PARTS[6][0],),
+    "docs/headline/lists.md": (PARTS[1][0],),
+    "docs/HEADLINE.md": (PARTS[2][0], VALUES[0][0]),
+    "docs/headline/endpoints.md": (PARTS[3][0], VALUES[1][0]),
+    "docs/headline/calls.md": (PARTS[4][0], PARTS[5][0]),
+    "docs/headline/strict.md": (PARTS[6][0],),
+    "docs/headline/memory.md": (PARTS[7][0],),
 }
 # how many lines the first parts may have: a sitting each
-MOST = {PARTS[0][0]: 475, PARTS[1][0]: 1500}
+MOST = {PARTS[0][0]: 490, PARTS[1][0]: 250, PARTS[2][0]: 1500}
 # the pages on which no name stands for two definitions
-SITTINGS = ("docs/MESSAGES.md", "docs/HEADLINE.md")
+SITTINGS = ("docs/MESSAGES.md", "docs/headline/lists.md", "docs/HEADLINE.md")
 # but for these: the Rust crate h3 has a type of that name in two modules, and so have the ports of them
 OF_TWO_MODULES = ("Settings",)
 WIDTH = 140
@@ -90,6 +93,8 @@ class Module:
             text = line[2:] if inside else line
             if not text.strip():
                 comment, current = [], None
+            elif rules.MARK.match(text):  # of a rule: it counts for no definition
+                current = None
             elif text.startswith("--"):
                 comment, current = comment + [number], None
             elif not text[0].isspace():
@@ -197,7 +202,7 @@ def parts(specs):
     known, out = set(), []
     for heading, wanted in PARTS:
         rows = {}
-        for path, name in specs.closure(roots if wanted is None else [named[it] for it in wanted], known):
+        for path, name in specs.closure(roots if wanted is None else [named.get(it) or tuple(it.rsplit(".", 1)) for it in wanted], known):
             if ".declared." in path:
                 row, count = f"`{source_of(path)}`", type_lines(path, name)
             else:

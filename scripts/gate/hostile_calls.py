@@ -4,18 +4,20 @@ endpoint (scripts/gate/independent_model.py) answers to them.
 
     python3 scripts/gate/hostile_calls.py PROGRAM [LISTS A SIDE] [FIRST SEED]
 
-runs the program on 2,000 lists a side and prints a line 'ok NAME' or 'failed NAME' for each side, with the first list that it answers
+runs the program on 2,000 lists a side and prints lines 'ok NAME' or 'failed NAME' for each side, with the first list that it answers
 otherwise. Half of the lists are those of scripts/gate/connection_cases.py, a quarter each the sends and the wilder bytes of
-scripts/gate/call_lists.py; half of all have more calls put between them. Lists in which the model does not know a rule of another library are
-left out.
+scripts/gate/call_lists.py; half of all have more calls put between them. Then the same lists with lists of fields: every second header section and trailer is
+sent as its list, which may be malformed, and every second pull answers with lists. Lists in which the model does not know a rule of another
+library are left out.
 """
+import itertools
 import os
 import random
 import subprocess
 import sys
 
 sys.path.insert(0, os.path.dirname(os.path.abspath(__file__)))
-from call_lists import calls_of, sends_of  # noqa: E402
+from call_lists import ODD_FIELDS, calls_of, sends_of  # noqa: E402
 from connection_cases import calls  # noqa: E402
 from independent_model import CLIENT, SERVER, Endpoint, Malformed, Unsure, head_of  # noqa: E402
 
@@ -44,7 +46,8 @@ CALLS = {
     "send_trailer": lambda i, f: f"trailer {i}{words(f)}", "finish": lambda i: f"finish {i}", "reset": lambda i: f"reset {i}",
     "goaway": lambda i: f"goaway {i}", "outgoing": lambda i: f"waits {i}", "advance": lambda i, n: f"advance {i} {n}",
     "deliver": lambda i, b: f"deliver {i} {digits(b)}", "deliver_end": lambda i: f"end {i}", "deliver_reset": lambda i, c: f"gone {i} {c}",
-    "pull": lambda i: f"pull {i}", "cancel": lambda i: f"cancel {i}", "show": lambda: "show",
+    "send_fields": lambda i, f: f"fields {i}{words(f)}", "send_trailer_fields": lambda i, f: f"trailers {i}{words(f)}",
+    "pull": lambda i: f"pull {i}", "pull_fields": lambda i: f"pulls {i}", "cancel": lambda i: f"cancel {i}", "show": lambda: "show",
 }
 
 
@@ -65,7 +68,7 @@ def pull_line(a):
 def line(call, a):
     """the line of an answer"""
     kind = a[0]
-    if call[0] == "pull":
+    if call[0] in ("pull", "pull_fields"):
         return pull_line(a)
     if kind == "done":
         return "ok"
@@ -93,20 +96,36 @@ def more(rng, todo, side):
     return out
 
 
-def heads_made(todo):
-    """the calls with their heads as a `Header` gives them, those of one name together; what makes no head is left out"""
+AS_LISTS = {"send_head": "send_fields", "send_trailer": "send_trailer_fields", "pull": "pull_fields"}
+
+
+def another(rng, fields):
+    """the list, a few in another order, and a few with a field that may be malformed"""
+    fields = list(fields)
+    if rng.random() < 0.3:
+        rng.shuffle(fields)
+    if rng.random() < 0.1:
+        fields.insert(rng.randrange(len(fields) + 1), rng.choice(ODD_FIELDS))
+    return fields
+
+
+def heads_made(todo, rng=None):
+    """the calls with their heads as a `Header` gives them, those of one name together; what makes no head is left out. With `rng` every
+    second one of these, and of the pulls, is a call with a list."""
     for call in todo:
-        if call[0] not in ("send_head", "send_trailer"):
+        if rng and call[0] in AS_LISTS and rng.random() < 0.5:
+            yield AS_LISTS[call[0]], call[1], *(another(rng, fields) for fields in call[2:])
+        elif call[0] not in ("send_head", "send_trailer"):
             yield call
-            continue
-        try:
-            yield call[0], call[1], head_of(call[2])
-        except Malformed:
-            pass
+        else:
+            try:
+                yield call[0], call[1], head_of(call[2])
+            except Malformed:
+                pass
 
 
-def hostile(seed, side):
-    """the lines of a list and of its answers"""
+def hostile(seed, side, has_lists=False):
+    """the lines of a list of calls and of its answers"""
     rng = random.Random(f"{seed} {side}")
     if seed % 4 < 2:
         limits, todo = calls(seed, side, rng.choice([0.0, 0.17, 0.17, 0.6]))
@@ -115,7 +134,8 @@ def hostile(seed, side):
     if rng.random() < 0.5:
         todo = more(rng, todo, side)
     end = Endpoint(side, *limits)
-    done = [(call, getattr(end, call[0])(*call[1:])) for call in heads_made(todo)]
+    made = heads_made(todo, random.Random(f"lists {seed} {side}") if has_lists else None)
+    done = [(call, getattr(end, call[0])(*call[1:])) for call in made]
     asked, told = ["call new %s %d %d %d" % (("c" if side == CLIENT else "s",) + limits)], ["ok"]
     for call, answer in done:
         asked.append("call " + CALLS[call[0]](*call[1:]))
@@ -123,11 +143,11 @@ def hostile(seed, side):
     return asked, told
 
 
-def lists(side, count, seed):
+def lists(side, count, seed, has_lists=False):
     made = []
     while len(made) < count:
         try:
-            asked, told = hostile(seed, side)
+            asked, told = hostile(seed, side, has_lists)
             name = [f"# {side.lower()} {seed}"]
             made.append((name + asked, name + told))
         except Unsure:
@@ -136,9 +156,9 @@ def lists(side, count, seed):
     return made
 
 
-def compared(program, side, count, first):
+def compared(program, side, count, first, has_lists):
     """asks the program, and tells the first list that it answers otherwise"""
-    made = lists(side, count, first)
+    made = lists(side, count, first, has_lists)
     text = "".join(text + "\n" for asked, _ in made for text in asked)
     ran = subprocess.run([program], input=text.encode("ascii"), stdout=subprocess.PIPE, timeout=100)
     answers = ran.stdout.decode("ascii").split("\n")
@@ -159,9 +179,9 @@ def main():
     count = int(sys.argv[2]) if len(sys.argv) > 2 else 2000
     first = int(sys.argv[3]) if len(sys.argv) > 3 else 1
     good = True
-    for side in (CLIENT, SERVER):
-        right = compared(program, side, count, first)
-        print(f"{'ok' if right else 'failed'} hostile calls of a {side.lower()}")
+    for side, has_lists in itertools.product((CLIENT, SERVER), (False, True)):
+        right = compared(program, side, count, first, has_lists)
+        print(f"{'ok' if right else 'failed'} hostile calls of a {side.lower()}{' with lists of fields' if has_lists else ''}")
         good = good and right
     sys.exit(0 if good else 1)
 

@@ -6,7 +6,7 @@ choice. scripts/gate/hostile_calls.py asks it and the program the same questions
 A call is answered by a tuple: `("done",)`, `("opened", id)`, `("waits", bytes)`, `("shown", limits, sending, receiving, waiting)`, the name
 of a refusal with what it carries, or what a pull hands out.
 """
-from independent_qpack import Bad, Missing, Reader, Receiver, Sender, Short, integer, size, varint
+from independent_qpack import Bad, Missing, NeverIndexed, Reader, Receiver, Sender, Short, integer, size, varint
 
 CLIENT, SERVER = "Client", "Server"
 
@@ -71,6 +71,9 @@ def unsure():
     raise Unsure
 
 
+MOST_NAMES = 24576  # so many names has a `Header` room for (this project's choice)
+
+
 def head_of(fields):
     """The head that a field list stands for: pseudo fields in their order, the last of each name, then the plain ones, those of one name
     together. Late and repeated pseudo fields pass (this project's choice)."""
@@ -84,6 +87,8 @@ def head_of(fields):
             pseudo[name] = value
         else:
             plain.setdefault(name, []).append(value)
+        if len(plain) > MOST_NAMES:
+            raise Malformed("TooMany")
     return [(n, pseudo[n]) for n in PSEUDO if n in pseudo] + [(n, v) for n, values in plain.items() for v in values]
 
 
@@ -101,6 +106,12 @@ def is_response(head):
 
 def has_pseudo(head):
     return any(name in PSEUDO for name, _ in head)
+
+
+def is_secret(field):
+    """RFC 9204, 7.1.3: the names are this project's choice, and that a long cookie can't be guessed"""
+    name, value = field
+    return name in (b"authorization", b"proxy-authorization") or name in (b"cookie", b"set-cookie") and len(value) < 20
 
 
 def total(fields):
@@ -196,10 +207,12 @@ class Incoming:
 
 
 class Endpoint:
-    """The calls of one side. `section`, `capacity` and `blocked` are what it announces (RFC 9114, 7.2.4.1; RFC 9204, 5)."""
+    """The calls of one side. `section`, `capacity` and `blocked` are what it announces (RFC 9114, 7.2.4.1; RFC 9204, 5). If it `guards`, it sends
+    each field that is a secret as one that is never indexed. If it is `strict`, it holds its peer to rules that else pass, of settings, of the
+    first frame and of sessions, and keeps one itself after a GOAWAY."""
 
-    def __init__(self, side, section, capacity, blocked):
-        self.side, self.section, self.blocked = side, section, blocked
+    def __init__(self, side, section, capacity, blocked, guards=False, strict=False):
+        self.side, self.section, self.blocked, self.guards, self.strict = side, section, blocked, guards, strict
         self.bit = 0 if side == CLIENT else 1
         self.ids = [2 + self.bit, 6 + self.bit, 10 + self.bit]
         pairs = [(SECTION_SIZE, section), (8, 0), (0x2B603742, 0), (0x33, 0), (0x2B603743, 0), (CAPACITY, capacity), (BLOCKED, blocked)]
@@ -260,20 +273,39 @@ class Endpoint:
         return self.settings is not None and total(fields) > self.settings.get(SECTION_SIZE, GREATEST)
 
     def send_section(self, id, head):
-        section, instructions = self.sender.encode(id, head)
+        guarded = [NeverIndexed(field) if self.guards and is_secret(field) else field for field in head]
+        section, instructions = self.sender.encode(id, guarded)
         self.own[self.ids[1]] += instructions
         self.outgoing_streams[id].waits += varint(HEADERS) + varint(len(section)) + section
 
     def send_head(self, id, head):
         """RFC 9114, 4.1: interim responses may go ahead of the final one. The head is the list that the caller's `Header` gives."""
-        refused = self.not_sent(id, "head")
+        return self.head_not_sent(id) or self.send_head_as(id, head, head)
+
+    def send_fields(self, id, fields):
+        """A head as a list that is no `Header`: it goes out as it stands, and is judged as the head that it stands for, if it is one."""
+        refused = self.head_not_sent(id)
         if refused:
             return refused
+        try:
+            return self.send_head_as(id, head_of(fields), fields)
+        except Malformed as malformed:
+            return ("Malformed", malformed.args[0])
+
+    def head_not_sent(self, id):
+        """why no head goes out at all. RFC 9114, 5.2: no new request after a GOAWAY, on a stream that was opened before either"""
+        refused = self.not_sent(id, "head")
+        if not refused and self.strict and self.side == CLIENT and self.goaways:
+            return ("GoingAway", self.goaways[-1])
+        return refused
+
+    def send_head_as(self, id, head, fields):
+        """the head, which is written as these fields"""
         if not (is_request(head) if self.side == CLIENT else is_response(head)):
             return ("WrongSide",)
-        if self.too_large(head):
-            return ("TooLarge", total(head))
-        self.send_section(id, head)
+        if self.too_large(fields):
+            return ("TooLarge", total(fields))
+        self.send_section(id, fields)
         if self.side == CLIENT or value_of(head, b":status")[:1] != b"1":
             self.outgoing_streams[id].place = "body"
         return ("done",)
@@ -287,15 +319,25 @@ class Endpoint:
         return ("done",)
 
     def send_trailer(self, id, head):
-        """RFC 9114, 4.3: no pseudo-header fields in it"""
+        return self.not_sent(id, "trailer") or self.send_trailer_as(id, head, head)
+
+    def send_trailer_fields(self, id, fields):
+        """a trailer as a list"""
         refused = self.not_sent(id, "trailer")
         if refused:
             return refused
+        try:
+            return self.send_trailer_as(id, head_of(fields), fields)
+        except Malformed as malformed:
+            return ("Malformed", malformed.args[0])
+
+    def send_trailer_as(self, id, head, fields):
+        """RFC 9114, 4.3: no pseudo-header fields in it"""
         if has_pseudo(head):
             return ("PseudoInTrailer",)
-        if self.too_large(head):
-            return ("TooLarge", total(head))
-        self.send_section(id, head)
+        if self.too_large(fields):
+            return ("TooLarge", total(fields))
+        self.send_section(id, fields)
         self.outgoing_streams[id].place = "done"
         return ("done",)
 
@@ -444,6 +486,7 @@ class Endpoint:
             if s.kind == PUSH:  # RFC 9114, 6.2.2: no client pushes, and no push was allowed
                 raise Fault(STREAM_CREATION_ERROR if self.side == SERVER else ID_ERROR)
         if s.kind == WEBTRANSPORT_UNI:
+            self.named(s.session)
             return
         data, s.pieces = s.unread(), []
         if s.kind in self.critical:
@@ -468,6 +511,8 @@ class Endpoint:
 
     def read_control(self):
         known_before = self.settings is not None
+        if self.strict and not known_before:
+            self.settings_first()
         while True:
             try:
                 kind, payload, used = frame(self.critical[CONTROL])
@@ -478,6 +523,21 @@ class Endpoint:
                 self.control_frame(kind, payload)
         if not known_before and DECODER in self.critical:
             self.read_decoder()
+
+    def settings_first(self):
+        """RFC 9114, 6.2.1: no other frame is the first, one of unknown type either. The type and the length tell it"""
+        r = Reader(self.critical[CONTROL])
+        try:
+            kind, _ = r.varint(), r.varint()
+        except Short:
+            return
+        if kind != SETTINGS:
+            raise Fault(MISSING_SETTINGS)
+
+    def named(self, session):
+        """a session of WebTransport has the id of a request stream"""
+        if self.strict and not self.is_request(session):
+            raise Fault(ID_ERROR)
 
     def control_frame(self, kind, payload):
         """RFC 9114, 6.2.1 and 7.2"""
@@ -502,6 +562,9 @@ class Endpoint:
     def take_settings(self, pairs):
         """RFC 9204, 3.2.3: the table is used where capacity and limit are ones that this project can have"""
         self.settings = pairs
+        flags = (8, 0x33) if self.side == CLIENT else (0x33,)  # RFC 8441, 3; RFC 9297, 2.1.1
+        if self.strict and any(pairs.get(id, 0) > 1 for id in flags):
+            raise Fault(SETTINGS_ERROR)
         capacity, limit = pairs.get(CAPACITY, 0), pairs.get(BLOCKED, 0)
         if 1 <= capacity < 2**30 and limit <= 65535:
             self.sender.table.capacity, self.sender.limit = capacity, limit
@@ -546,6 +609,11 @@ class Endpoint:
             self.fault = fault.args[0]
             return ("Fault", "Connection", self.fault)
 
+    def pull_fields(self, id, other=None):
+        """a pull that answers a head or a trailer by the list that came, in its order"""
+        answer = self.pull(id, other)
+        return (answer[0], self.incoming[id].listed) if answer[0] in ("Head", "Interim", "Trailer") else answer
+
     def next_item(self, id, s, wanted):
         if s.place == "session":
             return self.raw(s, wanted)
@@ -588,6 +656,7 @@ class Endpoint:
         return ("Body", taken)
 
     def begin_session(self, s, session):
+        self.named(session)
         s.place = "session"
         return ("Session", session)
 

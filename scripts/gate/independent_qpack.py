@@ -227,6 +227,14 @@ def size(field):
     return len(field[0]) + len(field[1]) + 32
 
 
+class NeverIndexed(tuple):
+    """a field whose lines are literals with the bit N, wherever it goes (RFC 9204, 4.5.4 and 7.1.3)"""
+
+
+def flagged(field, bit):
+    return NeverIndexed(field) if bit else field
+
+
 # ---- the dynamic table (RFC 9204, 3.2)
 
 
@@ -329,14 +337,14 @@ class Receiver:
         if first & 0x40:
             index = r.integer(4)
             name = static_entry(index)[0] if first & 0x10 else entry(base - index)[0]
-            return name, text(r.string(8))
+            return flagged((name, text(r.string(8))), first & 0x20)
         if first & 0x20:
             name = text(r.string(4))
-            return name, text(r.string(8))
+            return flagged((name, text(r.string(8))), first & 0x10)
         if first & 0x10:
             return entry(base + r.integer(4) + 1)
         name = entry(base + r.integer(3) + 1)[0]
-        return name, text(r.string(8))
+        return flagged((name, text(r.string(8))), first & 0x08)
 
     def section(self, data):
         """required insert count and fields; `Missing` before any line is read, `Bad` for all that isn't whole or right"""
@@ -406,13 +414,13 @@ class Sender:
     def literal(self, field, base, usable, own):
         """4.5.4 to 4.5.6"""
         alike = [n for n, f in usable if f[0] == field[0]]
-        value = string(8, 0, field[1])
+        value, never = string(8, 0, field[1]), isinstance(field, NeverIndexed)
         if field[0] in STATIC_NAMES:
-            return integer(4, 5, STATIC_NAMES.index(field[0])) + value
+            return integer(4, 5 | 2 * never, STATIC_NAMES.index(field[0])) + value
         if not alike:
-            return string(4, 2, field[0]) + value
+            return string(4, 2 | never, field[0]) + value
         own.add(alike[0])
-        return (integer(4, 4, base - alike[0]) if alike[0] <= base else integer(3, 0, alike[0] - base - 1)) + value
+        return (integer(4, 4 | 2 * never, base - alike[0]) if alike[0] <= base else integer(3, never, alike[0] - base - 1)) + value
 
     def encode(self, stream, fields):
         """the field section and the encoder instructions that go ahead of it"""
@@ -422,7 +430,9 @@ class Sender:
         for field in fields:
             usable = [(n, f) for n, f in table.numbered() if not plain and (n <= self.known or may_block)]
             equal = [n for n, f in usable if f == field and n <= base]
-            if field in STATIC:
+            if isinstance(field, NeverIndexed):
+                lines += self.literal(field, base, usable, own)
+            elif field in STATIC:
                 lines += integer(6, 3, STATIC.index(field))
             elif equal:
                 own.add(equal[0])

@@ -19,6 +19,7 @@ from hostile_calls import CODES, escaped  # noqa: E402
 from independent_model import CLIENT, GREATEST, SERVER, Endpoint, Malformed, has_pseudo, head_of  # noqa: E402
 
 SIDES = {"c": CLIENT, "s": SERVER}
+PULLS = ("pull", "pulls")  # with headers, and with lists of fields
 CANCELLED = 0x10C
 
 
@@ -94,7 +95,7 @@ def of_stream(kind, words, line):
     if not words:
         raise Refused
     id, rest = number(words[0], GREATEST + 1), words[1:]
-    if kind in ("finish", "reset", "cancel", "pull", "end", "gone"):
+    if kind in ("finish", "reset", "cancel", "pull", "pulls", "end", "gone"):
         return None if rest else [id]
     if kind == "body":
         return [id, coded(line.split(" ", 3)[3])] if rest else None
@@ -143,10 +144,15 @@ def handed(ends, kind, side, id, count=0):
     return of_call(answer)
 
 
+def named(answer):
+    """the code of a connection fault by its name"""
+    return tuple(CODES.get(word, word) if k and answer[k - 1] in ("Connection", "Closed") else word for k, word in enumerate(answer))
+
+
 def of_call(answer):
     if answer[0] in ("done", "opened", "early", "shown"):
         return printed(answer)
-    return " ".join(["refused"] + [str(word) for word in answer])
+    return " ".join(["refused"] + [str(word) for word in named(answer)])
 
 
 def printed(answer):
@@ -175,9 +181,9 @@ def answered(ends, kind, side, arguments):
     end = ends[side]
     if kind in ("deliver", "end", "gone"):
         return handed(ends, kind, side, *arguments)
-    call = {"open": "open_request", "head": "send_head", "body": "send_body", "trailer": "send_trailer"}.get(kind, kind)
+    call = {"open": "open_request", "head": "send_head", "body": "send_body", "trailer": "send_trailer", "pulls": "pull_fields"}.get(kind, kind)
     answer = getattr(end, call)(*arguments)
-    return printed(answer) if kind == "pull" else of_call(answer)
+    return printed(answer) if kind in PULLS else of_call(answer)
 
 
 def talk(script):
@@ -203,18 +209,18 @@ def talk(script):
 # ---- the wider language
 
 # of h3_config_default, what a peer of the model can see
-WIDE_DEFAULT = {"max_field_section_size": 65536, "table": 4096, "blocked": 16}
-HIDDEN = {"strict", "count_acknowledgments", "encoder_table", "economical_table", "unfinished_limit", "kept_ids", "reject_requests", "any_protocol", "guard_secrets", "shortest_strings"}
+WIDE_DEFAULT = {"max_field_section_size": 65536, "table": 4096, "blocked": 16, "guard_secrets": 1, "strict_connection": 1}
+HIDDEN = {"strict", "count_acknowledgments", "encoder_table", "economical_table", "unfinished_limit", "kept_ids", "reject_requests", "any_protocol", "shortest_strings"}
 
 
 def chosen(words):
-    limits = {"max_field_section_size": GREATEST, "table": 0, "blocked": 0}
+    limits = {"max_field_section_size": GREATEST, "table": 0, "blocked": 0, "guard_secrets": 0, "strict_connection": 0}
     for word in words:
         name, _, value = word.partition("=")
         if name == "default":
             limits.update(WIDE_DEFAULT)
         elif name not in HIDDEN:
-            limits[name] = int(value)
+            limits[name] = int(value or 1)
     return list(limits.values())
 
 
@@ -231,21 +237,16 @@ def wide_list(words):
     return fields
 
 
-def named(answer):
-    """the code of a connection fault by its name"""
-    return tuple(CODES.get(word, word) if k and answer[k - 1] in ("Connection", "Closed") else word for k, word in enumerate(answer))
-
-
 def wide_value(value):
     return f"{escaped(value[:1])}*{len(value)}" if len(value) > 100 and len(set(value)) == 1 else escaped(value)
 
 
-def wide_item(answer, fields):
+def wide_item(answer):
     kind = answer[0]
     if answer[:2] == ("Fault", "Connection"):
         return f"fault {answer[2]}"
     if kind in ("Head", "Interim", "Trailer"):
-        return " ".join([kind.lower()] + [f"{escaped(n)}={wide_value(v)}" for n, v in fields or answer[1]])
+        return " ".join([kind.lower()] + [f"{escaped(n)}={wide_value(v)}" for n, v in answer[1]])
     return f"{kind.lower()} {escaped(answer[1])}" if kind in ("Body", "Raw") else printed(answer)
 
 
@@ -262,7 +263,18 @@ def carried(ends, side, id):
             answer = other.deliver_reset(id, CANCELLED)
         elif own.is_finished(id):
             answer = other.deliver_end(id)
-    return of_call(named(answer))
+    return of_call(answer)
+
+
+def wide_call(end, command, id, *rest):
+    """the calls that have no other end: `waits`, `deliver`, `end` and `gone`"""
+    if command == "waits":
+        return f"waits {end.outgoing(int(id))[1].hex() or '-'}"
+    if command == "end":
+        return of_call(end.deliver_end(int(id)))
+    if command == "gone":
+        return of_call(end.deliver_reset(int(id), int(rest[0])))
+    return of_call(end.deliver(int(id), bytes.fromhex(rest[0].replace("-", ""))))
 
 
 def wide_answer(ends, line):
@@ -271,15 +283,13 @@ def wide_answer(ends, line):
     if command == "carry":
         return " ".join(carried(ends, side, id) for id in ([int(rest[0])] if rest else ends[side].ids))
     if command in ("fields", "trailers"):
-        send = ends[side].send_head if command == "fields" else ends[side].send_trailer
-        return of_call(named(send(int(rest[0]), wide_list(rest[1:]))))
-    if command == "call":  # deliver, alone
-        return of_call(named(ends[side].deliver(int(rest[1]), bytes.fromhex(rest[2].replace("-", "")))))
-    if command in ("pull", "pulls"):
-        id = int(rest[0])
-        answer = named(ends[side].pull(id))
-        came = ends[side].incoming.get(id)
-        return wide_item(answer, came.listed if command == "pulls" and came else None)
+        send = ends[side].send_fields if command == "fields" else ends[side].send_trailer_fields
+        return of_call(send(int(rest[0]), wide_list(rest[1:])))
+    if command == "call":
+        return wide_call(ends[side], *rest)
+    if command in PULLS:
+        ask = ends[side].pull if command == "pull" else ends[side].pull_fields
+        return wide_item(named(ask(int(rest[0]))))
     return answered(ends, *event_of(line))
 
 
@@ -348,6 +358,13 @@ def next_line(rng, ends, ids, queues):
     return rng.choice([f"show {rng.choice('cs')}"] * 3 + [f"{kind} {rng.choice('cs')} {rng.choice(ids + [2, 7])}" for kind in ("cancel", "reset", "finish")] + ["open c", "open s", f"goaway {rng.choice('cs')} {rng.choice([12, 8, 4, 5])}"])
 
 
+def with_lists(lines):
+    """every second pull asks for lists of fields"""
+    pulls = [at for at, line in enumerate(lines) if line.startswith("pull ")]
+    as_lists = {*pulls[1::2]}
+    return [line.replace("pull", "pulls", 1) if at in as_lists else line for at, line in enumerate(lines)]
+
+
 def script(seed):
     """The model is asked along, so that what is handed over is there."""
     rng = random.Random(seed)
@@ -362,7 +379,7 @@ def script(seed):
     for _ in range(rng.randrange(40, 240)):
         events.append(next_line(rng, ends, ids, queues))
         answered(ends, *event_of(events[-1]))
-    lines += events + ["show c", "show s"]
+    lines += with_lists(events) + ["show c", "show s"]
     if rng.random() < 0.03:
         lines[0] += " " + rng.choice(BAD_SETUPS)
     if rng.random() < 0.06:

@@ -3,7 +3,7 @@
 
     python3 scripts/gate/memory_runs.py PROGRAM [--schedules N] [--first SEED] [--self-check]
 
-runs crates/h3_talk on the scripts of scripts/gate/memory_schedules.py, two small ones and N by chance, with some of its calls for memory refused: one
+runs crates/h3_talk on the scripts of scripts/gate/memory_schedules.py, three small ones and N by chance, with some of its calls for memory refused: one
 alone, one and those behind it for a while, one and all up to where memory is back, and some by chance; of the small ones each call in turn. Each
 line has to be one that scripts/gate/memory_world.py allows behind the lines before it, also behind the first that tells of refused memory. By the lines
 alone, what comes out of a stream has to be a front of what was sent, and all of it in the end where the stream was neither reset nor given up. It
@@ -22,7 +22,7 @@ from unittest import mock
 sys.path.insert(0, os.path.dirname(os.path.abspath(__file__)))
 import memory_world  # noqa: E402
 from independent_model import SERVER, total, value_of  # noqa: E402
-from independent_talk import event_of, printed  # noqa: E402
+from independent_talk import PULLS, event_of, printed, with_lists  # noqa: E402
 from memory_schedules import BEGINS, ENDS, SMALL, schedule  # noqa: E402
 from memory_world import MEMORY, OTHER, Delivery, TooMany, follow  # noqa: E402
 from refusing import FOR_GOOD, Refused, Refusing, can_refuse  # noqa: E402
@@ -91,9 +91,9 @@ def messages(script, answers):
         kind, side, arguments = event_of(line)
         if kind in ("open", "goaway", "show", "deliver", "end", "gone"):
             continue
-        is_reader = kind in ("pull", "cancel")
+        is_reader = kind in (*PULLS, "cancel")
         message = found.setdefault((OTHER[side] if is_reader else side, arguments[0]), Message())
-        if kind == "pull":
+        if kind in PULLS:
             message.come(answer)
         elif answer != "ok":
             continue
@@ -145,7 +145,8 @@ def all_runs(refusing, program, seeds):
     for name, script in SMALL.items():
         yield from runs_of(refusing, program, name, script, each_in_turn)
     for seed in seeds:
-        yield from runs_of(refusing, program, f"schedule {seed}", schedule(seed), partial(by_chance, random.Random(seed)))
+        script = schedule(seed)
+        yield from runs_of(refusing, program, f"schedule {seed}", script if seed % 2 else with_lists(script), partial(by_chance, random.Random(seed)))
 
 
 def told(what, faults, good):

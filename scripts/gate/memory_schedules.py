@@ -1,4 +1,4 @@
-"""Scripts for a client and a server that are refused memory in their middle: by chance (`schedule`), and two small ones (`SMALL`), of which each call
+"""Scripts for a client and a server that are refused memory in their middle: by chance (`schedule`), and three small ones (`SMALL`), of which each call
 for memory can be refused in turn.
 
 Each begins with requests that are opened, and with a body of the client on stream 0 that nobody reads. A delivery of `BEGINS` bytes of it says
@@ -143,4 +143,6 @@ SMALL = {
     "a cancellation before the settings": small(["cancel c 4", "c 10", "c 2", "head s 4 103 x-a=1", "head s 4 200 x-a=2"]),
     # The second section refers to what the first one inserted before memory was refused. A pull of stream 0, which was given up, reads nothing.
     "a head with two insertions, sent twice": small(["cancel s 0", "s 3", SIMPLE, SIMPLE, "c 6", "pull s 0", "c 6", "c 4", "pull s 4", "pull s 4"]),
+    # A list is pulled once its insertions were read, again where memory was refused for that or for the list, and then a header is not there.
+    "a head and a trailer, pulled as lists": small(["s 3", SIMPLE, "trailer c 4 x-a=1", "c 4", "pulls s 4", "c 6", "pulls s 4", "pulls s 4", "pulls s 4", "pull s 4"]),
 }

@@ -17,7 +17,7 @@ from dataclasses import dataclass
 
 sys.path.insert(0, os.path.dirname(os.path.abspath(__file__)))
 from independent_model import CLIENT, DECODER, SERVER, Endpoint  # noqa: E402
-from independent_talk import CANCELLED, answered, event_of, printed, setup  # noqa: E402
+from independent_talk import CANCELLED, PULLS, answered, event_of, printed, setup  # noqa: E402
 
 OUT_OF_MEMORY, KEPT, NOT_PULLED = MEMORY = ("refused OutOfMemory", "refused Kept", "fault out of memory")
 OTHER = {CLIENT: SERVER, SERVER: CLIENT}
@@ -207,17 +207,22 @@ def is_settled(end, id):
     return stream is not None and (stream.fault is not None or stream.over)
 
 
+def asked(end, kind, id, piece=None):
+    """the answer of a pull, with a header or with a list of fields"""
+    return end.pull(id, piece) if kind == "pull" else end.pull_fields(id, piece)
+
+
 def pulled(state, event, line):
-    _, side, (id,) = event
+    kind, side, (id,) = event
     end = state.ends[side]
     if is_settled(end, id):
-        return [state] if line == printed(end.pull(id)) else []
+        return [state] if line == printed(asked(end, kind, id)) else []
     if line == NOT_PULLED:
         return [state.with_side(side, *part) for part in parts_read(end, state.kept[side])]
     after = caught_up(state, side)
     # where a body is cut is promised to nobody: any front of what came is right
     piece = ("Body", line[len("body "):].encode()) if line.startswith("body ") else None
-    return [after] if line == printed(after.ends[side].pull(id, piece)) else []
+    return [after] if line == printed(asked(after.ends[side], kind, id, piece)) else []
 
 
 def with_insertions(end, id, fields):
@@ -260,7 +265,7 @@ def states_behind(state, event, line):
     """what may stand behind an event that was answered so"""
     if event[0] in ("deliver", "end", "gone"):
         return handed_over(state, event, line)
-    return pulled(state, event, line) if event[0] == "pull" else called(state, event, line)
+    return pulled(state, event, line) if event[0] in PULLS else called(state, event, line)
 
 
 def distinct(states):

@@ -66,7 +66,7 @@ def words(fields):
 
 
 def message(x, side, other, id, line, fields, body, trailer):
-    """a message of a head, a body in one piece and a trailer goes over whole, and is pulled"""
+    """a message of a head, a body in one piece and a trailer goes over whole, and is pulled, the trailer as a list"""
     waits = len(head_frame(fields)) + len(varint(0) + varint(len(body))) + len(body) + (len(head_frame(trailer)) if trailer else 0)
     x.line(line, "ok")
     x.line(b"body %s %d " % (side, id) + body, "ok")
@@ -79,7 +79,7 @@ def message(x, side, other, id, line, fields, body, trailer):
     x.line(b"pull %s %d" % (other, id), b"head " + words(fields))
     x.line(b"pull %s %d" % (other, id), b"body " + body)
     if trailer:
-        x.line(b"pull %s %d" % (other, id), b"trailer " + words(trailer))
+        x.line(b"pulls %s %d" % (other, id), b"trailer " + words(trailer))
     x.line(b"pull %s %d" % (other, id), "end")
 
 
@@ -190,8 +190,8 @@ def calls(x, streams, insertions, body):
     x.line("call pull 0", b"body " + body)
     x.line("call deliver 0 " + hexed(head_frame(big)), ok)
     x.line("call end 0", ok)
-    x.line("call pull 0", b"trailer " + words(big))
-    x.line("call pull 0", "end")
+    x.line("call pulls 0", b"trailer " + words(big))
+    x.line("call pulls 0", "end")
     # decoder: increments of 0
     x.line("call deliver 10 " + hexed(b"\3" + bytes(MIB)), ok)
     # a WebTransport stream, and a stream of unknown type
@@ -204,7 +204,7 @@ def calls(x, streams, insertions, body):
     sent = head_frame(RESPONSE + big + wide) + frame(0, body) + head_frame(wide)
     x.line(b"call head 0 " + words(RESPONSE + big + wide), ok)
     x.line("call body 0 " + hexed(body), ok)
-    x.line(b"call trailer 0 " + words(wide), ok)
+    x.line(b"call trailers 0 " + words(wide), ok)
     x.line("call finish 0", ok)
     x.line("call sends 0", "finished")
     x.line("call waits 0", "waits " + hexed(sent))

@@ -6,7 +6,7 @@
 
 A row has the side that receives the message, whether extended CONNECT was announced, the method that was asked (of a response), whether the stream ends, the
 message (sections `H=name:=value;..` and bodies `D=length`), the answer that the standards ask, their section, a note, and what nghttp3 0.8.0 answers where that is
-another one. The rows were written from the standards, before any program ran them. Prints 'ok NAME' or 'failed NAME' and the rows that were answered otherwise.
+another one. A line `# ..` is the mark of a rule (scripts/gate/rules.py). The rows were written from the standards, before any program ran them. Prints 'ok NAME' or 'failed NAME' and the rows that were answered otherwise.
 """
 import collections
 import os
@@ -39,7 +39,7 @@ def parts_of(text):
 
 def rows():
     with open(f"{ROOT}/tests/strict/messages.tsv", encoding="latin-1") as table:
-        lines = [line.rstrip("\n").split("\t") for line in table][1:]
+        lines = [line.rstrip("\n").split("\t") for line in table if not line.startswith("# ")][1:]
     return [Row(*line[:4], parts_of(line[4]), *line[5:]) for line in lines]
 
 

@@ -3,11 +3,12 @@
 
     python3 scripts/gate/wide_scripts.py PROGRAM     runs h3_cases, and prints 'ok NAME' or 'failed NAME' for each of these:
 
-- the scripts of tests/wide, whose answers were worked out from the standards, and those of them in which no message breaks a rule by the
-  independent model too (scripts/gate/independent_talk.py);
+- the scripts of tests/wide, whose answers were worked out from the standards, and by the independent model too (scripts/gate/independent_talk.py)
+  unless a strict side finds a message malformed;
 - what the word `default` stands for is what `h3_config_default` has (crates/h3_c/src/config.rt);
 - between two defaults, lists of the largest size that is announced, of bytes with codes of 5 to 28 bits, beside short ones: all come whole
   (tests/c/defaults.c has lists of any bytes);
+- lists with as many names as a header has room for (24,576), and with one more, which is malformed, sent and come;
 - between two defaults, requests that are canceled before anything came, cancellations of ids far apart, and GOAWAY frames: 2,000 of each are no
   fault, and a request after them comes whole.
 """
@@ -19,10 +20,11 @@ import sys
 
 sys.path.insert(0, os.path.dirname(os.path.abspath(__file__)))
 import independent_talk  # noqa: E402
-from independent_qpack import BY_LENGTH, integer  # noqa: E402
+from independent_qpack import BY_LENGTH, integer, string, varint  # noqa: E402
 
 ROOT = os.path.dirname(os.path.dirname(os.path.dirname(os.path.realpath(__file__))))
 GET = ":method=GET :scheme=https :authority=a.b :path=/"
+MOST_NAMES = 24576  # so many has a header room for (include/h3.h, H3_FIELD_COUNT)
 LARGEST = 65536  # the size of a list that the default announces (RFC 9114, section 4.2.2), in bytes
 BEGIN = [("config default / default", "ok ok"), ("carry c", "ok ok ok"), ("carry s", "ok ok ok")]
 
@@ -70,7 +72,8 @@ def stored(program):
         name = os.path.basename(script)[:-5]
         rows = list(zip(asked.split("\n"), told.split("\n")))
         good &= answers(program, f"wide script {name}", rows[:-1])
-        if "alformed" not in told and "no such line" not in told:
+        is_judged = "alformed" in told and ("strict" in asked or "default" in asked)  # by rules of messages, which the model has not
+        if not is_judged and "no such line" not in told:
             modeled += 1
             if independent_talk.wide(asked) != told:
                 good = judged(f"wide script {name}: the independent model answers otherwise", False)
@@ -101,6 +104,20 @@ def sizes(program):
     return answers(program, f"two defaults: lists of {LARGEST} bytes come whole, of bytes with codes of each length", rows)
 
 
+def names(program):
+    """of fields whose names differ, between two sides without limits"""
+    few = [f"n{number}=" for number in range(MOST_NAMES)]
+    many, ours = [*few, "more="], [f"{GET} {' '.join(it)}" for it in (few, [*few, "n0="])]
+    bytes_of = lambda word: string(4, 2, word[:-1].encode()) + string(8, 0, b"")
+    section = b"\0\0" + b"".join(map(bytes_of, many))
+    rows = [("config /", "ok ok"), ("open c", "stream 0"), (f"fields c 0 {GET} {' '.join(many)}", "refused Malformed TooMany"), (f"fields c 0 {ours[0]}", "ok"),
+            (f"trailers c 0 {' '.join(many)}", "refused Malformed TooMany"), (f"trailers c 0 {' '.join(few)}", "ok"), ("carry c 0", "ok"),
+            ("pulls s 0", f"head {ours[0]}"), ("pulls s 0", f"trailer {' '.join(few)}"), ("open c", "stream 4"), (f"fields c 4 {ours[1]}", "ok"),
+            ("carry c 4", "ok"), ("pulls s 4", f"head {ours[1]}"), ("open c", "stream 8"), (f"call s deliver 8 {(varint(1) + varint(len(section)) + section).hex()}", "ok"),
+            ("pulls s 8", "fault malformed TooMany")]
+    return answers(program, f"lists of {MOST_NAMES} names, and of one more", rows)
+
+
 def early_cancellations(program):
     """The decoder stream goes over before the settings."""
     rows = [BEGIN[0]]
@@ -126,7 +143,7 @@ def goaways(program):
 
 def main():
     program = sys.argv[1]
-    good = [check(program) for check in (stored, numbers, sizes, early_cancellations, far_cancellations, goaways)]
+    good = [check(program) for check in (stored, numbers, sizes, names, early_cancellations, far_cancellations, goaways)]
     return 0 if all(good) else 1
 
 

@@ -521,6 +521,18 @@ static void of_rows_before_guards(void) {
   h3_free(&e);
 }
 
+/* and of one whose header knew no strict_connection: it is set */
+static void of_rows_before_strict_connections(void) {
+  enum { FEW = offsetof(h3_config, strict_connection) / sizeof(uint64_t) };
+  h3_endpoint e = H3_NONE_YET;
+  uint64_t few[FEW], detail;
+  h3_raw_config_default(few, FEW);
+  IS(h3_raw_new(few, FEW, &detail, &e), H3_OK);
+  IS(h3_deliver(&e, 3, "\0\x21\0", 3, &detail), H3_CONNECTION); /* a frame before the settings */
+  HOLDS(detail == 0x10a);
+  h3_free(&e);
+}
+
 /* the limits of a default endpoint, and what it announces: a control stream with one SETTINGS frame (RFC 9114, sections 6.2.1 and 7.2.4) */
 static void of_default(void) {
   static const uint8_t announced[] = {0, 4, 24, 6, 0x80, 1, 0, 0, 8, 0, 0xab, 0x60, 0x37, 0x42, 0, 0x33, 0, 0xab, 0x60, 0x37, 0x43, 0, 1, 0x50, 0, 7, 16};
@@ -533,7 +545,7 @@ static void of_default(void) {
   HOLDS(c.max_field_section_size == 65536 && c.table == 4096 && c.blocked == 16);
   HOLDS(c.max_webtransport_sessions == 0 && c.grease == 0 && c.server == 0 && c.send_grease == 0 && c.webtransport == 0);
   HOLDS(c.extended_connect == 0 && c.datagram == 0 && c.reject_requests == 1 && c.any_protocol == 1);
-  HOLDS(c.guard_secrets == 1 && c.shortest_strings == 1);
+  HOLDS(c.guard_secrets == 1 && c.shortest_strings == 1 && c.strict_connection == 1);
   IS(h3_new(&e, &c, NULL), H3_OK);
   IS(h3_outgoing(&e, h3_control_id(0), b, sizeof b, &n, NULL, NULL), H3_OK);
   HOLDS(n == sizeof announced && !memcmp(b, announced, n));
@@ -789,6 +801,7 @@ int main(int argc, char **argv) {
   of_sizes();
   of_rows_before_protocols();
   of_rows_before_guards();
+  of_rows_before_strict_connections();
   of_shorter_tables();
   of_next_ids();
   plain_config(&c);

@@ -7,6 +7,7 @@
 #include <string.h>
 
 static h3_endpoint endpoint = H3_NONE_YET;
+static int is_list; /* the line is `fields`, `trailers` or `pulls`: of a list as it stands, and of no header */
 
 static const struct {
   uint64_t code;
@@ -44,6 +45,8 @@ static void answer(uint32_t n, uint64_t detail) {
     puts("refused UnfinishedLimit");
   else if (n == H3_MALFORMED)
     printf("refused Malformed %s\n", malformations[detail]);
+  else if (n >= H3_FIELD_NAME && n <= H3_FIELD_COUNT && is_list)
+    printf("refused Malformed %s\n", malformations[n - H3_FIELD_NAME]);
   else if (n >= H3_FIELD_NAME && n <= H3_FIELD_COUNT)
     puts("no such call");
   else
@@ -90,11 +93,15 @@ typedef struct {
 
 static int is_named(const field *f, const field *as) { return f->name_len == as->name_len && !memcmp(f->name, as->name, f->name_len); }
 
-/* The fields in the order of the program's rows, which are of headers: pseudo-header fields first, of a repeated one the last, then the others by
+/* The fields in the order of the program's rows. Most are of headers: pseudo-header fields first, of a repeated one the last, then the others by
  * the first coming of their names. It says how many these are. */
 static size_t in_order(const field *given, size_t count, field *out) {
   static const char *const pseudo[] = {":method", ":scheme", ":authority", ":path", ":status", ":protocol"};
   size_t n = 0;
+  if (is_list) {
+    for (; n < count; n++) out[n] = given[n];
+    return n;
+  }
   for (size_t p = 0; p < sizeof pseudo / sizeof *pseudo; p++) {
     field wanted = {(const uint8_t *)pseudo[p], NULL, (uint32_t)strlen(pseudo[p]), 0};
     for (size_t i = count; i-- > 0;)
@@ -225,6 +232,7 @@ static void choose(h3_config *config, const char *word) {
       {"any_protocol", offsetof(h3_config, any_protocol)},
       {"guard_secrets", offsetof(h3_config, guard_secrets)},
       {"shortest_strings", offsetof(h3_config, shortest_strings)},
+      {"strict_connection", offsetof(h3_config, strict_connection)},
   };
   size_t len = strcspn(word, "=");
   uint64_t value = word[len] ? strtoull(word + len + 1, NULL, 10) : 1;
@@ -250,6 +258,7 @@ static void begin(char **words, size_t count) {
   c.any_protocol = 0;
   c.guard_secrets = 0;
   c.shortest_strings = 0;
+  c.strict_connection = 0;
   c.server = words[1][0] == 's';
   c.max_field_section_size = strtoull(words[2], NULL, 10);
   c.table = strtoull(words[3], NULL, 10);
@@ -361,7 +370,8 @@ static void on_stream(char **words, size_t count) {
   const char *command = words[0];
   uint64_t id = strtoull(words[1], NULL, 10), detail = 0;
   const char *word = count > 2 ? words[2] : "";
-  if (!strcmp(command, "head") || !strcmp(command, "trailer")) section(id, command[0] == 't', words + 2, count - 2);
+  is_list = !strcmp(command, "fields") || !strcmp(command, "trailers") || !strcmp(command, "pulls");
+  if (!strcmp(command, "head") || !strcmp(command, "trailer") || (is_list && command[0] != 'p')) section(id, command[0] == 't', words + 2, count - 2);
   else if (!strcmp(command, "body")) {
     uint32_t n = h3_send_body(&endpoint, id, bytes, from_hex(word, bytes), &detail);
     answer(n, detail);
@@ -387,7 +397,7 @@ static void on_stream(char **words, size_t count) {
     uint32_t n = h3_deliver_reset(&endpoint, id, strtoull(word, NULL, 10), &detail);
     answer(n, detail);
   } else if (!strcmp(command, "advance")) advance(id, strtoull(word, NULL, 10));
-  else if (!strcmp(command, "pull")) pull(id);
+  else if (!strcmp(command, "pull") || is_list) pull(id);
   else if (!strcmp(command, "waits")) waits(id);
   else if (!strcmp(command, "sends")) sends(id);
   else if (!strcmp(command, "tries")) {

@@ -9,14 +9,17 @@
 static const uint64_t FAR = UINT64_C(1) << 62;
 static field_list request, response;
 
-/* a client or a server that announces datagrams or does not */
-static void make_end(int side, uint64_t datagram) {
+/* a client or a server that announces datagrams or does not, and closes the connection for what may not be announced or does not */
+static void make_judging(int side, uint64_t datagram, uint64_t strict) {
   h3_config c;
   h3_config_default(&c);
   c.server = (uint64_t)side;
   c.datagram = datagram;
+  c.strict_connection = strict;
   IS(h3_new(&ends[side], &c, NULL), H3_OK);
 }
+
+static void make_end(int side, uint64_t datagram) { make_judging(side, datagram, 1); }
 
 static void make(uint64_t client, uint64_t server) {
   make_end(CLIENT, client);
@@ -217,7 +220,8 @@ static void of_settings(void) {
     }
   /* of the setting the values 0 and 1 alone have a meaning, and 0 where it is left out (RFC 9297, section 2.1.1): 2 and none announce nothing */
   for (int is_there = 0; is_there < 2; is_there++) {
-    make(1, 1);
+    make_end(CLIENT, 1);
+    make_judging(SERVER, 1, 0);
     IS(h3_deliver(&ends[SERVER], 2, is_there ? "\x00\x04\x02\x33\x02" : "\x00\x04\x00", is_there ? 5 : 3, NULL), H3_OK);
     is_off(SERVER, "\x00\x68", 2);
     no_head(SERVER, 0, 10, H3_NO_DATAGRAMS, 0);

@@ -25,15 +25,7 @@ static h3_endpoint ends[2];
 static unsigned on_connection, faults;
 static const char *broken; /* what went wrong with this list first */
 static uint64_t broken_by;
-static uint64_t state = 88172645463325252u;
 static uint8_t content[CONTENT];
-
-static uint32_t random_below(uint32_t below) {
-  state ^= state << 13;
-  state ^= state >> 7;
-  state ^= state << 17;
-  return (uint32_t)(state >> 33) % below;
-}
 
 static void need(int holds, const char *what, uint64_t by) {
   if (holds || broken) return;

@@ -4,6 +4,8 @@
 #include "field_list.h"
 #include "expect.h"
 
+enum { RANDOM_LISTS = 10000 };
+
 static const uint64_t FAR = UINT64_C(1) << 62, UNTOUCHED = 777;
 
 static h3_endpoint client, server;
@@ -83,9 +85,85 @@ static void of_refusals(void) {
   TELLS(h3_goaway(&server, 1, &detail), H3_NOT_REQUEST_ID, 0);
 }
 
+/* The index of the field that is refused: the first that is invalid by itself; if none is, the first with white space around its value
+ * (RFC 9114, sections 4.2 and 10.3). Further fields with faults change nothing. */
+static void of_indexes(uint64_t id) {
+  static field_list list;
+  uint64_t detail;
+  begin_request(&list, "GET");
+  add_field(&list, "x-spaced", "a ");
+  add_field(&list, "x-good", "a");
+  add_field(&list, "x-tab", "\ta");
+  TELLS(h3_send_head(&client, id, list.sizes, NULL, list.count, list.bytes, list.len, &detail), H3_FIELD_VALUE, 4);
+  add_field(&list, "x-line", "a\n");
+  add_field(&list, "X-Upper", "a");
+  TELLS(h3_send_head(&client, id, list.sizes, NULL, list.count, list.bytes, list.len, &detail), H3_FIELD_VALUE, 7);
+  begin_request(&list, "GET");
+  add_field(&list, "X-Upper", "a\n");
+  add_field(&list, "x-line", "a\n");
+  TELLS(h3_send_head(&client, id, list.sizes, NULL, list.count, list.bytes, list.len, &detail), H3_FIELD_NAME, 4);
+  begin_request(&list, "GE T");
+  TELLS(h3_send_head(&client, id, list.sizes, NULL, list.count, list.bytes, list.len, &detail), H3_FIELD_VALUE, 0);
+}
+
+/* the answer to a request that this field alone follows, and its detail */
+static uint32_t refusal_of_field(const field_list *list, uint64_t index, uint64_t *detail) {
+  static field_list alone;
+  h3_endpoint end;
+  h3_config config;
+  uint64_t id;
+  const uint8_t *at = list->bytes;
+  const h3_field_size size = list->sizes[index];
+  for (uint64_t i = 0; i < index; i++) at += list->sizes[i].name + list->sizes[i].value;
+  begin_request(&alone, "GET");
+  alone.sizes[alone.count++] = size;
+  memcpy(alone.bytes + alone.len, at, size.name + size.value);
+  alone.len += size.name + size.value;
+  h3_config_default(&config);
+  IS(h3_new(&end, &config, NULL), H3_OK);
+  IS(h3_open_request(&end, &id, NULL), H3_OK);
+  uint32_t answer = h3_send_head(&end, id, alone.sizes, NULL, alone.count, alone.bytes, alone.len, detail);
+  h3_free(&end);
+  return answer;
+}
+
+/* a list of valid and invalid fields; half of them begin as a request does */
+static void make_random(field_list *list) {
+  static const char *const names[] = {":method", ":scheme", ":path", ":status", ":protocol", ":foo", "", "X-a", "x b", "x-a",
+                                      "host", "te", "cookie", "content-length"};
+  static const char *const values[] = {"", "GET", "GE T", "https", "/x?y", "a b", "200", "99", "websocket", " a", "a ", "\ta",
+                                       "a\nb", "a\x01", "a\xff", "5", "-1", "trailers"};
+  list->count = list->len = 0;
+  if (random_below(2)) begin_request(list, "GET");
+  for (uint32_t count = random_below(6); count > 0; count--)
+    add_field(list, names[random_below(sizeof names / sizeof *names)], values[random_below(sizeof values / sizeof *values)]);
+}
+
+/* Random lists: a request that only the field at the index follows is refused with the same answer, so the index is never that of a valid
+ * field. */
+static void of_random_indexes(uint64_t id) {
+  static field_list list;
+  unsigned told = 0;
+  for (int i = 0; i < RANDOM_LISTS; i++) {
+    uint64_t index = UNTOUCHED, alone;
+    make_random(&list);
+    uint32_t answer = h3_send_head(&client, id, list.sizes, NULL, list.count, list.bytes, list.len, &index);
+    if (answer == H3_OK) IS(h3_open_request(&client, &id, NULL), H3_OK);
+    if (answer != H3_FIELD_NAME && answer != H3_FIELD_VALUE) continue;
+    HOLDS(index < list.count);
+    IS(refusal_of_field(&list, index, &alone), answer);
+    HOLDS(alone == 4);
+    told++;
+  }
+  HOLDS(told > RANDOM_LISTS / 3);
+}
+
 /* and what it names */
 static void of_numbers(void) {
   uint64_t detail, id;
+  TELLS(h3_open_request(&client, &id, &detail), H3_OK, 0);
+  of_indexes(id);
+  of_random_indexes(id);
   TELLS(h3_open_request(&client, &id, &detail), H3_OK, 0);
   TELLS(h3_deliver(&client, 3, "\0\4\3\6\x40\x64", 6, &detail), H3_OK, 0); /* SETTINGS that take sections of 100 bytes */
   TELLS(h3_send_head(&client, id, request.sizes, NULL, request.count, request.bytes, request.len, &detail), H3_TOO_LARGE, size_of(&request));

@@ -194,8 +194,8 @@ void refusals() {
   std::uint64_t id;
   WANT(server.open_request(id).answer == H3_NOT_CLIENT);
   WANT(client.open_request(id));
-  result refused = client.send_head(id, {{"Upper", "a"}});
-  WANT(refused.answer == H3_FIELD_NAME && std::string_view(refused.text()) == "H3_FIELD_NAME");
+  result refused = client.send_head(id, {{":method", "GET"}, {"Upper", "a"}});
+  WANT(refused.answer == H3_FIELD_NAME && refused.detail == 1 && std::string_view(refused.text()) == "H3_FIELD_NAME");
   WANT(client.send_body(id, std::string_view("a")).answer == H3_OUT_OF_ORDER);
   item next;
   WANT(client.pull(id, next) && next.is_pause());

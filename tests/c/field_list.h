@@ -14,6 +14,15 @@ typedef struct {
   uint8_t bytes[MOST_BYTES];
 } field_list;
 
+/* a number below this one; a program gets the same numbers in each run (xorshift) */
+static inline uint32_t random_below(uint32_t below) {
+  static uint64_t state = 88172645463325252u;
+  state ^= state << 13;
+  state ^= state >> 7;
+  state ^= state << 17;
+  return (uint32_t)(state >> 33) % below;
+}
+
 /* its size as a field section (RFC 9114, section 4.2.2) */
 static inline uint64_t size_of(const field_list *list) { return list->len + 32 * list->count; }
 

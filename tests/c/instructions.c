@@ -17,6 +17,7 @@ static void make(uint64_t most) {
   h3_config_default(&config);
   config.max_field_section_size = 5000;
   config.unfinished_limit = most;
+  config.strict_connection = 0; /* so that what is too long has the code of a connection */
   IS(h3_new(&client, &config, NULL), H3_OK);
 }
 
@@ -126,6 +127,7 @@ static size_t insertion(char *to, size_t len) {
   return len;
 }
 
+/* RFC 9114 10.5: unfinished_limit of instructions */
 /* Insertions are read, also if more of them come at once than the limit, and one increment counts those of a delivery. An insertion as long
  * as the limit is kept until it is whole, and is invalid then, since the table has no room for it. One byte more is refused by its length. */
 static void of_the_limit(void) {

@@ -192,7 +192,9 @@ static void of_protocols(void) {
     list l = asking(bytes, refused[i]);
     uint8_t frame[ROOM];
     IS(h3_open_request(&client, &id, NULL), H3_OK);
-    IS(h3_send_head(&client, id, l.sizes, NULL, l.count, l.bytes, length_of(&l), NULL), H3_FIELD_VALUE);
+    uint64_t index = 9;
+    IS(h3_send_head(&client, id, l.sizes, NULL, l.count, l.bytes, length_of(&l), &index), H3_FIELD_VALUE);
+    HOLDS(index == 1);
     list alone = {1, {l.sizes[1]}, bytes + sizeof ":methodCONNECT" - 1};
     IS(h3_deliver(&server, id, frame, literal_frame(frame, &alone), NULL), H3_OK);
     pulls(&server, id, H3_FAULT_MALFORMED, 0, H3_BAD_VALUE, NULL);

@@ -107,6 +107,7 @@ static void of_lines(void) {
   drop();
 }
 
+/* RFC 9204 4.5.4: never-indexed fields */
 /* A table of 4,096 bytes, and a hundred streams that may wait. A flagged field is inserted neither once nor twice, and behind that, without the flag,
  * it is sent as if it were new: as behind requests that had another field in its place. */
 static void of_a_table(uint64_t economical) {

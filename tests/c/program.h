@@ -1,8 +1,10 @@
-// Two programs, of a client and of a server, through include/h3.h: lists and headers mixed, each side strict or not, tables of every size,
-// bytes in flight across resets, and every twelfth call with an allocation refused. Which calls they make is chosen by `below`. At each
-// call the clauses of what the library promises of a whole connection are checked:
+// Two programs, of a client and of a server, through include/h3.h: each side strict or not, tables of every size, bytes in flight across
+// resets, and every twelfth call with an allocation refused. Header sections and trailers are lists, as all of h3.h has them: their names
+// are repeated in any order, some are malformed, and some fields are never indexed. Which calls are made is chosen by `below`. At each call
+// the clauses of what the library promises of a whole connection are checked (docs/MESSAGES.md, of the events that send and pull lists):
 //
-// - begins: what a side receives of a stream is the beginning of what the other side sent on it, field by field and byte by byte;
+// - begins: what a side receives of a stream is the beginning of what the other side sent on it, field by field in the order of its lists,
+//   with the flags that the sender gave or its choice adds, and byte by byte;
 // - ends: the end comes after all of it;
 // - accepts: what is in order and within the other side's announced size is sent; or memory was refused, or a strict side names a rule;
 // - comes_out: with nothing left to deliver, all that was sent has come out of each stream that was not given up;
@@ -274,6 +276,7 @@ Program::Program(uint64_t seed) : seed_(seed), is_aimed_(seed % 4 == 1) {
     config.encoder_table = below(2) ? 4096 : 150;
     config.guard_secrets = below(2);
     config.shortest_strings = below(2);
+    config.strict_connection = below(2);
     uint64_t least = std::max<uint64_t>(256, 4 * std::max(config.max_field_section_size, config.table));
     config.unfinished_limit = one_in(4) ? UINT64_MAX : least; // the least that is taken
   }

@@ -58,6 +58,9 @@ class Config:
     `cookie` and `set-cookie` with a value below 20 bytes."""
     shortest_strings: bool
     """The local encoder writes a name or value as it stands if its Huffman code is not shorter."""
+    strict_connection: bool
+    """The peer's settings, the first frame of its control stream and the ids of its sessions are held to the standards, and no request begins
+    after its GOAWAY."""
 
     @classmethod
     def client(cls) -> Self:

@@ -454,8 +454,8 @@ class Endpoint:
         return ConnectionState(state.sending_table, state.receiving_table, state.waiting_heads, state.sent, goaway, peer)
 
     def next_event(self) -> SettingsCame | GoawayCame | None:
-        """The next event of the connection, each once, or None. Call it until it returns None, after data on a unidirectional stream of the
-        peer. Of several GOAWAY frames it returns the last one."""
+        """The next event of the connection, each once, or None. After data on a unidirectional stream of the peer, call it until it returns
+        None. Of several GOAWAY frames it returns the last one."""
         kind, number = c_uint32(), c_uint64()
         answer = self._answer("h3_raw_next_event", byref(kind), byref(number))
         if answer not in (Answer.OK, Answer.NONE):

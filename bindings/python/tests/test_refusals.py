@@ -46,7 +46,7 @@ class Refusals(unittest.TestCase):
         id = client.open_request()
         self.refused(Answer.OUT_OF_ORDER, 0, client.send_body, id, b"a")
         self.refused(Answer.FIELD_NAME, 0, client.send_head, id, [(b"Upper", b"a")])
-        self.refused(Answer.FIELD_VALUE, 0, client.send_head, id, [(b":method", b"G T")])
+        self.refused(Answer.FIELD_VALUE, 1, client.send_head, id, [(b":scheme", b"https"), (b":method", b"G T")])
         self.refused(Answer.WRONG_SIDE, 0, client.send_head, id, [(b":status", b"200")])
         self.refused(Answer.OUT_OF_ORDER, 0, client.send_trailer, id, [])
         self.refused(Answer.NOT_OPEN, 0, client.finish, id + 4)

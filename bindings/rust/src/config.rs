@@ -1,7 +1,7 @@
 use crate::raw;
 
 /// How many numbers `h3_config` has: its size, and those of [`Config`].
-pub(crate) const NUMBERS: usize = 21;
+pub(crate) const NUMBERS: usize = 22;
 
 /// What an endpoint is and announces, as `h3_config`.
 ///
@@ -60,6 +60,9 @@ pub struct Config {
     pub guard_secrets: bool,
     /// The local encoder writes a name or value as it stands if its Huffman code is not shorter.
     pub shortest_strings: bool,
+    /// The peer's settings, the first frame of its control stream and the ids of its sessions are held to the standards, and no request
+    /// begins after its GOAWAY.
+    pub strict_connection: bool,
 }
 
 impl Config {
@@ -97,6 +100,7 @@ impl Config {
             any_protocol: numbers[18] != 0,
             guard_secrets: numbers[19] != 0,
             shortest_strings: numbers[20] != 0,
+            strict_connection: numbers[21] != 0,
         }
     }
 
@@ -124,6 +128,7 @@ impl Config {
             self.any_protocol.into(),
             self.guard_secrets.into(),
             self.shortest_strings.into(),
+            self.strict_connection.into(),
         ]
     }
 }

@@ -581,8 +581,8 @@ impl Endpoint {
         })
     }
 
-    /// The next event of the connection, each once, or `None`. Call it until it returns `None`, after data on a unidirectional stream of the
-    /// peer. Of several GOAWAY frames it returns the last one.
+    /// The next event of the connection, each once, or `None`. After data on a unidirectional stream of the peer, call it until it returns
+    /// `None`. Of several GOAWAY frames it returns the last one.
     pub fn next_event(&mut self) -> Option<ConnectionEvent> {
         let (mut kind, mut number) = (0, 0);
         self.call(|handle, _, out| unsafe { raw::h3_raw_next_event(handle, &mut kind, &mut number, out) }).ok()?;

@@ -68,10 +68,10 @@ pub enum Error {
     Setting(u64),
     /// `unfinished_limit` is neither 0 nor at least 256 and four times `max_field_section_size` and `table`.
     UnfinishedLimit,
-    /// A name is empty, not in lower case, or an unknown one that begins with ':'.
-    FieldName,
-    /// A value is not one of its name's grammar.
-    FieldValue,
+    /// The name of the field with this index is empty, not in lower case, or an unknown one that begins with ':'.
+    FieldName(u64),
+    /// The value of the field with this index is not in the grammar of its name.
+    FieldValue(u64),
     /// There are more different names than fit.
     FieldCount,
     /// A strict peer would call the message malformed, for this reason. It was not sent.
@@ -110,8 +110,8 @@ impl Error {
             19 => Error::TableLimit,
             20 => Error::BlockedLimit,
             21 => Error::Setting(detail),
-            22 => Error::FieldName,
-            23 => Error::FieldValue,
+            22 => Error::FieldName(detail),
+            23 => Error::FieldValue(detail),
             24 => Error::FieldCount,
             27 => Error::Malformed(Malformation::of(detail)),
             28 => Error::UnfinishedLimit,
@@ -145,6 +145,8 @@ impl fmt::Display for Error {
             Error::TooLarge(size) => return write!(f, "fields of {size} bytes are larger than the peer takes"),
             Error::Raised(id) => return write!(f, "an earlier GOAWAY had the id {id}"),
             Error::Setting(id) => return write!(f, "the setting {id:#x} cannot be announced"),
+            Error::FieldName(index) => return write!(f, "invalid name of field {index}"),
+            Error::FieldValue(index) => return write!(f, "invalid value of field {index}"),
             Error::Malformed(why) => return write!(f, "a strict peer would call the message malformed: {why}"),
             Error::Rejected(code) => return write!(f, "the request is rejected, {code:#x}"),
             Error::Other(answer) => return write!(f, "the library answered {answer}"),
@@ -164,8 +166,6 @@ impl fmt::Display for Error {
             Error::BlockedLimit => "the count of blocked streams is above its limit",
             Error::NoDatagrams => "this side or the peer announced no HTTP datagrams",
             Error::UnfinishedLimit => "the limit on what is unfinished is below four times what is announced",
-            Error::FieldName => "invalid field name",
-            Error::FieldValue => "invalid field value",
             Error::FieldCount => "too many fields",
             Error::Argument => "an argument is out of range",
         };

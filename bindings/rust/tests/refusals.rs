@@ -40,8 +40,8 @@ fn calls_say_why_they_are_refused() {
     let (mut client, mut server) = pair();
     let id = client.open_request().unwrap();
     assert_eq!(client.send_body(id, b"a"), Err(Error::OutOfOrder));
-    assert_eq!(client.send_head(id, &[("Upper", "a")]), Err(Error::FieldName));
-    assert_eq!(client.send_head(id, &[(":method", "G T")]), Err(Error::FieldValue));
+    assert_eq!(client.send_head(id, &[("Upper", "a")]), Err(Error::FieldName(0)));
+    assert_eq!(client.send_head(id, &[(":scheme", "https"), (":method", "G T")]), Err(Error::FieldValue(1)));
     assert_eq!(client.send_head(id, &[(":status", "200")]), Err(Error::WrongSide));
     assert_eq!(client.send_trailer::<(&str, &str)>(id, &[]), Err(Error::OutOfOrder));
     assert_eq!(client.finish(id + 4), Err(Error::NotOpen));

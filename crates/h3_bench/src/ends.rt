@@ -8,8 +8,8 @@ use h3_field::waiting::{
     Wait, decoder_wait, decoder_wait_behind, encoder_wait, encoder_wait_behind,
 };
 use h3_qpack::{
-    DecodedWithin, Decoder, DecoderError, DynamicTable, Encoder, FieldBlock, SliceCursor,
-    ack_header, set_dynamic_table_size,
+    BlockWithin, Decoder, DecoderError, DynamicTable, Encoder, FieldBlock, SliceCursor, ack_header,
+    set_dynamic_table_size,
 };
 use std::alloc::Global;
 
@@ -189,10 +189,13 @@ impl Receiver {
     }
 
     /// What the decoder says of a section whose fields are kept up to `max` bytes: how many were kept, and the size of all.
-    pub(crate) fn weigh(&self, section: &[u8], max: u64) -> Result<Report, Failure> {
+    pub(crate) fn weigh(&mut self, section: &[u8], max: u64) -> Result<Report, Failure> {
         let mut section = SliceCursor::new(section);
-        match self.decoder.decode_header_within(&mut section, max, &[]) {
-            Ok(told) => Ok(report_of(&told)),
+        match self
+            .decoder
+            .decode_block_within(&mut section, max, &[], &mut self.block)
+        {
+            Ok(told) => Ok(report_of(&told, self.block.len())),
             Err(_) => Err(Failure::Refused),
         }
     }
@@ -212,13 +215,11 @@ impl Receiver {
     }
 }
 
-fn report_of(told: &DecodedWithin) -> Report {
+fn report_of(told: &BlockWithin, kept: usize) -> Report {
     let mut report = Report::new();
     match told {
-        DecodedWithin::Fields(decoded) => {
-            report.add(decoded.fields.len(), decoded.mem_size as usize)
-        }
-        DecodedWithin::TooLarge(large) => report.add(0, large.mem_size as usize),
+        BlockWithin::Fields(section) => report.add(kept, section.mem_size as usize),
+        BlockWithin::TooLarge(large) => report.add(0, large.mem_size as usize),
     }
     report
 }

@@ -3,8 +3,8 @@
 use crate::header::fields_of;
 use crate::input;
 use crate::report::{Failure, Report, answer};
-use h3_field::HeaderField;
-use h3_messages::request_violation;
+use h3_field::{Fields, HeaderField};
+use h3_messages::{Seen, Survey, Violation, request_by};
 use std::alloc::Global;
 
 /// Appends the fields of a section.
@@ -30,11 +30,19 @@ fn lists_of(alloc: Global, bytes: &[u8]) -> Result<Vec<Vec<HeaderField>>, Failur
     Ok(lists)
 }
 
+/// The rule that a list breaks as the header section of a request, by one walk over it.
+fn violation_of(fields: &[HeaderField]) -> Option<Violation> {
+    let fields = Fields::of(fields);
+    let mut seen = Seen::new();
+    seen.take_all(&fields);
+    request_by(&Survey::of(&fields, &seen), false).violation
+}
+
 /// Judges each list as the header section of a request. The fields of those that break no rule are counted.
 fn judge_all(lists: &[Vec<HeaderField>]) -> Report {
     let mut report = Report::new();
     for fields in lists {
-        if request_violation(fields.as_slice(), false).is_none() {
+        if violation_of(fields.as_slice()).is_none() {
             report.add(fields.len(), 0);
         }
     }

@@ -8,3 +8,4 @@ pub mod RowLaws
 pub mod Reading
 pub mod Shown
 pub mod Datagrams
+pub mod NamedFields

@@ -2,6 +2,7 @@
 use Rattle.std.proofs.Common.{arith, ◌≡◌, ℕ, ◌<◌, ◌==◌, true, false, List, [], ◌∷◌, length, Option, Some, None, refl, ap, sym, subst, ◌∙◌, inl, inr}
 use Rattle.std.specs.Prelude.{◌≢◌, ◌^◌, Err, Result, unwrap_or}
 use Rattle.h3_field.specs.Field.{Field}
+use Rattle.h3_proto.specs.declared.config.Choices.{Choices}
 use Rattle.h3_connection.specs.Endpoint.{EndpointHistory}
 use Rattle.h3_connection.specs.ReceivingContracts.{Delivers}
 use Rattle.h3_connection.specs.SendingContracts.{SendsBody}
@@ -11,11 +12,10 @@ use Rattle.h3_connection.specs.declared.event.Refusal.{Refusal}
 use Rattle.h3_connection.specs.declared.event.Refusal.TheVariants as refusal
 use Rattle.h3_connection.specs.Shutdown.{is_rejected_in}
 use Rattle.h3_session.specs.Lacking.{RefusesBodies, RefusesDeliveries, delivery_error}
-use Rattle.h3_session.specs.declared.endpoint.lists.FieldsError.{FieldsError}
-use Rattle.h3_session.specs.declared.endpoint.lists.FieldsError.TheVariants as error
+use Rattle.h3_session.specs.SendingLists.{NotMalformed}
 use Rattle.h3_c.specs.Exported.{Calls, DeliversOn, OnStream, SendsCut}
 use Rattle.h3_c.specs.Giving.{RefusesFields}
-use Rattle.h3_c.specs.Numbers.{body_told, delivery_told, refusal_told, told_or_memory}
+use Rattle.h3_c.specs.Numbers.{TellsList, body_told, delivery_told, refusal_told, told_or_memory}
 use Rattle.h3_c.specs.Reads.{is_kept, StopsAt}
 use Rattle.h3_c.specs.Seen.{Seen}
 use Rattle.h3_c.specs.declared.connection.reading.Stop.{Stop}
@@ -70,17 +70,22 @@ read_lacks s id bytes o stop refuses is taken some = record {
   some = some;
 }
 
+-- what no rule of messages refuses is told of a list as of any call
+plainly_told : (r : Refusal) (choices : Choices) (fields : List Field) (n : Told) → NotMalformed (Some r) → n ≡ refusal_told r → TellsList (Err r) choices fields n
+plainly_told (refusal.Malformed why) choices fields n rules is = absurd rules
+plainly_told _ choices fields n rules is = is
+
 -- A list: the sizes are not those of the bytes,
-module _ (v : Seen) (place : EndpointHistory → Option Refusal) (does : List Field → Result Unit FieldsError → Type 0) (told : Told) where
+module _ (v : Seen) (place : EndpointHistory → Option Refusal) (does : List Field → Result Unit Refusal → Type 0) (told : Told) where
   pub no_sizes : told.number ≡ 32 → (cut : Option (List Field)) → RefusesFields cut told → SendsCut cut place told v v does
   no_sizes is None h = (h, refl)
   no_sizes is (Some fields) h = absurd (let wrong : 18 ≡ 32 = sym (ap (λ (n : Told). n.number) h.0) ∙ is in omega (arith, wrong))
 
   -- or its stream takes none,
-  pub not_taken : (n : Told) (r : Refusal) → told.number ≢ 32 → ((fields : List Field) → does fields (Err (error.Refused r))) → n ≡ refusal_told r
+  pub not_taken : (n : Told) (r : Refusal) → told.number ≢ 32 → NotMalformed (Some r) → ((fields : List Field) → does fields (Err r)) → n ≡ refusal_told r
       → (cut : Option (List Field)) → RefusesFields cut told → SendsCut cut place n v v does
-  not_taken n r differs refuses is None h = absurd (differs (ap (λ (n : Told). n.number) h))
-  not_taken n r differs refuses is (Some fields) h = inr (record { answer = Err (error.Refused r); is = is; done = refuses fields; last = refl; events = refl })
+  not_taken n r differs plain refuses is None h = absurd (differs (ap (λ (n : Told). n.number) h))
+  not_taken n r differs plain refuses is (Some fields) h = inr (record { answer = Err r; is = plainly_told r v.endpoint.announced.choices fields n plain is; done = refuses fields; last = refl; events = refl })
 
   -- or there is no memory for it
   pub no_room : told.number ≢ 32 → ((e : EndpointHistory) → StandsFor v.endpoint e → place e ≡ None) → (cut : Option (List Field)) → RefusesFields cut told → SendsCut cut place told v v does

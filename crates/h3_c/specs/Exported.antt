@@ -11,7 +11,6 @@ use Rattle.h3_connection.specs.declared.event.Refusal.{Refusal}
 use Rattle.h3_session.specs.Copied.{CopiesTo}
 use Rattle.h3_session.specs.NextRequest.{next_request}
 use Rattle.h3_connection.specs.Shutdown.{is_rejected_in}
-use Rattle.h3_session.specs.declared.endpoint.lists.FieldsError.{FieldsError}
 use Rattle.h3_c.specs.declared.items.PulledItem.{PulledItem}
 use Rattle.h3_c.specs.declared.numbers.Told.{Told}
 use Rattle.h3_incoming.specs.FieldsPulls.{list_of, pull_of}
@@ -19,7 +18,7 @@ use Rattle.h3_session.specs.Listing.{ListsNext}
 use Rattle.h3_c.specs.Items.{bytes_of, fields_of, shown}
 use Rattle.h3_c.specs.Rows.{fits, flags_of, row_of, sizes_of}
 use Rattle.h3_c.specs.declared.fields.FieldSize.{FieldSize}
-use Rattle.h3_c.specs.Numbers.{ok, none, room, argument, memory, rejected, call_told, list_told, refusal_told}
+use Rattle.h3_c.specs.Numbers.{ok, none, room, argument, memory, rejected, TellsList, call_told, refusal_told}
 use Rattle.h3_c.specs.Seen.{Seen}
 use Rattle.h3_c.specs.Bits.{bit}
 
@@ -43,6 +42,10 @@ pub record OnStream (id : ℕ) (n : Told) (v w : Seen) (goes : Type 0) : Type 0 
 abbrev pub CallsOn : {R : Type 0} → (R → Told) → ℕ → Told → Seen → Seen → (R → Type 0) → Type 0
 CallsOn told id n v w does = OnStream id n v w (Calls told n v w does)
 
+-- For such an id what the call would write stays as it was.
+abbrev pub Unwritten : ℕ → Type 0 → Type 0
+Unwritten id same = 2 ^ 62 ≤ id → same
+
 -- No list was made of what C gave, since memory was refused: of one field or more, where its stream takes a list there now
 pub record LacksList (place : EndpointHistory → Option Refusal) (fields : List Field) (n : Told) (v w : Seen) : Type 0 where
   pub told : n ≡ memory
@@ -58,11 +61,19 @@ pub record UnlessRejected (id : ℕ) (n : Told) (v w : Seen) (goes : Type 0) : T
 abbrev pub DeliversOn : {R : Type 0} → (R → Told) → ℕ → Told → Seen → Seen → (R → Type 0) → Type 0
 DeliversOn told id n v w does = OnStream id n v w (UnlessRejected id n v w (Calls told n v w does))
 
+-- The call answered a result of this list, which this number tells by the choices of the endpoint (`Numbers`, `TellsList`), and did this with it.
+pub record CallsList (fields : List Field) (n : Told) (v w : Seen) (does : Result Unit Refusal → Type 0) : Type 0 where
+  pub answer : Result Unit Refusal
+  pub is : TellsList answer w.endpoint.announced.choices fields n
+  pub done : does answer
+  pub last : w.last ≡ v.last
+  pub events : w.events ≡ v.events
+
 -- The list that C gave is sent; or its sizes are not those of its bytes or a flag is not known; or there was no memory for it, where `place` tells that no rule of
 -- the stream refuses each list there.
-abbrev pub SendsCut : Option (List Field) → (EndpointHistory → Option Refusal) → Told → Seen → Seen → (List Field → Result Unit FieldsError → Type 0) → Type 0
+abbrev pub SendsCut : Option (List Field) → (EndpointHistory → Option Refusal) → Told → Seen → Seen → (List Field → Result Unit Refusal → Type 0) → Type 0
 SendsCut None place n v w does = (n ≡ argument) × (w ≡ v)
-SendsCut (Some fields) place n v w does = LacksList place fields n v w ⊎ Calls list_told n v w (does fields)
+SendsCut (Some fields) place n v w does = LacksList place fields n v w ⊎ CallsList fields n v w (does fields)
 
 -- A pull: its answer stays until the next one, and C gets what it is. Of a header or trailer section it is the list of fields that came.
 pub record Pulls (id : ℕ) (n : Told) (v w : Seen) (given : PulledItem) : Type 0 where

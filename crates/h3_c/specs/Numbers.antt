@@ -1,5 +1,6 @@
 -- The numbers of `include/h3.h`.
-use Rattle.std.specs.Prelude.{ℕ, List, Option, Some, None, Result, Ok, Err}
+use Rattle.std.specs.Prelude.{◌≡◌, ℕ, List, Option, Some, None, Result, Ok, Err}
+use Rattle.h3_field.specs.Field.{Field}
 use Rattle.h3_proto.specs.declared.frame.SettingsError.{SettingsError}
 use Rattle.h3_proto.specs.declared.frame.SettingsError.TheVariants as settings_error
 use Rattle.h3_connection.specs.declared.event.DeliverError.{DeliverError}
@@ -10,10 +11,10 @@ use Rattle.h3_connection.specs.declared.event.Refusal.{Refusal}
 use Rattle.h3_connection.specs.declared.event.Refusal.TheVariants as refusal
 use Rattle.h3_connection.specs.declared.setup.NewError.{NewError}
 use Rattle.h3_connection.specs.declared.setup.NewError.TheVariants as new_error
+use Rattle.h3_proto.specs.declared.config.Choices.{Choices}
+use Rattle.h3_messages.specs.InvalidField.{invalid_field}
 use Rattle.h3_session.specs.declared.endpoint.datagrams.DatagramError.{DatagramError}
 use Rattle.h3_session.specs.declared.endpoint.datagrams.DatagramError.TheVariants as datagram_error
-use Rattle.h3_session.specs.declared.endpoint.lists.FieldsError.{FieldsError}
-use Rattle.h3_session.specs.declared.endpoint.lists.FieldsError.TheVariants as fields_error
 use Rattle.h3_c.specs.Items.{malformation_number}
 use Rattle.h3_c.specs.declared.numbers.Told.{Told}
 
@@ -110,18 +111,23 @@ new_told (new_error.Settings e) = number 21 (setting_of e)
 new_told new_error.UnfinishedLimit = number 28 0
 new_told new_error.OutOfMemory = memory
 
--- why a list that is to be sent is malformed: by a field's name or value, by their count, or by the rule of strict messages that it breaks
-abbrev pub malformed_told : Malformation → Told
-malformed_told malformation.Name = number 22 0
-malformed_told malformation.Value = number 23 0
-malformed_told malformation.TooMany = number 24 0
-malformed_told why = number 27 (malformation_number why)
+-- this number, and the index of the field that is told of these choices beside it
+abbrev pub TellsField : ℕ → Choices → List Field → Told → Type 0
+TellsField n choices fields told =
+    (told.number ≡ n) × (invalid_field choices.extensions.any_protocol choices.strict_messages fields ≡ Some told.detail)
 
--- what a call tells that sends a list
-abbrev pub list_told : {X : Type 0} → Result X FieldsError → Told
-list_told (Ok done) = ok
-list_told (Err (fields_error.Refused r)) = refusal_told r
-list_told (Err (fields_error.Malformed why)) = malformed_told why
+-- why a list that is to be sent is malformed: by the name or value of a field, by their count, or by the rule of strict messages that it breaks
+abbrev pub TellsMalformed : Malformation → Choices → List Field → Told → Type 0
+TellsMalformed malformation.Name choices fields told = TellsField 22 choices fields told
+TellsMalformed malformation.Value choices fields told = TellsField 23 choices fields told
+TellsMalformed malformation.TooMany choices fields told = told ≡ number 24 0
+TellsMalformed why choices fields told = told ≡ number 27 (malformation_number why)
+
+-- what a call tells that sends a list, with these choices
+abbrev pub TellsList : Result Unit Refusal → Choices → List Field → Told → Type 0
+TellsList (Ok done) choices fields told = told ≡ ok
+TellsList (Err (refusal.Malformed why)) choices fields told = TellsMalformed why choices fields told
+TellsList (Err r) choices fields told = told ≡ refusal_told r
 
 -- `H3_NO_DATAGRAMS`
 abbrev pub no_datagrams : Told

@@ -1,8 +1,9 @@
 -- What `h3_read` promises: a piece of a body where it lies; else the calls that it makes, one after another, of the bytes that it used.
-use Rattle.std.specs.Prelude.{◌≡◌, ◌⊎◌, ℕ, ◌+◌, ◌≤◌, ◌<◌, ◌&&◌, ◌==◌, nat_lt, Bool, true, false, if◌then◌else◌, List, [], ◌∷◌, length, take, Option, Some, None, Ok, Err}
+use Rattle.std.specs.Prelude.{◌≡◌, ◌⊎◌, ℕ, ◌+◌, ◌^◌, ◌≤◌, ◌<◌, ◌&&◌, ◌==◌, nat_lt, Bool, true, false, if◌then◌else◌, List, [], ◌∷◌, length, take, Option, Some, None, Ok, Err}
 use Rattle.h3_connection.specs.Calls.{IsSame}
 use Rattle.h3_connection.specs.Endpoint.{EndpointHistory}
 use Rattle.h3_connection.specs.ReceivingContracts.{Delivers, DeliversEnd}
+use Rattle.h3_connection.specs.Shutdown.{is_rejected_in}
 use Rattle.h3_connection.specs.State.{EndpointState, StandsFor}
 use Rattle.h3_connection.specs.declared.event.DeliverError.{DeliverError}
 use Rattle.h3_connection.specs.declared.event.DeliverError.TheVariants as deliver_error
@@ -10,7 +11,7 @@ use Rattle.h3_connection.specs.declared.event.Refusal.TheVariants as refusal
 use Rattle.h3_incoming.specs.declared.body_place.BodyPlace.{BodyPlace}
 use Rattle.h3_incoming.specs.declared.fields.FieldsPull.TheVariants as answer
 use Rattle.h3_session.specs.ReadingBodies.{place_next, ReadsBody}
-use Rattle.h3_c.specs.Exported.{Pulls}
+use Rattle.h3_c.specs.Exported.{OnStream, Pulls, UnlessRejected, Unwritten}
 use Rattle.h3_c.specs.Numbers.{delivery_told, ok}
 use Rattle.h3_c.specs.Seen.{Seen}
 use Rattle.h3_c.specs.declared.items.PulledItem.{PulledItem}
@@ -101,3 +102,9 @@ pub record ReadsNext (v w : Seen) (id : ℕ) (bytes : List ℕ) (fin : ℕ) (n :
   pub place : Option BodyPlace
   pub is_next : (e : EndpointHistory) → StandsFor v.endpoint e → place ≡ place_next e id bytes
   pub reads : ReadsAt place v w id bytes fin n before given used
+
+-- `h3_read`: neither an unknown stream nor a request that is rejected uses a byte or writes an item.
+pub record ReadsOn (v w : Seen) (id : ℕ) (bytes : List ℕ) (fin : ℕ) (n : Told) (before given : PulledItem) (used : ℕ) : Type 0 where
+  pub reads : OnStream id n v w (UnlessRejected id n v w (ReadsNext v w id bytes fin n before given used))
+  pub unknown : Unwritten id ((given ≡ before) × (used ≡ 0))
+  pub rejected : id < 2 ^ 62 → is_rejected_in v.endpoint id ≡ true → (given ≡ before) × (used ≡ 0)

@@ -11,7 +11,7 @@ use h3_session::endpoint::Endpoint;
 use std::alloc::Global;
 
 /// How many numbers `h3_config` has: its size in bytes, and those of `GivenConfig`.
-const NUMBERS: usize = 21;
+const NUMBERS: usize = 22;
 
 /// The numbers of `h3_config` after its size, in its order. One other than 0 means yes.
 #[derive(Copy, Clone)]
@@ -36,6 +36,7 @@ pub struct GivenConfig {
     pub any_protocol: u64,
     pub guard_secrets: u64,
     pub shortest_strings: u64,
+    pub strict_connection: u64,
 }
 
 impl Default for GivenConfig {
@@ -63,6 +64,7 @@ impl Default for GivenConfig {
             any_protocol: 1,
             guard_secrets: 1,
             shortest_strings: 1,
+            strict_connection: 1,
         }
     }
 }
@@ -99,6 +101,7 @@ impl GivenConfig {
             any_protocol: number_or(numbers, 18, default.any_protocol),
             guard_secrets: number_or(numbers, 19, default.guard_secrets),
             shortest_strings: number_or(numbers, 20, default.shortest_strings),
+            strict_connection: number_or(numbers, 21, default.strict_connection),
         })
     }
 
@@ -128,6 +131,7 @@ impl GivenConfig {
             self.any_protocol,
             self.guard_secrets,
             self.shortest_strings,
+            self.strict_connection,
         ]
     }
 
@@ -193,6 +197,7 @@ fn config_of(given: &GivenConfig) -> Config
         .with_any_protocol(given.any_protocol != 0)
         .with_secrets_guarded(given.guard_secrets != 0)
         .with_shortest_strings(given.shortest_strings != 0)
+        .with_strict_connection(given.strict_connection != 0)
 }
 
 /// The endpoint that is asked for.

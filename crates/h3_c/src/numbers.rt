@@ -1,13 +1,18 @@
 //! The numbers that C sees: `enum h3_answer` of the header.
-ghost use Rattle.std.specs.Prelude.{◌≡◌};
-ghost use Rattle.h3_c.specs.Numbers.{refusal_told, call_told, body_told, datagram_told, delivery_told, list_told, malformed_told, setting_of, new_told, told_or_memory};
+ghost use Rattle.std.specs.Prelude.{◌≡◌, true, Some, is_some};
+ghost use Rattle.h3_c.specs.Numbers.{TellsField, TellsList, TellsMalformed, refusal_told, call_told, body_told, datagram_told, delivery_told, setting_of, new_told, told_or_memory};
+ghost use Rattle.h3_connection.specs.Answers.{call_refused};
+ghost use Rattle.h3_connection.specs.declared.event.Refusal.TheVariants as refusal;
+ghost use Rattle.h3_messages.specs.InvalidField.{invalid_field};
+ghost use Rattle.h3_session.specs.InvalidFields.{NamesField};
 
 use crate::items::malformation_number;
 use bytes::Bytes;
 use h3_connection::event::{DeliverError, Malformation, Refusal};
 use h3_connection::setup::NewError;
+use h3_field::HeaderField;
 use h3_proto::frame::SettingsError;
-use h3_session::endpoint::{DatagramError, FieldsError};
+use h3_session::endpoint::{DatagramError, Endpoint};
 
 /// What a call answers: a number, and the code, id or size that it names, else 0.
 #[derive(Clone, Copy)]
@@ -133,24 +138,32 @@ pub(crate) fn sent(call: &Result<(), (Refusal, Bytes)>) -> Told
     }
 }
 
-/// What a call tells that sends a list.
-pub(crate) fn listed(call: &Result<(), FieldsError>) -> Told
-    ensures { result ≡ list_told call.now }
+/// What a call of this endpoint tells that sends a list.
+pub(crate) fn listed(
+    call: &Result<(), Refusal>,
+    endpoint: &Endpoint,
+    fields: &[HeaderField],
+) -> Told
+    requires { NamesField (call_refused call.now) endpoint.now.announced.choices fields.now }
+    ensures { TellsList call.now endpoint.now.announced.choices fields.now result }
 {
     match call {
         Ok(()) => OK,
-        Err(FieldsError::Refused(refusal)) => refused(*refusal),
-        Err(FieldsError::Malformed(why)) => malformed(*why),
+        Err(Refusal::Malformed(why)) => malformed(*why, endpoint, fields),
+        Err(refusal) => refused(*refusal),
     }
 }
 
-// A list that its own fields refuse has the numbers of a list that C passes. A rule of strict messages has its number beside.
-fn malformed(why: Malformation) -> Told
-    ensures { result ≡ malformed_told why }
+// A list that its own fields refuse has the number of an answer, with the index of that field beside. A rule of strict messages has its
+// number beside.
+#[tactic(auto, using(crate::proofs::NamedFields::name_is_there, crate::proofs::NamedFields::value_is_there))]
+fn malformed(why: Malformation, endpoint: &Endpoint, fields: &[HeaderField]) -> Told
+    requires { NamesField (Some (refusal.Malformed why)) endpoint.now.announced.choices fields.now }
+    ensures { TellsMalformed why endpoint.now.announced.choices fields.now result }
 {
     match why {
-        Malformation::Name => plain(22),
-        Malformation::Value => plain(23),
+        Malformation::Name => at_field(22, endpoint, fields),
+        Malformation::Value => at_field(23, endpoint, fields),
         Malformation::TooMany => plain(24),
         Malformation::WrongSide
         | Malformation::PseudoInTrailer
@@ -169,6 +182,17 @@ fn malformed(why: Malformation) -> Told
         | Malformation::Status
         | Malformation::TrailerField
         | Malformation::TooLong => with(27, malformation_number(why)),
+    }
+}
+
+// A number, with the index of the field for which the list is refused beside.
+fn at_field(number: u32, endpoint: &Endpoint, fields: &[HeaderField]) -> Told
+    requires { is_some (invalid_field endpoint.now.announced.choices.extensions.any_protocol endpoint.now.announced.choices.strict_messages fields.now) ≡ true }
+    ensures { TellsField number endpoint.now.announced.choices fields.now result }
+{
+    match endpoint.invalid_field(fields) {
+        Some(index) => with(number, index as u64),
+        None => unreachable!(),
     }
 }
 

@@ -12,7 +12,7 @@ use h3_header::Header;
 use h3_proto::config::Config;
 use h3_proto::stream::{Side, StreamId};
 use h3_session::FieldsPull;
-use h3_session::endpoint::{Endpoint, FieldsError};
+use h3_session::endpoint::Endpoint;
 use h3_world::event::Answer;
 
 /// What a call answers. None is made of a line that cannot be read.
@@ -107,22 +107,13 @@ fn send_trailer(told: &mut Told, endpoint: &mut Endpoint, id: StreamId, trailer:
 fn send_fields(told: &mut Told, endpoint: &mut Endpoint, id: StreamId, fields: Vec<HeaderField>) {
     let tried = endpoint.send_fields(id, &fields);
     drop(fields);
-    done(told, of_list(tried));
+    done(told, tried);
 }
 
 fn send_trailers(told: &mut Told, endpoint: &mut Endpoint, id: StreamId, fields: Vec<HeaderField>) {
     let tried = endpoint.send_trailer_fields(id, &fields);
     drop(fields);
-    done(told, of_list(tried));
-}
-
-/// Why a list is not sent, as the same refusal that a header has.
-fn of_list(tried: Result<(), FieldsError>) -> Result<(), Refusal> {
-    match tried {
-        Ok(()) => Ok(()),
-        Err(FieldsError::Refused(refusal)) => Err(refusal),
-        Err(FieldsError::Malformed(why)) => Err(Refusal::Malformed(why)),
-    }
+    done(told, tried);
 }
 
 fn advance(told: &mut Told, endpoint: &mut Endpoint, id: StreamId, count: usize) {

@@ -79,11 +79,19 @@ fn of_event(told: &mut Told, event: &Event) {
     match event {
         Event::OpenRequest(side) => sided(told, "OpenRequest", *side),
         Event::Head(side, id, head) => sized(told, "Head", (*side, *id), head),
+        Event::Fields(side, id, list) => {
+            named(told, "Fields", *side, *id);
+            told.then_show(list.fields().len());
+        }
         Event::Body(side, id, bytes) => {
             named(told, "Body", *side, *id);
             told.then_debug(bytes.as_slice());
         }
         Event::Trailer(side, id, trailer) => sized(told, "Trailer", (*side, *id), trailer),
+        Event::TrailerFields(side, id, list) => {
+            named(told, "TrailerFields", *side, *id);
+            told.then_show(list.fields().len());
+        }
         Event::Finish(side, id) => named(told, "Finish", *side, *id),
         Event::Reset(side, id) => named(told, "Reset", *side, *id),
         Event::Cancel(side, id) => named(told, "Cancel", *side, *id),
@@ -98,6 +106,7 @@ fn of_event(told: &mut Told, event: &Event) {
         Event::DeliverEnd(side, id) => named(told, "DeliverEnd", *side, *id),
         Event::DeliverReset(side, id) => named(told, "DeliverReset", *side, *id),
         Event::Pull(side, id) => named(told, "Pull", *side, *id),
+        Event::PullFields(side, id) => named(told, "PullFields", *side, *id),
         Event::Show(side) => sided(told, "Show", *side),
     }
 }

@@ -83,7 +83,7 @@ pub fn answer(
 fn talk(told: &mut Told, client: &mut Endpoint, server: &mut Endpoint, text: &str) {
     let (command, rest) = text.split_once(' ').unwrap_or((text, ""));
     match command {
-        "carry" | "call" | "fields" | "trailers" | "pulls" => match words(told.alloc(), rest) {
+        "carry" | "call" | "fields" | "trailers" => match words(told.alloc(), rest) {
             Ok(words) => of_words(told, client, server, command, &words),
             Err(_) => told.refused(),
         },
@@ -151,7 +151,10 @@ fn happen(told: &mut Told, client: &mut Endpoint, server: &mut Endpoint, event: 
         Event::DeliverEnd(side, id) => go(told, client, server, side, id, Going::End),
         Event::DeliverReset(side, id) => go(told, client, server, side, id, Going::Reset),
         Event::Pull(side, id) => on(told, client, server, side, Call::Pull(id)),
+        Event::PullFields(side, id) => on(told, client, server, side, Call::Pulls(id)),
         Event::Show(side) => on(told, client, server, side, Call::Show),
+        // no line of `h3_script` sends a list: `fields` and `trailers` do that here
+        Event::Fields(_, _, _) | Event::TrailerFields(_, _, _) => told.unreadable(),
     }
 }
 

@@ -24,7 +24,7 @@ use Rattle.h3_connection.proofs.AlikeEnds.{ends_sym, ends_trans, ends_first}
 use Rattle.h3_connection.proofs.AlikeReading.{Beside, beside_alike, sessions_here}
 use Rattle.h3_connection.proofs.Closed.{taken_closed}
 use Rattle.h3_connection.proofs.DeliveryCuts.{only_first, role_fault, RoleCut, role_cut_of}
-use Rattle.h3_connection.proofs.ReadingCuts.{control_faults, quiet_until}
+use Rattle.h3_connection.proofs.ControlCuts.{control_faults, quiet_until}
 use Rattle.h3_connection.proofs.RoleCuts.{then_role, role_cut}
 use Rattle.h3_connection.proofs.SameSetups.{same_setup}
 

@@ -8,7 +8,7 @@ use Rattle.h3_connection.specs.declared.event.StreamFault.{StreamFault}
 use Rattle.h3_connection.specs.declared.event.StreamFault.TheVariants as stream_fault
 use Rattle.h3_connection.specs.CallCuts.{joined_increments, SessionsDifferInCuts, EachStream, with_streams, DifferInCutsAlone}
 use Rattle.h3_connection.specs.Codes.{closed_critical_stream}
-use Rattle.h3_connection.specs.Control.{Found, increment, read_encoder, read_decoder, with_table, if_learned, then_decoder, after_peer, read_control}
+use Rattle.h3_connection.specs.Control.{Found, increment, read_encoder, read_decoder, with_table, if_learned, then_decoder, after_peer, read_control, are_refused, holding, lacks_settings}
 use Rattle.h3_connection.specs.Delivering.{request_refusal, closed_refusal, refusal_at, opened_at, opened, incoming_at, unidirectional_at, with_incoming, with_unidirectional, unless_second, heard_as, read_unidirectional, kept, with_end, bytes_at, closing, end_at, given_up_by, given_up_once, cancellation, give_up, reset_at}
 use Rattle.h3_connection.specs.Endpoint.{EndpointHistory, limit_of, Kind, replied, is_second}
 use Rattle.h3_connection.specs.Endpoint.Kind.{Request, ServerOpened, OwnUnidirectional, PeerUnidirectional}
@@ -23,6 +23,7 @@ use Rattle.h3_connection.proofs.AlikeEnds.{OfBoth, at_both, set_both, or_nothing
 use Rattle.h3_connection.proofs.PullCuts.{piece_bytes, have_piece}
 use Rattle.h3_connection.proofs.ReadingCuts.{Alike, read_if}
 use Rattle.h3_connection.proofs.RequestCuts.{some_refusal}
+use Rattle.h3_connection.specs.StrictConnection.{session_fault}
 
 -- What an endpoint has beside another that differs from it in cuts alone.
 pub record Beside (e : EndpointHistory) (s : Streams Incoming) (t : Streams Unidirectional) (r : List DecoderInstruction) : Type 0 where
@@ -57,16 +58,24 @@ learned_with None (Some pairs) e s t r = table_with _ e _ _ s t r
 learned_with None None e s t r = refl
 learned_with (Some known) after e s t r = refl
 
+found_with : (b : Bool) (x y u v : Found) (s : Streams Incoming) (t : Streams Unidirectional) (r : List DecoderInstruction) → u ≡ (with_streams x.0 s t r, x.1) → v ≡ (with_streams y.0 s t r, y.1)
+    → (if b then u else v) ≡ (with_streams (if b then x else y).0 s t r, (if b then x else y).1)
+found_with true x y u v s t r g h = g
+found_with false x y u v s t r g h = h
+
 after_with : (e : EndpointHistory) (x : PeerFound) (s : Streams Incoming) (t : Streams Unidirectional) (r : List DecoderInstruction)
     → after_peer (with_streams e s t r) x ≡ (with_streams (after_peer e x).0 s t r, (after_peer e x).1)
 after_with e (p, fault) s t r =
     let f : EndpointHistory = record e { peer = p } in
-    ap (λ g. then_decoder e.peer.settings p.settings g fault) (learned_with e.peer.settings p.settings f s t r)
-    ∙ then_with e.peer.settings p.settings (if_learned e.peer.settings p.settings f) fault s t r
+    found_with (are_refused e e.peer.settings p.settings) _ _ _ _ s t r refl
+    (ap (λ g. then_decoder e.peer.settings p.settings g fault) (learned_with e.peer.settings p.settings f s t r)
+    ∙ then_with e.peer.settings p.settings (if_learned e.peer.settings p.settings f) fault s t r)
 
 pub control_with : (e : EndpointHistory) (bytes : List ℕ) (s : Streams Incoming) (t : Streams Unidirectional) (r : List DecoderInstruction)
     → read_control (with_streams e s t r) bytes ≡ (with_streams (read_control e bytes).0 s t r, (read_control e bytes).1)
-control_with e bytes s t r = after_with e (read_peer (limit_of e) e.side (with_unread e.peer (e.peer.unread ++ bytes))) s t r
+control_with e bytes s t r =
+    let h = holding e bytes in
+    found_with (lacks_settings h) _ _ _ _ s t r refl (after_with h (read_peer (limit_of h) h.side h.peer) s t r)
 
 -- what reads without a look at streams
 found_alike : (e : EndpointHistory) (x y : Found) (s : Streams Incoming) (t : Streams Unidirectional) (r : List DecoderInstruction) → Beside e s t r
@@ -88,6 +97,10 @@ nothing_found e s t r b = record { answer = refl; left = λ none. beside_alike e
 fault_found : (e f : EndpointHistory) (code : ℕ) → Alike DifferInCutsAlone (e, Some code) (f, Some code)
 fault_found e f code = record { answer = refl; left = λ none. absurd (cc) }
 
+code_found : (e : EndpointHistory) (s : Streams Incoming) (t : Streams Unidirectional) (r : List DecoderInstruction) (fault : Option ℕ) → Beside e s t r → Alike DifferInCutsAlone (e, fault) (with_streams e s t r, fault)
+code_found e s t r None b = nothing_found e s t r b
+code_found e s t r (Some code) b = fault_found e (with_streams e s t r) code
+
 heard_alike : (e : EndpointHistory) (s : Streams Incoming) (t : Streams Unidirectional) (r : List DecoderInstruction) (id : ℕ) (role : Role) (bytes : List ℕ) → Beside e s t r
     → Alike DifferInCutsAlone (heard_as e id role bytes) (heard_as (with_streams e s t r) id role bytes)
 heard_alike e s t r id (Untold front) bytes b = nothing_found e s t r b
@@ -107,7 +120,7 @@ heard_alike e s t r id Decoder bytes b =
     second_alike (is_second e.decoder_on id) e (with_streams e s t r) _ _
     (found_alike e (read_decoder g bytes) (read_decoder (with_streams g s t r) bytes) s t r b
     (decoder_with (is_some e.peer.settings) g bytes e.incoming e.unidirectional e.own.replies) (decoder_with (is_some e.peer.settings) g bytes s t r))
-heard_alike e s t r id (Session n) bytes b = nothing_found e s t r b
+heard_alike e s t r id (Session n) bytes b = code_found e s t r (session_fault e.announced n) b
 heard_alike e s t r id (Push n) bytes b = fault_found e (with_streams e s t r) _
 heard_alike e s t r id Ignored bytes b = nothing_found e s t r b
 

@@ -16,7 +16,8 @@ use Rattle.h3_connection.specs.DeliveryCuts.{SameAnswers, IsSame, DiffersInIncre
 use Rattle.h3_connection.proofs.Quiet.{quiet_control, quiet_decoder}
 use Rattle.h3_connection.proofs.Seen.{at_same, eq_refl, HeardAs, heard_as_role, role_of_bytes}
 use Rattle.h3_connection.proofs.RoleCuts.{then_role, role_cut, untold_leaves_none}
-use Rattle.h3_connection.proofs.ReadingCuts.{Alike, alike_same, alike_as, encoder_cut, decoder_cut, control_cut, control_on_stays, decoder_on_stays, encoder_fault, decoder_fault, control_fault}
+use Rattle.h3_connection.proofs.ControlCuts.{control_cut, control_on_stays, control_fault}
+use Rattle.h3_connection.proofs.ReadingCuts.{Alike, alike_same, alike_as, encoder_cut, decoder_cut, decoder_on_stays, encoder_fault, decoder_fault}
 
 -- the first stream of its role, where no fault was found
 first_if : (b : Bool) (e : EndpointHistory) (found : Found) → (unless_second b e found).1 ≡ None → b ≡ false
@@ -292,7 +293,7 @@ role_fault e id o Decoder rest b code early is =
     let w = with_unidirectional e id (record o { role = Decoder }) in
     let g = record w { decoder_on = Some id } in
     second_fault e.decoder_on id w (read_decoder g rest) (read_decoder g (rest ++ b)) code is (decoder_fault g rest b code)
-role_fault e id o (Session n) rest b code early is = absurd (cc)
+role_fault e id o (Session n) rest b code early is = is
 role_fault e id o (Push n) rest b code early is = is
 role_fault e id o Ignored rest b code early is = absurd (cc)
 

@@ -28,7 +28,7 @@ use Rattle.h3_connection.specs.declared.event.StreamFault.TheVariants as stream_
 use Rattle.h3_connection.specs.CallLists.{Call, called, was_pulled, endpoint_after}
 use Rattle.h3_connection.specs.CallLists.Call.{OpenRequest, SendHead, SendBody, SendTrailer, Finish, Reset, Goaway, Advance, TakeEnd, Outgoing, Deliver, DeliverEnd, DeliverReset, PullStream, Cancel, Show}
 use Rattle.h3_connection.specs.CallLists.Result.{Done}
-use Rattle.h3_connection.specs.Control.{Found, read_control, read_encoder, read_decoder, after_peer, then_decoder, if_learned, is_table_usable, with_table, listened_to, kept_unread}
+use Rattle.h3_connection.specs.Control.{Found, are_refused, holding, lacks_settings, read_control, read_encoder, read_decoder, settings_alone, taken_peer, after_peer, then_decoder, if_learned, is_table_usable, with_table, listened_to, kept_unread}
 use Rattle.h3_connection.specs.Delivering.{delivery_refusal, refusal_at, request_refusal, opened_at, opened, incoming_at, unidirectional_at, with_unidirectional, with_incoming, taken, bytes_at, end_at, reset_at, given_up_once, given_up_by, kept, with_end, heard_as, unless_second, read_unidirectional}
 use Rattle.h3_connection.specs.Draining.{is_served, brings_rejected, LeavesOutRejected, NoneComes}
 use Rattle.h3_connection.specs.Endpoint.{EndpointHistory, Kind, kind_of, own_waiting, goaway_encoding, heads_waiting, replied, limit_of, is_critical_id}
@@ -151,17 +151,29 @@ then_rests None (Some pairs) e None = decoder_rests e []
 then_rests None None e None = at_rest e
 then_rests (Some first) after e None = at_rest e
 
-after_rests : (e : EndpointHistory) (found : PeerFound) → (HasGoaway e.peer → HasGoaway found.0) → Rests e (after_peer e found).0
-after_rests e (p, code) goes =
+taken_rests : (e : EndpointHistory) (found : PeerFound) → (HasGoaway e.peer → HasGoaway found.0) → Rests e (taken_peer e found).0
+taken_rests e (p, code) goes =
     let f = record e { peer = p } in
     let g = if_learned e.peer.settings p.settings f in
     rests_then e f _ (record { incoming = refl; outgoing = refl; goaways = refl; control_taken = refl; peer = goes })
     (rests_then f g _ (learned_rests e.peer.settings p.settings f) (then_rests e.peer.settings p.settings g code))
 
+found_rests : (b : Bool) (e : EndpointHistory) (x y : Found) → Rests e x.0 → Rests e y.0 → Rests e (if b then x else y).0
+found_rests true e x y h k = h
+found_rests false e x y h k = k
+
+peer_rests : (e : EndpointHistory) (p : Peer) → (HasGoaway e.peer → HasGoaway p) → Rests e (record e { peer = p })
+peer_rests e p goes = record { incoming = refl; outgoing = refl; goaways = refl; control_taken = refl; peer = goes }
+
+after_rests : (e : EndpointHistory) (found : PeerFound) → (HasGoaway e.peer → HasGoaway found.0) → Rests e (after_peer e found).0
+after_rests e (p, code) goes =
+    found_rests (are_refused e e.peer.settings p.settings) e _ _ (peer_rests e (settings_alone e.peer p.settings) (λ was. was)) (taken_rests e (p, code) goes)
+
 control_rests : (e : EndpointHistory) (bytes : List ℕ) → Rests e (read_control e bytes).0
 control_rests e bytes =
-    let p = with_unread e.peer (e.peer.unread ++ bytes) in
-    after_rests e (read_peer (limit_of e) e.side p) (λ was. peer_goes (limit_of e) e.side p was)
+    let h = holding e bytes in
+    found_rests (lacks_settings h) e _ _ (peer_rests e h.peer (λ was. was))
+    (rests_then e h _ (peer_rests e h.peer (λ was. was)) (after_rests h (read_peer (limit_of h) h.side h.peer) (λ was. peer_goes (limit_of h) h.side h.peer was)))
 
 second_rests : (e : EndpointHistory) (b : Bool) (found : Found) → Rests e found.0 → Rests e (unless_second b e found).0
 second_rests e true found h = at_rest e

@@ -33,6 +33,7 @@ use Rattle.h3_connection.specs.declared.event.Fault.TheVariants as fault
 use Rattle.h3_connection.specs.declared.event.Item.TheVariants as item
 use Rattle.h3_connection.specs.declared.place.Place.{Place}
 use Rattle.h3_connection.specs.declared.place.Place.TheVariants.{BeforeHead, InBody, AfterTrailer, InSession}
+use Rattle.h3_connection.specs.StrictConnection.{is_no_session}
 
 module _ (side : Side) (own : Announced) (strict : own.choices.strict_messages ≡ true) (id : ℕ) (r : DecoderState) (awaited : Content) (known : Option Content) where
   abbrev Sets : Pulled → Type 0
@@ -125,7 +126,7 @@ module _ (side : Side) (own : Announced) (strict : own.choices.strict_messages �
   frame_sets Server i InBody (frame.Headers bytes) same = trailer_frame_sets i bytes same
   frame_sets Client i InBody (frame.Data len) same = content_sets (begun_payload i len.0)
   frame_sets Server i InBody (frame.Data len) same = content_sets (begun_payload i len.0)
-  frame_sets Server i BeforeHead (frame.WebTransportStream session) same = tt
+  frame_sets Server i BeforeHead (frame.WebTransportStream session) same = either (is_no_session own session) _ _ tt tt
   frame_sets Client i place (frame.PushPromise promise) same = tt
   frame_sets _ i place _ same = tt
 

@@ -21,6 +21,7 @@ pub mod UnknownFrames
 pub mod UnknownDelivered
 pub mod RoleCuts
 pub mod ReadingCuts
+pub mod ControlCuts
 pub mod DeliveryCuts
 pub mod PullCuts
 pub mod RequestCuts

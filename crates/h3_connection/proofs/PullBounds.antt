@@ -35,6 +35,7 @@ use Rattle.h3_connection.specs.declared.event.Fault.TheVariants as fault
 use Rattle.h3_connection.specs.declared.event.Item.TheVariants as item
 use Rattle.h3_connection.specs.declared.place.Place.{Place}
 use Rattle.h3_connection.specs.declared.place.Place.TheVariants.{BeforeHead, InBody, AfterTrailer, InSession}
+use Rattle.h3_connection.specs.StrictConnection.{is_no_session}
 
 -- the answer closes the connection
 abbrev pub is_connection : Pull → Bool
@@ -162,7 +163,7 @@ module _ (side : Side) (own : Announced) (id : ℕ) (r : DecoderState) where
   frame_good Server i InBody (frame.Headers bytes) h = trailer_good_at i bytes h
   frame_good Client i InBody (frame.Data len) h = content_good id (begun_payload i len.0) (ready_as i (begun_payload i len.0) (refl, refl) h)
   frame_good Server i InBody (frame.Data len) h = content_good id (begun_payload i len.0) (ready_as i (begun_payload i len.0) (refl, refl) h)
-  frame_good Server i BeforeHead (frame.WebTransportStream session) h = good _ (ready_as i _ (refl, refl) h)
+  frame_good Server i BeforeHead (frame.WebTransportStream session) h = either (is_no_session own session) _ _ (faulty _ i h.tries) (good _ (ready_as i _ (refl, refl) h))
   frame_good Client i place (frame.PushPromise promise) h = faulty _ i h.tries
   frame_good _ i place _ h = faulty _ i h.tries
 

@@ -40,6 +40,7 @@ use Rattle.h3_connection.specs.declared.event.Item.TheVariants as item
 use Rattle.h3_connection.specs.declared.place.Place.{Place}
 use Rattle.h3_connection.specs.declared.place.Place.TheVariants.{BeforeHead, InBody, AfterTrailer, InSession}
 use Rattle.h3_connection.specs.PullCuts.{piece_in, HaveBytes, DifferInCuts, IsFront, PullsAlike, Same, Bodies, Raws}
+use Rattle.h3_connection.specs.StrictConnection.{is_no_session}
 
 -- the same bytes in other pieces
 pub record Cuts (t u : List (List ℕ)) : Type 0 where
@@ -307,7 +308,8 @@ module _ (size : ℕ) (side : Side) (own : Announced) (id : ℕ) (r : DecoderSta
   frame_alike Server i u InBody (frame.Headers bytes) full message none g = trailer_frame_alike i u bytes g.cuts
   frame_alike Client i u InBody (frame.Data len) full message none g = begun_alike i u len.0 full message none g
   frame_alike Server i u InBody (frame.Data len) full message none g = begun_alike i u len.0 full message none g
-  frame_alike Server i u BeforeHead (frame.WebTransportStream session) full message none g = leaf size _ (record i { place = InSession }) u [] refl g.cuts
+  frame_alike Server i u BeforeHead (frame.WebTransportStream session) full message none g =
+      either size (is_no_session own session) _ _ _ _ (leaf size _ i u [] refl g.cuts) (leaf size _ (record i { place = InSession }) u [] refl g.cuts)
   frame_alike Client i u place (frame.PushPromise promise) full message none g = leaf size _ i u [] refl g.cuts
   frame_alike _ i u place _ full message none g = leaf size _ i u [] refl g.cuts
 

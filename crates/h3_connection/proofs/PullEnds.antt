@@ -33,6 +33,7 @@ use Rattle.h3_connection.specs.declared.event.Fault.TheVariants as fault
 use Rattle.h3_connection.specs.declared.event.Item.TheVariants as item
 use Rattle.h3_connection.specs.declared.place.Place.{Place}
 use Rattle.h3_connection.specs.declared.place.Place.TheVariants.{BeforeHead, InBody, AfterTrailer, InSession}
+use Rattle.h3_connection.specs.StrictConnection.{is_no_session}
 
 -- a stream that is over has ended, and no fault
 abbrev pub EndedWell : Incoming → Type 0
@@ -136,7 +137,7 @@ module _ (side : Side) (own : Announced) (id : ℕ) (r : DecoderState) where
   frame_ends Server i InBody (frame.Headers bytes) n = trailer_frame_ends i bytes n
   frame_ends Client i InBody (frame.Data len) n = content_ends id (begun_payload i len.0) n
   frame_ends Server i InBody (frame.Data len) n = content_ends id (begun_payload i len.0) n
-  frame_ends Server i BeforeHead (frame.WebTransportStream session) n = goes (λ x. cc) n
+  frame_ends Server i BeforeHead (frame.WebTransportStream session) n = either (is_no_session own session) _ _ (goes (λ x. cc) n) (goes (λ x. cc) n)
   frame_ends Client i place (frame.PushPromise promise) n = goes (λ x. cc) n
   frame_ends _ i place _ n = goes (λ x. cc) n
 

@@ -2,8 +2,8 @@
 use Rattle.std.proofs.Common.{◌≡◌, ℕ, Bool, true, false, List, [], ◌++◌, refl, ◌∙◌}
 use Rattle.std.specs.Prelude.{Option, Some, None, if◌then◌else◌}
 use Rattle.h3_connection.specs.Endpoint.{EndpointHistory, limit_of}
-use Rattle.h3_connection.specs.PeerReading.{PeerFound, read_peer, with_unread}
-use Rattle.h3_connection.specs.Control.{Found, read_decoder, read_control, after_peer, then_decoder, if_learned, learned}
+use Rattle.h3_connection.specs.PeerReading.{PeerFound, read_peer}
+use Rattle.h3_connection.specs.Control.{Found, read_decoder, read_control, after_peer, taken_peer, then_decoder, if_learned, learned, are_refused, holding, lacks_settings}
 
 -- what request streams rest on is as it was
 pub record Quiet (e f : EndpointHistory) : Type 0 where
@@ -58,12 +58,17 @@ quiet_then_decoder None (Some pairs) e None = quiet_decoder e []
 quiet_then_decoder None None e None = still e
 quiet_then_decoder (Some known) after e None = still e
 
-quiet_after : (e : EndpointHistory) (found : PeerFound) → Quiet e (after_peer e found).0
-quiet_after e (p, fault) =
+pub quiet_taken : (e : EndpointHistory) (found : PeerFound) → Quiet e (taken_peer e found).0
+quiet_taken e (p, fault) =
     let f = record e { peer = p } in
     let g = if_learned e.peer.settings p.settings f in
     quiet_then e f _ (shut e f refl refl refl refl refl refl refl)
     (quiet_then f g _ (quiet_if_learned e.peer.settings p.settings f) (quiet_then_decoder e.peer.settings p.settings g fault))
 
+quiet_after : (e : EndpointHistory) (found : PeerFound) → Quiet e (after_peer e found).0
+quiet_after e (p, fault) = quiet_if (are_refused e e.peer.settings p.settings) e _ _ (shut e _ refl refl refl refl refl refl refl) (quiet_taken e (p, fault))
+
 pub quiet_control : (e : EndpointHistory) (bytes : List ℕ) → Quiet e (read_control e bytes).0
-quiet_control e bytes = quiet_after e (read_peer (limit_of e) e.side (with_unread e.peer (e.peer.unread ++ bytes)))
+quiet_control e bytes =
+    let h = holding e bytes in
+    quiet_then e h _ (shut e h refl refl refl refl refl refl refl) (quiet_if (lacks_settings h) h _ _ (still h) (quiet_after h (read_peer (limit_of h) h.side h.peer)))

@@ -56,7 +56,7 @@ reads_on : {e new : EndpointHistory} {arrivals more : List Arrival} → ReadsOn 
 reads_on {e = e} (ReadsWhole {a = a} is) h = subst (λ found. IsBounded found.0) is (arrival_on e a h)
 reads_on {e = e} (ReadsFront front rest {id = id} is) h = subst (λ found. IsBounded found.0) is (arrival_on e (BytesCame id front) h)
 reads_on {e = e} (Holds {id = id} {bytes = bytes} kind reader) h = holds e id bytes h
-reads_on {e = e} (ReadsFrames {p = p} on part) h = frames e p h
+reads_on {e = e} (ReadsFrames {p = p} on may part) h = frames e p h
 reads_on {e = e} (Hears {d = d} on part) h = heard e d part h
 reads_on {e = e} (Listens on came part) h = rests e _ refl refl refl refl h
 

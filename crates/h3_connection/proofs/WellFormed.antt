@@ -35,6 +35,7 @@ use Rattle.h3_connection.specs.declared.event.Fault.TheVariants as fault
 use Rattle.h3_connection.specs.declared.event.Item.TheVariants as item
 use Rattle.h3_connection.specs.declared.place.Place.{Place}
 use Rattle.h3_connection.specs.declared.place.Place.TheVariants.{BeforeHead, InBody, AfterTrailer, InSession}
+use Rattle.h3_connection.specs.StrictConnection.{is_no_session}
 
 -- a list breaks no rule where the malformation of its violation is none
 no_violation : (v : Option Violation) → option_map malformation_by v ≡ None → v ≡ None
@@ -139,7 +140,7 @@ module _ (side : Side) (own : Announced) (strict : own.choices.strict_messages �
   frame_well Server i InBody (frame.Headers bytes) = trailer_frame_well i bytes
   frame_well Client i InBody (frame.Data len) = content_well (begun_payload i len.0)
   frame_well Server i InBody (frame.Data len) = content_well (begun_payload i len.0)
-  frame_well Server i BeforeHead (frame.WebTransportStream session) = tt
+  frame_well Server i BeforeHead (frame.WebTransportStream session) = either (is_no_session own session) _ _ tt tt
   frame_well Client i place (frame.PushPromise promise) = tt
   frame_well _ i place _ = tt
 

@@ -4,6 +4,8 @@ use Rattle.h3_proto.specs.Config.{is_enabled, is_limit}
 use Rattle.h3_proto.specs.Settings.{value_of}
 use Rattle.h3_proto.specs.declared.config.Choices.{Choices}
 use Rattle.h3_proto.specs.declared.frame.SettingsError.{SettingsError}
+use Rattle.h3_proto.specs.declared.frame.SettingsError.TheVariants.{InvalidSettingValue}
+use Rattle.h3_connection.specs.StrictConnection.{announces_alone}
 use Rattle.h3_connection.specs.declared.setup.Limits.{Limits}
 use Rattle.h3_connection.specs.declared.setup.Announced.{Announced}
 use Rattle.h3_connection.specs.declared.setup.NewError.{NewError}
@@ -25,12 +27,16 @@ is_below_announced a = is_limit a.choices.unfinished_limit && nat_lt a.choices.u
 abbrev pub unless_below : Announced → Result Announced NewError
 unless_below a = if is_below_announced a then Err UnfinishedLimit else Ok a
 
+-- WebTransport is not announced without datagrams by an endpoint that takes no such settings of its peer
+abbrev pub unless_alone : Announced → Result Announced NewError
+unless_alone a = if announces_alone a then Err (Settings (InvalidSettingValue 0x2b603742 1)) else unless_below a
+
 -- the settings of a configuration, with those of the table behind them
 abbrev pub announcing : List (ℕ × ℕ) → Limits → Choices → Announced
 announcing pairs limits choices = record { settings = pairs ++ (1, limits.table) ∷ (7, limits.blocked) ∷ []; limits = limits; choices = choices }
 
 abbrev pub with_limits : Result (List (ℕ × ℕ)) SettingsError → Limits → Choices → Result Announced NewError
-with_limits (Ok pairs) limits choices = unless_below (announcing pairs limits choices)
+with_limits (Ok pairs) limits choices = unless_alone (announcing pairs limits choices)
 with_limits (Err e) limits choices = Err (Settings e)
 
 -- the settings of a configuration, and the limits behind them; or the first refusal. What it chooses is not announced, and stands beside
@@ -51,3 +57,4 @@ pub record IsAnnounced (settings : Result (List (ℕ × ℕ)) SettingsError) (li
   pub blocked : nat_lt 65535 limits.blocked ≡ false
   pub announced : a ≡ announcing pairs limits choices
   pub within : is_below_announced a ≡ false
+  pub beside : announces_alone a ≡ false

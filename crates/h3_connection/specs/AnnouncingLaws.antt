@@ -4,12 +4,14 @@ use Rattle.std.proofs.lemmas.Bool.{cases_lt, lt-ltb}
 use Rattle.h3_proto.specs.Config.{is_limit}
 use Rattle.h3_proto.specs.declared.config.Choices.{Choices}
 use Rattle.h3_proto.specs.declared.frame.SettingsError.{SettingsError}
+use Rattle.h3_proto.specs.declared.frame.SettingsError.TheVariants.{InvalidSettingValue}
 use Rattle.h3_qpack.specs.InstructionSizes.{most_instruction}
-use Rattle.h3_connection.specs.Announcing.{IsAnnounced, announced_by, announcing, is_below_announced, least_limit, section_of, unless_below, with_limits}
+use Rattle.h3_connection.specs.Announcing.{IsAnnounced, announced_by, announcing, is_below_announced, least_limit, section_of, unless_alone, unless_below, with_limits}
+use Rattle.h3_connection.specs.StrictConnection.{announces_alone}
 use Rattle.h3_connection.specs.declared.setup.Announced.{Announced}
 use Rattle.h3_connection.specs.declared.setup.Limits.{Limits}
 use Rattle.h3_connection.specs.declared.setup.NewError.{NewError}
-use Rattle.h3_connection.specs.declared.setup.NewError.TheVariants.{BlockedLimit, TableLimit, UnfinishedLimit}
+use Rattle.h3_connection.specs.declared.setup.NewError.TheVariants.{BlockedLimit, Settings, TableLimit, UnfinishedLimit}
 
 same_ok : {X E : Type 0} (x y : X) → ◌≡◌ {A = Result X E} (Ok x) (Ok y) → x ≡ y
 same_ok x y e = cc
@@ -21,6 +23,14 @@ not_below made a e = by_test (is_below_announced made) refl e
     by_test true k e = absurd (cc)
     by_test false k e = (same_ok made a e, k)
 
+not_alone : (made a : Announced) → unless_alone made ≡ Ok a → (unless_below made ≡ Ok a) × (announces_alone made ≡ false)
+not_alone made a e = by_test (announces_alone made) refl e
+  where
+    by_test : (b : Bool) → announces_alone made ≡ b → ◌≡◌ {A = Result Announced NewError} (if b then Err (Settings (InvalidSettingValue 0x2b603742 1)) else unless_below made) (Ok a)
+        → (unless_below made ≡ Ok a) × (announces_alone made ≡ false)
+    by_test true k e = absurd (cc)
+    by_test false k e = (e, k)
+
 pub announced_as : (settings : Result (List (ℕ × ℕ)) SettingsError) (limits : Limits) (choices : Choices) (a : Announced) → announced_by settings limits choices ≡ Ok a → IsAnnounced settings limits choices a
 announced_as settings limits choices a e = by_tests (nat_le (2 ^ 30) limits.table) refl (nat_lt 65535 limits.blocked) refl settings refl e
   where
@@ -30,15 +40,17 @@ announced_as settings limits choices a e = by_tests (nat_le (2 ^ 30) limits.tabl
     by_tests false k true l r is e = absurd (cc)
     by_tests false k false l (Err why) is e = absurd (cc)
     by_tests false k false l (Ok pairs) is e =
-        let made = not_below (announcing pairs limits choices) a e in
-        record { pairs = pairs; is = is; table = k; blocked = l; announced = sym made.0; within = subst (λ x. is_below_announced x ≡ false) made.0 made.1 }
+        let beside = not_alone (announcing pairs limits choices) a e in
+        let made = not_below (announcing pairs limits choices) a beside.0 in
+        record { pairs = pairs; is = is; table = k; blocked = l; announced = sym made.0; within = subst (λ x. is_below_announced x ≡ false) made.0 made.1; beside = subst (λ x. announces_alone x ≡ false) made.0 beside.1 }
 
 pub announces : (settings : Result (List (ℕ × ℕ)) SettingsError) (limits : Limits) (choices : Choices) (pairs : List (ℕ × ℕ)) → settings ≡ Ok pairs → nat_le (2 ^ 30) limits.table ≡ false → nat_lt 65535 limits.blocked ≡ false
-    → is_below_announced (announcing pairs limits choices) ≡ false → announced_by settings limits choices ≡ Ok (announcing pairs limits choices)
-announces settings limits choices pairs is table blocked within =
+    → announces_alone (announcing pairs limits choices) ≡ false → is_below_announced (announcing pairs limits choices) ≡ false → announced_by settings limits choices ≡ Ok (announcing pairs limits choices)
+announces settings limits choices pairs is table blocked beside within =
     ap (λ b. if b then Err TableLimit else (if nat_lt 65535 limits.blocked then Err BlockedLimit else with_limits settings limits choices)) table
     ∙ ap (λ b. if b then Err BlockedLimit else with_limits settings limits choices) blocked
     ∙ ap (λ r. with_limits r limits choices) is
+    ∙ ap (λ b. if b then Err (Settings (InvalidSettingValue 0x2b603742 1)) else unless_below (announcing pairs limits choices)) beside
     ∙ ap (λ b. if b then Err UnfinishedLimit else Ok (announcing pairs limits choices)) within
 
 -- **A limit takes whatever a peer sends that keeps to what is announced**: a list of the greatest size and an instruction for the whole table in up to

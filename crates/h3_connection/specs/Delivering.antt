@@ -14,7 +14,8 @@ use Rattle.h3_connection.specs.StreamSets.{stream_at, set_stream}
 use Rattle.h3_connection.specs.Incoming.{Incoming, nothing_came, given_up}
 use Rattle.h3_connection.specs.Outgoing.{nothing_sent}
 use Rattle.h3_connection.specs.Unidirectional.{Unidirectional, Role, untold, is_closed, is_critical, role_after, with_bytes}
-use Rattle.h3_connection.specs.Unidirectional.Role.{Control, Encoder, Decoder, Push}
+use Rattle.h3_connection.specs.StrictConnection.{session_fault}
+use Rattle.h3_connection.specs.Unidirectional.Role.{Control, Encoder, Decoder, Push, Session}
 use Rattle.h3_connection.specs.Endpoint.{EndpointHistory, Kind, replied, is_second, kind_of}
 use Rattle.h3_connection.specs.Endpoint.Kind.{Request, ServerOpened, OwnUnidirectional, PeerUnidirectional}
 use Rattle.h3_connection.specs.Control.{Found, read_control, read_encoder, read_decoder}
@@ -81,6 +82,7 @@ abbrev pub unless_second : Bool → EndpointHistory → Found → Found
 unless_second true e found = (e, Some stream_creation_error)
 unless_second false e found = found
 
+-- RFC 9114 6.2.1: a second control stream
 abbrev pub only_one : Option ℕ → ℕ → EndpointHistory → Found → Found
 only_one first id e found = unless_second (is_second first id) e found
 
@@ -90,6 +92,7 @@ heard_as e id Control bytes = only_one e.control_on id e (read_control (record e
 heard_as e id Encoder bytes = only_one e.encoder_on id e (read_encoder (record e { encoder_on = Some id }) bytes)
 heard_as e id Decoder bytes = only_one e.decoder_on id e (read_decoder (record e { decoder_on = Some id }) bytes)
 heard_as e id (Push push) bytes = (e, Some (push_code e.side))
+heard_as e id (Session session) bytes = (e, session_fault e.announced session)
 heard_as e id _ bytes = (e, None)
 
 -- bytes of a unidirectional stream
@@ -114,6 +117,7 @@ bytes_at e id bytes PeerUnidirectional = read_unidirectional e id (unidirectiona
 abbrev pub deliver : EndpointHistory → ℕ → List ℕ → Option Refusal × EndpointHistory
 deliver e id bytes = taken e.closed (delivery_refusal e id) e (bytes_at e id bytes (kind_of e.side id))
 
+-- RFC 9114 6.2.1: a critical stream closed by the peer
 abbrev pub closing : EndpointHistory → ℕ → Unidirectional → Found
 closing e id o = (with_unidirectional e id o, if is_critical o.role then Some closed_critical_stream else None)
 

@@ -16,6 +16,7 @@ missing wait.Nothing = 0
 missing wait.Integer = 1
 missing (wait.Bytes count) = count
 
+-- RFC 9114 10.5: unfinished_limit of instructions
 -- There is a limit, and the bytes begin with an instruction of which the first so many bytes tell that it is longer. Bytes behind those are not
 -- asked.
 abbrev pub exceeds : ℕ → (List ℕ → Wait) → List ℕ → Bool

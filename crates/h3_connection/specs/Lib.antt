@@ -6,6 +6,7 @@ pub mod StrictMessages
 pub mod StrictSending
 pub mod Codes
 pub mod MalformationCodes
+pub mod StrictConnection
 pub mod FaultTexts
 pub mod OwnIds
 pub mod Lasts
@@ -24,6 +25,8 @@ pub mod Arrivals
 pub mod Skipping
 pub mod SkippingLaws
 pub mod PeerReadingLaws
+pub mod FirstSettings
+pub mod FirstSettingsLaws
 pub mod KeptGoaways
 pub mod KeptGoawayLaws
 pub mod Incoming
@@ -36,6 +39,7 @@ pub mod WaitingPieceLaws
 pub mod Endpoint
 pub mod Control
 pub mod UnlimitedLaws
+pub mod StrictConnectionLaws
 pub mod Delivering
 pub mod CountedContent
 pub mod NoContent
@@ -48,6 +52,7 @@ pub mod Refusals
 pub mod Sending
 pub mod State
 pub mod Keeping
+pub mod Coming
 pub mod PartReading
 pub mod Calls
 pub mod Answers

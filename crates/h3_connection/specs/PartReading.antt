@@ -1,10 +1,11 @@
 -- What a call leaves that was refused memory in reading: what came was read up to some point, and the rest is kept.
-use Rattle.std.specs.Prelude.{◌≡◌, ℕ, ◌-◌, Bool, true, false, not, List, [], ◌∷◌, ◌++◌, Option, Some, None}
+use Rattle.std.specs.Prelude.{◌≡◌, ◌⊎◌, ℕ, ◌-◌, Bool, true, false, not, List, [], ◌∷◌, ◌++◌, Option, Some, None}
 use Rattle.h3_proto.specs.declared.stream.Side.{Side}
 use Rattle.h3_qpack.specs.EncoderHistory.{EncoderHistory}
 use Rattle.h3_connection.specs.declared.setup.Announced.{Announced}
 use Rattle.h3_connection.specs.Arrivals.{Arrival, BytesCame}
-use Rattle.h3_connection.specs.Control.{increment, if_learned}
+use Rattle.h3_connection.specs.Coming.{HasNoHeader, fields_next}
+use Rattle.h3_connection.specs.Control.{are_refused, if_learned, increment, lacks_settings}
 use Rattle.h3_connection.specs.Delivering.{unidirectional_at, with_incoming, with_end, kept, with_unidirectional}
 use Rattle.h3_connection.specs.Endpoint.{EndpointHistory, limit_of, replied, is_second, kind_of}
 use Rattle.h3_connection.specs.Endpoint.Kind.{PeerUnidirectional}
@@ -82,6 +83,11 @@ early_if _ _ decoder_on = []
 abbrev pub early : EndpointHistory → Peer → List Arrival
 early e p = early_if e.peer.settings p.settings e.decoder_on
 
+-- No frame of another type stands where the settings are due, and the settings that came are taken.
+pub record MayRead (e : EndpointHistory) (p : Peer) : Type 0 where
+  pub first : lacks_settings e ≡ false
+  pub taken : are_refused e e.peer.settings p.settings ≡ false
+
 -- One step of reading what came, with no fault in it: the endpoint and what is still to be read, before and after it.
 pub data ReadsOn : EndpointHistory → List Arrival → EndpointHistory → List Arrival → Type 0 where
   -- the first arrival, whole
@@ -94,7 +100,7 @@ pub data ReadsOn : EndpointHistory → List Arrival → EndpointHistory → List
       → is_reader e id (role_after (unidirectional_at e id).role bytes).0 ≡ true
       → ReadsOn e (BytesCame id bytes ∷ more) (held e id bytes) (BytesCame id [] ∷ more)
   -- a front of the bytes that are held of the control stream
-  ReadsFrames : {e : EndpointHistory} {id : ℕ} {p : Peer} {more : List Arrival} → e.control_on ≡ Some id → PeerReadsPart (limit_of e) e.side e.peer p
+  ReadsFrames : {e : EndpointHistory} {id : ℕ} {p : Peer} {more : List Arrival} → e.control_on ≡ Some id → MayRead e p → PeerReadsPart (limit_of e) e.side e.peer p
       → ReadsOn e (BytesCame id [] ∷ more) (after_frames e p) (BytesCame id [] ∷ early e p ++ more)
   -- of the encoder stream
   Hears : {e : EndpointHistory} {id : ℕ} {d : Decoding} {more : List Arrival} → e.encoder_on ≡ Some id → HearsPart (limit_of e) e.decoding d
@@ -120,11 +126,14 @@ abbrev pub with_more : Incoming → List (List ℕ) → Bool → Incoming
 with_more i pieces true = with_end (with_pieces i pieces)
 with_more i pieces false = with_pieces i pieces
 
--- The stream goes on as if it had not been asked: whatever comes later, and whatever the table then is, its next pull does the
--- same. It may have passed frames that give nothing, or hold the section of a frame that it read.
+-- The stream goes on as if it had not been asked: whatever comes later, and whatever the table then is, its next pull does the same, and if
+-- that has a header, the list that comes next is the same. It may have passed frames that give nothing, or hold the section of a frame that
+-- it read.
 pub record Resumes (side : Side) (own : Announced) (id : ℕ) (old new : Incoming) : Type 0 where
   pub same : new ≡ record old { unread = new.unread; section = new.section; body_left = new.body_left; content = new.content }
   pub pulls : (r : DecoderState) (pieces : List (List ℕ)) (ended : Bool) → pull_stream side own id r (with_more old pieces ended) ≡ pull_stream side own id r (with_more new pieces ended)
+  pub lists : (r : DecoderState) (pieces : List (List ℕ)) (ended : Bool)
+      → HasNoHeader (pull_stream side own id r (with_more old pieces ended)).answer ⊎ (fields_next r (with_more new pieces ended) ≡ fields_next r (with_more old pieces ended))
 
 -- What is stored is this endpoint, but for one request stream, which goes on as if it had not been asked.
 pub record StandsAsked (s : EndpointState) (e : EndpointHistory) (id : ℕ) : Type 0 where

@@ -42,16 +42,20 @@ abbrev pub is_no_goaway : Side → ℕ → Bool
 is_no_goaway Client id = not (id % 4 == 0)
 is_no_goaway Server id = false
 
+-- RFC 9114 5.2: GOAWAY raised, received
 abbrev pub read_goaway : Side → Peer → ℕ → PeerFound
 read_goaway side p id =
     if is_no_goaway side id || is_above id (last_id p.goaways) then (p, Some id_error)
     else (record p { goaways = p.goaways ++ id ∷ [] }, None)
 
+-- RFC 9114 7.2.7: MAX_PUSH_ID lowered
 abbrev pub read_max_push : Side → Peer → ℕ → PeerFound
 read_max_push Client p id = (p, Some frame_unexpected)
 read_max_push Server p id =
     if is_below id p.most_pushes then (p, Some id_error) else (record p { most_pushes = Some id }, None)
 
+-- RFC 9114 7.2: frames out of place on a control stream
+-- RFC 9114 6.2.1: SETTINGS first
 -- a frame: the first has to be the settings, and no later one may
 abbrev pub read_frame : Side → Peer → Option (List (ℕ × ℕ)) → Frame PayloadLen → PeerFound
 read_frame side p None (frame.Settings pairs) = (record p { settings = Some pairs }, None)
@@ -83,8 +87,8 @@ at_front go side p bytes (Unfinished least) = (with_unread p bytes, None)
 abbrev pub unless_excessive : ℕ → List ℕ → Peer → PeerFound → PeerFound
 unless_excessive limit bytes p found = if is_excessive limit bytes then (with_unread p [], Some excessive_load) else found
 
--- Frames of unknown types are passed over before the settings too: that SETTINGS comes first (RFC 9114, section 6.2.1) is not
--- enforced against those.
+-- Frames of unknown types are passed over before the settings too: that SETTINGS comes first (RFC 9114, section 6.2.1) is enforced against
+-- those by an endpoint that asks for a strict connection, in front of this reading.
 abbrev pub read_within : ℕ → ℕ → Side → Peer → PeerFound
 read_within zero limit side p = (p, None)
 read_within (suc most) limit side p =

@@ -1,5 +1,6 @@
 -- The reading of a control stream, step by step.
 use Rattle.std.proofs.Common.{◌≡◌, ℕ, zero, suc, ◌≤◌, Bool, true, false, if◌then◌else◌, List, [], length, Option, Some, None, refl, ap, sym, ◌∙◌, arith}
+use Rattle.std.specs.Prelude.{◌||◌}
 use Rattle.std.proofs.lemmas.List.{nil_from_length}
 use Rattle.h3_coding.specs.VarintLaws.{none_at_end}
 use Rattle.h3_proto.specs.declared.stream.Side.{Side}
@@ -13,7 +14,8 @@ use Rattle.h3_wire.specs.declared.proto.frame.PayloadLen.{PayloadLen}
 use Rattle.h3_wire.specs.declared.proto.frame.Frame.{Frame}
 use Rattle.h3_wire.specs.declared.proto.frame.Frame.TheVariants as frame
 use Rattle.h3_connection.specs.Codes.{excessive_load}
-use Rattle.h3_connection.specs.PeerReading.{Peer, PeerFound, with_unread, read_max_push, read_frame, unless_fault, at_front, unless_excessive, read_within, read_peer}
+use Rattle.h3_connection.specs.Lasts.{last_id}
+use Rattle.h3_connection.specs.PeerReading.{Peer, PeerFound, with_unread, is_no_goaway, is_above, is_below, read_max_push, read_frame, unless_fault, at_front, unless_excessive, read_within, read_peer}
 use Rattle.h3_connection.specs.SkippingLaws.{rest_shorter, known-nil}
 
 kept_if : (b : Bool) (x y : PeerFound) (bytes : List ℕ) → x.0.unread ≡ bytes → y.0.unread ≡ bytes → (if b then x else y).0.unread ≡ bytes
@@ -112,3 +114,46 @@ step_excessive limit side p large =
 pub nothing_read_on : (limit : ℕ) (side : Side) (p : Peer) → read_peer limit side (with_unread p []) ≡ (with_unread p [], None)
 unfolding read_peer
 nothing_read_on limit side p = nothing_left 0 limit side (with_unread p []) refl
+
+-- settings that came stay
+settings_if : (b : Bool) (x y : PeerFound) (o : Option (List (ℕ × ℕ))) → x.0.settings ≡ o → y.0.settings ≡ o → (if b then x else y).0.settings ≡ o
+settings_if true x y o e f = e
+settings_if false x y o e f = f
+
+push_settings : (side : Side) (p : Peer) (id : ℕ) → (read_max_push side p id).0.settings ≡ p.settings
+push_settings Client p id = refl
+push_settings Server p id = settings_if (is_below id p.most_pushes) _ _ p.settings refl refl
+
+frame_settings : (side : Side) (p : Peer) (pairs : List (ℕ × ℕ)) (f : Frame PayloadLen) → (read_frame side p (Some pairs) f).0.settings ≡ p.settings
+frame_settings side p pairs (frame.Data len) = refl
+frame_settings side p pairs (frame.Headers section) = refl
+frame_settings side p pairs (frame.CancelPush id) = refl
+frame_settings side p pairs (frame.Settings others) = refl
+frame_settings side p pairs (frame.PushPromise promise) = refl
+frame_settings side p pairs (frame.Goaway id) = settings_if (is_no_goaway side id || is_above id (last_id p.goaways)) _ _ p.settings refl refl
+frame_settings side p pairs (frame.MaxPushId id) = push_settings side p id
+frame_settings side p pairs (frame.WebTransportStream id) = refl
+frame_settings side p pairs (frame.Grease kind) = refl
+
+stay_found : (pairs : List (ℕ × ℕ)) (x : PeerFound) (go : Peer → PeerFound) → x.0.settings ≡ Some pairs → ((q : Peer) → q.settings ≡ Some pairs → (go q).0.settings ≡ Some pairs) → (unless_fault x go).0.settings ≡ Some pairs
+stay_found pairs (q, Some code) go h later = h
+stay_found pairs (q, None) go h later = later q h
+
+stay_front : (side : Side) (p : Peer) (pairs : List (ℕ × ℕ)) (bytes : List ℕ) (x : Front) (go : Peer → PeerFound) → p.settings ≡ Some pairs → ((q : Peer) → q.settings ≡ Some pairs → (go q).0.settings ≡ Some pairs)
+    → (at_front go side p bytes x).0.settings ≡ Some pairs
+stay_front side p pairs bytes (Whole f rest) go h later =
+    stay_found pairs (read_frame side (with_unread p rest) p.settings f) go
+    (ap (λ o. (read_frame side (with_unread p rest) o f).0.settings) h ∙ frame_settings side (with_unread p rest) pairs f ∙ h) later
+stay_front side p pairs bytes (Unknown kind rest) go h later = h
+stay_front side p pairs bytes (Refused e) go h later = h
+stay_front side p pairs bytes (Unfinished least) go h later = h
+
+pub stay_within : (n limit : ℕ) (side : Side) (p : Peer) (pairs : List (ℕ × ℕ)) → p.settings ≡ Some pairs → (read_within n limit side p).0.settings ≡ Some pairs
+stay_within zero limit side p pairs h = h
+stay_within (suc n) limit side p pairs h =
+    settings_if (is_excessive limit (known p.unread)) _ _ (Some pairs) h
+    (stay_front side p pairs (known p.unread) (frame_at (known p.unread)) (read_within n limit side) h (λ q is. stay_within n limit side q pairs is))
+
+pub settings_stay : (limit : ℕ) (side : Side) (p : Peer) (pairs : List (ℕ × ℕ)) → p.settings ≡ Some pairs → (read_peer limit side p).0.settings ≡ Some pairs
+unfolding read_peer
+settings_stay limit side p pairs h = stay_within (length p.unread) limit side p pairs h

@@ -24,6 +24,7 @@ use Rattle.h3_connection.specs.Incoming.{Incoming, given_up, is_body}
 use Rattle.h3_connection.specs.declared.place.Place.{Place}
 use Rattle.h3_connection.specs.declared.place.Place.TheVariants.{BeforeHead, InBody, AfterTrailer, InSession}
 use Rattle.h3_connection.specs.Skipping.{skipped}
+use Rattle.h3_connection.specs.StrictConnection.{is_no_session}
 use Rattle.h3_connection.specs.StrictMessages.{broken_rule, content_at, large_content_at, response_at, if_whole}
 pub use Rattle.h3_messages.specs.Content.{is_digit}
 use Rattle.h3_messages.specs.Content.{is_interim_status, left_behind, is_exceeded, may_end, takes_trailer}
@@ -53,6 +54,7 @@ just answer i = record { answer = answer; incoming = i; replies = [] }
 abbrev pub connection_fault : ℕ → Incoming → Pulled
 connection_fault code i = just (pull.Fault (Connection code)) i
 
+-- RFC 9114 4.1.2: a malformed message ends its stream alone
 abbrev pub malformed : ℕ → Malformation → Incoming → List DecoderInstruction → Pulled
 malformed id m i replies =
     record {
@@ -97,12 +99,14 @@ abbrev pub unless_broken : ℕ → Incoming → List DecoderInstruction → Opti
 unless_broken id i replies None p = p
 unless_broken id i replies (Some why) p = malformed id why i replies
 
+-- RFC 9110 15.2: interim responses, as 103, received
 abbrev pub whole_head : Side → ℕ → Incoming → List DecoderInstruction → Option Malformation → Head → Pulled
 whole_head side id i replies broken h =
     if not (is_for side h) then malformed id malformation.WrongSide i replies else unless_broken id i replies broken (
     if is_client side && is_interim h.status then record { answer = pull.Item (item.Interim h); incoming = i; replies = replies } else
     record { answer = pull.Item (item.Head h); incoming = record i { place = InBody }; replies = replies })
 
+-- RFC 9114 4.3: pseudo-header fields in a trailer section
 abbrev pub whole_trailer : ℕ → Incoming → List DecoderInstruction → Option Malformation → Head → Pulled
 whole_trailer id i replies broken h =
     if has_pseudo h then malformed id malformation.PseudoInTrailer i replies else unless_broken id i replies broken
@@ -116,6 +120,7 @@ abbrev pub judged : Side → ℕ → Incoming → List DecoderInstruction → Op
 judged side id i replies broken (IsNone why) = malformed id (malformation_of why) i replies
 judged side id i replies broken (IsHead h) = head_or_trailer side id i replies broken i.place h
 
+-- RFC 9204 2.2.2.1: section acknowledgment, written
 abbrev pub acknowledgment : ℕ → ℕ → List DecoderInstruction
 acknowledgment id count = if count == 0 then [] else Acknowledge id ∷ []
 
@@ -177,13 +182,20 @@ raw_of i (Some bytes, pieces) = just (pull.Item (item.Raw bytes)) (record i { un
 abbrev pub raw : Incoming → Pulled
 raw i = raw_of i (first_of i.unread)
 
+-- A session of WebTransport stands in the place of a message, and is named by a request stream where the endpoint asks for that
+abbrev pub at_session : Announced → Incoming → ℕ → Pulled
+at_session own i session =
+    if is_no_session own session then connection_fault id_error i else just (pull.Item (item.Session session)) (record i { place = InSession })
+
 module _ (side : Side) (own : Announced) (id : ℕ) (r : DecoderState) where
+  -- RFC 9114 4.2.2: size of a section, received
   abbrev pub read_section : Incoming → List DecoderInstruction → List Field → Pulled
   read_section i replies fields =
       if nat_lt (section_of own) (told_size fields)
       then record { answer = pull.Item (item.TooLarge (told_size fields)); incoming = past_large side own i fields; replies = replies }
       else judged side id (with_content side own i fields) replies (if_whole i.content (broken_rule side own i.place fields)) (head_by own.choices.extensions.any_protocol fields)
 
+  -- RFC 9204 2.2.3: a section that cannot be decoded
   -- A section was tried. One that is bad, or that misses entries a second time, is a fault of the connection, and no more tried.
   abbrev pub decoded : Incoming → DecodedSection → Pulled
   decoded i (Fields fields count) = read_section (past_section i) (acknowledgment id count) fields
@@ -192,6 +204,7 @@ module _ (side : Side) (own : Announced) (id : ℕ) (r : DecoderState) where
       else connection_fault decompression_failed (past_section i)
   decoded i BadSection = connection_fault decompression_failed (past_section i)
 
+  -- RFC 9204 2.2.1: missing insertions
   -- the section that is next
   abbrev pub at_section : Incoming → List ℕ → Pulled
   at_section i bytes =
@@ -211,12 +224,14 @@ module _ (side : Side) (own : Announced) (id : ℕ) (r : DecoderState) where
   at_end i BeforeHead = malformed id malformation.NoHead i []
   at_end i _ = if may_end i.content then just (pull.Item item.End) (record i { unread = []; is_over = true }) else malformed id malformation.ContentLength i []
 
+  -- RFC 9114 7.2: frames out of place on a request stream
+  -- RFC 9114 4.1: DATA before the header section
   -- a frame that was read, at its place (RFC 9114, sections 4.1 and 7.2)
   abbrev pub at_frame : Side → Incoming → Place → Frame PayloadLen → Pulled
   at_frame _ i BeforeHead (frame.Headers bytes) = new_section i bytes
   at_frame _ i InBody (frame.Headers bytes) = at_trailer i bytes
   at_frame _ i InBody (frame.Data len) = at_payload id (begun_payload i len.0)
-  at_frame Server i BeforeHead (frame.WebTransportStream session) = just (pull.Item (item.Session session)) (record i { place = InSession })
+  at_frame Server i BeforeHead (frame.WebTransportStream session) = at_session own i session
   at_frame Client i place (frame.PushPromise promise) = connection_fault id_error i
   at_frame _ i place _ = connection_fault frame_unexpected i
 

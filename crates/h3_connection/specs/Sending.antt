@@ -19,6 +19,7 @@ use Rattle.h3_connection.specs.declared.event.Fault.TheVariants as fault
 use Rattle.h3_connection.specs.declared.event.StreamFault.TheVariants as stream_fault
 use Rattle.h3_connection.specs.Codes.{decompression_failed}
 use Rattle.h3_connection.specs.StreamSets.{Streams, stream_at, set_stream}
+use Rattle.h3_connection.specs.StrictConnection.{begins_none_after}
 use Rattle.h3_connection.specs.StrictSending.{broken_head, broken_protocol, broken_trailer, early_trailer, passes_content}
 use Rattle.h3_connection.specs.Incoming.{Incoming, awaiting}
 use Rattle.h3_messages.specs.Content.{awaited_by, may_end}
@@ -65,7 +66,8 @@ abbrev pub seen_at : EndpointHistory → ℕ → SenderStream
 seen_at e id = seen (is_open e id) (outgoing_at e id)
 
 abbrev pub sender_at : EndpointHistory → ℕ → Sender
-sender_at e id = record { side = e.side; stream = seen_at e id; settings = e.peer.settings }
+sender_at e id =
+    record { side = e.side; stream = seen_at e id; settings = e.peer.settings; going = begins_none_after e.announced e.side (last_id e.peer.goaways) }
 
 abbrev pub head_refusal : EndpointHistory → ℕ → Head → Option Refusal
 head_refusal e id head =
@@ -107,6 +109,7 @@ encoded e id fields =
       own = record e.own { instructions = e.own.instructions ++ own_instructions e.encoder id fields };
     }
 
+-- RFC 9110 15.2: interim responses, as 103, sent
 -- a head with a status from 100 to 199 is not the last one
 abbrev pub head_part : Head → List ℕ → OwnPart
 head_part head section = if is_interim head.status then OwnInterim section else OwnHead section
@@ -215,6 +218,7 @@ abbrev pub if_too_many : Bool → Pulled → Pulled
 if_too_many true p = record p { answer = answer.Fault (fault.Connection decompression_failed); incoming = record p.incoming { waits_for = 0 } }
 if_too_many false p = p
 
+-- RFC 9204 2.1.2: limit of blocked streams, at the decoder
 abbrev pub within_limit : EndpointHistory → ℕ → Pulled → Pulled
 within_limit e id p = if_too_many (nat_lt e.announced.limits.blocked (heads_waiting e.decoding.decoder (set_stream e.incoming id p.incoming))) p
 

@@ -15,7 +15,7 @@ use Rattle.h3_proto.specs.declared.stream.Side.{Side}
 use Rattle.h3_proto.specs.declared.stream.Side.TheVariants.{Client, Server}
 use Rattle.h3_connection.specs.Announcing.{connects}
 use Rattle.h3_connection.specs.OwnIds.{other}
-use Rattle.h3_connection.specs.Refusals.{first_of}
+use Rattle.h3_connection.specs.Refusals.{first_of, unless_going}
 use Rattle.h3_connection.specs.Sending.{closed_or, does}
 use Rattle.h3_connection.specs.Endpoint.{EndpointHistory}
 use Rattle.h3_connection.specs.StrictMessages.{broken_rule, malformation_by}
@@ -115,6 +115,10 @@ no_broken_protocol own head named =
 pub not_early : (early : Option Malformation) (later : List (Bool × Refusal)) → first_of (unless_malformed early later) ≡ None → first_of later ≡ None
 not_early None later e = e
 not_early (Some why) later e = absurd (cc)
+
+pub not_going : (going : Option ℕ) (later : List (Bool × Refusal)) → first_of (unless_going going later) ≡ None → first_of later ≡ None
+not_going None later e = e
+not_going (Some id) later e = absurd (cc)
 
 pub was_allowed : (rule : Option Refusal) (old new : EndpointHistory) → (does rule old new).0 ≡ None → rule ≡ None
 was_allowed None old new e = refl

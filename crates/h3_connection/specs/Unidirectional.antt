@@ -46,6 +46,7 @@ abbrev pub with_id : (ℕ → Role) → List ℕ → Option (ℕ × List ℕ) �
 with_id build front None = (Untold front, [])
 with_id build front (Some (id, rest)) = (build id, rest)
 
+-- RFC 9114 6.2: type of a unidirectional stream
 abbrev pub of_kind : List ℕ → Option (ℕ × List ℕ) → Role × List ℕ
 of_kind front None = (Untold front, [])
 of_kind front (Some (kind, rest)) =

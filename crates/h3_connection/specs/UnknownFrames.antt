@@ -3,6 +3,7 @@ use Rattle.std.specs.Prelude.{◌≡◌, ◌≢◌, ℕ, Bool, false, ◌==◌, 
 use Rattle.std.specs.List.{concat, AllByRecursion, list_any}
 use Rattle.h3_coding.specs.Encodings.{IsEncoding}
 use Rattle.h3_wire.specs.Frames.{is_http2}
+use Rattle.h3_connection.specs.Control.{awaits_settings}
 use Rattle.h3_connection.specs.Delivering.{delivery_refusal, unidirectional_at}
 use Rattle.h3_connection.specs.Endpoint.{EndpointHistory, kind_of}
 use Rattle.h3_connection.specs.Endpoint.Kind.{PeerUnidirectional}
@@ -50,3 +51,5 @@ pub record ReadsControl (e : EndpointHistory) (id : ℕ) : Type 0 where
   pub here : stream_at e.unidirectional id ≡ Some (unidirectional_at e id)
   pub role : (unidirectional_at e id).role ≡ Control
   pub first : e.control_on ≡ Some id
+  -- and it takes frames of unknown types there: the settings came, or it does not ask that they are first
+  pub takes_unknown : awaits_settings e ≡ false

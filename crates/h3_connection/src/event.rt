@@ -39,7 +39,7 @@ pub enum Refusal {
     WrongSide,
     /// A trailer has no pseudo-header field.
     PseudoInTrailer,
-    /// The endpoint asks for strict messages, and the list of fields breaks this rule: a strict peer would call it malformed.
+    /// The list of fields is malformed: it is the list of no header or, at an endpoint that asks for strict messages, breaks this rule.
     Malformed(Malformation),
     /// The field section has this size, and the peer takes less.
     TooLarge(u64),

@@ -312,3 +312,26 @@ pub fn lists_are_judged_without_flags()
     ensures guarded { (guards : Bool) (side : Side) (own : Announced) (id : ℕ) (r : DecoderState) (i : Incoming) (replies : List DecoderInstruction) (fields : List Field) →
         read_section side own id r i replies (map (guarded guards) fields) ≡ read_section side own id r i replies fields }
 {}
+
+ghost use Rattle.h3_connection.specs.Control.{read_control, taken_peer};
+ghost use Rattle.h3_connection.specs.Endpoint.{limit_of};
+ghost use Rattle.h3_connection.specs.Announcing.{unless_alone, unless_below};
+ghost use Rattle.h3_connection.specs.Pulling.{at_session, just};
+ghost use Rattle.h3_connection.specs.StrictConnection.{begins_none_after, is_strict, session_fault, settings_refused, stream_fault};
+ghost use Rattle.h3_connection.specs.declared.place.Place.TheVariants.{InSession};
+ghost use Rattle.std.specs.Prelude.{Option, false};
+
+/// If an endpoint does not ask for a strict connection, it judges by no rule of `Config::with_strict_connection`: neither settings, nor the
+/// first frame of the control stream (`control`), nor the ids of sessions (`stream`, `place`), nor what it sends after a GOAWAY (`begins`) or
+/// announces (`announces`). A fault of the encoder or decoder stream keeps its code (`fault`).
+pub fn without_a_strict_connection_nothing_more_is_judged()
+    ensures settings { (side : Side) (own : Announced) (settings : Option (List (ℕ × ℕ))) → is_strict own ≡ false → settings_refused side own settings ≡ false }
+    ensures control { (e : EndpointHistory) (bytes : List ℕ) → is_strict e.announced ≡ false →
+        read_control e bytes ≡ taken_peer e (read_peer (limit_of e) e.side (with_unread e.peer (e.peer.unread ++ bytes))) }
+    ensures fault { (own : Announced) (code : ℕ) (fault : Option ℕ) → is_strict own ≡ false → stream_fault (is_strict own) code fault ≡ fault }
+    ensures stream { (own : Announced) (id : ℕ) → is_strict own ≡ false → session_fault own id ≡ None }
+    ensures place { (own : Announced) (i : Incoming) (session : ℕ) → is_strict own ≡ false →
+        at_session own i session ≡ just (answer.Item (item.Session session)) (record i { place = InSession }) }
+    ensures begins { (own : Announced) (side : Side) (last : Option ℕ) → is_strict own ≡ false → begins_none_after own side last ≡ None }
+    ensures announces { (own : Announced) → is_strict own ≡ false → unless_alone own ≡ unless_below own }
+{}

@@ -1,11 +1,13 @@
 //! What an endpoint announces.
 ghost use Rattle.std.specs.Prelude.{◌≡◌, ◌<◌, ◌^◌};
-ghost use Rattle.h3_proto.specs.Config.{announced};
+ghost use Rattle.h3_proto.specs.Config.{announced, is_enabled};
 ghost use Rattle.h3_connection.specs.Announcing.{announced_by, connects, is_below_announced, least_limit, section_of};
+ghost use Rattle.h3_connection.specs.StrictConnection.{announces_alone, have_bad_value, is_no_flag, is_no_session, judges_connect, lacks_datagrams, refuses_settings};
 
 use h3_coding::varint::VarInt;
 use h3_proto::config::{Choices, Config, MAX_BLOCKED_STREAMS, MAX_TABLE_CAPACITY};
 use h3_proto::frame::{SettingId, Settings, SettingsError};
+use h3_proto::stream::Side;
 
 // Every SETTINGS frame of this library fits into so many bytes, and each instruction that rests on no announced size.
 const LEAST_LIMIT: u64 = 256;
@@ -77,10 +79,47 @@ impl Announced {
             limits,
             choices,
         };
+        if announced.announces_alone() {
+            return Err(NewError::Settings(SettingsError::InvalidSettingValue(
+                SettingId::ENABLE_WEBTRANSPORT,
+                1,
+            )));
+        }
         if announced.is_below_announced() {
             return Err(NewError::UnfinishedLimit);
         }
         Ok(announced)
+    }
+
+    /// Whether it asks for a strict connection, and announces WebTransport without datagrams, which no such endpoint takes of its peer.
+    fn announces_alone(&self) -> bool
+        ensures { result ≡ announces_alone self.now }
+    {
+        self.choices.extensions.strict_connection && lacks_datagrams(&self.settings)
+    }
+
+    /// Whether it asks for a strict connection, and does not take these settings of its peer (RFC 8441, section 3; RFC 9297, section 2.1.1).
+    pub fn refuses_settings(&self, side: Side, peer: &Settings) -> bool
+        ensures { result ≡ refuses_settings side self.now peer.now }
+    {
+        self.choices.extensions.strict_connection && self.have_bad_value(side, peer)
+    }
+
+    // Whether a setting of a peer has a value that it may not have.
+    fn have_bad_value(&self, side: Side, peer: &Settings) -> bool
+        ensures { result ≡ have_bad_value side self.now.settings peer.now }
+    {
+        (judges_connect(side) && is_no_flag(peer, SettingId::ENABLE_CONNECT_PROTOCOL))
+            || is_no_flag(peer, SettingId::H3_DATAGRAM)
+            || (is_enabled(&self.settings, SettingId::ENABLE_WEBTRANSPORT)
+                && (is_no_flag(peer, SettingId::ENABLE_WEBTRANSPORT) || lacks_datagrams(peer)))
+    }
+
+    /// Whether it asks for a strict connection, and this id names no session of WebTransport: a session has that of a request stream.
+    pub fn is_no_session(&self, id: u64) -> bool
+        ensures { result ≡ is_no_session self.now id }
+    {
+        self.choices.extensions.strict_connection && id % 4 != 0
     }
 
     /// Whether it limits what is unfinished to less than what a peer may send that keeps to what is announced.
@@ -120,4 +159,36 @@ impl Announced {
             .unwrap_or(0)
             != 0
     }
+}
+
+// The setting of extended CONNECT means nothing to a server.
+fn judges_connect(side: Side) -> bool
+    ensures { result ≡ judges_connect side }
+{
+    match side {
+        Side::Client => true,
+        Side::Server => false,
+    }
+}
+
+// Whether a setting is there with a value other than 0.
+fn is_enabled(settings: &Settings, id: SettingId) -> bool
+    ensures { result ≡ is_enabled id settings.now }
+{
+    settings.get(id).unwrap_or(0) != 0
+}
+
+// Whether it is there with a value other than 0 and 1.
+fn is_no_flag(settings: &Settings, id: SettingId) -> bool
+    ensures { result ≡ is_no_flag id settings.now }
+{
+    settings.get(id).unwrap_or(0) > 1
+}
+
+// Whether WebTransport is announced, and datagrams are not.
+fn lacks_datagrams(settings: &Settings) -> bool
+    ensures { result ≡ lacks_datagrams settings.now }
+{
+    is_enabled(settings, SettingId::ENABLE_WEBTRANSPORT)
+        && !is_enabled(settings, SettingId::H3_DATAGRAM)
 }

@@ -4,6 +4,7 @@ pub mod UnreadRows
 pub mod EndRows
 pub mod MessageRows
 pub mod FaultRows
+pub mod StrictRows
 pub mod LimitRows
 pub mod TableRows
 pub mod IsolationRows

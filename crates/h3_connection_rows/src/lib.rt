@@ -20,5 +20,6 @@ pub mod server_cases_3;
 pub mod server_cases_4;
 pub mod server_cases_5;
 pub mod server_cases_6;
+pub mod strict_rows;
 pub mod table_rows;
 pub mod unread_rows;

@@ -2,16 +2,8 @@
 use crate::endpoints::{Stop, carry, carry_own};
 use crate::log::{field, fields, words};
 use h3_session::endpoint::Endpoint;
-use h3_session::{
-    BlockPull, FieldsError, FieldsItem, FieldsPull, HeaderField, Plain, StreamId, Told,
-};
+use h3_session::{BlockPull, FieldsItem, FieldsPull, HeaderField, Plain, StreamId, Told};
 use std::alloc::{AllocError, Global};
-
-impl From<FieldsError> for Stop {
-    fn from(_e: FieldsError) -> Stop {
-        Stop::Refused
-    }
-}
 
 /// A GET and its response. The server takes lists that it could keep; the client reads each list where it lies, in memory that serves again.
 pub(crate) fn exchange(

@@ -1,6 +1,6 @@
 -- A field section in the midst of its writing.
 use Rattle.std.proofs.Common.{◌≡◌, ℕ, ◌+◌, ◌-◌, ◌^◌, ◌<◌, ◌≤◌, min, List, [], ◌∷◌, ◌++◌, length, take, drop, get_or, refl, ap, sym, ◌∙◌, arith, append_assoc, append-nil}
-use Rattle.std.proofs.Common.{Some}
+use Rattle.std.proofs.Common.{false, Some}
 use Rattle.std.specs.List.{slice_get}
 use Rattle.std.proofs.lemmas.Option.{get_or_from_slice_get, slice_get_within}
 use Rattle.std.proofs.lemmas.List.{take_more, take_all, take_at, take-append-drop}
@@ -11,6 +11,8 @@ use Rattle.std.specs.List.{AllByRecursion}
 use Rattle.h3_field.specs.ReadBack.{IsFieldOfBytes}
 use Rattle.h3_field.specs.Line.{line_bytes}
 use Rattle.h3_field.specs.Section.{static_line, static_lines, section_bytes}
+use Rattle.h3_field.specs.StaticLines.{static_line_by}
+use Rattle.h3_field.specs.StaticLineLaws.{unchosen_line}
 
 one_size : (f : Field) → section_size (f ∷ []) ≡ field_size f
 one_size f = omega (arith, sum_by-cons field_size f [])
@@ -69,6 +71,6 @@ put_refused start items new fields index size p e = rw (e, p.items_are) (take_at
 pub lent_within : (fields : List Field) (i : ℕ) (f : Field) (most : ℕ) → slice_get fields i ≡ Some f → section_size fields < most → section_size (take i fields) + field_size f < most
 lent_within fields i f most at below = field_within fields i f most (slice_get_within fields i f at) (sym (get_or_from_slice_get fields i f f at)) below
 
-pub lent_more : (start items new : List ℕ) (fields : List Field) (i size own next : ℕ) (f : Field) → Put start items fields i size → slice_get fields i ≡ Some f → section_size fields < 2 ^ 62 → new ≡ items ++ line_bytes (static_line f) → own ≡ min (2 ^ 64 - 1) (field_size f) → next ≡ size + own → IsFieldOfBytes f → Put start new fields (i + 1) next
+pub lent_more : (start items new : List ℕ) (fields : List Field) (i size own next : ℕ) (f : Field) → Put start items fields i size → slice_get fields i ≡ Some f → section_size fields < 2 ^ 62 → new ≡ items ++ line_bytes (static_line_by false f) → own ≡ min (2 ^ 64 - 1) (field_size f) → next ≡ size + own → IsFieldOfBytes f → Put start new fields (i + 1) next
 lent_more start items new fields i size own next f p at below e own_is next_is each =
-    put_more start items new fields i size own next f p (slice_get_within fields i f at) (sym (get_or_from_slice_get fields i f f at)) below e own_is next_is each
+    put_more start items new fields i size own next f p (slice_get_within fields i f at) (sym (get_or_from_slice_get fields i f f at)) below (e ∙ ap (λ l. items ++ line_bytes l) (unchosen_line f)) own_is next_is each

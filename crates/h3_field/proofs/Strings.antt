@@ -1,6 +1,5 @@
 -- The steps of reading and writing a string.
-use Rattle.std.proofs.Common.{◌≡◌, ◌⊎◌, inr, ℕ, ◌+◌, ◌*◌, ◌-◌, ◌^◌, ◌<◌, ◌≤◌, ◌==◌, Bool, true, false, if◌then◌else◌, List, [], ◌∷◌, ◌++◌, length, Option, Some, None, is_some, refl, subst, sym, ◌∙◌, arith, append-nil}
-use Rattle.std.specs.Prelude.{Result, OnOk}
+use Rattle.std.proofs.Common.{◌≡◌, ◌⊎◌, inr, ℕ, ◌+◌, ◌*◌, ◌-◌, ◌^◌, ◌<◌, ◌≤◌, ◌==◌, Bool, true, false, if◌then◌else◌, List, [], ◌∷◌, length, Option, Some, None, is_some, refl, sym, ◌∙◌, arith, append-nil}
 use Rattle.std.specs.List.{AllByRecursion}
 use Rattle.std.proofs.lemmas.Grind.{pow_more}
 use Rattle.h3_huffman.specs.Huffman.{huffman, octets}
@@ -39,10 +38,19 @@ pub empty_stands : (p : Payload) (items : List ℕ) → length p.bytes ≡ 0 →
 empty_stands p items none empty = rw empty (record { each = tt; form = no_bytes p.bytes none ∙ empty_form p.is_huffman })
 
 -- an empty string, as it is written
-pub empty_literal : (size flags : ℕ) (value : List ℕ) → length value ≡ 0 → string_literal size flags (huffman_text value) ≡ prefixed (size - 1) (2 * flags + 1) 0
+empty_literal : (size flags : ℕ) (value : List ℕ) → length value ≡ 0 → string_literal size flags (huffman_text value) ≡ prefixed (size - 1) (2 * flags + 1) 0
 empty_literal size flags value none =
     let empty : huffman [] ≡ [] = sym (empty_form true) in
     rw (no_bytes value none, empty) (append-nil (prefixed (size - 1) (2 * flags + 1) 0))
+
+-- what an empty string is written as by a choice
+pub empty_plain : (size flags : ℕ) (shortest : Bool) (value : List ℕ) → length value ≡ 0 → shortest ≡ true → string_literal size flags (coded shortest value) ≡ string_literal size flags (plain_text value)
+empty_plain size flags shortest value none on =
+    let empty : huffman [] ≡ [] = sym (empty_form true) in
+    rw (on, no_bytes value none, empty) (refl {a = string_literal size flags (plain_text [])})
+
+pub empty_coded : (size flags : ℕ) (shortest : Bool) (value : List ℕ) → length value ≡ 0 → shortest ≡ false → string_literal size flags (coded shortest value) ≡ prefixed (size - 1) (2 * flags + 1) 0
+empty_coded size flags shortest value none off = rw off (empty_literal size flags value none)
 
 -- what a payload stands for, and that it stands for none, as its value tells
 pub stands_some : (p : Payload) (bytes : List ℕ) → StandsFor p bytes → is_some (string_of p) ≡ true
@@ -78,12 +86,3 @@ string_flags size flags h k few =
 
 pub plain_flags : (size flags : ℕ) → 2 ≤ size → size ≤ 8 → flags < 2 ^ (8 - size) → 2 * flags < 2 ^ (8 - (size - 1))
 plain_flags size flags h k few = omega (arith, string_flags size flags h k few)
-
--- what was appended is the string in the one way, or in the other
-pub coded_ok : {A E : Type 0} (size flags : ℕ) (shortest : Bool) (value : List ℕ) (is : Bool) (r : Result A E) (old new : List ℕ) → is ≡ (coded shortest value).is_huffman → is ≡ true
-    → OnOk r (new ≡ old ++ string_literal size flags (huffman_text value)) → OnOk r (new ≡ old ++ string_literal size flags (coded shortest value))
-coded_ok size flags shortest value is r old new same e h = subst (λ b. OnOk r (new ≡ old ++ string_literal size flags (record { bytes = value; is_huffman = b }))) (sym e ∙ same) h
-
-pub plain_ok : {A E : Type 0} (size flags : ℕ) (shortest : Bool) (value : List ℕ) (is : Bool) (r : Result A E) (old new : List ℕ) → is ≡ (coded shortest value).is_huffman → is ≡ false
-    → OnOk r (new ≡ old ++ string_literal size flags (plain_text value)) → OnOk r (new ≡ old ++ string_literal size flags (coded shortest value))
-plain_ok size flags shortest value is r old new same e h = subst (λ b. OnOk r (new ≡ old ++ string_literal size flags (record { bytes = value; is_huffman = b }))) (sym e ∙ same) h

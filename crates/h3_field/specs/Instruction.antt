@@ -15,6 +15,7 @@ pub data EncoderInstruction : Type 0 where
   -- duplicate (4.3.4): | 0 | 0 | 0 | index (5+) |
   Duplicate : (index : ℕ) → EncoderInstruction
 
+-- RFC 9204 4.3: encoder instructions as bytes
 abbrev pub encoder_bytes : EncoderInstruction → List ℕ
 encoder_bytes (SetCapacity capacity) = prefixed 5 1 capacity
 encoder_bytes (InsertWithStaticName index value) = prefixed 6 3 index ++ string_literal 8 0 value

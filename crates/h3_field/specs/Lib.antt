@@ -21,6 +21,8 @@ pub mod InstructionLaws
 pub mod Prefix
 pub mod PrefixReading
 pub mod Section
+pub mod StaticLines
+pub mod StaticLineLaws
 pub mod IntegerAnswer
 pub mod StringAnswer
 pub mod StaticHash

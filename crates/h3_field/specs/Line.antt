@@ -22,6 +22,7 @@ abbrev pub bit_n : Bool → ℕ
 bit_n true = 1
 bit_n false = 0
 
+-- RFC 9204 4.5: field lines as bytes
 abbrev pub line_bytes : FieldLine → List ℕ
 line_bytes (StaticField index) = prefixed 6 3 index
 line_bytes (RelativeField index) = prefixed 6 2 index

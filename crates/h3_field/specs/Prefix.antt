@@ -13,6 +13,7 @@ prefix_bytes capacity count base =
     prefixed 8 0 (count % (2 * most_entries capacity) + 1)
     ++ (if nat_lt base count then prefixed 7 1 (count - base - 1) else prefixed 7 0 (base - count))
 
+-- RFC 9204 4.5.1.1: required insert count, encoded
 -- The encoded count stands for this one, at a reader that has read so many insertions.
 pub record IsRequiredCount (capacity inserted encoded count : ℕ) : Type 0 where
   pub positive : 0 < count

@@ -23,6 +23,7 @@ HasNoCount capacity inserted encoded = (count : ℕ) → IsRequiredCount capacit
 abbrev pub IsCount : ℕ → ℕ → ℕ → ℕ → Type 0
 IsCount capacity inserted encoded count = ((encoded ≡ 0) × (count ≡ 0)) ⊎ ((0 < encoded) × IsRequiredCount capacity inserted encoded count)
 
+-- RFC 9204 4.5.1.2: base of a section
 -- the base, below the count or from it on
 abbrev pub IsBase : Bool → ℕ → ℕ → ℕ → Type 0
 IsBase true delta count base = base + delta + 1 ≡ count

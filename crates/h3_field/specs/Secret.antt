@@ -10,6 +10,7 @@ is_credential name = bytes_eq name (codes "authorization") || bytes_eq name (cod
 abbrev pub is_cookie : List ℕ → Bool
 is_cookie name = bytes_eq name (codes "cookie") || bytes_eq name (codes "set-cookie")
 
+-- RFC 9204 7.1.3: guarded secrets
 -- A short cookie can be guessed byte by byte; a longer one is left to the table.
 abbrev pub is_secret : Field → Bool
 is_secret f = is_credential f.name || (is_cookie f.name && nat_lt (length f.value) 20)

@@ -16,6 +16,7 @@ huffman_text bytes = record { bytes = bytes; is_huffman = true }
 abbrev pub plain_text : List ℕ → Text
 plain_text bytes = record { bytes = bytes; is_huffman = false }
 
+-- RFC 9204 4.1.2: shortest strings
 -- Where the choice is on, the shorter of both: as it stands where the Huffman code is not shorter.
 abbrev pub coded : Bool → List ℕ → Text
 coded shortest bytes = record { bytes = bytes; is_huffman = not shortest || nat_lt (length (huffman bytes)) (length bytes) }

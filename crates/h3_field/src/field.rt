@@ -305,17 +305,6 @@ impl HeaderField {
         }
     }
 
-    /// The value, and whether it is static.
-    pub fn value_part(&self) -> Part<'_>
-        ensures { part_bytes result ≡ self.now.value }
-    {
-        match &self.form {
-            Form::Static(_, value) => Part::Static(*value),
-            Form::StaticValue(_, value) => Part::Static(*value),
-            _ => Part::Lent(self.value()),
-        }
-    }
-
     /// The bytes of name and value and 32 more, or the greatest number if the sum passes it (RFC 9204, section 3.2.1).
     pub fn mem_size(&self) -> usize
         ensures { result ≡ min (2 ^ 64 - 1) (field_size self.now) }
@@ -324,21 +313,6 @@ impl HeaderField {
             .len()
             .saturating_add(self.value().len())
             .saturating_add(ESTIMATED_OVERHEAD_BYTES)
-    }
-
-    /// How many bytes of name and value the field owns: static parts have none.
-    pub fn owned_len(&self) -> usize
-        ensures { result ≤ length self.now.name + length self.now.value }
-    {
-        match &self.form {
-            Form::Static(_, _) => 0,
-            Form::StaticName(_, value) => value.len(),
-            Form::StaticValue(name, _) => name.len(),
-            Form::Owned(name, value) => name.len().saturating_add(value.len()),
-            Form::Block(bytes, _) => bytes.len(),
-            Form::ShortValue(value, _) => value.as_slice().len(),
-            Form::Short(field) => field.name().len().saturating_add(field.value().len()),
-        }
     }
 
     /// Each item of name and value is a byte. It does nothing: a proof that needs the fact calls it.

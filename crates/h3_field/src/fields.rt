@@ -82,8 +82,10 @@ impl<'a> FieldRef<'a> {
         self.value
     }
 
+    // RFC 9204 7.1.3: guarded secrets
     /// Whether it names a secret: an `authorization` or `proxy-authorization`, or a `cookie` or `set-cookie` with a value of fewer than 20
     /// bytes, which may be guessed. Names are compared whole.
+    #[inline(always)]
     pub fn is_secret(&self) -> bool
         ensures { result ≡ is_secret self.now }
     {
@@ -119,6 +121,7 @@ impl<'a> FieldRef<'a> {
 }
 
 // Whether the values of that name are credentials.
+#[inline(always)]
 fn is_credential(name: &[u8]) -> bool
     ensures { result ≡ is_credential name.now }
 {
@@ -126,6 +129,7 @@ fn is_credential(name: &[u8]) -> bool
 }
 
 // Whether the values of that name are cookies.
+#[inline(always)]
 fn is_cookie(name: &[u8]) -> bool
     ensures { result ≡ is_cookie name.now }
 {

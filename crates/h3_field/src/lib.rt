@@ -31,7 +31,7 @@ pub mod waiting;
 pub use cursor::SliceCursor;
 pub use decoder::{Decoded, decode_stateless, decode_stateless_into};
 pub use decoder_error::DecoderError;
-pub use encoder::{encode_stateless, encode_stateless_lent};
+pub use encoder::{encode_stateless, encode_static_line};
 pub use encoder_error::EncoderError;
 pub use error::Error;
 pub use field::{HeaderField, section_size};

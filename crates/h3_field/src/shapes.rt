@@ -42,6 +42,7 @@ pub(crate) struct IndexAndString {
     pub(crate) value: Vec<u8>,
 }
 
+// RFC 9204 4.3: encoder instructions as bytes
 /// Takes an integer and a string from the front, whose block has room for `spare` bytes more. A refused read takes nothing.
 pub(crate) fn take_index_and_string(
     alloc: Global,
@@ -212,6 +213,7 @@ pub(crate) fn take_two_strings(
     }
 }
 
+// RFC 9204 4.5: field lines as bytes
 /// Appends an integer and a string after it, which is written as `prefix_string::write` does. A refusal appends nothing.
 pub(crate) fn put_index_and_string(
     size: u8,

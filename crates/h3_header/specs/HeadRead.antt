@@ -18,10 +18,12 @@ pub data HeadRead : Type 0 where
   IsHead : (h : Head) → HeadRead
   IsNone : (why : HeadRefusal) → HeadRead
 
+-- RFC 9114 4.2: malformed names of fields
 abbrev pub is_name_at : FieldKind → List ℕ → Bool
 is_name_at Regular name = is_header_name name
 is_name_at _ name = true
 
+-- RFC 9114 10.3: malformed values of fields
 abbrev pub is_value_at : Bool → FieldKind → List ℕ → Bool
 is_value_at any Method value = is_token value
 is_value_at any Scheme value = is_scheme value

@@ -1,14 +1,16 @@
 -- What a side announces is what the other side keeps of it.
-use Rattle.std.proofs.Common.{◌≡◌, Result, Ok, ℕ, ◌<◌, nat_le, false, arith, ◌≤◌, nat_lt, ◌+◌, ◌^◌, Bool, true, if◌then◌else◌, List, ◌++◌, Err, sym, [], ◌∷◌, refl, ap, ◌∙◌, ◌*◌, length, length-append, ◌==◌, not, min, subst, append_assoc}
+use Rattle.std.proofs.Common.{◌≡◌, Ok, ℕ, ◌<◌, nat_le, false, arith, ◌≤◌, nat_lt, ◌+◌, ◌^◌, Bool, true, if◌then◌else◌, List, ◌++◌, Err, sym, [], ◌∷◌, refl, ap, ◌∙◌, ◌*◌, length, length-append, ◌==◌, not, min, subst, append_assoc}
 use Rattle.std.proofs.lemmas.Grind.{common_steps}
 use Rattle.h3_proto.specs.Config.{announced, grease_pairs, own_pairs, table_pairs}
 use Rattle.h3_proto.specs.declared.config.Config.{Config}
-use Rattle.h3_proto.specs.declared.frame.SettingsError.{SettingsError}
 use Rattle.h3_proto.specs.declared.frame.SettingsError.TheVariants.{InvalidSettingValue}
-use Rattle.h3_connection.specs.AnnouncingLaws.{announced_as}
 use Rattle.h3_connection.specs.declared.setup.Announced.{Announced}
 use Rattle.h3_world.specs.Setup.{IsMade, IsMadeSetup, announced_at}
-use Rattle.std.proofs.lemmas.Bool.{ne_eqb}
+use Rattle.std.proofs.lemmas.Bool.{eqb-true, ne_eqb}
+use Rattle.std.specs.Prelude.{◌&&◌, ◌||◌, find, Option, Some, option_map}
+use Rattle.h3_proto.specs.Config.{is_enabled}
+use Rattle.h3_connection.specs.OwnIds.{other}
+use Rattle.h3_connection.specs.StrictConnection.{is_strict, judges_connect, refuses_settings, settings_refused}
 use Rattle.h3_proto.specs.Ids.{reserved}
 use Rattle.h3_proto.specs.Settings.{is_known, value_of, settings_of}
 use Rattle.h3_proto.specs.declared.config.Settings.{Settings}
@@ -25,46 +27,35 @@ use Rattle.h3_proto.specs.ReceivedLaws.{announced_received_with_table}
 use Rattle.h3_proto.specs.declared.stream.Side.{Side}
 use Rattle.h3_proto.specs.declared.stream.Side.TheVariants.{Client, Server}
 use Rattle.h3_world.specs.declared.setup.Setup.{Setup}
-use Rattle.h3_headline.specs.PeerStreams.{Announces, Configured, Parts}
+use Rattle.h3_headline.specs.PeerStreams.{Announces, Parts}
 use Rattle.h3_headline.specs.Standing.{with_meaning}
 
-same_ok : {X E : Type 0} (x y : X) → ◌≡◌ {A = Result X E} (Ok x) (Ok y) → x ≡ y
-same_ok x y e = cc
+not_above : (a b : ℕ) → a < b → nat_le b a ≡ false
+not_above a b h = grind (arith, common_steps, h)
 
-not_above : (a b : ℕ) → nat_le a b ≡ false → b < a
-not_above a b e = grind (arith, common_steps, e)
-
-not_below : (a b : ℕ) → nat_lt a b ≡ false → b ≤ a
-not_below a b e = grind (arith, common_steps, e)
-
-configured : (c : Config) (grease : ℕ) (pairs : List (ℕ × ℕ)) → announced c grease ≡ Ok pairs → Configured c grease pairs
-configured c grease pairs h = by_tests (nat_le (2 ^ 62) c.settings.max_field_section_size) (nat_le (2 ^ 62) c.settings.max_webtransport_sessions) h
-  where
-    by_tests : (wide many : Bool)
-        → ◌≡◌ {A = Result (List (ℕ × ℕ)) SettingsError} (if wide then Err (InvalidSettingValue 6 c.settings.max_field_section_size)
-        else (if many then Err (InvalidSettingValue 0x2b603743 c.settings.max_webtransport_sessions)
-        else Ok (grease_pairs c.send_grease grease ++ own_pairs c.settings))) (Ok pairs)
-        → Configured c grease pairs
-    by_tests true many h = absurd (cc)
-    by_tests false true h = absurd (cc)
-    by_tests false false h = record { are = sym (same_ok (grease_pairs c.send_grease grease ++ own_pairs c.settings) pairs h) }
+-- some configuration announces it
+configured : (c : Config) (grease : ℕ) → c.settings.max_field_section_size < 2 ^ 62 → c.settings.max_webtransport_sessions < 2 ^ 62 → announced c grease ≡ Ok (grease_pairs c.send_grease grease ++ own_pairs c.settings)
+configured c grease section sessions =
+    ap (λ b. if b then Err (InvalidSettingValue 6 c.settings.max_field_section_size)
+    else (if nat_le (2 ^ 62) c.settings.max_webtransport_sessions then Err (InvalidSettingValue 0x2b603743 c.settings.max_webtransport_sessions)
+    else Ok (grease_pairs c.send_grease grease ++ own_pairs c.settings))) (not_above c.settings.max_field_section_size (2 ^ 62) section)
+    ∙ ap (λ b. if b then Err (InvalidSettingValue 0x2b603743 c.settings.max_webtransport_sessions) else Ok (grease_pairs c.send_grease grease ++ own_pairs c.settings))
+    (not_above c.settings.max_webtransport_sessions (2 ^ 62) sessions)
 
 parts_of : (a : Announced) → IsMade a → Parts a
 parts_of a made =
-    let is = announced_as (announced made.config made.grease) a.limits made.config.choices a made.made in
-    let c = configured made.config made.grease is.pairs is.is in
-    let few = not_below 65535 a.limits.blocked is.blocked in
+    let config : Config = record { send_grease = made.sends_grease; settings = made.settings; choices = a.choices } in
     record {
-      send = made.config.send_grease;
+      send = made.sends_grease;
       grease = made.grease;
-      own = made.config.settings;
-      config = made.config;
+      own = made.settings;
+      config = config;
       low = made.small;
-      made = is.is ∙ ap (λ ps. Ok ps) c.are;
+      made = configured config made.grease made.section made.sessions;
       own_is = refl;
-      settings = ap (λ (x : Announced). x.settings) is.announced ∙ ap (λ ps. ps ++ table_pairs a.limits.table a.limits.blocked) c.are;
-      table = not_above (2 ^ 30) a.limits.table is.table;
-      blocked = omega (arith, few);
+      settings = made.are;
+      table = made.table;
+      blocked = made.blocked;
     }
 
 -- a reserved setting has no meaning
@@ -145,6 +136,55 @@ announces a made =
       opening = λ most. opening_same most a.limits p.table p.blocked;
       low = p.table;
     }
+
+-- settings with a meaning have the values of all
+same_value : (id : ℕ) (pairs : List (ℕ × ℕ)) → is_known id ≡ true → value_of id (with_meaning pairs) ≡ value_of id pairs
+same_value id [] known = refl
+same_value id (p ∷ pairs) known = by_known (same_value id pairs known) (is_known p.0) (p.0 == id) refl refl
+  where
+    rest : Option ℕ
+    rest = value_of id pairs
+
+    first : (b : Bool) → Option ℕ
+    first b = option_map (λ (q : ℕ × ℕ). q.1) (if b then Some p else find (λ (q : ℕ × ℕ). q.0 == id) pairs)
+
+    found : (m : Bool) → Option ℕ
+    found m = value_of id (if m then p ∷ with_meaning pairs else with_meaning pairs)
+
+    kept : (b : Bool) → Option ℕ
+    kept b = option_map (λ (q : ℕ × ℕ). q.1) (if b then Some p else find (λ (q : ℕ × ℕ). q.0 == id) (with_meaning pairs))
+
+    by_known : value_of id (with_meaning pairs) ≡ value_of id pairs → (m b : Bool) → is_known p.0 ≡ m → (p.0 == id) ≡ b → found m ≡ first b
+    by_known behind true true k e = ap kept e
+    by_known behind true false k e = ap kept e ∙ behind
+    by_known behind false true k e = let same : p.0 ≡ id = eqb-true p.0 id e in let wrong : false ≡ true = sym k ∙ ap is_known same ∙ known in absurd (cc)
+    by_known behind false false k e = behind
+
+-- so what is judged of them is judged of all
+judged_alike : (side : Side) (own : Announced) (pairs : List (ℕ × ℕ)) → refuses_settings side own (with_meaning pairs) ≡ refuses_settings side own pairs
+judged_alike side own pairs =
+    ap (judged (value_of 0x33 (with_meaning pairs)) (value_of 0x2b603742 (with_meaning pairs))) (same_value 8 pairs refl)
+    ∙ ap (λ d. judged d (value_of 0x2b603742 (with_meaning pairs)) (value_of 8 pairs)) (same_value 0x33 pairs refl)
+    ∙ ap (λ w. judged (value_of 0x33 pairs) w (value_of 8 pairs)) (same_value 0x2b603742 pairs refl)
+  where
+    judged : Option ℕ → Option ℕ → Option ℕ → Bool
+    judged d w c =
+        is_strict own && ((judges_connect side && nat_lt 1 (unwrap_or c 0)) || nat_lt 1 (unwrap_or d 0)
+        || (is_enabled 0x2b603742 own.settings && (nat_lt 1 (unwrap_or w 0) || (not (unwrap_or w 0 == 0) && not (not (unwrap_or d 0 == 0))))))
+
+neither : (a b : Bool) → not (a || b) ≡ true → (a ≡ false) × (b ≡ false)
+neither true b e = absurd (cc)
+neither false true e = absurd (cc)
+neither false false e = (refl, refl)
+
+-- **Each side takes the settings of the other one.**
+pub takes_at : (setup : Setup) (side : Side) → IsMadeSetup setup → settings_refused side (announced_at setup side) (Some (with_meaning (announced_at setup (other side)).settings)) ≡ false
+takes_at setup Client made =
+    judged_alike Client setup.client setup.server.settings
+    ∙ (neither (refuses_settings Client setup.client setup.server.settings) (refuses_settings Server setup.server setup.client.settings) made.takes).0
+takes_at setup Server made =
+    judged_alike Server setup.server setup.client.settings
+    ∙ (neither (refuses_settings Client setup.client setup.server.settings) (refuses_settings Server setup.server setup.client.settings) made.takes).1
 
 pub announces_at : (setup : Setup) (side : Side) → IsMadeSetup setup → Announces (announced_at setup side)
 announces_at setup Client made = announces setup.client made.client

@@ -16,10 +16,10 @@ use Rattle.h3_connection.specs.Incoming.{Incoming}
 use Rattle.h3_world.specs.Flow.{Flow, Section, Part, own_part}
 use Rattle.h3_connection.specs.Outgoing.{Outgoing, OwnPart, nothing_sent}
 use Rattle.h3_connection.specs.StreamSets.{set_stream}
-use Rattle.h3_header.specs.Head.{Head as Fields, head_fields}
+use Rattle.h3_header.specs.Head.{Head as Fields, has_pseudo, head_fields, trailer_head}
 use Rattle.h3_header.specs.HeadTests.{takes_protocol}
-use Rattle.h3_header.specs.Reads.{head_of_fields}
-use Rattle.h3_header.specs.ReadsBack.{ReadsBackBy, as_read}
+use Rattle.h3_header.specs.Reads.{AcceptsAll, head_of_fields}
+use Rattle.h3_connection.specs.Pulling.{is_for, is_interim}
 use Rattle.h3_qpack.specs.Encodings.{IsWrittenInstruction}
 use Rattle.h3_qpack.specs.SectionEncoding as section
 use Rattle.h3_connection.specs.Sections.{own_instructions, written_section}
@@ -64,13 +64,19 @@ sending e id n o = record e { outgoing = set_stream e.outgoing id o; sent = n }
 abbrev pub seen_by : EndpointHistory → Side → ℕ → Bool
 seen_by e s n = is_critical_of (record e { side = s }) n (kind_of s n)
 
--- A section that may be sent: its side takes its protocol, the other side reads it back as its fields, these are read as its head, and the
--- instructions for it can be written.
+-- Fields that may be sent as this header: the other side reads them as a header that is judged alike, and the instructions for them can be
+-- written.
+pub record IsWritableAs (setup : Setup) (w : World) (side : Side) (id : ℕ) (head : Fields) (fields : List Field) : Type 0 where
+  pub reads : AcceptsAll (takes_any (announced_at setup (other side))) (trailer_head []) fields
+  pub is_for : (reader : Side) → is_for reader (head_of_fields fields) ≡ is_for reader head
+  pub is_interim : is_interim (head_of_fields fields).status ≡ is_interim head.status
+  pub has_pseudo : has_pseudo (head_of_fields fields) ≡ has_pseudo head
+  pub instructions : AllByRecursion IsWrittenInstruction (own_instructions (party w side).encoder id fields)
+
+-- A header that may be sent: its side takes its protocol.
 pub record IsWritableHead (setup : Setup) (w : World) (side : Side) (id : ℕ) (head : Fields) : Type 0 where
   pub taken : takes_protocol (takes_any (announced_at setup side)) head.protocol ≡ true
-  pub reads_back : ReadsBackBy (takes_any (announced_at setup (other side))) (head_fields head)
-  pub read_as : head_of_fields (head_fields head) ≡ as_read head
-  pub instructions : AllByRecursion IsWrittenInstruction (own_instructions (party w side).encoder id (head_fields head))
+  pub writable : IsWritableAs setup w side id head (head_fields head)
 
 -- a part that carries a section, and the part that its sender's endpoint keeps of it
 pub record IsOfSection (kind : Section → Part) (own : List ℕ → OwnPart) : Type 0 where

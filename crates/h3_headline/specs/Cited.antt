@@ -59,10 +59,16 @@ pub record StreamLaws : Type 0 where
 abbrev pub ListsAreTheirValue : Type 0
 ListsAreTheirValue = (any : Bool) (fields : List Field) (h : header.Head) → IsHeadOf any fields h → head_by any fields ≡ IsHead h
 
+-- and what is read as a head is accepted field by field; with the two names alone it is so with any protocol too
+pub record ReadingLaws : Type 0 where
+  pub is_head : (any : Bool) (fields : List Field) (h : header.Head) → head_by any fields ≡ IsHead h → IsHeadOf any fields h
+  pub named : (any : Bool) (fields : List Field) (h : header.Head) → IsHeadOf false fields h → head_by any fields ≡ IsHead h
+
 pub record Laws : Type 0 where
   pub worlds : WorldLaws
   pub streams : StreamLaws
   pub lists : ListsAreTheirValue
+  pub reading : ReadingLaws
   -- the instructions for fields whose section is below the bound of all sums can be written
   pub written : (s : EncoderHistory) (stream : ℕ) (fields : List Field) → length s.inserted < 2 ^ 62 → AllByRecursion IsFieldOfBytes fields → section_size fields < 2 ^ 56 →
       AllByRecursion IsWrittenInstruction (own_instructions s stream fields)

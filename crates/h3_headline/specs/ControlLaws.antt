@@ -1,6 +1,9 @@
 -- What an endpoint knows of the other side once so many bytes of its control stream came.
-use Rattle.std.proofs.Common.{◌≡◌, [], ◌∷◌, refl, ◌+◌, ◌-◌, ◌<◌, ◌++◌, length, length-append, ap, arith, ℕ, ◌≤◌, List, flat_map, nat_le, true, take, drop, None, sym, ◌∙◌, subst, zero, suc, false, Some, Bool}
+use Rattle.std.proofs.Common.{◌≡◌, [], ◌∷◌, refl, ◌+◌, ◌-◌, ◌<◌, ◌++◌, length, length-append, ap, arith, ℕ, ◌≤◌, List, flat_map, nat_le, true, take, drop, None, sym, ◌∙◌, subst, zero, suc, false, Some, Bool, lit<}
 use Rattle.h3_coding.specs.Encodings.{encoding}
+use Rattle.h3_coding.specs.Varint.{varint_at}
+use Rattle.h3_coding.specs.VarintLaws.{none_at_end, reads_shortest}
+use Rattle.h3_wire.specs.FirstFrames.{begins_other, is_other}
 use Rattle.h3_proto.specs.Pairs.{payload_of}
 use Rattle.h3_connection.specs.declared.setup.Announced.{Announced}
 use Rattle.h3_world.specs.OwnStreams.{settings_bytes}
@@ -89,6 +92,19 @@ joined a came count more short =
     let size = length_settings a in
     let bytes = behind_type came count (S ++ more) in
     ap (λ l. l ++ bytes) (settings_front a came ∙ sym (take-append-le (came - 1) S more (omega (arith, size, short)))) ∙ take_both (came - 1) (came + count - 1) (S ++ more) (omega arith)
+
+-- it begins with SETTINGS, as far as it came
+first_is_four : (n : ℕ) (xs : List ℕ) → begins_other (take n (4 ∷ xs)) ≡ false
+first_is_four zero xs = ap is_other none_at_end
+first_is_four (suc n) xs = ap is_other (subst (λ l. varint_at (l ++ take n xs) ≡ Some (4, take n xs)) type_of_settings (reads_shortest 4 (take n xs) (lit< tt)))
+
+first_is_settings : (a : Announced) (n : ℕ) (more : List ℕ) → begins_other (take n (settings_frame_of a ++ more)) ≡ false
+first_is_settings a n more =
+    let rest = encoding (length (payload_of a.settings)) in
+    ap (λ l. begins_other (take n (((l ++ rest) ++ payload_of a.settings) ++ more))) type_of_settings ∙ first_is_four n ((rest ++ payload_of a.settings) ++ more)
+
+pub nothing_else_first : (a : Announced) (came count : ℕ) (more : List ℕ) → came < length (settings_bytes a) → begins_other (drop 1 (take came (settings_bytes a)) ++ behind_type came count (settings_frame_of a ++ more)) ≡ false
+nothing_else_first a came count more short = ap begins_other (joined a came count more short) ∙ first_is_settings a (came + count - 1) more
 
 no_goaways : (a : Announced) (n : ℕ) (gs : List ℕ) → n < length (settings_bytes a) → take (whole_in goaway_encoding (n - length (settings_bytes a)) gs) gs ≡ []
 no_goaways a n gs short =

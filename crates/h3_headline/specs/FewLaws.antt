@@ -3,7 +3,7 @@ use Rattle.std.proofs.Common.{◌≡◌, ℕ, ◌*◌, ◌<◌, ◌^◌, Bool, t
 use Rattle.std.specs.Prelude.{nat_le, not, is_some, ◌||◌, nat_lt, ◌%◌}
 use Rattle.std.proofs.lemmas.Grind.{common_steps}
 use Rattle.h3_connection.specs.declared.event.Refusal.TheVariants as refusal
-use Rattle.h3_world.specs.Sending.{opened, sent_body, given_up, sent_head, sent_trailer, finished, cut_off, with_goaway}
+use Rattle.h3_world.specs.Sending.{opened, sent_body, given_up, sent_head, sent_fields, sent_trailer, sent_trailer_fields, finished, cut_off, with_goaway}
 use Rattle.h3_connection.specs.Refusals.{going_away}
 use Rattle.h3_connection.specs.declared.event.Refusal.{Refusal}
 use Rattle.h3_proto.specs.declared.stream.Side.{Side}
@@ -12,10 +12,10 @@ use Rattle.h3_connection.specs.OwnIds.{other, is_own}
 use Rattle.h3_connection.specs.Pulling.{is_client}
 use Rattle.h3_world.specs.declared.setup.Setup.{Setup}
 use Rattle.h3_world.specs.Came.{goaways_came, insertions_came}
-use Rattle.h3_world.specs.Refusals.{next_id, open_refusal, head_refusal, body_refusal, trailer_refusal, finish_refusal, reset_refusal, cancel_refusal, goaway_refusal}
+use Rattle.h3_world.specs.Refusals.{next_id, open_refusal, head_refusal, fields_refusal, body_refusal, trailer_refusal, trailer_fields_refusal, finish_refusal, reset_refusal, cancel_refusal, goaway_refusal}
 use Rattle.h3_world.specs.World.{World, Party, with_party, party}
 use Rattle.h3_world.specs.declared.event.Answer.{Answer}
-use Rattle.h3_world.specs.Machine.{done, count_waited_for, pull_next, pull_settled, item_there, served}
+use Rattle.h3_world.specs.Machine.{done, count_waited_for, pull_next, pull_settled, pulled, item_there, served}
 use Rattle.h3_world.specs.Flow.{Flow}
 use Rattle.h3_world.specs.Streams.{with_flow, flow, has_outgoing, waiting, is_open}
 use Rattle.h3_connection.specs.declared.event.StreamFault.{StreamFault}
@@ -119,16 +119,26 @@ few_settled : (w : World) (o : Option Pull) (next : Answer × World) → Few w �
 few_settled w (Some p) next h k = h
 few_settled w None next h k = k
 
+few_pulled : (setup : Setup) (w : World) (side : Side) (id : ℕ) → Few w → Few (pulled setup w side id).1
+few_pulled setup w side id h =
+    let f = flow w (other side) id in
+    let next = pull_next w side id (pause_before f (insertions_came (party w (other side))) (next_part f)) (item_there (section_of (announced_at setup side)) f (next_part f)) in
+    few_settled w (settled w side id) next h (few_next w side id (pause_before f (insertions_came (party w (other side))) (next_part f)) (item_there (section_of (announced_at setup side)) f (next_part f)) h)
+
 -- **After each event.**
 pub few_after : (setup : Setup) (w : World) (e : Event) → 4 * length w.exchanges ≤ 2 ^ 62 → 4 * length (served setup w e).1.exchanges ≤ 2 ^ 62
 few_after setup w (event.OpenRequest side) h =
     few_done (open_refusal setup w side) w (opened w) (answer.Opened (next_id w)) h (λ goes. few_opened w (opens_below setup w side goes))
 few_after setup w (event.Head side id head) h =
     few_done (head_refusal setup w side id head) w (sent_head w side id head) answer.Done h (λ goes. few_kept w (sent_head w side id head) h (keeps_both w side side id _ _))
+few_after setup w (event.Fields side id fields) h =
+    few_done (fields_refusal setup w side id fields) w (sent_fields w side id fields) answer.Done h (λ goes. few_kept w (sent_fields w side id fields) h (keeps_both w side side id _ _))
 few_after setup w (event.Body side id bytes) h =
     few_done (body_refusal w side id) w (sent_body w side id bytes) answer.Done h (λ goes. few_kept w (sent_body w side id bytes) h (keeps_body w side id bytes))
 few_after setup w (event.Trailer side id trailer) h =
     few_done (trailer_refusal setup w side id trailer) w (sent_trailer w side id trailer) answer.Done h (λ goes. few_kept w (sent_trailer w side id trailer) h (keeps_both w side side id _ _))
+few_after setup w (event.TrailerFields side id fields) h =
+    few_done (trailer_fields_refusal setup w side id fields) w (sent_trailer_fields w side id fields) answer.Done h (λ goes. few_kept w (sent_trailer_fields w side id fields) h (keeps_both w side side id _ _))
 few_after setup w (event.Finish side id) h =
     few_done (finish_refusal w side id) w (finished w side id) answer.Done h (λ goes. few_kept w (finished w side id) h (flow_count w side id _))
 few_after setup w (event.Reset side id) h =
@@ -149,10 +159,8 @@ few_after setup w (event.DeliverReset side id) h =
     few_either (not (has_outgoing w side id)) _ _ h
     (few_either (is_own side id || not (flow w side id).is_reset) _ _ h
     (few_either (is_closed w side id) _ _ h (few_kept w (delivered_reset w side id) h (keeps_reset w side id))))
-few_after setup w (event.Pull side id) h =
-    let f = flow w (other side) id in
-    let next = pull_next w side id (pause_before f (insertions_came (party w (other side))) (next_part f)) (item_there (section_of (announced_at setup side)) f (next_part f)) in
-    few_settled w (settled w side id) next h (few_next w side id (pause_before f (insertions_came (party w (other side))) (next_part f)) (item_there (section_of (announced_at setup side)) f (next_part f)) h)
+few_after setup w (event.PullFields side id) h = few_pulled setup w side id h
+few_after setup w (event.Pull side id) h = few_pulled setup w side id h
 few_after setup w (event.Show side) h = h
 
 -- **The id of an open stream is below 2^62.**

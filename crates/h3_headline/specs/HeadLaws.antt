@@ -8,7 +8,9 @@ use Rattle.h3_connection.specs.Endpoint.{Own, EndpointHistory}
 use Rattle.h3_connection.specs.Outgoing.{OwnPart, takes_head, is_unsent, takes_body, last_is_trailer}
 use Rattle.h3_connection.specs.OwnIds.{other, encoder_id}
 use Rattle.h3_connection.specs.Sections.{written_section, own_instructions}
-use Rattle.h3_connection.specs.Refusals.{is_too_large, first_of}
+use Rattle.h3_connection.specs.Lasts.{last_id}
+use Rattle.h3_connection.specs.StrictConnection.{begins_none_after}
+use Rattle.h3_connection.specs.Refusals.{is_too_large, first_of, refusal_of_head, refusal_of_trailer, unless_going}
 use Rattle.h3_connection.specs.Sending.{appended as part_appended, counted, encoded, fields_cost, asked, awaiting_at, head_part, does, content_of_own, known_of, saying_at}
 use Rattle.h3_connection.specs.StreamSets.{stream_at}
 use Rattle.h3_world.specs.declared.setup.Setup.{Setup}
@@ -16,7 +18,7 @@ use Rattle.h3_world.specs.declared.event.Answer.TheVariants as answer
 use Rattle.h3_world.specs.Ends.{Ends, end_at, answered}
 use Rattle.h3_world.specs.Flow.{Flow, Section, Part}
 use Rattle.h3_world.specs.Order.{outgoing_of}
-use Rattle.h3_world.specs.Sending.{appended, having_encoded, section_sent, with_section, sent_head, sent_trailer}
+use Rattle.h3_world.specs.Sending.{appended, having_encoded, section_sent, with_section}
 use Rattle.h3_world.specs.Streams.{flow, is_open}
 use Rattle.h3_world.specs.World.{World, party, with_party}
 use Rattle.h3_world.specs.Came.{settings_known}
@@ -37,14 +39,17 @@ use Rattle.h3_header.specs.ReadsBack.{as_read}
 use Rattle.h3_messages.specs.Content.{awaited_by}
 use Rattle.h3_header.specs.Reads.{head_of_fields}
 use Rattle.h3_connection.specs.Outgoing.OwnPart.{OwnInterim, OwnHead, OwnTrailer}
+use Rattle.h3_connection.specs.declared.event.Refusal.{Refusal}
 use Rattle.h3_connection.specs.declared.event.Refusal.TheVariants as refusal
 use Rattle.h3_world.specs.declared.event.Event.TheVariants as event
 use Rattle.h3_world.specs.Ends as ends_of
 use Rattle.h3_world.specs.Flow.Part.{Interim, Head, Trailer}
 use Rattle.h3_world.specs.Machine.{served}
-use Rattle.h3_world.specs.Refusals.{head_refusal, trailer_refusal}
+use Rattle.h3_world.specs.Refusals.{none_after, sender_at}
+use Rattle.h3_world.specs.Lists.{unreadable}
+use Rattle.h3_world.specs.Machine as machine
 use Rattle.http_uri.specs.Grammar.{or_slash}
-use Rattle.h3_headline.specs.Calls.{Both, Does, Extends, Hears, IsOfSection, IsWritableHead, Serves, writing_to, written}
+use Rattle.h3_headline.specs.Calls.{Both, Does, Extends, Hears, IsOfSection, IsWritableAs, IsWritableHead, Serves, writing_to, written}
 use Rattle.h3_headline.specs.ComingLaws.{sound_flow}
 use Rattle.h3_headline.specs.DeliverLaws.{sends_at}
 use Rattle.h3_headline.specs.FlowLaws.{flow-with_party, is_open-with_party, open_there}
@@ -55,6 +60,7 @@ use Rattle.h3_headline.specs.SettingsLaws.{too_large_with_meaning}
 use Rattle.h3_headline.specs.Standing.{IsReadable, IsWritable, Stands, StandsAt, are_settings_there, with_meaning}
 use Rattle.h3_headline.specs.WritesMoreLaws.{encoder_stream_more}
 use Rattle.h3_headline.specs.WritingLaws.{hears, party_count, party_writes, sound_party}
+use Rattle.h3_connection.specs.StrictSendingLaws.{not_going}
 
 all_joined : {X : Type 0} (P : X → Type 0) (xs ys : List X) → AllByRecursion P xs → AllByRecursion P ys → AllByRecursion P (xs ++ ys)
 all_joined P [] ys h k = k
@@ -141,7 +147,7 @@ only_client Server head fits interim = absurd (by_status head.status fits interi
         no_second true x = cc
         no_second false x = cc
 
-for_read : (reader : Side) (head : Fields) → is_for reader (as_read head) ≡ is_for reader head
+pub for_read : (reader : Side) (head : Fields) → is_for reader (as_read head) ≡ is_for reader head
 for_read Client head = refl
 for_read Server head = refl
 
@@ -158,79 +164,143 @@ unasked setup w side e f id fields plain h same =
       outgoing = if b then saying_at f.outgoing id (content_of_own f.side (known_of (stream_at f.incoming id)) fields) (stream_at f.outgoing id) else f.outgoing;
     } in g) is
 
--- **A head.**
-pub head_served : (setup : Setup) (w : World) (ends : Ends) (side : Side) (id : ℕ) (head : Fields) → IsPlain (announced_at setup side) → Stands setup w ends → IsWritableHead setup w side id head
-    → Serves setup (answered ends (event.Head side id head)) (served setup w (event.Head side id head))
-head_served setup w ends side id head plain h writable =
-    let e = end_at ends side in
-    let b = both_of setup w side ends h in
-    let fields = head_fields head in
-    let size = refusal.TooLarge (section_size fields) in
-    let to = outgoing_of (flow w side id) in
-    let new = counted (part_appended (encoded e id fields) id (head_part head (written_section e.encoder id fields))) (fields_cost fields) in
-    subst (λ n. Serves setup (ends_of.done ends side answer.Done (does (sender.head_refusal e id head) e n)) (served setup w (event.Head side id head))) (sym (unasked setup w side e new id fields plain b.here refl))
-    (call_agrees setup w (sent_head w side id head) ends side answer.Done answer.Done (sender.head_refusal e id head) (head_refusal setup w side id head) new h
-    (refusal_agrees setup w side id e (λ o. (not (takes_head o), refusal.OutOfOrder) ∷ unless_malformed (broken_protocol e.announced head) ((not (is_for (other e.side) head), refusal.WrongSide) ∷ unless_malformed (broken_head e.side e.announced e.peer.settings fields) ((is_too_large e.peer.settings fields, size) ∷ []))) b.here
-    ∙ ap (λ p. first_of ((not (is_open w side id), refusal.NotOpen) ∷ (not (takes_head to), refusal.OutOfOrder) ∷ unless_malformed p ((not (is_for (other e.side) head), refusal.WrongSide) ∷ unless_malformed (broken_head e.side e.announced e.peer.settings fields) ((is_too_large e.peer.settings fields, size) ∷ []))))
-    (protocol_taken setup w side e head writable.taken b.here)
-    ∙ ap (λ m. first_of ((not (is_open w side id), refusal.NotOpen) ∷ (not (takes_head to), refusal.OutOfOrder) ∷ (not (is_for (other e.side) head), refusal.WrongSide) ∷ unless_malformed m ((is_too_large e.peer.settings fields, size) ∷ [])))
-    (no_broken_head setup w side e fields plain b.here)
-    ∙ ap (λ s. first_of ((not (is_open w side id), refusal.NotOpen) ∷ (not (takes_head to), refusal.OutOfOrder) ∷ (not (is_for (other s) head), refusal.WrongSide) ∷ (is_too_large e.peer.settings fields, size) ∷ [])) b.here.side_is
-    ∙ ap (λ t. first_of ((not (is_open w side id), refusal.NotOpen) ∷ (not (takes_head to), refusal.OutOfOrder) ∷ (not (is_for (other side) head), refusal.WrongSide) ∷ (t, size) ∷ [])) (too_large_agrees setup w side e fields b.here))
-    (λ goes.
-    let last = (is_too_large (settings_known setup w side) fields, size) ∷ [] in
-    let o = not_refused_open (is_open w side id) ((not (takes_head to), refusal.OutOfOrder) ∷ (not (is_for (other side) head), refusal.WrongSide) ∷ last) goes in
-    let t = not_refused (not (takes_head to)) refusal.OutOfOrder ((not (is_for (other side) head), refusal.WrongSide) ∷ last) o.1 in
-    let s = not_refused (not (is_for (other side) head)) refusal.WrongSide last t.1 in
-    by_interim (is_interim head.status) refl o.0 (open_parts to.is_finished to.is_reset (is_unsent to.parts) t.0).0 (turned (is_for (other side) head) s.0)))
-  where
-    by_interim : (i : Bool) → is_interim head.status ≡ i → is_open w side id ≡ true → (outgoing_of (flow w side id)).is_finished ≡ false → is_for (other side) head ≡ true
-        → Does setup (with_section (if i then Interim else Head) w side id (head_fields head)) ends side answer.Done answer.Done
-        (counted (part_appended (encoded (end_at ends side) id (head_fields head)) id
-        (if i then OwnInterim (written_section (end_at ends side).encoder id (head_fields head)) else OwnHead (written_section (end_at ends side).encoder id (head_fields head)))) (fields_cost (head_fields head)))
-    by_interim true i opened unfinished fits =
-        section_does setup w ends side id (head_fields head) Interim OwnInterim h (record { wrote = λ s. refl; more = λ s. refl }) opened unfinished
-        (only_client (other side) head fits i, ap (is_for (other side)) writable.read_as ∙ for_read (other side) head ∙ fits, ap (λ (x : Fields). is_interim x.status) writable.read_as ∙ i, writable.reads_back) writable.instructions
-    by_interim false i opened unfinished fits =
-        section_does setup w ends side id (head_fields head) Head OwnHead h (record { wrote = λ s. refl; more = λ s. refl }) opened unfinished
-        (ap (is_for (other side)) writable.read_as ∙ for_read (other side) head ∙ fits, never (is_client (other side)), writable.reads_back) writable.instructions
-      where
-        none : is_interim (head_of_fields (head_fields head)).status ≡ false
-        none = ap (λ (x : Fields). is_interim x.status) writable.read_as ∙ i
-
-        never : (c : Bool) → (c && is_interim (head_of_fields (head_fields head)).status) ≡ false
-        never true = none
-        never false = refl
+-- a GOAWAY of the peer counts as the world has it
+going_agrees : (setup : Setup) (w : World) (side : Side) (e : EndpointHistory) → StandsAt setup w side e → begins_none_after e.announced e.side (last_id e.peer.goaways) ≡ none_after setup w side
+going_agrees setup w side e h =
+    ap (λ a. begins_none_after a e.side (last_id e.peer.goaways)) h.announced ∙ ap (λ s. begins_none_after (announced_at setup side) s (last_id e.peer.goaways)) h.side_is
+    ∙ ap (λ ids. begins_none_after (announced_at setup side) side (last_id ids)) h.control.goaways_are
 
 -- no pseudo-header field is read of one that has none
-pseudo_read : (head : Fields) → has_pseudo (as_read head) ≡ has_pseudo head
+pub pseudo_read : (head : Fields) → has_pseudo (as_read head) ≡ has_pseudo head
 pseudo_read head = ap (λ b. is_some head.method || is_some head.scheme || is_some head.authority || b || is_some head.status || is_some head.protocol) (some_path head.path)
   where
     some_path : (o : Option (List ℕ)) → is_some (option_map or_slash o) ≡ is_some o
     some_path None = refl
     some_path (Some x) = refl
 
+-- what is not malformed
+not_malformed : (o : Option Malformation) (rules : List (Bool × Refusal)) → first_of (unless_malformed o rules) ≡ None → (o ≡ None) × (first_of rules ≡ None)
+not_malformed None rules e = (refl, e)
+not_malformed (Some why) rules e = cc
+
+-- A head goes out as these fields. What is malformed of it is told at the end as in the world; where nothing is, the fields can be sent as this head.
+heads_served : (setup : Setup) (w : World) (ends : Ends) (side : Side) (id : ℕ) (head : Fields) (fields : List Field) (told broken : Option Malformation) → IsPlain (announced_at setup side) → Stands setup w ends → told ≡ broken
+    → (broken ≡ None → IsWritableAs setup w side id head fields)
+    → Serves setup
+    (ends_of.done ends side answer.Done
+    (does (sender.unless_closed (end_at ends side) (refusal_of_head (sender.sender_at (end_at ends side) id) told (broken_head (end_at ends side).side (end_at ends side).announced (end_at ends side).peer.settings fields) head fields)) (end_at ends side)
+    (asked (counted (part_appended (encoded (end_at ends side) id fields) id (head_part head (written_section (end_at ends side).encoder id fields))) (fields_cost fields)) id fields)))
+    (machine.done (refusal_of_head (sender_at setup w side id) broken None head fields) w answer.Done (with_section (if is_interim head.status then Interim else Head) w side id fields))
+heads_served setup w ends side id head fields told broken plain h same writable =
+    let e = end_at ends side in
+    let b = both_of setup w side ends h in
+    let size = refusal.TooLarge (section_size fields) in
+    let to = outgoing_of (flow w side id) in
+    let new = counted (part_appended (encoded e id fields) id (head_part head (written_section e.encoder id fields))) (fields_cost fields) in
+    let going = begins_none_after e.announced e.side (last_id e.peer.goaways) in
+    let none = none_after setup w side in
+    let after = with_section (if is_interim head.status then Interim else Head) w side id fields in
+    let here = refusal_of_head (sender.sender_at e id) told (broken_head e.side e.announced e.peer.settings fields) head fields in
+    let there = refusal_of_head (sender_at setup w side id) broken None head fields in
+    subst (λ n. Serves setup (ends_of.done ends side answer.Done (does (sender.unless_closed e here) e n)) (machine.done there w answer.Done after)) (sym (unasked setup w side e new id fields plain b.here refl))
+    (call_agrees setup w after ends side answer.Done answer.Done (sender.unless_closed e here) there new h
+    (refusal_agrees setup w side id e (λ o. (not (takes_head o), refusal.OutOfOrder) ∷ unless_going going (unless_malformed told ((not (is_for (other e.side) head), refusal.WrongSide) ∷ unless_malformed (broken_head e.side e.announced e.peer.settings fields) ((is_too_large e.peer.settings fields, size) ∷ [])))) b.here
+    ∙ ap (λ g. first_of ((not (is_open w side id), refusal.NotOpen) ∷ (not (takes_head to), refusal.OutOfOrder) ∷ unless_going g (unless_malformed told ((not (is_for (other e.side) head), refusal.WrongSide) ∷ unless_malformed (broken_head e.side e.announced e.peer.settings fields) ((is_too_large e.peer.settings fields, size) ∷ [])))))
+    (going_agrees setup w side e b.here)
+    ∙ ap (λ p. first_of ((not (is_open w side id), refusal.NotOpen) ∷ (not (takes_head to), refusal.OutOfOrder) ∷ unless_going none (unless_malformed p ((not (is_for (other e.side) head), refusal.WrongSide) ∷ unless_malformed (broken_head e.side e.announced e.peer.settings fields) ((is_too_large e.peer.settings fields, size) ∷ []))))) same
+    ∙ ap (λ m. first_of ((not (is_open w side id), refusal.NotOpen) ∷ (not (takes_head to), refusal.OutOfOrder) ∷ unless_going none (unless_malformed broken ((not (is_for (other e.side) head), refusal.WrongSide) ∷ unless_malformed m ((is_too_large e.peer.settings fields, size) ∷ [])))))
+    (no_broken_head setup w side e fields plain b.here)
+    ∙ ap (λ s. first_of ((not (is_open w side id), refusal.NotOpen) ∷ (not (takes_head to), refusal.OutOfOrder) ∷ unless_going none (unless_malformed broken ((not (is_for (other s) head), refusal.WrongSide) ∷ (is_too_large e.peer.settings fields, size) ∷ [])))) b.here.side_is
+    ∙ ap (λ t. first_of ((not (is_open w side id), refusal.NotOpen) ∷ (not (takes_head to), refusal.OutOfOrder) ∷ unless_going none (unless_malformed broken ((not (is_for (other side) head), refusal.WrongSide) ∷ (t, size) ∷ [])))) (too_large_agrees setup w side e fields b.here))
+    (λ goes.
+    let last = (is_too_large (settings_known setup w side) fields, size) ∷ [] in
+    let behind = (not (is_for (other side) head), refusal.WrongSide) ∷ last in
+    let o = not_refused_open (is_open w side id) ((not (takes_head to), refusal.OutOfOrder) ∷ unless_going none (unless_malformed broken behind)) goes in
+    let t = not_refused (not (takes_head to)) refusal.OutOfOrder (unless_going none (unless_malformed broken behind)) o.1 in
+    let m = not_malformed broken behind (not_going none (unless_malformed broken behind) t.1) in
+    let s = not_refused (not (is_for (other side) head)) refusal.WrongSide last m.1 in
+    by_interim (writable m.0) (is_interim head.status) refl o.0 (open_parts to.is_finished to.is_reset (is_unsent to.parts) t.0).0 (turned (is_for (other side) head) s.0)))
+  where
+    by_interim : IsWritableAs setup w side id head fields → (i : Bool) → is_interim head.status ≡ i → is_open w side id ≡ true → (outgoing_of (flow w side id)).is_finished ≡ false → is_for (other side) head ≡ true
+        → Does setup (with_section (if i then Interim else Head) w side id fields) ends side answer.Done answer.Done
+        (counted (part_appended (encoded (end_at ends side) id fields) id
+        (if i then OwnInterim (written_section (end_at ends side).encoder id fields) else OwnHead (written_section (end_at ends side).encoder id fields))) (fields_cost fields))
+    by_interim writable true i opened unfinished fits =
+        section_does setup w ends side id fields Interim OwnInterim h (record { wrote = λ s. refl; more = λ s. refl }) opened unfinished
+        (only_client (other side) head fits i, writable.is_for (other side) ∙ fits, writable.is_interim ∙ i, writable.reads) writable.instructions
+    by_interim writable false i opened unfinished fits =
+        section_does setup w ends side id fields Head OwnHead h (record { wrote = λ s. refl; more = λ s. refl }) opened unfinished
+        (writable.is_for (other side) ∙ fits, never (is_client (other side)), writable.reads) writable.instructions
+      where
+        never : (c : Bool) → (c && is_interim (head_of_fields fields).status) ≡ false
+        never true = writable.is_interim ∙ i
+        never false = refl
+
+-- **A head.**
+pub head_served : (setup : Setup) (w : World) (ends : Ends) (side : Side) (id : ℕ) (head : Fields) → IsPlain (announced_at setup side) → Stands setup w ends → IsWritableHead setup w side id head
+    → Serves setup (answered ends (event.Head side id head)) (served setup w (event.Head side id head))
+head_served setup w ends side id head plain h writable =
+    let e = end_at ends side in
+    heads_served setup w ends side id head (head_fields head) (broken_protocol e.announced head) None plain h (protocol_taken setup w side e head writable.taken (both_of setup w side ends h).here) (λ none. writable.writable)
+
+-- what an end reads of a list is what its side announced
+unreadable_agrees : (setup : Setup) (w : World) (side : Side) (e : EndpointHistory) (fields : List Field) → StandsAt setup w side e → unreadable (takes_any e.announced) fields ≡ unreadable (takes_any (announced_at setup side)) fields
+unreadable_agrees setup w side e fields h = ap (λ (a : Announced). unreadable (takes_any a) fields) h.announced
+
+-- **A list as a head.**
+pub fields_served : (setup : Setup) (w : World) (ends : Ends) (side : Side) (id : ℕ) (fields : List Field) → IsPlain (announced_at setup side) → Stands setup w ends
+    → (unreadable (takes_any (announced_at setup side)) fields ≡ None → IsWritableAs setup w side id (head_of_fields fields) fields)
+    → Serves setup (answered ends (event.Fields side id fields)) (served setup w (event.Fields side id fields))
+fields_served setup w ends side id fields plain h writable =
+    let e = end_at ends side in
+    heads_served setup w ends side id (head_of_fields fields) fields (unreadable (takes_any e.announced) fields) (unreadable (takes_any (announced_at setup side)) fields) plain h
+    (unreadable_agrees setup w side e fields (both_of setup w side ends h).here) writable
+
+-- A trailer goes out as these fields.
+trailers_served : (setup : Setup) (w : World) (ends : Ends) (side : Side) (id : ℕ) (head : Fields) (fields : List Field) (told broken : Option Malformation) → IsPlain (announced_at setup side) → Stands setup w ends → told ≡ broken
+    → (broken ≡ None → IsWritableAs setup w side id head fields)
+    → Serves setup
+    (ends_of.done ends side answer.Done
+    (does (sender.unless_closed (end_at ends side) (refusal_of_trailer (sender.sender_at (end_at ends side) id) told (early_trailer (sender.outgoing_at (end_at ends side) id).content) (broken_trailer (end_at ends side).announced fields) head fields)) (end_at ends side)
+    (counted (part_appended (encoded (end_at ends side) id fields) id (OwnTrailer (written_section (end_at ends side).encoder id fields))) (fields_cost fields))))
+    (machine.done (refusal_of_trailer (sender_at setup w side id) broken None None head fields) w answer.Done (with_section Trailer w side id fields))
+trailers_served setup w ends side id head fields told broken plain h same writable =
+    let e = end_at ends side in
+    let b = both_of setup w side ends h in
+    let size = refusal.TooLarge (section_size fields) in
+    let to = outgoing_of (flow w side id) in
+    call_agrees setup w (with_section Trailer w side id fields) ends side answer.Done answer.Done
+    (sender.unless_closed e (refusal_of_trailer (sender.sender_at e id) told (early_trailer (sender.outgoing_at e id).content) (broken_trailer e.announced fields) head fields))
+    (refusal_of_trailer (sender_at setup w side id) broken None None head fields)
+    (counted (part_appended (encoded e id fields) id (OwnTrailer (written_section e.encoder id fields))) (fields_cost fields)) h
+    (refusal_agrees setup w side id e (λ o. (not (takes_body o), refusal.OutOfOrder) ∷ unless_malformed told ((has_pseudo head, refusal.PseudoInTrailer) ∷ unless_malformed (early_trailer o.content) (unless_malformed (broken_trailer e.announced fields) ((is_too_large e.peer.settings fields, size) ∷ [])))) b.here
+    ∙ ap (λ p. first_of ((not (is_open w side id), refusal.NotOpen) ∷ (not (takes_body to), refusal.OutOfOrder) ∷ unless_malformed p ((has_pseudo head, refusal.PseudoInTrailer) ∷ unless_malformed (early_trailer to.content) (unless_malformed (broken_trailer e.announced fields) ((is_too_large e.peer.settings fields, size) ∷ []))))) same
+    ∙ ap (λ m. first_of ((not (is_open w side id), refusal.NotOpen) ∷ (not (takes_body to), refusal.OutOfOrder) ∷ unless_malformed broken ((has_pseudo head, refusal.PseudoInTrailer) ∷ unless_malformed m ((is_too_large e.peer.settings fields, size) ∷ []))))
+    (no_broken_trailer setup w side e fields plain b.here)
+    ∙ ap (λ t. first_of ((not (is_open w side id), refusal.NotOpen) ∷ (not (takes_body to), refusal.OutOfOrder) ∷ unless_malformed broken ((has_pseudo head, refusal.PseudoInTrailer) ∷ (t, size) ∷ []))) (too_large_agrees setup w side e fields b.here))
+    (λ goes.
+    let last = (is_too_large (settings_known setup w side) fields, size) ∷ [] in
+    let behind = (has_pseudo head, refusal.PseudoInTrailer) ∷ last in
+    let o = not_refused_open (is_open w side id) ((not (takes_body to), refusal.OutOfOrder) ∷ unless_malformed broken behind) goes in
+    let t = not_refused (not (takes_body to)) refusal.OutOfOrder (unless_malformed broken behind) o.1 in
+    let m = not_malformed broken behind t.1 in
+    let s = not_refused (has_pseudo head) refusal.PseudoInTrailer last m.1 in
+    let k = writable m.0 in
+    section_does setup w ends side id fields Trailer OwnTrailer h (record { wrote = λ s. refl; more = λ s. refl }) o.0 (with_body to.is_finished to.is_reset (not (is_unsent to.parts)) (not (last_is_trailer to.parts)) t.0).0
+    (k.has_pseudo ∙ s.0, k.reads) k.instructions)
+
 -- **A trailer.**
 pub trailer_served : (setup : Setup) (w : World) (ends : Ends) (side : Side) (id : ℕ) (head : Fields) → IsPlain (announced_at setup side) → Stands setup w ends → IsWritableHead setup w side id head
     → Serves setup (answered ends (event.Trailer side id head)) (served setup w (event.Trailer side id head))
 trailer_served setup w ends side id head plain h writable =
     let e = end_at ends side in
-    let b = both_of setup w side ends h in
-    let fields = head_fields head in
-    let size = refusal.TooLarge (section_size fields) in
-    let to = outgoing_of (flow w side id) in
-    call_agrees setup w (sent_trailer w side id head) ends side answer.Done answer.Done (sender.trailer_refusal e id head) (trailer_refusal setup w side id head)
-    (counted (part_appended (encoded e id fields) id (OwnTrailer (written_section e.encoder id fields))) (fields_cost fields)) h
-    (refusal_agrees setup w side id e (λ o. (not (takes_body o), refusal.OutOfOrder) ∷ unless_malformed (broken_protocol e.announced head) ((has_pseudo head, refusal.PseudoInTrailer) ∷ unless_malformed (early_trailer o.content) (unless_malformed (broken_trailer e.announced fields) ((is_too_large e.peer.settings fields, size) ∷ [])))) b.here
-    ∙ ap (λ p. first_of ((not (is_open w side id), refusal.NotOpen) ∷ (not (takes_body to), refusal.OutOfOrder) ∷ unless_malformed p ((has_pseudo head, refusal.PseudoInTrailer) ∷ unless_malformed (early_trailer to.content) (unless_malformed (broken_trailer e.announced fields) ((is_too_large e.peer.settings fields, size) ∷ [])))))
-    (protocol_taken setup w side e head writable.taken b.here)
-    ∙ ap (λ m. first_of ((not (is_open w side id), refusal.NotOpen) ∷ (not (takes_body to), refusal.OutOfOrder) ∷ (has_pseudo head, refusal.PseudoInTrailer) ∷ unless_malformed m ((is_too_large e.peer.settings fields, size) ∷ [])))
-    (no_broken_trailer setup w side e fields plain b.here)
-    ∙ ap (λ t. first_of ((not (is_open w side id), refusal.NotOpen) ∷ (not (takes_body to), refusal.OutOfOrder) ∷ (has_pseudo head, refusal.PseudoInTrailer) ∷ (t, size) ∷ [])) (too_large_agrees setup w side e fields b.here))
-    (λ goes.
-    let last = (is_too_large (settings_known setup w side) fields, size) ∷ [] in
-    let o = not_refused_open (is_open w side id) ((not (takes_body to), refusal.OutOfOrder) ∷ (has_pseudo head, refusal.PseudoInTrailer) ∷ last) goes in
-    let t = not_refused (not (takes_body to)) refusal.OutOfOrder ((has_pseudo head, refusal.PseudoInTrailer) ∷ last) o.1 in
-    let s = not_refused (has_pseudo head) refusal.PseudoInTrailer last t.1 in
-    section_does setup w ends side id fields Trailer OwnTrailer h (record { wrote = λ s. refl; more = λ s. refl }) o.0 (with_body to.is_finished to.is_reset (not (is_unsent to.parts)) (not (last_is_trailer to.parts)) t.0).0
-    (ap has_pseudo writable.read_as ∙ pseudo_read head ∙ s.0, writable.reads_back) writable.instructions)
+    trailers_served setup w ends side id head (head_fields head) (broken_protocol e.announced head) None plain h (protocol_taken setup w side e head writable.taken (both_of setup w side ends h).here) (λ none. writable.writable)
+
+-- **A list as a trailer.**
+pub trailer_fields_served : (setup : Setup) (w : World) (ends : Ends) (side : Side) (id : ℕ) (fields : List Field) → IsPlain (announced_at setup side) → Stands setup w ends
+    → (unreadable (takes_any (announced_at setup side)) fields ≡ None → IsWritableAs setup w side id (head_of_fields fields) fields)
+    → Serves setup (answered ends (event.TrailerFields side id fields)) (served setup w (event.TrailerFields side id fields))
+trailer_fields_served setup w ends side id fields plain h writable =
+    let e = end_at ends side in
+    trailers_served setup w ends side id (head_of_fields fields) fields (unreadable (takes_any e.announced) fields) (unreadable (takes_any (announced_at setup side)) fields) plain h
+    (unreadable_agrees setup w side e fields (both_of setup w side ends h).here) writable

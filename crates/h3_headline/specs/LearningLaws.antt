@@ -1,11 +1,11 @@
 -- What an endpoint makes of further bytes of the other side's control stream: once the settings came, it uses the table where they
 -- allow it, and reads what the other side's decoder said before.
 use Rattle.std.proofs.Common.{◌≡◌, ◌+◌, Bool, true, false, if◌then◌else◌, [], ◌∷◌, ◌++◌, min, refl, ap, ◌∙◌, ℕ, ◌-◌, List, drop, sym, subst, take, flat_map, append-nil, Option, Some, None, nat_le, length, ◌<◌, arith, ◌≤◌}
-use Rattle.std.specs.Prelude.{unwrap_or, is_some, ◌==◌}
+use Rattle.std.specs.Prelude.{unwrap_or, is_none, is_some, ◌==◌, ◌&&◌}
 use Rattle.h3_field.specs.Instruction.EncoderInstruction.{SetCapacity}
 use Rattle.h3_proto.specs.Settings.{value_of}
 use Rattle.h3_qpack.specs.EncoderHistory.{using_table, EncoderHistory, encoder_after_all}
-use Rattle.h3_connection.specs.Control.{with_table, learned, read_decoder, after_peer, read_control}
+use Rattle.h3_connection.specs.Control.{are_refused, holding, lacks_settings, with_table, learned, read_decoder, taken_peer, read_control}
 use Rattle.h3_connection.specs.LimitedReading.{listened_whole}
 use Rattle.h3_connection.specs.UnlimitedLaws.{decoder_unlimited}
 use Rattle.h3_connection.specs.Endpoint.{EndpointHistory, limit_of, goaway_encoding, is_second}
@@ -21,7 +21,11 @@ use Rattle.h3_field.specs.InstructionAnswer.{IsReply}
 use Rattle.h3_qpack.specs.Hearing.{listened, listen}
 use Rattle.h3_proto.specs.declared.stream.Side.{Side}
 use Rattle.h3_connection.specs.OwnIds.{other, control_id}
-use Rattle.h3_connection.specs.PeerReading.{Peer, with_unread, read_peer}
+use Rattle.std.proofs.lemmas.Bool.{and_right}
+use Rattle.h3_wire.specs.FirstFrames.{begins_other}
+use Rattle.h3_connection.specs.StrictConnection.{is_strict, settings_refused}
+use Rattle.h3_connection.specs.StrictConnectionLaws.{held_taken, known_missed}
+use Rattle.h3_connection.specs.PeerReading.{Peer, PeerFound, with_unread, read_peer}
 use Rattle.h3_connection.specs.Unidirectional.{Unidirectional}
 use Rattle.h3_world.specs.declared.setup.Setup.{Setup}
 use Rattle.h3_world.specs.OwnStreams.{settings_bytes}
@@ -30,7 +34,7 @@ use Rattle.h3_connection.specs.Delivering.{heard_as, unless_second, with_unidire
 use Rattle.h3_connection.specs.Unidirectional.Role.{Untold, Control}
 use Rattle.h3_headline.specs.AcceptedLaws.{accepted_front, accepted_limited}
 use Rattle.h3_headline.specs.Cited.{StreamLaws}
-use Rattle.h3_headline.specs.ControlLaws.{length_settings, peer_came}
+use Rattle.h3_headline.specs.ControlLaws.{length_settings, nothing_else_first, peer_came}
 use Rattle.h3_headline.specs.ControlStreamLaws.{without_limit}
 use Rattle.h3_headline.specs.FlowLaws.{other-other}
 use Rattle.h3_headline.specs.ListeningLaws.{no_sum, no_sum_too}
@@ -88,6 +92,9 @@ peer_is setup side came gs stream on peer h =
     ∙ ap (λ x. peer_of p.unread p.settings x peer.most_pushes) h.goaways_are
     ∙ ap (λ x. peer_of p.unread p.settings p.goaways x) h.most_pushes
 
+not_yet : (a n : ℕ) → nat_le a n ≡ false → n < a
+not_yet a n e = grind (arith, common_steps, e)
+
 never : (a n : ℕ) → 0 < a → n ≡ 0 → nat_le a n ≡ false
 never a n h k = grind (arith, common_steps, h, k)
 
@@ -129,6 +136,22 @@ control_came laws setup side e came count gs replies_came replies stream h m = b
     some : 0 < L
     some = omega (arith, length_settings a)
 
+    -- nothing comes before the settings, and they are taken
+    none_missing : (b : Bool) → knew ≡ b → lacks_settings (holding e bytes) ≡ false
+    none_missing true t = known_missed (holding e bytes) (with_meaning a.settings) (h.settings ∙ ap (λ b. if b then Some (with_meaning a.settings) else None) t)
+    none_missing false t =
+        let is = peer_is setup side came gs stream e.control_on e.peer h in
+        let unread : e.peer.unread ≡ drop 1 (take came (settings_bytes a)) =
+        ap (λ (p : Peer). p.unread) is ∙ ap (λ b. (peer_by a b came gs).unread) t in
+        and_right (is_strict e.announced && is_none e.peer.settings) (begins_other (e.peer.unread ++ bytes))
+        (ap (λ l. begins_other (l ++ bytes)) unread ∙ nothing_else_first a came count (flat_map goaway_encoding gs) (not_yet L came t))
+
+    none_refused : (x : EndpointHistory) → x.side ≡ side → x.announced ≡ e.announced → (b : Bool) (o : Option (List (ℕ × ℕ))) → are_refused x o (if b then Some (with_meaning a.settings) else None) ≡ false
+    none_refused x side_is own_is b (Some known) = refl
+    none_refused x side_is own_is false None = refl
+    none_refused x side_is own_is true None =
+        ap (λ s. settings_refused s x.announced (Some (with_meaning a.settings))) side_is ∙ ap (λ own. settings_refused side own (Some (with_meaning a.settings))) own_is ∙ m.takes
+
     some_came : heard_as (with_unidirectional e id (with_role Control)) id Control bytes ≡ without_fault (after_control knew knows (controlling e id (with_role Control) (Some id) peer) a.limits replies_came replies)
     some_came =
         let first = with_unidirectional e id (with_role Control) in
@@ -137,11 +160,20 @@ control_came laws setup side e came count gs replies_came replies stream h m = b
         let is = peer_is setup side came gs stream e.control_on e.peer h in
         let reads : read_peer no_limit side (with_unread before (before.unread ++ bytes)) ≡ (peer, None) =
         subst (λ s. read_peer no_limit s (with_unread before (before.unread ++ bytes)) ≡ (peer, None)) (other-other side) (peer_came (other side) a came count gs m.announces m.goaways knew knows refl refl) in
+        let h_on = holding on bytes in
+        let found : read_peer (limit_of e) e.side h_on.peer ≡ (peer, None) =
+        without_limit (limit_of e) e.side (with_unread e.peer (e.peer.unread ++ bytes)) m.any
+        ∙ ap (λ s. read_peer no_limit s (with_unread e.peer (e.peer.unread ++ bytes))) m.side_is
+        ∙ ap (λ p. read_peer no_limit side (with_unread p (p.unread ++ bytes))) is ∙ reads in
+        let judged : read_control on bytes ≡ taken_peer on (read_peer (limit_of e) e.side h_on.peer) =
+        held_taken h_on (none_missing knew refl)
+        (ap (λ (x : PeerFound). are_refused h_on e.peer.settings x.0.settings) found ∙ none_refused h_on m.side_is refl knows e.peer.settings) in
         ap (λ b. unless_second b first (read_control on bytes)) (ap (λ x. is_second x id) h.is_on ∙ is_first came id)
-        ∙ ap (after_peer on) (without_limit (limit_of e) e.side (with_unread e.peer (e.peer.unread ++ bytes)) m.any)
-        ∙ ap (λ s. after_peer on (read_peer no_limit s (with_unread e.peer (e.peer.unread ++ bytes)))) m.side_is
-        ∙ ap (λ p. after_peer on (read_peer no_limit side (with_unread p (p.unread ++ bytes)))) is
-        ∙ ap (after_peer on) reads
+        ∙ judged
+        ∙ ap (taken_peer on) (without_limit (limit_of e) e.side (with_unread e.peer (e.peer.unread ++ bytes)) m.any)
+        ∙ ap (λ s. taken_peer on (read_peer no_limit s (with_unread e.peer (e.peer.unread ++ bytes)))) m.side_is
+        ∙ ap (λ p. taken_peer on (read_peer no_limit side (with_unread p (p.unread ++ bytes)))) is
+        ∙ ap (taken_peer on) reads
         ∙ settles laws a (controlling e id (with_role Control) (Some id) peer) e.peer.settings knew knows replies_came replies m.any m.announces h.settings refl m.left m.written m.accepted (λ t. still L came (came + count) t (omega arith))
 
     nothing_learned : (b c : Bool) (x : EndpointHistory) → c ≡ false → x ≡ after_control b c x a.limits replies_came replies

@@ -9,6 +9,7 @@ use Rattle.h3_connection.specs.Endpoint.{EndpointHistory, bytes_waiting, own_wai
 use Rattle.h3_connection.specs.Outgoing.{Outgoing, part_bytes_waiting}
 use Rattle.h3_connection.specs.StreamSets.{stream_at}
 use Rattle.h3_world.specs.Setup.{TakesAnyLength, announced_at, IsMadeSetup}
+use Rattle.h3_connection.specs.StrictConnection.{settings_refused}
 use Rattle.h3_connection.specs.OwnIds.{control_id, encoder_id, decoder_id, other}
 use Rattle.h3_connection.specs.declared.setup.Announced.{Announced}
 use Rattle.h3_world.specs.OwnStreams.{settings_bytes}
@@ -25,7 +26,7 @@ use Rattle.h3_world.specs.Following.{replies_left}
 use Rattle.h3_connection.specs.declared.setup.Limits.{Limits}
 use Rattle.h3_connection.specs.Unidirectional.Role.{Control}
 use Rattle.h3_headline.specs.AcceptedLaws.{counts_all, replies_accepted}
-use Rattle.h3_headline.specs.AnnouncedLaws.{announces_at}
+use Rattle.h3_headline.specs.AnnouncedLaws.{announces_at, takes_at}
 use Rattle.h3_headline.specs.Arriving.{saying}
 use Rattle.h3_headline.specs.Cited.{IsRead, StreamLaws}
 use Rattle.h3_headline.specs.DecoderStreamLaws.{between_accepted}
@@ -37,7 +38,7 @@ use Rattle.h3_headline.specs.OwnMovesLaws.{controlling_stands, hearing_stands, l
 use Rattle.h3_headline.specs.OwnStreams.{GoesOver, Takes, further_own, insertions_of, left_of, listened_to, party_of, read_of, writing}
 use Rattle.h3_headline.specs.OwnWorldLaws.{advanced_control, advanced_decoder, advanced_encoder, insertions_listened, listened_writes, reader_after, replies_listened, settings_listened, streams_after, writer_after}
 use Rattle.h3_headline.specs.PeerStreams.{added_since, after_control, controlling, encoder_then, peer_by, replies_between, role_by, with_role}
-use Rattle.h3_headline.specs.Standing.{IsWritable, StandsAt, are_settings_there, came_on}
+use Rattle.h3_headline.specs.Standing.{IsWritable, StandsAt, are_settings_there, came_on, with_meaning}
 use Rattle.h3_headline.specs.UnitLaws.{whole_within}
 
 pub party_sound : (setup : Setup) (w : World) (side : Side) → IsSoundWorld setup w → IsSoundParty setup w side
@@ -207,7 +208,7 @@ control_over laws setup w side count e made sound writable h =
     record {
       after = f;
       arrived = control_delivered laws setup side e own.control_taken count own.goaways own.decoder_taken replies (takes setup w side e h) h.control
-          (record { side_is = h.side_is; any = subst TakesAnyLength (sym h.announced) h.any; announces = announces_at setup (other side) made; goaways = writable.goaways; left = h.decoder_stream.left; written = writable.replies; accepted = fits });
+          (record { side_is = h.side_is; any = subst TakesAnyLength (sym h.announced) h.any; announces = announces_at setup (other side) made; takes = ap (λ a. settings_refused side a (Some (with_meaning (announced_at setup (other side)).settings))) h.announced ∙ takes_at setup side made; goaways = writable.goaways; left = h.decoder_stream.left; written = writable.replies; accepted = fits });
       stands = controlling_stands setup w v side e count knew knows h (streams_after setup w (other side) id count) refl refl order f refl there (ap (λ (q : Party). q.own) now) (ap (λ (q : Party). q.encoder) now);
       next_id = same_next knew knows x a.limits own.decoder_taken replies;
     }

@@ -22,6 +22,7 @@ use Rattle.h3_field.specs.Instruction.{DecoderInstruction, decoder_bytes}
 use Rattle.h3_connection.specs.Control.{Found, is_table_usable, with_table, if_learned, then_decoder}
 use Rattle.h3_qpack.specs.DecoderState.{DecoderState}
 use Rattle.h3_connection.specs.Listeners.{Decoding}
+use Rattle.h3_connection.specs.StrictConnection.{settings_refused}
 use Rattle.h3_connection.specs.Delivering.{with_unidirectional}
 use Rattle.h3_qpack.specs.EncoderHistory.{EncoderHistory, encoder_after_all, using_table}
 use Rattle.h3_connection.specs.declared.setup.Limits.{Limits}
@@ -45,10 +46,6 @@ pub record Parts (a : Announced) : Type 0 where
   pub settings : a.settings ≡ (grease_pairs send grease ++ own_pairs own) ++ table_pairs a.limits.table a.limits.blocked
   pub table : a.limits.table < 2 ^ 30
   pub blocked : a.limits.blocked < 2 ^ 16
-
--- the pairs of a configuration
-pub record Configured (c : Config) (grease : ℕ) (pairs : List (ℕ × ℕ)) : Type 0 where
-  pub are : pairs ≡ grease_pairs c.send_grease grease ++ own_pairs c.settings
 
 -- What the other side makes of the announced settings.
 pub record Announces (a : Announced) : Type 0 where
@@ -190,6 +187,7 @@ pub record MayListen (setup : Setup) (side : Side) (e : EndpointHistory) (came :
   pub side_is : e.side ≡ side
   pub any : TakesAnyLength e.announced
   pub announces : Announces (announced_at setup (other side))
+  pub takes : settings_refused side e.announced (Some (with_meaning (announced_at setup (other side)).settings)) ≡ false
   pub goaways : AreGoaways (other side) None gs
   pub left : e.decoder_unread ≡ replies_unread (nat_le (length (settings_bytes (announced_at setup (other side)))) came) replies_came replies
   pub written : AllByRecursion IsReply replies

@@ -1,5 +1,5 @@
 -- Over a whole run, what is handed out of a flow is a front of what is sent on it.
-use Rattle.std.proofs.Common.{◌≡◌, true, false, arith, ℕ, ◌+◌, ◌-◌, Bool, List, ◌++◌, sym, ap, ◌∙◌, zero, suc, [], ◌∷◌, refl, None, append_assoc, Some, length, Option, ◌≤◌, ◌<◌}
+use Rattle.std.proofs.Common.{◌≡◌, true, false, arith, ℕ, ◌+◌, ◌-◌, Bool, List, ◌++◌, sym, ap, ◌∙◌, zero, suc, [], ◌∷◌, refl, None, append_assoc, Some, length, Option, ◌≤◌, ◌<◌, subst}
 use Rattle.std.proofs.lemmas.Grind.{common_steps}
 use Rattle.std.specs.Prelude.{map, take, slice_get, ◌||◌, nat_lt, unwrap_or, if◌then◌else◌}
 use Rattle.h3_world.specs.Flow.{Flow, Part, part_bytes}
@@ -17,33 +17,57 @@ use Rattle.h3_world.specs.declared.setup.Setup.{Setup}
 use Rattle.h3_world.specs.declared.event.Event.{Event}
 use Rattle.h3_world.specs.declared.event.Answer.{Answer}
 use Rattle.h3_headline.specs.ComingLaws.{sound_flow}
-use Rattle.h3_headline.specs.ContentLaws.{handed_front, taken_by_parts}
-use Rattle.h3_headline.specs.Contents.{Carried, Carries, IsAll, IsLastEnd, all_taken, handed_of, has_end, limit_of_reader, part_taken, piece_of}
+use Rattle.h3_headline.specs.ContentLaws.{front_of_all, out_front}
+use Rattle.h3_headline.specs.Contents.{Carried, Carries, IsAll, IsLastEnd, contents, has_end, out, out_of, part_contents, piece_of, reader_of}
 use Rattle.h3_headline.specs.FlowLaws.{and_first, and_second, same_both}
-use Rattle.h3_headline.specs.Messages.{MessageContent, IsFrontOf, at_reader, has_finished, has_pulled_end, pulled, sent}
+use Rattle.h3_headline.specs.Exactly.{as_listed, IsAllOf, IsExactly, Reader}
+use Rattle.h3_headline.specs.Messages.{IsFrontOf, MessageContent, has_finished, has_pulled_end, pulled, sent}
+use Rattle.h3_headline.specs.Messages.MessageContent.{Byte, FieldSection, Foreign, TooLarge}
 use Rattle.h3_headline.specs.PartLaws.{end_last}
 use Rattle.h3_headline.specs.Steps.{IsThere}
 
 pub differ : false ≡ true → ⊥
 differ h = grind (arith, common_steps, h)
 
+-- However it was sent, it is handed out as what went out.
+as_sent : (r : Reader) (c d : MessageContent) → IsExactly r c (as_listed d) → IsExactly r c d
+as_sent r (FieldSection kind true given) (FieldSection k l fields) h = h
+as_sent r (FieldSection kind false given) (FieldSection k l fields) h = h
+as_sent r (TooLarge size) (FieldSection k l fields) h = h
+as_sent r (Byte b) (FieldSection k l fields) h = h
+as_sent r Foreign (FieldSection k l fields) h = h
+as_sent r c (Byte b) h = h
+as_sent r c (TooLarge size) h = h
+as_sent r c Foreign h = h
+
+front_as_sent : (r : Reader) (given sending : List MessageContent) → IsFrontOf (IsExactly r) given (map as_listed sending) → IsFrontOf (IsExactly r) given sending
+front_as_sent r [] sending h = tt
+front_as_sent r (c ∷ given) (d ∷ sending) h = (as_sent r c d h.0, front_as_sent r given sending h.1)
+front_as_sent r (c ∷ given) [] h = absurd h
+
+all_as_sent : (r : Reader) (given sending : List MessageContent) → IsAllOf (IsExactly r) given (map as_listed sending) → IsAllOf (IsExactly r) given sending
+all_as_sent r [] [] h = tt
+all_as_sent r (c ∷ given) (d ∷ sending) h = (as_sent r c d h.0, all_as_sent r given sending h.1)
+all_as_sent r [] (d ∷ sending) h = absurd h
+all_as_sent r (c ∷ given) [] h = absurd h
+
 -- **A front.**
-pub is_front : (most : ℕ) (g : Flow) (sending : List MessageContent) (finishing : Bool) (handing : List MessageContent) (ending : Bool) → Carries most g sending finishing handing ending → IsFrontOf handing (map (at_reader most) sending)
-is_front most g sending finishing handing ending c =
-    let r = handed_front most g.parts_out g.body_out g.sent in
-    record { rest = r.rest; is = ap (map (at_reader most)) (sym c.sent_is) ∙ taken_by_parts most g.sent ∙ r.is ∙ ap (λ l. l ++ r.rest) c.handed_is }
+pub is_front : (r : Reader) (g : Flow) (sending : List MessageContent) (finishing : Bool) (handing : List MessageContent) (ending : Bool) → Carries r g sending finishing handing ending → IsFrontOf (IsExactly r) handing sending
+is_front r g sending finishing handing ending c =
+    let front = out_front g.parts_out g.body_out g.sent in
+    front_as_sent r handing sending (subst (IsFrontOf (IsExactly r) handing) (sym front.is ∙ c.sent_is) (front_of_all r handing (out g) front.rest c.handed_is))
 
 -- with no part left, all is handed out
-all_of_parts : (most : ℕ) (parts : List Part) (n b : ℕ) → slice_get parts n ≡ None → handed_of most parts n b ≡ all_taken most parts
-all_of_parts most [] zero b e = refl
-all_of_parts most [] (suc n) b e = refl
-all_of_parts most (p ∷ ps) zero b e = cc
-all_of_parts most (p ∷ ps) (suc n) b e =
-    append_assoc (part_taken most p) (all_taken most (take n ps)) (piece_of b (slice_get ps n)) ∙ ap (λ l. part_taken most p ++ l) (all_of_parts most ps n b e)
+all_of_parts : (parts : List Part) (n b : ℕ) → slice_get parts n ≡ None → out_of parts n b ≡ contents parts
+all_of_parts [] zero b e = refl
+all_of_parts [] (suc n) b e = refl
+all_of_parts (p ∷ ps) zero b e = cc
+all_of_parts (p ∷ ps) (suc n) b e =
+    append_assoc (part_contents p) (contents (take n ps)) (piece_of b (slice_get ps n)) ∙ ap (λ l. part_contents p ++ l) (all_of_parts ps n b e)
 
-pub is_all : (most : ℕ) (g : Flow) (sending : List MessageContent) (finishing : Bool) (handing : List MessageContent) (ending : Bool) → Carries most g sending finishing handing ending → next_part g ≡ None → handing ≡ map (at_reader most) sending
-is_all most g sending finishing handing ending c none =
-    sym c.handed_is ∙ all_of_parts most g.sent g.parts_out g.body_out none ∙ sym (taken_by_parts most g.sent) ∙ ap (map (at_reader most)) c.sent_is
+pub is_all : (r : Reader) (g : Flow) (sending : List MessageContent) (finishing : Bool) (handing : List MessageContent) (ending : Bool) → Carries r g sending finishing handing ending → next_part g ≡ None → IsAllOf (IsExactly r) handing sending
+is_all r g sending finishing handing ending c none =
+    all_as_sent r handing sending (subst (IsAllOf (IsExactly r) handing) (all_of_parts g.sent g.parts_out g.body_out none ∙ c.sent_is) c.handed_is)
 
 -- the end is the last part
 end_of : (q : Part) → is_end (Some q) ≡ true → q ≡ End
@@ -92,7 +116,7 @@ over_there w writer id e = record { request = by_request (is_request_stream id) 
     by_place false is = absurd (not_over w writer id (no_flow w id is) e)
 
 pub is_complete : (setup : Setup) (w : World) (events : List Event) (answers : List Answer) (writer : Side) (id : ℕ) → Carried setup w events answers writer id → has_pulled_end (other writer) id events answers ≡ true
-    → IsAll (limit_of_reader setup writer) (sent writer id events answers) (has_finished writer id events answers) (pulled (other writer) id events answers)
+    → IsAll (reader_of setup writer) (sent writer id events answers) (has_finished writer id events answers) (pulled (other writer) id events answers)
 is_complete setup w events answers writer id c ended =
     let g = flow w writer id in
     let over = c.carried.over_is ended in
@@ -101,7 +125,7 @@ is_complete setup w events answers writer id c ended =
     let some = below 0 g.parts_out (and_first (nat_lt 0 g.parts_out) (is_end (slice_get g.sent (g.parts_out - 1))) over) in
     let none = slice_get_past g.sent g.parts_out (omega (arith, last.count, some)) in
     record {
-      all = is_all (limit_of_reader setup writer) g (sent writer id events answers) (has_finished writer id events answers) (pulled (other writer) id events answers) (has_pulled_end (other writer) id events answers) c.carried none;
+      all = is_all (reader_of setup writer) g (sent writer id events answers) (has_finished writer id events answers) (pulled (other writer) id events answers) (has_pulled_end (other writer) id events answers) c.carried none;
       has_finished = sym c.carried.end_is ∙ last.ends;
     }
   where

@@ -13,13 +13,13 @@ use Rattle.h3_connection.specs.declared.event.Malformation.TheVariants as malfor
 use Rattle.h3_world.specs.Flow.Part.{Body}
 use Rattle.h3_connection.specs.declared.event.Pull.TheVariants as pull
 use Rattle.h3_world.specs.Items.{body_there}
-use Rattle.h3_world.specs.Order.{next_part, is_end}
+use Rattle.h3_world.specs.Order.{next_part, is_end, section_of_part}
 use Rattle.std.proofs.lemmas.List.{take_at, drop_at, take-append-le, drop-append-le, drop_all, length-drop, drop-drop, length-take}
 use Rattle.h3_connection.specs.declared.event.Item.TheVariants as item
 use Rattle.h3_connection.specs.declared.event.Pull.{Pull}
 use Rattle.h3_headline.specs.PulledLaws.{receives_on, stands_at}
 use Rattle.h3_headline.specs.Pulling.{ComesTo, HandsOut, IsFront, IsInPiece, Pauses, after_front}
-use Rattle.h3_headline.specs.Standing.{HasBytes, ReceivesFlow, StandsBefore, WaitsIn, section_frame, section_of_part}
+use Rattle.h3_headline.specs.Standing.{HasBytes, ReceivesFlow, StandsBefore, WaitsIn, section_frame}
 
 below : (a b : ℕ) → nat_lt a b ≡ true → a < b
 below a b e = grind (arith, common_steps, e)

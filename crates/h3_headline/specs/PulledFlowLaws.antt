@@ -96,7 +96,6 @@ section_there kind p f part s i h at next is bytes sent own there =
       next = next;
       is = is;
       own = omega (arith, own, came_is p f i h, there, ap length bytes);
-      reads_back = sent.reads_back;
       small = sent.small;
       body_left = h.body_left;
       out = h.out;

@@ -33,7 +33,7 @@ use Rattle.h3_connection.specs.declared.place.Place.TheVariants.{BeforeHead, InB
 use Rattle.h3_connection.specs.declared.setup.Announced.{Announced}
 use Rattle.h3_world.specs.Flow.Part.{Interim, Head, Body, Trailer, End}
 use Rattle.h3_world.specs.Items.{body_there}
-use Rattle.h3_world.specs.Order.{next_part, is_over, is_end, last_part}
+use Rattle.h3_world.specs.Order.{next_part, is_over, is_end, last_part, section_of_part}
 use Rattle.h3_world.specs.Setup.{IsPlain}
 use Rattle.h3_world.specs.Sound.{IsSentSection}
 use Rattle.h3_headline.specs.Cited.{ListsAreTheirValue}
@@ -46,7 +46,7 @@ use Rattle.h3_headline.specs.PulledLaws.{receives_on, stands_at}
 use Rattle.h3_headline.specs.PulledSectionLaws.{first_try, head_part, interim_part, reads_head, reads_interim, reads_trailer, trailer_part}
 use Rattle.h3_headline.specs.Pulling.{ComesTo, DecodesNext, HandsOut, IsBefore, IsReadAs, IsReadableNext, IsSectionPart, IsTriedAs, before_bytes}
 use Rattle.h3_headline.specs.ReceivingLaws.{encoding_some}
-use Rattle.h3_headline.specs.Standing.{WaitsIn, section_frame, section_of_part}
+use Rattle.h3_headline.specs.Standing.{WaitsIn, section_frame}
 
 -- how long all is that was sent
 whole_length : (p : Party) (f : Flow) (part : Part) → IsPartAt p f.sent f.parts_out part

@@ -1,5 +1,5 @@
 -- What is handed out of a field section whose frame was read.
-use Rattle.std.proofs.Common.{refl, ◌≡◌, ◌<◌, ◌^◌, List, arith, ◌+◌, ◌-◌, Bool, true, false, ap, ◌∙◌, nat_lt, Some, ◌++◌, take, drop, sym, ℕ, ◌≤◌, None, if◌then◌else◌, subst, append_assoc}
+use Rattle.std.proofs.Common.{[], refl, ◌≡◌, ◌<◌, ◌^◌, List, arith, ◌+◌, ◌-◌, Bool, true, false, ap, ◌∙◌, nat_lt, Some, ◌++◌, take, drop, sym, ℕ, ◌≤◌, None, if◌then◌else◌, subst, append_assoc}
 use Rattle.h3_connection.specs.declared.event.Item.TheVariants as item
 use Rattle.h3_world.specs.Flow.{Section, Flow, Part, flow_bytes}
 use Rattle.h3_world.specs.Flow.Part.{Interim, Head, Trailer}
@@ -7,7 +7,7 @@ use Rattle.h3_field.specs.Field.{Field, section_size}
 use Rattle.h3_field.specs.Secret.{guarded}
 use Rattle.h3_qpack.specs.Sizes.{told_size, last_value}
 use Rattle.std.specs.Prelude.{◌&&◌, slice_get, codes, map, not, Option, option_map, ◌==◌, nat_le}
-use Rattle.h3_world.specs.Order.{next_part, is_end}
+use Rattle.h3_world.specs.Order.{next_part, is_end, section_of_part}
 use Rattle.std.specs.List.{concat}
 use Rattle.h3_header.specs.Head as header
 use Rattle.h3_connection.specs.Incoming.{Incoming}
@@ -20,8 +20,7 @@ use Rattle.std.proofs.lemmas.Grind.{common_steps}
 use Rattle.h3_field.specs.Instruction.{DecoderInstruction}
 use Rattle.h3_qpack.specs.DecoderState.{DecoderState}
 use Rattle.h3_header.specs.HeadRead.{head_by}
-use Rattle.h3_header.specs.Reads.{head_of_fields}
-use Rattle.h3_header.specs.ReadsBack.{ReadsBackBy}
+use Rattle.h3_header.specs.Reads.{AcceptsAll, head_of_fields}
 use Rattle.h3_proto.specs.declared.stream.Side.{Side}
 use Rattle.h3_proto.specs.declared.stream.Side.TheVariants.{Client, Server}
 use Rattle.h3_connection.specs.Announcing.{section_of}
@@ -41,7 +40,7 @@ use Rattle.h3_wire.specs.Encoded.{frame_encoding}
 use Rattle.h3_headline.specs.Cited.{ListsAreTheirValue}
 use Rattle.h3_headline.specs.PulledLaws.{receives_on, stands_at}
 use Rattle.h3_headline.specs.Pulling.{ComesTo, HandsOut, IsAtSection, IsReadAs, IsSectionPart, IsTriedAs, Pauses, behind_section, placed}
-use Rattle.h3_headline.specs.Standing.{IsReadableBy, ReceivesFlow, WaitsIn, place_after, place_behind, section_frame, section_of_part}
+use Rattle.h3_headline.specs.Standing.{IsReadableBy, ReceivesFlow, WaitsIn, place_after, place_behind, section_frame}
 use Rattle.h3_headline.specs.StatusLaws.{interim_by_last}
 
 pub interim_part : (s : Section) → IsSectionPart item.Interim s (Interim s)
@@ -90,15 +89,15 @@ module _ (lists : ListsAreTheirValue) (side : Side) (announced : Announced) (pla
   none_broken : (place : Place) (fields : List Field) → broken_rule side announced place fields ≡ None
   none_broken place fields = ap (λ b. let rule : Option Malformation = if b then option_map malformation_by (violation_at side announced place fields) else None in rule) plain.0
 
-  -- a list that reads back is judged by its head
-  judged_is : (x : Incoming) (replies : List DecoderInstruction) (fields : List Field) → x.content ≡ Unsaid → ReadsBackBy (takes_any announced) fields
+  -- a list that reads as a header is judged by it
+  judged_is : (x : Incoming) (replies : List DecoderInstruction) (fields : List Field) → x.content ≡ Unsaid → AcceptsAll (takes_any announced) (header.trailer_head []) fields
       → judged side id (with_content side announced x fields) replies (if_whole x.content (broken_rule side announced x.place fields)) (head_by announced.choices.extensions.any_protocol fields)
       ≡ head_or_trailer side id x replies None x.place (head_of_fields fields)
   judged_is x replies fields unsaid back =
       ap (λ b. let y : Incoming = record x { content = if b then content_behind side x.place x.content fields else x.content; response = if b then response_behind side x.place x.response fields else x.response } in
       judged side id y replies (if_whole x.content (broken_rule side announced x.place fields)) (head_by announced.choices.extensions.any_protocol fields)) plain.0
       ∙ ap (λ c. judged side id x replies (if_whole c (broken_rule side announced x.place fields)) (head_by announced.choices.extensions.any_protocol fields)) unsaid
-      ∙ ap (λ b. judged side id x replies b (head_by announced.choices.extensions.any_protocol fields)) (none_broken x.place fields) ∙ ap (judged side id x replies None) (lists announced.choices.extensions.any_protocol fields (head_of_fields fields) (back.0, refl))
+      ∙ ap (λ b. judged side id x replies b (head_by announced.choices.extensions.any_protocol fields)) (none_broken x.place fields) ∙ ap (judged side id x replies None) (lists announced.choices.extensions.any_protocol fields (head_of_fields fields) (back, refl))
 
   above : (a b : ℕ) → nat_lt a b ≡ true → a < b
   above a b e = grind (arith, common_steps, e)
@@ -106,7 +105,7 @@ module _ (lists : ListsAreTheirValue) (side : Side) (announced : Announced) (pla
   at_most : (a b : ℕ) → nat_lt a b ≡ false → b ≤ a
   at_most a b e = grind (arith, common_steps, e)
 
-  read_by : (kind : header.Head → Item) (part : Part) (s : Section) (x : Incoming) (replies : List DecoderInstruction) → x.content ≡ Unsaid → ReadsBackBy (takes_any announced) s.fields → section_size s.fields < 2 ^ 56
+  read_by : (kind : header.Head → Item) (part : Part) (s : Section) (x : Incoming) (replies : List DecoderInstruction) → x.content ≡ Unsaid → AcceptsAll (takes_any announced) (header.trailer_head []) s.fields → section_size s.fields < 2 ^ 56
       → next_place side x.place s.fields ≡ place_behind x.place part
       → head_or_trailer side id x replies None x.place (head_of_fields s.fields) ≡ record { answer = pull.Item (kind (head_of_fields s.fields)); incoming = record x { place = place_behind x.place part }; replies = replies }
       → ((size : ℕ) → size ≡ section_size s.fields → section_of announced < section_size s.fields → IsSectionItem kind (section_of announced) s.fields (item.TooLarge size))
@@ -152,13 +151,13 @@ module _ (lists : ListsAreTheirValue) (side : Side) (announced : Announced) (pla
       let is : side ≡ Client = client_is true side readable.0 in
       read_by item.Interim (Interim s) s x replies unsaid back small
       (ap (λ p. next_place side p s.fields) at ∙ ap (λ d. next_place d BeforeHead s.fields) is
-      ∙ ap (λ b. if b then BeforeHead else InBody) (interim_by_last (takes_any announced) s.fields back.0 ∙ readable.2) ∙ sym at)
+      ∙ ap (λ b. if b then BeforeHead else InBody) (interim_by_last (takes_any announced) s.fields back ∙ readable.2) ∙ sym at)
       (ap (λ p. head_or_trailer side id x replies None p h) at
       ∙ ap (λ b. if not b then malformed id malformation.WrongSide x replies else (if is_client side && is_interim h.status then item_at (item.Interim h) x else item_at (item.Head h) (record x { place = InBody }))) readable.1
       ∙ ap (λ b. if b && is_interim h.status then item_at (item.Interim h) x else item_at (item.Head h) (record x { place = InBody })) readable.0
       ∙ ap (λ b. if b then item_at (item.Interim h) x else item_at (item.Head h) (record x { place = InBody })) readable.2)
       (λ size e large. (e, large))
-      (λ fits. (h, refl, back.1, fits, refl))
+      (λ fits. (refl, fits))
     where
       item_at : Item → Incoming → Pulled
       item_at i y = record { answer = pull.Item i; incoming = y; replies = replies }
@@ -174,13 +173,13 @@ module _ (lists : ListsAreTheirValue) (side : Side) (announced : Announced) (pla
       ∙ ap (λ b. if not b then malformed id malformation.WrongSide x replies else (if is_client side && is_interim h.status then item_at (item.Interim h) x else item_at (item.Head h) (record x { place = InBody }))) readable.0
       ∙ ap (λ b. if b then item_at (item.Interim h) x else item_at (item.Head h) (record x { place = InBody })) readable.1)
       (λ size e large. (e, large))
-      (λ fits. (h, refl, back.1, fits, refl))
+      (λ fits. (refl, fits))
     where
       item_at : Item → Incoming → Pulled
       item_at i y = record { answer = pull.Item i; incoming = y; replies = replies }
 
       by_side : (d : Side) → (is_client d && is_interim (head_of_fields s.fields).status) ≡ false → next_place d BeforeHead s.fields ≡ InBody
-      by_side Client e = ap (λ b. if b then BeforeHead else InBody) (interim_by_last (takes_any announced) s.fields readable.2.0 ∙ e)
+      by_side Client e = ap (λ b. if b then BeforeHead else InBody) (interim_by_last (takes_any announced) s.fields readable.2 ∙ e)
       by_side Server e = refl
 
   pub reads_trailer : (s : Section) (x : Incoming) (replies : List DecoderInstruction) → section_size s.fields < 2 ^ 56 → IsReadableBy (takes_any announced) side (Trailer s) → x.place ≡ InBody → x.content ≡ Unsaid
@@ -193,7 +192,7 @@ module _ (lists : ListsAreTheirValue) (side : Side) (announced : Announced) (pla
       (ap (λ p. head_or_trailer side id x replies None p h) at
       ∙ ap (λ b. if b then malformed id malformation.PseudoInTrailer x replies else item_at (item.Trailer h) (record x { place = AfterTrailer })) readable.0)
       (λ size e large. (e, large))
-      (λ fits. (h, refl, back.1, fits, refl))
+      (λ fits. (refl, fits))
     where
       item_at : Item → Incoming → Pulled
       item_at i y = record { answer = pull.Item i; incoming = y; replies = replies }

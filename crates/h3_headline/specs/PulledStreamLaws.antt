@@ -22,7 +22,7 @@ use Rattle.h3_connection.specs.declared.event.StreamFault.{StreamFault}
 use Rattle.h3_connection.specs.declared.place.Place.TheVariants.{BeforeHead, InBody, AfterTrailer, InSession}
 use Rattle.h3_connection.specs.declared.setup.Announced.{Announced}
 use Rattle.h3_world.specs.World.{Party}
-use Rattle.h3_world.specs.Order.{next_part, is_over}
+use Rattle.h3_world.specs.Order.{next_part, is_over, section_of_part}
 use Rattle.h3_world.specs.Setup.{IsPlain}
 use Rattle.h3_world.specs.Sound.{IsSentSection, IsSoundFlow, WaitsBefore, WaitsForNext}
 use Rattle.h3_headline.specs.Cited.{ListsAreTheirValue}
@@ -32,7 +32,7 @@ use Rattle.h3_headline.specs.PulledFlowLaws.{all_came}
 use Rattle.h3_headline.specs.PulledPartLaws.{before_comes}
 use Rattle.h3_headline.specs.PulledSectionLaws.{head_part, interim_part, next_try, reads_head, reads_interim, reads_trailer, trailer_part}
 use Rattle.h3_headline.specs.Pulling.{ComesTo, DecodesNext, GoesOn, IsInMessage, IsReadAs, IsReadableNext, IsSectionPart, IsTriedAs}
-use Rattle.h3_headline.specs.Standing.{ReadsFlow, ReceivesFlow, StandsBefore, WaitsIn, place_behind, section_frame, section_of_part}
+use Rattle.h3_headline.specs.Standing.{ReadsFlow, ReceivesFlow, StandsBefore, WaitsIn, place_behind, section_frame}
 
 stays_in : (place : Place) (part : Part) → IsInMessage place → IsInMessage (place_behind place part)
 stays_in place (Interim s) h = h
@@ -173,7 +173,6 @@ module _ (lists : ListsAreTheirValue) (side : Side) (announced : Announced) (id 
         next = next;
         is = is;
         own = own;
-        reads_back = sent.reads_back;
         small = sent.small;
         body_left = before.0;
         out = before.1;

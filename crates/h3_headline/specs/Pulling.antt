@@ -9,7 +9,7 @@ use Rattle.h3_world.specs.Items.{HasCome, acknowledgment_of, after_item, body_th
 use Rattle.h3_world.specs.Machine.{count_waited_for}
 use Rattle.h3_world.specs.Pauses.{pause_before, section_pause}
 use Rattle.h3_connection.specs.Incoming.{Incoming}
-use Rattle.h3_world.specs.Order.{is_over, next_part, is_end}
+use Rattle.h3_world.specs.Order.{is_over, next_part, is_end, section_of_part}
 use Rattle.std.specs.List.{AllByRecursion, concat, flat_map}
 use Rattle.h3_messages.specs.declared.content.Content.TheVariants.{Unsaid}
 use Rattle.h3_world.specs.World.{Party}
@@ -18,7 +18,6 @@ use Rattle.h3_world.specs.Flow.Part.{Body, Head, Interim, Trailer}
 use Rattle.h3_world.specs.Setup.{takes_any}
 use Rattle.h3_header.specs.Head as header
 use Rattle.h3_field.specs.Field.{section_size}
-use Rattle.h3_header.specs.ReadsBack.{ReadsBackBy}
 use Rattle.h3_wire.specs.Encoded.{frame_encoding}
 use Rattle.h3_connection.specs.declared.place.Place.{Place}
 use Rattle.h3_field.specs.Instruction.{DecoderInstruction}
@@ -31,7 +30,7 @@ use Rattle.h3_field.specs.Secret.{guarded}
 use Rattle.h3_qpack.specs.DecodedSection.{DecodedSection, Fields, Missing, decode_section}
 use Rattle.h3_connection.specs.declared.place.Place.TheVariants.{InSession}
 use Rattle.h3_headline.specs.Cited.{ListsAreTheirValue}
-use Rattle.h3_headline.specs.Standing.{HasBytes, IsReadableBy, ReceivesFlow, place_after, place_behind, section_of_part}
+use Rattle.h3_headline.specs.Standing.{HasBytes, IsReadableBy, ReceivesFlow, place_after, place_behind}
 
 -- The pull pauses exactly where it must, or hands out an item that has come; and its receiver keeps what is kept then.
 pub data ComesTo (most id : ℕ) (f : Flow) (came : ℕ) (part : Option Part) (p : Pulled) : Type 0 where
@@ -122,7 +121,6 @@ pub record IsAtSection (kind : header.Head → Item) (f : Flow) (part : Part) (s
   pub next : next_part f ≡ Some part
   pub is : IsSectionPart kind s part
   pub own : s.own_length ≤ f.delivered
-  pub reads_back : ReadsBackBy true s.fields
   pub small : section_size s.fields < 2 ^ 56
   pub body_left : i.body_left ≡ 0
   pub out : f.body_out ≡ 0

@@ -1,8 +1,10 @@
 -- A pull of any stream: its answer, and what both ends are after it.
-use Rattle.std.proofs.Common.{ℕ, ◌≡◌, length, Bool, if◌then◌else◌, Option, Some, None, true, [], false, nat_lt}
+use Rattle.std.proofs.Common.{ℕ, ◌≡◌, length, Bool, if◌then◌else◌, Option, Some, None, true, List, [], false, nat_lt}
 use Rattle.h3_proto.specs.declared.stream.Side.{Side}
 use Rattle.h3_connection.specs.OwnIds.{other, control_id}
-use Rattle.h3_world.specs.Flow.{Flow}
+use Rattle.h3_field.specs.Field.{Field}
+use Rattle.h3_world.specs.Flow.{Flow, Section}
+use Rattle.h3_world.specs.Lists.{as_flagged}
 use Rattle.h3_world.specs.World.{World, Party, with_party}
 use Rattle.h3_world.specs.Streams.{with_flow}
 use Rattle.h3_connection.specs.Endpoint.{EndpointHistory, Kind, Own, heads_waiting}
@@ -87,6 +89,11 @@ with_streams e streams = record e { incoming = streams }
 
 abbrev pub having_own : EndpointHistory → Own → EndpointHistory
 having_own e own = record e { own = own }
+
+-- the list of a section that is next, and nothing of another part
+abbrev pub IsListOf : Bool → Option (List Field) → Option Section → Type 0
+IsListOf guards fields None = Unit {0}
+IsListOf guards fields (Some s) = fields ≡ Some (as_flagged guards s.fields)
 
 -- no more streams wait now than allowed
 abbrev pub IsWithin : EndpointHistory → Type 0

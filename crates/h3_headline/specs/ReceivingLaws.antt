@@ -7,7 +7,7 @@ use Rattle.h3_world.specs.Flow.{Flow, Section, Part, part_bytes, flow_bytes}
 use Rattle.h3_world.specs.Sound.{WaitsBefore, IsSoundFlow, WaitsForNext, OutOfNext}
 use Rattle.h3_world.specs.Flow.Part.{Interim, Head, Body, Trailer, End}
 use Rattle.h3_world.specs.World.{Party}
-use Rattle.h3_world.specs.Order.{next_part, is_over, is_end}
+use Rattle.h3_world.specs.Order.{next_part, is_over, is_end, section_of_part}
 use Rattle.std.specs.List.{flat_map, concat, AllByRecursion}
 use Rattle.std.specs.Prelude.{◌&&◌, slice_get, is_some}
 use Rattle.std.proofs.lemmas.Grind.{common_steps}
@@ -19,7 +19,7 @@ use Rattle.std.proofs.lemmas.List.{drop-drop}
 use Rattle.h3_connection.specs.declared.event.StreamFault.{StreamFault}
 use Rattle.h3_headline.specs.Arriving.{come, ended_flow, flow_given_up, reset_flow}
 use Rattle.h3_headline.specs.PartLaws.{part_at}
-use Rattle.h3_headline.specs.Standing.{HasBytes, ReadsFlow, ReceivesFlow, StandsBefore, WaitsIn, place_after, section_frame, section_of_part}
+use Rattle.h3_headline.specs.Standing.{HasBytes, ReadsFlow, ReceivesFlow, StandsBefore, WaitsIn, place_after, section_frame}
 
 encoding_bytes : (v : ℕ) (bytes : List ℕ) → IsEncoding v bytes → 0 < length bytes
 encoding_bytes v bytes (one f) = omega (arith, f.count)

@@ -8,7 +8,7 @@ use Rattle.h3_wire.specs.Encoded.{frame_encoding}
 use Rattle.h3_connection.specs.Incoming.{Incoming}
 use Rattle.std.specs.List.{AllByRecursion, concat}
 use Rattle.h3_messages.specs.declared.content.Content.TheVariants.{Unsaid}
-use Rattle.h3_world.specs.Order.{next_part, is_over, outgoing_of}
+use Rattle.h3_world.specs.Order.{next_part, is_over, outgoing_of, section_of_part}
 use Rattle.h3_world.specs.Streams.{flow, is_open}
 use Rattle.h3_connection.specs.OwnIds.{other, control_id, encoder_id, decoder_id, is_own}
 use Rattle.h3_connection.specs.Unidirectional.{Unidirectional, Role, untold}
@@ -28,9 +28,8 @@ use Rattle.h3_connection.specs.StreamSets.{stream_at, HaveDistinctIds}
 use Rattle.h3_world.specs.World.{World, party}
 use Rattle.h3_field.specs.InstructionAnswer.{IsReply}
 use Rattle.h3_qpack.specs.Encodings.{IsWrittenInstruction}
-use Rattle.h3_header.specs.Head.{has_pseudo}
-use Rattle.h3_header.specs.Reads.{head_of_fields}
-use Rattle.h3_header.specs.ReadsBack.{ReadsBackBy}
+use Rattle.h3_header.specs.Head.{has_pseudo, trailer_head}
+use Rattle.h3_header.specs.Reads.{AcceptsAll, head_of_fields}
 use Rattle.h3_connection.specs.Pulling.{is_client, is_for, is_interim}
 use Rattle.h3_proto.specs.declared.stream.Side.TheVariants.{Client, Server}
 use Rattle.h3_world.specs.Ends.{Ends}
@@ -58,13 +57,6 @@ StandsBefore f zero part left = (f.body_out ≡ 0) × (left ≡ flat_map part_by
 StandsBefore f (suc n) (Some (Body bytes own)) left =
     (suc n ≡ length (drop f.body_out bytes)) × (left ≡ drop f.body_out bytes ++ flat_map part_bytes (drop (f.parts_out + 1) f.sent))
 StandsBefore f (suc n) _ left = ⊥
-
--- the section of a part
-abbrev pub section_of_part : Option Part → Option Section
-section_of_part (Some (Interim s)) = Some s
-section_of_part (Some (Head s)) = Some s
-section_of_part (Some (Trailer s)) = Some s
-section_of_part _ = None
 
 -- A section that was read and not decoded is the next part's, for whose insertions the last pull waited. It was tried once.
 abbrev pub WaitsIn : Flow → Incoming → Option (List ℕ) → Option Section → Type 0
@@ -201,14 +193,14 @@ pub record IsWritable (side : Side) (own : Own) : Type 0 where
   pub replies : AllByRecursion IsReply own.replies
 
 -- A section is read as the kind of part that it was sent as (RFC 9114, sections 4.1 and 4.3), by who takes any protocol or the two names
--- alone: a head is for that side, and an interim one has such a status, and no other; a trailer has no pseudo-header fields; and each reads
--- back.
+-- alone: a head is for that side, and an interim one has such a status, and no other; a trailer has no pseudo-header fields; and each reads as
+-- a header.
 abbrev pub IsReadableBy : Bool → Side → Part → Type 0
 IsReadableBy any reader (Interim s) =
-    (is_client reader ≡ true) × (is_for reader (head_of_fields s.fields) ≡ true) × (is_interim (head_of_fields s.fields).status ≡ true) × ReadsBackBy any s.fields
+    (is_client reader ≡ true) × (is_for reader (head_of_fields s.fields) ≡ true) × (is_interim (head_of_fields s.fields).status ≡ true) × AcceptsAll any (trailer_head []) s.fields
 IsReadableBy any reader (Head s) =
-    (is_for reader (head_of_fields s.fields) ≡ true) × ((is_client reader && is_interim (head_of_fields s.fields).status) ≡ false) × ReadsBackBy any s.fields
-IsReadableBy any reader (Trailer s) = (has_pseudo (head_of_fields s.fields) ≡ false) × ReadsBackBy any s.fields
+    (is_for reader (head_of_fields s.fields) ≡ true) × ((is_client reader && is_interim (head_of_fields s.fields).status) ≡ false) × AcceptsAll any (trailer_head []) s.fields
+IsReadableBy any reader (Trailer s) = (has_pseudo (head_of_fields s.fields) ≡ false) × AcceptsAll any (trailer_head []) s.fields
 IsReadableBy any reader (Body bytes own) = Unit {0}
 IsReadableBy any reader End = Unit {0}
 

@@ -10,6 +10,7 @@ use Rattle.std.specs.List.{fold}
 use Rattle.std.proofs.lemmas.Grind.{common_steps}
 use Rattle.h3_connection.specs.Pulling.{is_digit, is_interim, is_interim_text}
 use Rattle.http.specs.StatusCode.{code_digits}
+use Rattle.h3_headline.specs.Messages.{status_after}
 use Rattle.h3_headline.specs.Status.{IsStatusOf}
 
 either : {X : Type 0} (P : X → Type 0) (b : Bool) (x y : X) → P x → P y → P (if b then x else y)
@@ -93,3 +94,23 @@ told_as (Some n) (Some text) h =
 -- **The last status tells whether the head is an interim one.**
 pub interim_by_last : (any : Bool) (fields : List Field) → AcceptsAll any (trailer_head []) fields → is_interim_text (last_value (codes ":status") fields) ≡ is_interim (head_of_fields fields).status
 interim_by_last any fields accepts = told_as _ _ (status_of any (trailer_head []) None fields tt accepts)
+
+-- the status of a list, field by field
+told_after : (h : Head) (f : Field) → (with_field h f).status ≡ status_after h.status f
+unfolding kind_of
+told_after h f = by_name (bytes_eq f.name (codes ":status")) refl
+  where
+    found : (with_kind (kind_of (codes ":status")) h f).status ≡ Some (status_number f.value)
+    found = refl
+
+    by_name : (b : Bool) → bytes_eq f.name (codes ":status") ≡ b → (with_kind (kind_of f.name) h f).status ≡ (if b then Some (status_number f.value) else h.status)
+    by_name true e = ap (λ n. (with_kind (kind_of n) h f).status) ((bytes_eq-Decides f.name (codes ":status")).0 e) ∙ found
+    by_name false e = status_stays h f e
+
+told_from : (h : Head) (fields : List Field) → (fold with_field h fields).status ≡ fold status_after h.status fields
+told_from h [] = refl
+told_from h (f ∷ fields) = told_from (with_field h f) fields ∙ ap (λ s. fold status_after s fields) (told_after h f)
+
+-- **The status that a list reads as, by its fields.**
+pub status_told : (fields : List Field) → (head_of_fields fields).status ≡ fold status_after None fields
+status_told fields = told_from (trailer_head []) fields

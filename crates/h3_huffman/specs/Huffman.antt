@@ -55,6 +55,7 @@ code_word symbol = word_from 0 0 symbols_by_length symbol
 abbrev pub bits_value : List ℕ → ℕ
 bits_value bs = fold (λ n b. 2 * n + b) 0 bs
 
+-- RFC 7541 5.2: Huffman padding
 -- eight bits to a byte. Ones fill up the last one
 unfoldable pub octets : List ℕ → List ℕ
 octets [] = []

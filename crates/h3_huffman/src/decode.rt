@@ -75,6 +75,7 @@ fn put_symbols(out: &mut [u8], place: usize, entry: u32) -> usize
     place + (entry >> 24) as usize
 }
 
+// RFC 7541 5.2: Huffman padding
 /// Whether the low bits are fewer than eight, and ones.
 fn is_padding(acc: u64, count: u64) -> bool
     requires { count < 64 }

@@ -28,7 +28,7 @@ use Rattle.h3_incoming.specs.Gives.{Gives}
 use Rattle.h3_qpack.specs.Sizes.{last_value, told_size, IsBlockWithin}
 use Rattle.h3_qpack.specs.declared.block_within.BlockWithin.{BlockWithin}
 use Rattle.h3_qpack.specs.declared.block_within.BlockWithin.TheVariants as within
-use Rattle.h3_qpack.specs.declared.listing.SectionSummary.{SectionSummary}
+use Rattle.h3_qpack.specs.declared.block_within.SectionSummary.{SectionSummary}
 use Rattle.h3_incoming.specs.declared.judge.Judged.{Judged}
 use Rattle.h3_incoming.specs.declared.judge.Judged.TheVariants as judge
 use Rattle.h3_proto.specs.declared.stream.Side.TheVariants.{Client, Server}

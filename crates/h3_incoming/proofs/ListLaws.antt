@@ -12,7 +12,7 @@ use Rattle.h3_wire.specs.declared.proto.frame.Frame.TheVariants as frame
 use Rattle.h3_connection.specs.Incoming.{Incoming, is_body}
 use Rattle.h3_connection.specs.Skipping.{skipped}
 use Rattle.h3_incoming.specs.Answering.{Lists}
-use Rattle.h3_incoming.specs.Coming.{decoded_fields, fields_in, fields_next, next_section, section_in}
+use Rattle.h3_connection.specs.Coming.{decoded_fields, fields_in, fields_next, next_section, section_in}
 use Rattle.h3_incoming.specs.Finding.{FindsFrame}
 use Rattle.h3_incoming.proofs.FrontLaws.{Reads, stored_is, found_now}
 

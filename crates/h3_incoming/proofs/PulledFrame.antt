@@ -11,10 +11,11 @@ use Rattle.h3_messages.specs.Content.{left_behind}
 use Rattle.h3_messages.specs.declared.content.Content.{Content}
 use Rattle.h3_connection.specs.declared.event.Malformation.TheVariants as malformation
 use Rattle.h3_connection.specs.declared.event.Pull.{Pull}
+use Rattle.h3_connection.specs.declared.place.Place.{Place}
 use Rattle.h3_connection.specs.declared.setup.Announced.{Announced}
 use Rattle.h3_connection.specs.Codes.{excessive_load, refusal_code}
 use Rattle.h3_connection.specs.Incoming.{Incoming, is_body}
-use Rattle.h3_connection.specs.Pulling.{Pulled, connection_fault, malformed, at_payload, begun_payload, at_frame, next_frame, between_frames}
+use Rattle.h3_connection.specs.Pulling.{Pulled, connection_fault, just, malformed, at_payload, at_session, begun_payload, at_frame, next_frame, between_frames}
 use Rattle.h3_incoming.specs.Finding.{FindsFrame, FindsLess, FindsRefused, IsWithin, KeepsWithin, PassesFrames}
 use Rattle.h3_incoming.specs.Gives.{Gives}
 use Rattle.h3_incoming.specs.Resuming.{Begins, Resumes}
@@ -61,6 +62,11 @@ pulled_frame side own id r old stored left in_body f p reads h small is =
     between_frame side own id r old mid f passed (found_now (is_body old.place) f (concat old.unread) (concat left) (stored_is (λ b l. FindsFrame b f l (concat left)) old stored left in_body reads h))
     (within_now own.choices.unfinished_limit (is_body old.place) f (concat old.unread) (stored_is (λ b l. KeepsWithin own.choices.unfinished_limit b l) old stored left in_body reads small))
     ∙ ap (λ q. at_frame side own id r side mid q f) (sym (place_passed old mid passed)) ∙ is
+
+-- a session was begun, or refused, by its place
+pub session_told : (own : Announced) (i : Incoming) (before after : Place) (session : ℕ) (told : Pull)
+    → ((j : Incoming) → at_session own (record j { place = before }) session ≡ just told (record j { place = after })) → i.place ≡ before → at_session own i session ≡ just told (record i { place = after })
+session_told own i before after session told h same = subst (λ p. at_session own (record i { place = p }) session ≡ just told (record i { place = after })) (sym same) (h i)
 
 -- the payload was begun
 begun_is : (i : Incoming) (size : ℕ) (content : Content) → content ≡ left_behind i.content size → (record i { body_left = size; content = content }) ≡ begun_payload i size

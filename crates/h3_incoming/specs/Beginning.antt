@@ -5,14 +5,11 @@ use Rattle.h3_qpack.specs.DecoderState.{DecoderState}
 use Rattle.h3_wire.specs.declared.proto.frame.PayloadLen.{PayloadLen}
 use Rattle.h3_wire.specs.declared.proto.frame.Frame.{Frame}
 use Rattle.h3_wire.specs.declared.proto.frame.Frame.TheVariants as frame
-use Rattle.h3_connection.specs.declared.event.Item.TheVariants as item
-use Rattle.h3_connection.specs.declared.event.Pull.TheVariants as pull
 use Rattle.h3_connection.specs.declared.place.Place.{Place}
-use Rattle.h3_connection.specs.declared.place.Place.TheVariants.{InSession}
 use Rattle.h3_connection.specs.declared.setup.Announced.{Announced}
 use Rattle.h3_messages.specs.declared.content.Content.{Content}
 use Rattle.h3_connection.specs.Incoming.{Incoming, is_body}
-use Rattle.h3_connection.specs.Pulling.{Pulled, just, connection_fault, begun_section, begun_payload, at_payload, at_frame, new_section}
+use Rattle.h3_connection.specs.Pulling.{Pulled, connection_fault, begun_section, begun_payload, at_payload, at_session, at_frame, new_section}
 use Rattle.h3_connection.specs.Skipping.{is_empty_data}
 use Rattle.h3_incoming.specs.Resuming.{Begins}
 use Rattle.h3_incoming.specs.declared.stream.begun.Begun.{Begun}
@@ -22,7 +19,7 @@ use Rattle.h3_incoming.specs.declared.stream.begun.Begun.TheVariants as begun
 abbrev pub begun_as : Side → Announced → ℕ → DecoderState → Incoming → Begun → Pulled
 begun_as side own id r i (begun.Section bytes) = new_section side own id r i bytes
 begun_as side own id r i (begun.Payload size) = at_payload id (begun_payload i size)
-begun_as side own id r i (begun.Session session) = just (pull.Item (item.Session session)) (record i { place = InSession })
+begun_as side own id r i (begun.Session session) = at_session own i session
 begun_as side own id r i (begun.Fault code) = connection_fault code i
 
 -- an empty payload: where its frame stands, nothing begins

@@ -13,4 +13,3 @@ pub mod FieldsPulls
 pub mod BlockPulls
 pub mod BodyPlaces
 pub mod SomePieces
-pub mod Coming

@@ -58,6 +58,13 @@ impl FieldList {
         self.fields.as_slice()
     }
 
+    /// The fields, and nothing is copied.
+    pub fn into_fields(self) -> Vec<HeaderField>
+        ensures { result.items ≡ self }
+    {
+        self.fields
+    }
+
     /// The status of a response's header section, as its `Header` has it. It takes no look at the fields.
     pub fn status(&self) -> Option<StatusCode>
         ensures { result ≡ (head_of_fields self.now).status }

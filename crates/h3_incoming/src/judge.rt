@@ -36,6 +36,7 @@ pub(crate) enum Judged {
     Malformed(Malformation, Option<Content>),
 }
 
+// RFC 9204 2.2.2.1: section acknowledgment, written
 /// Whether a section named an entry of the table: then it has to be acknowledged (RFC 9204, section 4.4.1).
 pub(crate) fn names_entries(decoded: &BlockWithin) -> bool
     ensures { (max : ℕ) (name : List ℕ) (dyn_ref : Bool) (fields block : List Field) → IsBlockWithin max name dyn_ref fields decoded.now block → result ≡ dyn_ref }
@@ -74,6 +75,7 @@ pub(crate) fn judge<O: Answer>(
     }
 }
 
+// RFC 9114 4.2.2: size of a section, received
 // A section that is too large.
 fn judge_large<O: Answer>(
     side: Side,
@@ -162,6 +164,7 @@ fn judge_message(
     }
 }
 
+// RFC 9110 15.2: interim responses, as 103, received
 // A header section: a client reads responses, interim ones among them, and a server requests.
 fn judge_head(
     side: Side,
@@ -194,6 +197,7 @@ fn is_client(side: Side) -> bool
     }
 }
 
+// RFC 9114 4.3: pseudo-header fields in a trailer section
 // A trailer section, which has no pseudo-header field (RFC 9114, section 4.3).
 fn judge_trailer(
     behind: Content,
@@ -213,6 +217,7 @@ fn judge_trailer(
     Judged::HandsOut(Place::AfterTrailer, behind, known)
 }
 
+// RFC 9110 15.2: interim responses, as 103, received
 // The place after a section that is too large: after an interim response, a client goes on to wait for the final one.
 fn place_behind(side: Side, place: Place, status: Option<Vec<u8>>) -> Place
     ensures { (fields : List Field) → option_map (λ v. v.items) status ≡ last_value (codes ":status") fields → result ≡ next_place side place fields }

@@ -6,6 +6,7 @@ use h3_proto::stream::StreamId;
 use h3_qpack::{ack_header, stream_canceled};
 use std::alloc::{AllocError, Global};
 
+// RFC 9204 2.2.2.1: section acknowledgment, written
 /// Appends the acknowledgment of a section and the cancellation of its stream, those of them that are due. A refusal appends
 /// nothing.
 pub(crate) fn reply(

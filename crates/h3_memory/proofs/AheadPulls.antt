@@ -1,5 +1,5 @@
 -- A pull of an endpoint that is ahead answers as that of the one behind, where all that was kept has been read.
-use Rattle.std.proofs.Common.{◌≡◌, ℕ, Bool, true, false, List, [], ◌∷◌, refl, sym, ap, ◌∙◌, subst, arith, if◌then◌else◌, Option, Some, None, nat_lt}
+use Rattle.std.proofs.Common.{◌≡◌, inr, ℕ, Bool, true, false, List, [], ◌∷◌, refl, sym, ap, ◌∙◌, subst, arith, if◌then◌else◌, Option, Some, None, nat_lt}
 use Rattle.std.specs.Prelude.{◌==◌, ◌||◌, is_some}
 use Rattle.std.proofs.lemmas.List.Sums.{sum_by-cons}
 use Rattle.h3_qpack.specs.DecoderState.{DecoderState}
@@ -25,7 +25,7 @@ use Rattle.h3_memory.specs.Keeping.{Held, ahead, EachResumes}
 
 module _ (side : Side) (own : Announced) where
   pub resumes_itself : (id : ℕ) (i : Incoming) → Resumes side own id i i
-  resumes_itself id i = record { same = refl; pulls = λ r pieces ended. refl }
+  resumes_itself id i = record { same = refl; pulls = λ r pieces ended. refl; lists = λ r pieces ended. inr refl }
 
   abbrev pub ResumesAt : ℕ → Option Incoming → Option Incoming → Type 0
   ResumesAt id None None = Unit {0}

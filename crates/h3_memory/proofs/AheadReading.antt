@@ -2,12 +2,14 @@
 use Rattle.std.proofs.Common.{◌≡◌, ℕ, Bool, true, false, List, [], ◌++◌, refl, sym, ap, ◌∙◌, append_assoc, append-nil, if◌then◌else◌, Option, Some, None}
 use Rattle.std.specs.Prelude.{is_some}
 use Rattle.h3_connection.specs.declared.arrival.Arrival.{Arrival}
-use Rattle.h3_connection.specs.Control.{Found, listened_to, kept_unread, read_decoder, read_control, after_peer, then_decoder, if_learned, learned, is_table_usable, with_table}
+use Rattle.h3_connection.specs.Codes.{missing_settings, settings_error}
+use Rattle.h3_connection.specs.Control.{Found, after_peer, are_refused, holding, if_learned, is_table_usable, kept_unread, lacks_settings, learned, listened_to, read_control, read_decoder, read_held, settings_alone, taken_peer, then_decoder, with_table}
 use Rattle.h3_connection.specs.Endpoint.{EndpointHistory, limit_of}
 use Rattle.h3_connection.specs.ExcessiveInstructions.{listen_up_to}
 use Rattle.h3_connection.specs.Incoming.{Incoming}
 use Rattle.h3_connection.specs.PeerReading.{Peer, PeerFound, with_unread, read_peer}
 use Rattle.h3_connection.specs.StreamSets.{Streams}
+use Rattle.h3_connection.specs.StrictConnectionLaws.{refused_alike}
 use Rattle.h3_memory.specs.Kept.{Delivery}
 use Rattle.h3_memory.specs.Keeping.{Held, ahead}
 
@@ -65,11 +67,17 @@ module _ (mine : List Delivery) (incoming : Streams Incoming) (kept : List Arriv
   pub control_ahead : (held : Held) (behind : EndpointHistory) (bytes : List ℕ) → (behind.peer.settings ≡ None → held.decoder ≡ [])
       → read_control (ahead behind mine held incoming kept) bytes ≡ over (record held { control = [] }) (read_control behind (held.control ++ bytes))
   control_ahead held behind bytes none =
-      ap (λ l. after_peer (ahead behind mine held incoming kept) (read_peer (limit_of behind) behind.side (with_unread behind.peer l))) (append_assoc behind.peer.unread held.control bytes)
-      ∙ after_ahead (read_peer (limit_of behind) behind.side (with_unread behind.peer (behind.peer.unread ++ (held.control ++ bytes))))
+      ap (λ l. read_held (record f { peer = with_unread behind.peer l })) (append_assoc behind.peer.unread held.control bytes)
+      ∙ by_missing (lacks_settings all)
     where
       f : EndpointHistory
       f = ahead behind mine held incoming kept
+
+      all : EndpointHistory
+      all = holding behind (held.control ++ bytes)
+
+      found : PeerFound
+      found = read_peer (limit_of behind) behind.side all.peer
 
       held_then : Held
       held_then = record held { control = [] }
@@ -80,8 +88,8 @@ module _ (mine : List Delivery) (incoming : Streams Incoming) (kept : List Arriv
           decoder_ahead held_then e [] ∙ ap (λ l. over (record held_then { decoder = [] }) (read_decoder e (l ++ []))) none
           ∙ ap (λ l. over (record held_then { decoder = l }) (read_decoder e [])) (sym none)
 
-      after_ahead : (x : PeerFound) → after_peer f x ≡ over held_then (after_peer behind x)
-      after_ahead (p, code) = by_settings behind.peer.settings refl p.settings code
+      taken_ahead : (x : PeerFound) → taken_peer f x ≡ over held_then (taken_peer behind x)
+      taken_ahead (p, code) = by_settings behind.peer.settings refl p.settings code
         where
           by_settings : (before : Option (List (ℕ × ℕ))) → behind.peer.settings ≡ before → (after : Option (List (ℕ × ℕ))) (code : Option ℕ)
               → then_decoder before after (if_learned before after (record f { peer = p })) code ≡ over held_then (then_decoder before after (if_learned before after (record behind { peer = p })) code)
@@ -95,3 +103,17 @@ module _ (mine : List Delivery) (incoming : Streams Incoming) (kept : List Arriv
           by_settings (Some old) known None None = ap (λ e. (e, None)) (peer_with_none behind held p)
           by_settings (Some old) known (Some new) (Some code) = ap (λ e. (e, Some code)) (peer_with_none behind held p)
           by_settings (Some old) known (Some new) None = ap (λ e. (e, None)) (peer_with_none behind held p)
+
+      -- settings that are not taken, and a stream that begins with another frame
+      by_refused : (b : Bool) → if◌then◌else◌ {A = Found} b (record f { peer = settings_alone all.peer found.0.settings }, Some settings_error) (taken_peer f found)
+          ≡ over held_then (if◌then◌else◌ {A = Found} b (record behind { peer = settings_alone all.peer found.0.settings }, Some settings_error) (taken_peer behind found))
+      by_refused true = ap (λ e. (e, Some settings_error)) (peer_with_none behind held (settings_alone all.peer found.0.settings))
+      by_refused false = taken_ahead found
+
+      by_missing : (b : Bool) → if◌then◌else◌ {A = Found} b (record f { peer = all.peer }, Some missing_settings) (after_peer (record f { peer = all.peer }) found)
+          ≡ over held_then (if◌then◌else◌ {A = Found} b (all, Some missing_settings) (after_peer all found))
+      by_missing true = ap (λ e. (e, Some missing_settings)) (peer_with_none behind held all.peer)
+      by_missing false =
+          ap (λ b. if◌then◌else◌ {A = Found} b (record f { peer = settings_alone all.peer found.0.settings }, Some settings_error) (taken_peer f found))
+          (refused_alike (record f { peer = all.peer }) all behind.peer.settings found.0.settings refl refl)
+          ∙ by_refused (are_refused all behind.peer.settings found.0.settings)

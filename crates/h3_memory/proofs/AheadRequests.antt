@@ -1,5 +1,5 @@
 -- What comes on a request stream is read by an endpoint ahead as by the one behind, and each stream goes on as there.
-use Rattle.std.proofs.Common.{◌≡◌, ℕ, ◌+◌, Bool, true, false, List, [], ◌∷◌, refl, sym, ap, ◌∙◌, subst, arith, if◌then◌else◌, Option, Some, None}
+use Rattle.std.proofs.Common.{◌≡◌, ℕ, ◌+◌, Bool, true, false, List, [], ◌∷◌, refl, sym, ap, ◌∙◌, subst, arith, if◌then◌else◌, Option, Some, None, ◌⊎◌}
 use Rattle.std.specs.Prelude.{map, unwrap_or}
 use Rattle.h3_qpack.specs.DecoderState.{DecoderState}
 use Rattle.h3_proto.specs.declared.stream.Side.{Side}
@@ -19,7 +19,10 @@ use Rattle.h3_connection.specs.Endpoint.Kind.{Request}
 use Rattle.h3_connection.specs.Incoming.{Incoming, nothing_came, given_up}
 use Rattle.h3_connection.specs.Keeping.{read_arrival}
 use Rattle.h3_connection.specs.Outgoing.{nothing_sent}
-use Rattle.h3_connection.specs.PartReading.{Resumes, with_pieces, with_more}
+use Rattle.h3_connection.specs.PartReading.{with_pieces, with_more}
+use Rattle.h3_connection.specs.Coming.{fields_next}
+use Rattle.h3_connection.specs.Coming.{HasNoHeader}
+use Rattle.h3_connection.specs.PartReading.{Resumes}
 use Rattle.h3_connection.specs.Pulling.{Pulled, just, next_item, pull_stream}
 use Rattle.h3_connection.specs.StreamSetLaws.{set-distinct}
 use Rattle.h3_connection.specs.StreamSets.{HaveDistinctIds, Streams, stream_at, set_stream}
@@ -35,11 +38,17 @@ module _ (side : Side) (own : Announced) (id : ℕ) where
       record {
         same = ap (λ (i : Incoming). record i { unread = (kept new bytes).unread }) h.same;
         pulls = λ r pieces ended. by_end r pieces ended;
+        lists = λ r pieces ended. lists_by_end r pieces ended;
       }
     where
       by_end : (r : DecoderState) (pieces : List (List ℕ)) (ended : Bool) → pull_stream side own id r (with_more (kept old bytes) pieces ended) ≡ pull_stream side own id r (with_more (kept new bytes) pieces ended)
       by_end r pieces true = h.pulls r (bytes ∷ pieces) true
       by_end r pieces false = h.pulls r (bytes ∷ pieces) false
+
+      lists_by_end : (r : DecoderState) (pieces : List (List ℕ)) (ended : Bool)
+          → HasNoHeader (pull_stream side own id r (with_more (kept old bytes) pieces ended)).answer ⊎ (fields_next r (with_more (kept new bytes) pieces ended) ≡ fields_next r (with_more (kept old bytes) pieces ended))
+      lists_by_end r pieces true = h.lists r (bytes ∷ pieces) true
+      lists_by_end r pieces false = h.lists r (bytes ∷ pieces) false
 
   -- The end does.
   ended_pieces : (i : Incoming) (pieces : List (List ℕ)) → with_pieces (with_end i) pieces ≡ with_end (with_pieces i pieces)
@@ -55,6 +64,9 @@ module _ (side : Side) (own : Announced) (id : ℕ) where
       record {
         same = ap with_end h.same;
         pulls = λ r pieces ended. ap (pull_stream side own id r) (ended_more old pieces ended) ∙ h.pulls r pieces true ∙ sym (ap (pull_stream side own id r) (ended_more new pieces ended));
+        lists = λ r pieces ended.
+            subst (λ x. HasNoHeader (pull_stream side own id r x).answer ⊎ (fields_next r (with_more (with_end new) pieces ended) ≡ fields_next r x)) (sym (ended_more old pieces ended))
+            (subst (λ x. HasNoHeader (pull_stream side own id r (with_more old pieces true)).answer ⊎ (fields_next r x ≡ fields_next r (with_more old pieces true))) (sym (ended_more new pieces ended)) (h.lists r pieces true));
       }
 
   -- One that was given up is told so again by each pull, and stays.

@@ -3,7 +3,7 @@
 use Rattle.std.proofs.Common.{◌≡◌, ℕ, Bool, true, false, not, List, [], ◌∷◌, ◌++◌, refl, sym, ap, ◌∙◌, Option, Some, None, if◌then◌else◌}
 use Rattle.std.specs.Prelude.{◌&&◌, map, is_some, unwrap_or, option_map}
 use Rattle.h3_field.specs.Field.{Field, section_size}
-use Rattle.h3_header.specs.Head.{Head, head_fields, has_pseudo}
+use Rattle.h3_header.specs.Head.{Head, has_pseudo}
 use Rattle.h3_connection.specs.OwnIds.{other}
 use Rattle.h3_connection.specs.declared.arrival.Arrival.{Arrival}
 use Rattle.h3_connection.specs.Endpoint.{EndpointHistory}
@@ -12,11 +12,14 @@ use Rattle.h3_connection.specs.Outgoing.{Outgoing, OwnPart, nothing_sent, takes_
 use Rattle.h3_connection.specs.Outgoing.OwnPart.{OwnTrailer}
 use Rattle.h3_connection.specs.Pulling.{is_client, is_for}
 use Rattle.h3_connection.specs.Sections.{written_section}
-use Rattle.h3_connection.specs.Refusals.{first_of, is_too_large}
-use Rattle.h3_connection.specs.Sending.{does, closed_or, head_refusal, trailer_refusal, finish_refusal, goaway_refusal, with_outgoing, outgoing_at, counted, encoded, appended, fields_cost, head_part, asked, send_head, send_trailer, finish, goaway}
+use Rattle.h3_connection.specs.Lasts.{last_id}
+use Rattle.h3_connection.specs.Refusals.{first_of, is_too_large, refusal_of_head, refusal_of_trailer, unless_going}
+use Rattle.h3_connection.specs.Sending.{does, closed_or, unless_closed, sender_at, finish_refusal, goaway_refusal, with_outgoing, outgoing_at, counted, encoded, appended, fields_cost, head_part, asked, finish, goaway}
 use Rattle.h3_connection.specs.StreamSets.{Streams, stream_at, set_stream}
-use Rattle.h3_connection.specs.StrictSending.{broken_head, broken_protocol, broken_trailer, early_trailer, unless_malformed}
+use Rattle.h3_connection.specs.StrictConnection.{begins_none_after}
+use Rattle.h3_connection.specs.StrictSending.{broken_head, broken_trailer, early_trailer, unless_malformed}
 use Rattle.h3_messages.specs.Content.{may_end}
+use Rattle.h3_connection.specs.declared.event.Malformation.{Malformation}
 use Rattle.h3_connection.specs.declared.event.Malformation.TheVariants as malformation
 use Rattle.h3_connection.specs.declared.event.Refusal.{Refusal}
 use Rattle.h3_connection.specs.declared.event.Refusal.TheVariants as refusal
@@ -64,6 +67,17 @@ unless_set e there sent b c none = ap (λ t. let g : EndpointHistory = record e 
 pub asks_nothing : (e : EndpointHistory) (id : ℕ) (fields : List Field) → e.announced.choices.strict_messages ≡ false → asked e id fields ≡ e
 asks_nothing e id fields plain = unless_set e _ _ e.announced.choices.strict_messages (is_client e.side) plain
 
+-- A head, or a trailer, that goes out as these fields, where it is malformed for this reason.
+abbrev pub head_as : EndpointHistory → ℕ → Option Malformation → Head → List Field → Option Refusal × EndpointHistory
+head_as e id told head fields =
+    does (unless_closed e (refusal_of_head (sender_at e id) told (broken_head e.side e.announced e.peer.settings fields) head fields)) e
+    (asked (counted (appended (encoded e id fields) id (head_part head (written_section e.encoder id fields))) (fields_cost fields)) id fields)
+
+abbrev pub trailer_as : EndpointHistory → ℕ → Option Malformation → Head → List Field → Option Refusal × EndpointHistory
+trailer_as e id told head fields =
+    does (unless_closed e (refusal_of_trailer (sender_at e id) told (early_trailer (outgoing_at e id).content) (broken_trailer e.announced fields) head fields)) e
+    (counted (appended (encoded e id fields) id (OwnTrailer (written_section e.encoder id fields))) (fields_cost fields))
+
 module _ (mine : List Delivery) (held : Held) (incoming : Streams Incoming) (kept : List Arrival) (behind : EndpointHistory) where
   abbrev f : EndpointHistory
   f = ahead behind mine held incoming kept
@@ -84,42 +98,37 @@ module _ (mine : List Delivery) (held : Held) (incoming : Streams Incoming) (kep
       ap (λ l. record (ahead (counted (encoded behind id fields) (fields_cost fields)) mine held incoming kept) { outgoing = l })
       (changed_ahead mine behind.outgoing id (λ o. record o { parts = o.parts ++ own (written_section behind.encoder id fields) ∷ [] }) (λ o. refl) there)
 
-  -- **A head.** An end that judges plainly remembers nothing of a request.
-  pub head_ahead : behind.announced.choices.strict_messages ≡ false → (id : ℕ) (head : Head) → send_head (ahead behind mine held incoming kept) id head ≡ lifted (send_head behind id head)
-  head_ahead plain id head =
+  -- **A head, or a list.** An end that judges plainly remembers nothing of a request.
+  pub head_ahead : behind.announced.choices.strict_messages ≡ false → (id : ℕ) (told : Option Malformation) (head : Head) (fields : List Field) → head_as (ahead behind mine held incoming kept) id told head fields ≡ lifted (head_as behind id told head fields)
+  head_ahead plain id told head fields =
       ap (λ r. does r f (asked (sent f) id fields)) (judged_ahead mine behind.closed rules behind.outgoing id (λ o. refl))
-      ∙ done_ahead (head_refusal behind id head) (asked (sent f) id fields) (asked (sent behind) id fields)
+      ∙ done_ahead (judged behind.closed rules (stream_at behind.outgoing id)) (asked (sent f) id fields) (asked (sent behind) id fields)
       (λ goes. asks_nothing (sent f) id fields plain ∙ section_ahead id fields (head_part head) (goes_open behind.closed rules (stream_at behind.outgoing id) goes)
       ∙ ap (λ e. ahead e mine held incoming kept) (sym (asks_nothing (sent behind) id fields plain)))
     where
-      fields : List Field
-      fields = head_fields head
-
       sent : EndpointHistory → EndpointHistory
       sent e = counted (appended (encoded e id fields) id (head_part head (written_section e.encoder id fields))) (fields_cost fields)
 
       rules : Outgoing → List (Bool × Refusal)
       rules o =
           (not (takes_head o), refusal.OutOfOrder)
-          ∷ unless_malformed (broken_protocol behind.announced head)
+          ∷ unless_going (begins_none_after behind.announced behind.side (last_id behind.peer.goaways))
+          (unless_malformed told
           ((not (is_for (other behind.side) head), refusal.WrongSide)
-          ∷ unless_malformed (broken_head behind.side behind.announced behind.peer.settings fields) ((is_too_large behind.peer.settings fields, refusal.TooLarge (section_size fields)) ∷ []))
+          ∷ unless_malformed (broken_head behind.side behind.announced behind.peer.settings fields) ((is_too_large behind.peer.settings fields, refusal.TooLarge (section_size fields)) ∷ [])))
 
   -- **A trailer.**
-  pub trailer_ahead : (id : ℕ) (head : Head) → send_trailer (ahead behind mine held incoming kept) id head ≡ lifted (send_trailer behind id head)
-  trailer_ahead id head =
+  pub trailer_ahead : (id : ℕ) (told : Option Malformation) (head : Head) (fields : List Field) → trailer_as (ahead behind mine held incoming kept) id told head fields ≡ lifted (trailer_as behind id told head fields)
+  trailer_ahead id told head fields =
       ap (λ r. does r f (counted (appended (encoded f id fields) id (OwnTrailer (written_section f.encoder id fields))) (fields_cost fields))) (judged_ahead mine behind.closed rules behind.outgoing id (λ o. refl))
-      ∙ done_ahead (trailer_refusal behind id head) (counted (appended (encoded f id fields) id (OwnTrailer (written_section f.encoder id fields))) (fields_cost fields))
+      ∙ done_ahead (judged behind.closed rules (stream_at behind.outgoing id)) (counted (appended (encoded f id fields) id (OwnTrailer (written_section f.encoder id fields))) (fields_cost fields))
       (counted (appended (encoded behind id fields) id (OwnTrailer (written_section behind.encoder id fields))) (fields_cost fields))
       (λ goes. section_ahead id fields OwnTrailer (goes_open behind.closed rules (stream_at behind.outgoing id) goes))
     where
-      fields : List Field
-      fields = head_fields head
-
       rules : Outgoing → List (Bool × Refusal)
       rules o =
           (not (takes_body o), refusal.OutOfOrder)
-          ∷ unless_malformed (broken_protocol behind.announced head)
+          ∷ unless_malformed told
           ((has_pseudo head, refusal.PseudoInTrailer)
           ∷ unless_malformed (early_trailer o.content) (unless_malformed (broken_trailer behind.announced fields) ((is_too_large behind.peer.settings fields, refusal.TooLarge (section_size fields)) ∷ [])))
 

@@ -1,7 +1,9 @@
 -- A call of an endpoint that got what is kept, beside that of the one behind: a new stream, a stream given up, and the calls that leave what comes alone.
 use Rattle.std.proofs.Common.{◌≡◌, ℕ, ◌+◌, false, not, ◌||◌, List, [], ◌∷◌, length, refl, sym, ap, ◌∙◌, subst, arith, Option, Some, None}
 use Rattle.std.specs.Prelude.{map, is_some, unwrap_or}
+use Rattle.h3_field.specs.Field.{Field}
 use Rattle.h3_header.specs.Head.{Head, head_fields}
+use Rattle.h3_header.specs.Reads.{head_of_fields}
 use Rattle.h3_proto.specs.declared.stream.Side.{Side}
 use Rattle.h3_connection.specs.declared.arrival.Arrival.{Arrival}
 use Rattle.h3_connection.specs.Delivering.{opened_at, with_incoming, give_up, given_up_by, cancellation}
@@ -10,11 +12,16 @@ use Rattle.h3_connection.specs.Incoming.{Incoming, nothing_came}
 use Rattle.h3_connection.specs.Outgoing.{nothing_sent}
 use Rattle.h3_connection.specs.PartReading.{Resumes}
 use Rattle.h3_connection.specs.Sections.{written_section}
-use Rattle.h3_connection.specs.Refusals.{first_of}
-use Rattle.h3_connection.specs.Sending.{does, closed_or, body_refusal, appended, asked, counted, encoded, fields_cost, head_part, sent_bytes, open_refusal, head_refusal, trailer_refusal, finish_refusal, goaway_refusal, open_request, send_head, send_body, send_trailer, finish, goaway, cancel}
+use Rattle.h3_connection.specs.Refusals.{first_of, refusal_of_head, refusal_of_trailer}
+use Rattle.h3_connection.specs.Sending.{does, closed_or, unless_closed, sender_at, outgoing_at, body_refusal, appended, asked, counted, encoded, fields_cost, head_part, sent_bytes, open_refusal, finish_refusal, goaway_refusal, open_request, send_head, send_body, send_trailer, finish, goaway, cancel}
 use Rattle.h3_connection.specs.Shown.{waiting_heads}
 use Rattle.h3_connection.specs.StreamSets.{HaveDistinctIds, Streams, stream_at, set_stream}
 use Rattle.h3_connection.specs.StreamSetLaws.{set-distinct}
+use Rattle.h3_connection.specs.StrictSending.{broken_head, broken_protocol, broken_trailer, early_trailer}
+use Rattle.h3_connection.specs.declared.event.Malformation.{Malformation}
+use Rattle.h3_world.specs.EndLists.{send_fields, send_trailer_fields}
+use Rattle.h3_world.specs.Lists.{unreadable}
+use Rattle.h3_world.specs.Setup.{takes_any}
 use Rattle.h3_connection.specs.declared.event.Refusal.{Refusal}
 use Rattle.h3_connection.specs.declared.event.Refusal.TheVariants as refusal
 use Rattle.h3_connection.specs.declared.event.StreamFault.{StreamFault}
@@ -23,7 +30,7 @@ use Rattle.h3_memory.specs.Kept.{Delivery}
 use Rattle.h3_memory.specs.Keeping.{Held, EachResumes, ahead, bytes_in, handed_stream}
 use Rattle.h3_memory.proofs.Ahead.{further_taken, set_mapped, body_ahead}
 use Rattle.h3_memory.proofs.AheadPulls.{ResumesAt, resumes_itself, at_resumed, set_resumed, waits_same}
-use Rattle.h3_memory.proofs.AheadSending.{asks_nothing, head_ahead, trailer_ahead, finish_ahead, goaway_ahead}
+use Rattle.h3_memory.proofs.AheadSending.{asks_nothing, head_ahead, head_as, trailer_ahead, trailer_as, finish_ahead, goaway_ahead}
 
 -- The endpoint ahead answers as the one behind, and stands ahead of what that one is then.
 pub record CallAhead (mine : List Delivery) (held : Held) (kept : List Arrival) (side : Side) (behind : EndpointHistory) (x z : Option Refusal × EndpointHistory) : Type 0 where
@@ -61,24 +68,37 @@ module _ (mine : List Delivery) (held : Held) (kept : List Arrival) (side : Side
         resumes = subst (λ l. EachResumes side x.1.announced l incoming) (sym h.incoming) (subst (λ a. EachResumes side a behind.incoming incoming) (sym h.announced) resumes);
       }
 
-  pub head_alike : behind.announced.choices.strict_messages ≡ false → (id : ℕ) (head : Head) → Alike (send_head behind id head) (send_head (ahead behind mine held incoming kept) id head)
-  head_alike plain id head =
-      leaving (send_head behind id head) (send_head f id head) (head_ahead mine held incoming kept behind plain id head)
-      (leaves_unless (head_refusal behind id head) behind (asked sent id (head_fields head))
+  head_as_alike : behind.announced.choices.strict_messages ≡ false → (id : ℕ) (told : Option Malformation) (head : Head) (fields : List Field) → Alike (head_as behind id told head fields) (head_as (ahead behind mine held incoming kept) id told head fields)
+  head_as_alike plain id told head fields =
+      leaving (head_as behind id told head fields) (head_as f id told head fields) (head_ahead mine held incoming kept behind plain id told head fields)
+      (leaves_unless (unless_closed behind (refusal_of_head (sender_at behind id) told (broken_head behind.side behind.announced behind.peer.settings fields) head fields)) behind (asked sent id fields)
       (record {
         announced = refl;
-        incoming = ap (λ (e : EndpointHistory). e.incoming) (asks_nothing sent id (head_fields head) plain);
+        incoming = ap (λ (e : EndpointHistory). e.incoming) (asks_nothing sent id fields plain);
         peer = refl;
-        distinct = λ d. subst HaveDistinctIds (sym (ap (λ (e : EndpointHistory). e.outgoing) (asks_nothing sent id (head_fields head) plain))) (set-distinct behind.outgoing id _ d);
+        distinct = λ d. subst HaveDistinctIds (sym (ap (λ (e : EndpointHistory). e.outgoing) (asks_nothing sent id fields plain))) (set-distinct behind.outgoing id _ d);
       }))
     where
       sent : EndpointHistory
-      sent = counted (appended (encoded behind id (head_fields head)) id (head_part head (written_section behind.encoder id (head_fields head)))) (fields_cost (head_fields head))
+      sent = counted (appended (encoded behind id fields) id (head_part head (written_section behind.encoder id fields))) (fields_cost fields)
+
+  trailer_as_alike : (id : ℕ) (told : Option Malformation) (head : Head) (fields : List Field) → Alike (trailer_as behind id told head fields) (trailer_as (ahead behind mine held incoming kept) id told head fields)
+  trailer_as_alike id told head fields =
+      leaving (trailer_as behind id told head fields) (trailer_as f id told head fields) (trailer_ahead mine held incoming kept behind id told head fields)
+      (leaves_unless (unless_closed behind (refusal_of_trailer (sender_at behind id) told (early_trailer (outgoing_at behind id).content) (broken_trailer behind.announced fields) head fields)) behind _
+      (record { announced = refl; incoming = refl; peer = refl; distinct = set-distinct behind.outgoing id _ }))
+
+  pub head_alike : behind.announced.choices.strict_messages ≡ false → (id : ℕ) (head : Head) → Alike (send_head behind id head) (send_head (ahead behind mine held incoming kept) id head)
+  head_alike plain id head = head_as_alike plain id (broken_protocol behind.announced head) head (head_fields head)
+
+  pub fields_alike : behind.announced.choices.strict_messages ≡ false → (id : ℕ) (fields : List Field) → Alike (send_fields behind id fields) (send_fields (ahead behind mine held incoming kept) id fields)
+  fields_alike plain id fields = head_as_alike plain id (unreadable (takes_any behind.announced) fields) (head_of_fields fields) fields
 
   pub trailer_alike : (id : ℕ) (head : Head) → Alike (send_trailer behind id head) (send_trailer (ahead behind mine held incoming kept) id head)
-  trailer_alike id head =
-      leaving (send_trailer behind id head) (send_trailer f id head) (trailer_ahead mine held incoming kept behind id head)
-      (leaves_unless (trailer_refusal behind id head) behind _ (record { announced = refl; incoming = refl; peer = refl; distinct = set-distinct behind.outgoing id _ }))
+  trailer_alike id head = trailer_as_alike id (broken_protocol behind.announced head) head (head_fields head)
+
+  pub trailer_fields_alike : (id : ℕ) (fields : List Field) → Alike (send_trailer_fields behind id fields) (send_trailer_fields (ahead behind mine held incoming kept) id fields)
+  trailer_fields_alike id fields = trailer_as_alike id (unreadable (takes_any behind.announced) fields) (head_of_fields fields) fields
 
   pub body_alike : (id : ℕ) (bytes : List ℕ) → Alike (send_body behind id bytes) (send_body (ahead behind mine held incoming kept) id bytes)
   body_alike id bytes =

@@ -8,7 +8,7 @@ use Rattle.h3_world.specs.declared.setup.Setup.{Setup}
 use Rattle.h3_world.specs.declared.event.Answer.TheVariants as answer
 use Rattle.h3_world.specs.declared.event.Event.TheVariants as event
 use Rattle.h3_world.specs.Ends.{Ends}
-use Rattle.h3_world.specs.Headline.{is_memory}
+use Rattle.h3_world.specs.Headline.{is_out_of_memory}
 use Rattle.h3_world.specs.Setup.{IsMadeSetup}
 use Rattle.h3_headline.specs.Cited.{Laws}
 use Rattle.h3_headline.specs.ComingLaws.{kind_is}
@@ -20,7 +20,7 @@ use Rattle.h3_memory.proofs.CatchesUp.{keeping_so, reading_of}
 use Rattle.h3_memory.proofs.DeliverSteps.{bytes_agree, end_agrees, plain_bytes, plain_end, plain_reset, reset_agrees}
 use Rattle.h3_memory.proofs.KeptArrivals.{EndOffered, KeptBytes, KeptSo, Notices, ResetOffered, bytes_kept, end_kept, end_offered, none_kept, reset_kept, reset_offered}
 use Rattle.h3_memory.proofs.KeptLaws.{KeptLaws}
-use Rattle.h3_memory.proofs.MemoryAnswers.{LacksIt, LacksRoom, KeepsIt, HandsNothing, lacks_it}
+use Rattle.h3_memory.proofs.MemoryAnswers.{LacksIt, LacksRoom, KeepsIt, HandsNothing, HandsNoList, lacks_it}
 use Rattle.h3_memory.proofs.PartRuns.{ReadsFramesOn}
 
 -- Nothing has changed.
@@ -112,7 +112,7 @@ module _ (qpack : KeptLaws) (laws : Laws) (setup : Setup) (made : IsMadeSetup se
 
   -- **Bytes.**
   pub deliver_step : (writer : Side) (id count : ℕ) → StepsOn setup (event.Deliver writer id count)
-  deliver_step writer id count k ends new a sendable h step = by_memory (is_memory a) refl
+  deliver_step writer id count k ends new a sendable h step = by_memory (is_out_of_memory a) refl
     where
       lacks : LacksIt a → LacksMemory ends (event.Deliver writer id count) a new → StandsOn setup k (event.Deliver writer id count) a new
       lacks (LacksRoom is) l =
@@ -120,34 +120,37 @@ module _ (qpack : KeptLaws) (laws : Laws) (setup : Setup) (made : IsMadeSetup se
           (λ same. record { new = k; step = refl; exact = tt; stands = unchanged setup k ends new h same }) l
       lacks (KeepsIt is) l = subst (λ x. LacksMemory ends (event.Deliver writer id count) x new → StandsOn setup k (event.Deliver writer id count) x new) (sym is) (bytes_stored writer id count k ends new h) l
       lacks (HandsNothing is) l = absurd (subst (λ x. LacksMemory ends (event.Deliver writer id count) x new) is l)
+      lacks (HandsNoList is) l = absurd (subst (λ x. LacksMemory ends (event.Deliver writer id count) x new) is l)
 
-      by_memory : (b : Bool) → is_memory a ≡ b → StandsOn setup k (event.Deliver writer id count) a new
+      by_memory : (b : Bool) → is_out_of_memory a ≡ b → StandsOn setup k (event.Deliver writer id count) a new
       by_memory false plain =
           plain_bytes setup k ends new writer id count a (bytes_agree qpack laws setup made k ends h writer id count) plain (subst (λ b. AnswerOf b ends (event.Deliver writer id count) a new) plain step)
       by_memory true memory = lacks (lacks_it a memory) (subst (λ b. AnswerOf b ends (event.Deliver writer id count) a new) memory step)
 
   -- **The end.**
   pub end_step : (writer : Side) (id : ℕ) → StepsOn setup (event.DeliverEnd writer id)
-  end_step writer id k ends new a sendable h step = by_memory (is_memory a) refl
+  end_step writer id k ends new a sendable h step = by_memory (is_out_of_memory a) refl
     where
       lacks : LacksIt a → LacksMemory ends (event.DeliverEnd writer id) a new → StandsOn setup k (event.DeliverEnd writer id) a new
       lacks (LacksRoom is) l = subst (λ x. LacksMemory ends (event.DeliverEnd writer id) x new → StandsOn setup k (event.DeliverEnd writer id) x new) (sym is) (end_refused writer id k ends new h) l
       lacks (KeepsIt is) l = subst (λ x. LacksMemory ends (event.DeliverEnd writer id) x new → StandsOn setup k (event.DeliverEnd writer id) x new) (sym is) (end_stored writer id k ends new h) l
       lacks (HandsNothing is) l = absurd (subst (λ x. LacksMemory ends (event.DeliverEnd writer id) x new) is l)
+      lacks (HandsNoList is) l = absurd (subst (λ x. LacksMemory ends (event.DeliverEnd writer id) x new) is l)
 
-      by_memory : (b : Bool) → is_memory a ≡ b → StandsOn setup k (event.DeliverEnd writer id) a new
+      by_memory : (b : Bool) → is_out_of_memory a ≡ b → StandsOn setup k (event.DeliverEnd writer id) a new
       by_memory false plain = plain_end setup k ends new writer id a (end_agrees qpack laws setup made k ends h writer id) plain (subst (λ b. AnswerOf b ends (event.DeliverEnd writer id) a new) plain step)
       by_memory true memory = lacks (lacks_it a memory) (subst (λ b. AnswerOf b ends (event.DeliverEnd writer id) a new) memory step)
 
   -- **The reset.**
   pub gone_step : (writer : Side) (id : ℕ) → StepsOn setup (event.DeliverReset writer id)
-  gone_step writer id k ends new a sendable h step = by_memory (is_memory a) refl
+  gone_step writer id k ends new a sendable h step = by_memory (is_out_of_memory a) refl
     where
       lacks : LacksIt a → LacksMemory ends (event.DeliverReset writer id) a new → StandsOn setup k (event.DeliverReset writer id) a new
       lacks (LacksRoom is) l = subst (λ x. LacksMemory ends (event.DeliverReset writer id) x new → StandsOn setup k (event.DeliverReset writer id) x new) (sym is) (reset_refused writer id k ends new h) l
       lacks (KeepsIt is) l = subst (λ x. LacksMemory ends (event.DeliverReset writer id) x new → StandsOn setup k (event.DeliverReset writer id) x new) (sym is) (reset_stored writer id k ends new h) l
       lacks (HandsNothing is) l = absurd (subst (λ x. LacksMemory ends (event.DeliverReset writer id) x new) is l)
+      lacks (HandsNoList is) l = absurd (subst (λ x. LacksMemory ends (event.DeliverReset writer id) x new) is l)
 
-      by_memory : (b : Bool) → is_memory a ≡ b → StandsOn setup k (event.DeliverReset writer id) a new
+      by_memory : (b : Bool) → is_out_of_memory a ≡ b → StandsOn setup k (event.DeliverReset writer id) a new
       by_memory false plain = plain_reset setup k ends new writer id a (reset_agrees qpack laws setup made k ends h writer id) plain (subst (λ b. AnswerOf b ends (event.DeliverReset writer id) a new) plain step)
       by_memory true memory = lacks (lacks_it a memory) (subst (λ b. AnswerOf b ends (event.DeliverReset writer id) a new) memory step)

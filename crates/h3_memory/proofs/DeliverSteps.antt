@@ -17,7 +17,7 @@ use Rattle.h3_world.specs.declared.event.Answer.TheVariants as answer
 use Rattle.h3_world.specs.declared.event.Event.TheVariants as event
 use Rattle.h3_world.specs.Delivering.{reset_code}
 use Rattle.h3_world.specs.Ends.{Ends, answered, done, was_offered}
-use Rattle.h3_world.specs.Headline.{is_memory}
+use Rattle.h3_world.specs.Headline.{is_out_of_memory}
 use Rattle.h3_world.specs.Setup.{IsMadeSetup}
 use Rattle.h3_world.specs.World.{World}
 use Rattle.h3_headline.specs.Cited.{Laws}
@@ -40,6 +40,7 @@ behind_client k (answer.Short count, v) = refl
 behind_client k (answer.NoStream, v) = refl
 behind_client k (answer.Early, v) = refl
 behind_client k (answer.Pulled p, v) = refl
+behind_client k (answer.Listed l, v) = refl
 behind_client k (answer.Shown limits sizes waits, v) = refl
 
 behind_server : (k : KeepingWorld) (y : Answer × World) → read_behind k Server y ≡ read_so Server k.world k.at_client k.at_server y
@@ -51,6 +52,7 @@ behind_server k (answer.Short count, v) = refl
 behind_server k (answer.NoStream, v) = refl
 behind_server k (answer.Early, v) = refl
 behind_server k (answer.Pulled p, v) = refl
+behind_server k (answer.Listed l, v) = refl
 behind_server k (answer.Shown limits sizes waits, v) = refl
 
 -- the ends
@@ -127,13 +129,13 @@ nothing_exact true = tt
 nothing_exact false = tt
 
 pub plain_bytes : (setup : Setup) (k : KeepingWorld) (ends new : Ends) (writer : Side) (id count : ℕ) (a : Answer) → Agrees setup (answered ends (event.Deliver writer id count)) (read_behind k (other writer) (offered setup k writer (Bytes id count)))
-    → is_memory a ≡ false → (a ≡ (answered ends (event.Deliver writer id count)).0) × (new ≡ (answered ends (event.Deliver writer id count)).1) → StandsOn setup k (event.Deliver writer id count) a new
+    → is_out_of_memory a ≡ false → (a ≡ (answered ends (event.Deliver writer id count)).0) × (new ≡ (answered ends (event.Deliver writer id count)).1) → StandsOn setup k (event.Deliver writer id count) a new
 plain_bytes setup k ends new writer id count a h plain is =
     let y = read_behind k (other writer) (offered setup k writer (Bytes id count)) in
     record {
       new = y.1;
       step = subst (λ b. StepOf b setup k (event.Deliver writer id count) a y.1) (sym plain) (ap (λ x. behind_as x y.1) (is.0 ∙ h.answer));
-      exact = nothing_exact (is_memory a);
+      exact = nothing_exact (is_out_of_memory a);
       stands = subst (StandsKeeping setup y.1) (sym is.1) h.stands;
     }
   where
@@ -141,13 +143,13 @@ plain_bytes setup k ends new writer id count a h plain is =
     behind_as x v = (x, v)
 
 pub plain_end : (setup : Setup) (k : KeepingWorld) (ends new : Ends) (writer : Side) (id : ℕ) (a : Answer) → Agrees setup (answered ends (event.DeliverEnd writer id)) (read_behind k (other writer) (offered setup k writer (End id)))
-    → is_memory a ≡ false → (a ≡ (answered ends (event.DeliverEnd writer id)).0) × (new ≡ (answered ends (event.DeliverEnd writer id)).1) → StandsOn setup k (event.DeliverEnd writer id) a new
+    → is_out_of_memory a ≡ false → (a ≡ (answered ends (event.DeliverEnd writer id)).0) × (new ≡ (answered ends (event.DeliverEnd writer id)).1) → StandsOn setup k (event.DeliverEnd writer id) a new
 plain_end setup k ends new writer id a h plain is =
     let y = read_behind k (other writer) (offered setup k writer (End id)) in
     record {
       new = y.1;
       step = subst (λ b. StepOf b setup k (event.DeliverEnd writer id) a y.1) (sym plain) (ap (λ x. behind_as x y.1) (is.0 ∙ h.answer));
-      exact = nothing_exact (is_memory a);
+      exact = nothing_exact (is_out_of_memory a);
       stands = subst (StandsKeeping setup y.1) (sym is.1) h.stands;
     }
   where
@@ -155,13 +157,13 @@ plain_end setup k ends new writer id a h plain is =
     behind_as x v = (x, v)
 
 pub plain_reset : (setup : Setup) (k : KeepingWorld) (ends new : Ends) (writer : Side) (id : ℕ) (a : Answer) → Agrees setup (answered ends (event.DeliverReset writer id)) (read_behind k (other writer) (offered setup k writer (Reset id)))
-    → is_memory a ≡ false → (a ≡ (answered ends (event.DeliverReset writer id)).0) × (new ≡ (answered ends (event.DeliverReset writer id)).1) → StandsOn setup k (event.DeliverReset writer id) a new
+    → is_out_of_memory a ≡ false → (a ≡ (answered ends (event.DeliverReset writer id)).0) × (new ≡ (answered ends (event.DeliverReset writer id)).1) → StandsOn setup k (event.DeliverReset writer id) a new
 plain_reset setup k ends new writer id a h plain is =
     let y = read_behind k (other writer) (offered setup k writer (Reset id)) in
     record {
       new = y.1;
       step = subst (λ b. StepOf b setup k (event.DeliverReset writer id) a y.1) (sym plain) (ap (λ x. behind_as x y.1) (is.0 ∙ h.answer));
-      exact = nothing_exact (is_memory a);
+      exact = nothing_exact (is_out_of_memory a);
       stands = subst (StandsKeeping setup y.1) (sym is.1) h.stands;
     }
   where

@@ -25,7 +25,6 @@ use Rattle.h3_memory.specs.SoundKeeping.{CanBeRead, IsSoundKeeping}
 use Rattle.h3_memory.specs.Writing.{WritesOn, LeavesKept}
 use Rattle.h3_memory.proofs.Growing.{may_on}
 use Rattle.h3_memory.proofs.KeptLaws.{KeptLaws}
-use Rattle.h3_memory.proofs.PullsLeave.{pull_leaves}
 use Rattle.h3_memory.proofs.ReadAll.{ReadsAll, all_read}
 use Rattle.h3_memory.proofs.ReadsLeave.{bytes_read, end_reads, reset_reads, second_of}
 use Rattle.h3_memory.proofs.Written.{unchanged_on, on_then, leaves_at}
@@ -112,6 +111,7 @@ read_or_not k reader given new (answer.Early, w) e = inl (ap (λ p. p.1) e)
 read_or_not k reader given new (answer.Shown limits sizes n, w) e = inl (ap (λ p. p.1) e)
 read_or_not k reader given new (answer.Refused r, w) e = inl (ap (λ p. p.1) e)
 read_or_not k reader given new (answer.Pulled p, w) e = inl (ap (λ p. p.1) e)
+read_or_not k reader given new (answer.Listed l, w) e = inl (ap (λ p. p.1) e)
 
 delivered_kept : (setup : Setup) (k new : KeepingWorld) (reader : Side) (v : World) → IsSoundKeeping setup k → IsSoundWorld setup v → WritesOn setup k.world v reader → (new ≡ k) ⊎ (new ≡ with_kept k reader v []) → IsSoundKeeping setup new
 delivered_kept setup k new reader v h sound on (inl e) = subst (IsSoundKeeping setup) (sym e) h
@@ -145,12 +145,12 @@ resets_kept q laws setup k new writer id a sendable h step =
     delivered_kept setup k new (other writer) x.1 h (laws.both setup u x.1 (event.DeliverReset writer id) x.0 sendable refl tt (catches_up q setup k (other writer) h).sound).1
     (behind_on q setup k writer x.1 h (reset_on setup u writer id)) (read_or_not k (other writer) a new x step)
 
--- A pull.
-pub pull_kept : (q : KeptLaws) (laws : WorldLaws) (setup : Setup) (k new : KeepingWorld) (side : Side) (id : ℕ) (a : Answer) (settled : Bool) → IsSendable setup (event.Pull side id) → IsSoundKeeping setup k
-    → Pulls setup k side id settled a new → IsExact (caught_up setup k side) (event.Pull side id) a → IsSoundKeeping setup new
-pull_kept q laws setup k new side id a true sendable h step exact = subst (IsSoundKeeping setup) (sym step.1) h
-pull_kept q laws setup k new side id a false sendable h step exact =
+-- A pull, with lists or without.
+pub pull_kept : (q : KeptLaws) (laws : WorldLaws) (setup : Setup) (k new : KeepingWorld) (side : Side) (e : Event) (a : Answer) (settled : Bool) → ((w v : World) → Step setup w e a v → LeavesKept setup w v) → IsSendable setup e
+    → IsSoundKeeping setup k → Pulls setup k side e settled a new → IsExact (caught_up setup k side) e a → IsSoundKeeping setup new
+pull_kept q laws setup k new side e a true leaves sendable h step exact = subst (IsSoundKeeping setup) (sym step.1) h
+pull_kept q laws setup k new side e a false leaves sendable h step exact =
     let u = caught_up setup k side in
     subst (IsSoundKeeping setup) (sym step.1)
-    (with_kept_sound setup k side new.world [] h (laws.both setup u new.world (event.Pull side id) a sendable step.0 exact (catches_up q setup k side h).sound).1 tt
-    (on_then setup k.world u new.world side (caught_on q setup k side h) (leaves_at setup u new.world side (pull_leaves setup u new.world side id a step.0))))
+    (with_kept_sound setup k side new.world [] h (laws.both setup u new.world e a sendable step.0 exact (catches_up q setup k side h).sound).1 tt
+    (on_then setup k.world u new.world side (caught_on q setup k side h) (leaves_at setup u new.world side (leaves u new.world step.0))))

@@ -23,7 +23,7 @@ use Rattle.h3_memory.proofs.KeptLaws.{KeptLaws}
 use Rattle.h3_memory.proofs.MemoryKept.{notices}
 use Rattle.h3_memory.proofs.Noticed.{NoticesEach, noticed_stands}
 use Rattle.h3_memory.proofs.PartRuns.{ReadsFramesOn}
-use Rattle.h3_memory.proofs.PullStep.{pull_step}
+use Rattle.h3_memory.proofs.PullStep.{listed_step, pull_step}
 use Rattle.h3_memory.proofs.Runs.{two_ends_run_with_memory}
 
 -- what is left of a memory answer is noticed
@@ -40,6 +40,7 @@ every_event q laws setup made plain frames =
       end = end_step q laws setup made frames (stands_noticed q setup);
       reset = gone_step q laws setup made frames (stands_noticed q setup);
       pull = pull_step q laws setup made plain frames (stands_noticed q setup);
+      listed = listed_step q laws setup made plain frames (stands_noticed q setup);
     })
 
 -- **Two new endpoints that judge plainly run in a world over every schedule, with memory refused anywhere.**

@@ -1,18 +1,22 @@
 -- A front of what is held of the control stream is read. Where the settings come with it, what the decoder wrote before is read behind them.
 use Rattle.std.proofs.Common.{◌≡◌, ℕ, Bool, true, false, List, [], ◌∷◌, ◌++◌, length, refl, sym, ap, ◌∙◌, subst, append-nil, if◌then◌else◌, Option, Some, None}
-use Rattle.std.specs.Prelude.{◌==◌, unwrap_or}
+use Rattle.std.specs.Prelude.{◌&&◌, ◌==◌, is_none, unwrap_or}
 use Rattle.h3_proto.specs.Settings.{value_of}
 use Rattle.h3_proto.specs.declared.stream.Side.{Side}
 use Rattle.h3_wire.specs.Fronts.{IsUnfinishedFront}
 use Rattle.h3_connection.specs.declared.arrival.Arrival.{Arrival}
 use Rattle.h3_connection.specs.declared.arrival.Arrival.TheVariants.{BytesCame}
-use Rattle.h3_connection.specs.Control.{Found, after_peer, if_learned, is_table_usable, learned, then_decoder, with_table}
+use Rattle.h3_wire.specs.FirstFrames.{begins_other}
+use Rattle.h3_connection.specs.Control.{Found, are_refused, holding, if_learned, is_table_usable, lacks_settings, learned, taken_peer, then_decoder, with_table}
 use Rattle.h3_connection.specs.Endpoint.{EndpointHistory, limit_of}
 use Rattle.h3_connection.specs.Keeping.{read_arrival}
 use Rattle.h3_connection.specs.OwnIds.{other, control_id, decoder_id}
-use Rattle.h3_connection.specs.PartReading.{PeerReadsPart, after_frames, early, early_if, early_arrival}
+use Rattle.h3_connection.specs.PartReading.{MayRead, PeerReadsPart, after_frames, early, early_if, early_arrival}
 use Rattle.h3_connection.specs.PeerReading.{Peer, PeerFound, read_peer, read_within, with_unread}
 use Rattle.h3_connection.specs.StreamSets.{stream_at}
+use Rattle.h3_connection.specs.StrictConnection.{is_strict}
+use Rattle.h3_connection.specs.StrictConnectionLaws.{front_missed, held_taken, refused_alike}
+use Rattle.h3_connection.specs.declared.setup.Announced.{Announced}
 use Rattle.h3_connection.specs.Unidirectional.Role.{Control}
 use Rattle.h3_world.specs.Refused.{held_back}
 use Rattle.h3_world.specs.declared.setup.Setup.{Setup}
@@ -134,7 +138,8 @@ module _ (qpack : KeptLaws) (laws : Laws) (setup : Setup) (made : IsMadeSetup se
         (subst (λ x. PartStep setup w side mine (Bytes q count ∷ ds) x g (BytesCame id [] ∷ early f f.peer ++ more)) (sym (learned_same f.peer.settings f))
         (subst (λ l. PartStep setup w side mine (Bytes q count ∷ ds) f g (BytesCame id [] ∷ l ++ more)) (sym (early_same f.peer.settings f.decoder_on)) (stays setup w side mine (Bytes q count ∷ ds) f g (BytesCame id [] ∷ more) z)))
 
-    module _ (read rest : List ℕ) (P : Peer) (is_held : z.here.held.control ≡ read ++ rest) (reads : read_peer (limit_of z.er) z.er.side (with_unread z.er.peer (z.er.peer.unread ++ read)) ≡ no_code P) where
+    module _ (read rest : List ℕ) (P : Peer) (is_held : z.here.held.control ≡ read ++ rest) (reads : read_peer (limit_of z.er) z.er.side (with_unread z.er.peer (z.er.peer.unread ++ read)) ≡ no_code P)
+        (first : lacks_settings (holding z.er read) ≡ false) (taken : are_refused z.er z.er.peer.settings P.settings ≡ false) where
       abbrev p : Peer
       p = with_unread P (P.unread ++ rest)
 
@@ -147,8 +152,12 @@ module _ (qpack : KeptLaws) (laws : Laws) (setup : Setup) (made : IsMadeSetup se
       decoder_is : f.decoder_on ≡ z.er.decoder_on
       decoder_is = ap (λ (x : EndpointHistory). x.decoder_on) z.here.is
 
-      behind_reads_so : read_arrival z.er (BytesCame q read) ≡ after_peer z.er (no_code P)
-      behind_reads_so = control_reads z.er q read read_as ∙ ap (after_peer z.er) reads
+      behind_reads_so : read_arrival z.er (BytesCame q read) ≡ taken_peer z.er (no_code P)
+      behind_reads_so =
+          control_reads z.er q read read_as
+          ∙ held_taken (holding z.er read) first
+          (ap (λ (x : PeerFound). are_refused (holding z.er read) z.er.peer.settings x.0.settings) reads ∙ refused_alike (holding z.er read) z.er z.er.peer.settings P.settings refl refl ∙ taken)
+          ∙ ap (taken_peer z.er) reads
 
       abbrev left_held : Held
       left_held = record z.here.held { control = rest }
@@ -174,16 +183,33 @@ module _ (qpack : KeptLaws) (laws : Laws) (setup : Setup) (made : IsMadeSetup se
         after_is = ap (λ o. if_learned o P.settings (record f { peer = p })) (settings_is ∙ unknown) ∙ ap (λ o. if_learned None o (record f { peer = p })) known
 
         -- what one that has nothing of the decoder stream reads
-        reads_settings : (x : EndpointHistory) → x.peer ≡ z.er.peer → x.side ≡ z.er.side → limit_of x ≡ limit_of z.er → x.decoder_unread ≡ [] → IsReadAs x q Control x.control_on → read_arrival x (BytesCame q read) ≡ found_as (L x)
-        reads_settings x peer side_is limit_is nothing role =
+        reads_settings : (x : EndpointHistory) → x.peer ≡ z.er.peer → x.announced ≡ z.er.announced → x.side ≡ z.er.side → limit_of x ≡ limit_of z.er → x.decoder_unread ≡ [] → IsReadAs x q Control x.control_on
+            → read_arrival x (BytesCame q read) ≡ found_as (L x)
+        reads_settings x peer own side_is limit_is nothing role =
             control_reads x q read role
-            ∙ ap (λ n. after_peer x (read_peer n x.side (with_unread x.peer (x.peer.unread ++ read)))) limit_is
-            ∙ ap (λ t. after_peer x (read_peer (limit_of z.er) t (with_unread x.peer (x.peer.unread ++ read)))) side_is
-            ∙ ap (λ y. after_peer x (read_peer (limit_of z.er) z.er.side (with_unread y (y.unread ++ read)))) peer
-            ∙ ap (after_peer x) reads
+            ∙ held_taken (holding x read) first_too taken_too
+            ∙ ap (taken_peer x) found_too
             ∙ ap (λ o. then_decoder o P.settings (if_learned o P.settings (record x { peer = P })) None) (ap (λ (y : Peer). y.settings) peer ∙ unknown)
             ∙ ap (λ o. then_decoder None o (if_learned None o (record x { peer = P })) None) known
             ∙ no_bytes_listened (L x) (learned_unread (record x { peer = P }) pairs ∙ nothing)
+          where
+            found_too : read_peer (limit_of x) x.side (with_unread x.peer (x.peer.unread ++ read)) ≡ no_code P
+            found_too =
+                ap (λ n. read_peer n x.side (with_unread x.peer (x.peer.unread ++ read))) limit_is
+                ∙ ap (λ t. read_peer (limit_of z.er) t (with_unread x.peer (x.peer.unread ++ read))) side_is
+                ∙ ap (λ y. read_peer (limit_of z.er) z.er.side (with_unread y (y.unread ++ read))) peer
+                ∙ reads
+
+            first_too : lacks_settings (holding x read) ≡ false
+            first_too =
+                ap (λ (a : Announced). (is_strict a && is_none x.peer.settings) && begins_other (x.peer.unread ++ read)) own
+                ∙ ap (λ (y : Peer). (is_strict z.er.announced && is_none y.settings) && begins_other (y.unread ++ read)) peer ∙ first
+
+            taken_too : are_refused (holding x read) x.peer.settings (read_peer (limit_of x) x.side (with_unread x.peer (x.peer.unread ++ read))).0.settings ≡ false
+            taken_too =
+                ap (λ (y : PeerFound). are_refused (holding x read) x.peer.settings y.0.settings) found_too
+                ∙ ap (λ (y : Peer). are_refused (holding x read) y.settings P.settings) peer
+                ∙ refused_alike (holding x read) z.er z.er.peer.settings P.settings side_is own ∙ taken
 
         -- **Nothing came of the decoder stream.**
         without_decoder : z.er.decoder_on ≡ None → Goes count ds id more p
@@ -192,7 +218,7 @@ module _ (qpack : KeptLaws) (laws : Laws) (setup : Setup) (made : IsMadeSetup se
             (sym (ap (λ o. early_if o P.settings f.decoder_on) (settings_is ∙ unknown) ∙ ap (λ o. early_if None o f.decoder_on) known ∙ ap early_arrival (decoder_is ∙ none)))
             (own_part qpack laws setup w side mine f g made (after_frames f p) q count ds id read rest more (control_own s) some_came z held_is
             (after_is ∙ ap (λ (x : EndpointHistory). learned (record x { peer = p }) pairs) z.here.is ∙ learned_ahead mine z.here.incoming [] left_held (record z.er { peer = P }) pairs
-            ∙ ap (λ (x : Found). ahead x.0 mine left_held z.here.incoming []) (sym (reads_settings z.er refl refl refl nothing read_as))
+            ∙ ap (λ (x : Found). ahead x.0 mine left_held z.here.incoming []) (sym (reads_settings z.er refl refl refl refl nothing read_as))
             ∙ ap (λ h. ahead (read_arrival z.er (BytesCame q read)).0 mine h z.here.incoming []) (sym (control_holding s z.here.held rest))))
           where
             nothing : z.er.decoder_unread ≡ []
@@ -243,9 +269,9 @@ module _ (qpack : KeptLaws) (laws : Laws) (setup : Setup) (made : IsMadeSetup se
                 (control_held s (back_held z.here.held z.er.decoder_unread) ∙ is_held)
                 (after_is ∙ ap (λ y. learned y pairs) real_is
                 ∙ learned_ahead mine z.here.incoming [] (record (back_held z.here.held z.er.decoder_unread) { control = rest }) (record (back_reader z.er) { peer = P }) pairs
-                ∙ ap (λ (y : Found). ahead y.0 mine (record (back_held z.here.held z.er.decoder_unread) { control = rest }) z.here.incoming []) (sym (reads_settings (back_reader z.er) refl refl refl refl role))
+                ∙ ap (λ (y : Found). ahead y.0 mine (record (back_held z.here.held z.er.decoder_unread) { control = rest }) z.here.incoming []) (sym (reads_settings (back_reader z.er) refl refl refl refl refl role))
                 ∙ ap (λ h. ahead (read_arrival (back_reader z.er) (BytesCame q read)).0 mine h z.here.incoming []) (sym (control_holding s (back_held z.here.held z.er.decoder_unread) rest)))
-                (λ none. absurd (known_now (sym (ap (λ (y : Found). y.0.peer.settings) (reads_settings (back_reader z.er) refl refl refl refl role) ∙ ap (λ (y : Peer). y.settings) (learned_peer (record (back_reader z.er) { peer = P }) pairs) ∙ known) ∙ none)))
+                (λ none. absurd (known_now (sym (ap (λ (y : Found). y.0.peer.settings) (reads_settings (back_reader z.er) refl refl refl refl refl role) ∙ ap (λ (y : Peer). y.settings) (learned_peer (record (back_reader z.er) { peer = P }) pairs) ∙ known) ∙ none)))
               where
                 known_now : Some pairs ≡ None → ⊥
                 known_now e = cc
@@ -261,16 +287,27 @@ module _ (qpack : KeptLaws) (laws : Laws) (setup : Setup) (made : IsMadeSetup se
       settled (Same learned_none then_none early_none) = same_settings learned_none then_none early_none
       settled (New pairs unknown known) = new_settings pairs unknown known z.er.decoder_on refl
 
-    at : (p : Peer) → PeerReadsPart (limit_of f) f.side f.peer p → Goes count ds id more p
-    at p h = by_split (splits z.er.peer.unread z.here.held.control h.front h.rest (sym (ap (λ (x : EndpointHistory). x.peer.unread) z.here.is) ∙ h.cut))
+    at : (p : Peer) → MayRead f p → PeerReadsPart (limit_of f) f.side f.peer p → Goes count ds id more p
+    at p may h = by_split (splits z.er.peer.unread z.here.held.control h.front h.rest (sym (ap (λ (x : EndpointHistory). x.peer.unread) z.here.is) ∙ h.cut))
       where
         reads_behind : read_peer (limit_of z.er) z.er.side (with_unread z.er.peer h.front) ≡ no_code h.read
         reads_behind = sym (ap (λ (x : EndpointHistory). read_peer (limit_of x) x.side (with_unread x.peer h.front)) z.here.is) ∙ h.reads
 
+        first_behind : ((is_strict z.er.announced && is_none z.er.peer.settings) && begins_other h.front) ≡ false
+        first_behind =
+            sym (ap (λ (x : EndpointHistory). (is_strict x.announced && is_none x.peer.settings) && begins_other h.front) z.here.is) ∙ front_missed f h.front h.rest h.cut may.first
+
+        taken_behind : are_refused z.er z.er.peer.settings h.read.settings ≡ false
+        taken_behind =
+            refused_alike z.er F z.er.peer.settings h.read.settings refl refl
+            ∙ sym (ap (λ (x : EndpointHistory). are_refused x x.peer.settings h.read.settings) z.here.is)
+            ∙ sym (ap (λ (x : Peer). are_refused f f.peer.settings x.settings) h.left) ∙ may.taken
+
         by_split : Splits z.er.peer.unread z.here.held.control h.front h.rest → Goes count ds id more p
         by_split (Beyond read is more_is) =
             subst (Goes count ds id more) (sym h.left)
-            (settled read h.rest h.read more_is (ap (λ l. read_peer (limit_of z.er) z.er.side (with_unread z.er.peer l)) (sym is) ∙ reads_behind) (learns z.er.peer.settings h.read.settings))
+            (settled read h.rest h.read more_is (ap (λ l. read_peer (limit_of z.er) z.er.side (with_unread z.er.peer l)) (sym is) ∙ reads_behind)
+            (sym (ap (λ l. (is_strict z.er.announced && is_none z.er.peer.settings) && begins_other l) is) ∙ first_behind) taken_behind (learns z.er.peer.settings h.read.settings))
         by_split (Within left is more_is) =
             let unfinished : IsUnfinishedFront h.front = control_unfinished setup s (party w s).own.control_taken (party w s).own.goaways h.front left (announces_at setup s made) z.two.both.writes_there.goaways (sym e.control.unread ∙ is) in
             let nothing : no_code h.read ≡ no_code (with_unread z.er.peer h.front) =
@@ -280,12 +317,12 @@ module _ (qpack : KeptLaws) (laws : Laws) (setup : Setup) (made : IsMadeSetup se
 
 -- **A part of the control stream.**
 pub frames_step : (qpack : KeptLaws) (laws : Laws) (setup : Setup) → IsMadeSetup setup → ReadsFramesOn setup
-frames_step qpack laws setup made w side mine [] f g id p more r on h = absurd r.here.kept
-frames_step qpack laws setup made w side mine (End k ∷ ds) f g id p more r on h = absurd r.here.kept
-frames_step qpack laws setup made w side mine (Reset k ∷ ds) f g id p more r on h = absurd r.here.kept
-frames_step qpack laws setup made w side mine (Bytes k count ∷ ds) f g id p more r on h =
+frames_step qpack laws setup made w side mine [] f g id p more r on may h = absurd r.here.kept
+frames_step qpack laws setup made w side mine (End k ∷ ds) f g id p more r on may h = absurd r.here.kept
+frames_step qpack laws setup made w side mine (Reset k ∷ ds) f g id p more r on may h = absurd r.here.kept
+frames_step qpack laws setup made w side mine (Bytes k count ∷ ds) f g id p more r on may h =
     of_own setup w side mine f g ds k count id (control_id (other side)) [] more (λ n. PartStep setup w side mine (Bytes n count ∷ ds) (after_frames f p) g (BytesCame id [] ∷ early f p ++ more)) r.here.kept.0 first.1
-    (λ z. at qpack laws setup made w side mine f g count ds id more z on p h) r
+    (λ z. at qpack laws setup made w side mine f g count ds id more z on p may h) r
   where
     first : ((party w (other side)).own.control_taken ≡ 0 → ⊥) × (id ≡ control_id (other side))
     first = came_on_is (party w (other side)).own.control_taken (control_id (other side)) id (sym r.two.both.here.control.is_on ∙ sym (ap (λ (x : EndpointHistory). x.control_on) r.here.is) ∙ on)

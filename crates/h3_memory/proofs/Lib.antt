@@ -12,6 +12,7 @@ pub mod CatchesUp
 pub mod ComesBack
 pub mod CutLeaves
 pub mod CutReading
+pub mod Cuts
 pub mod DeliverEvents
 pub mod DeliverSteps
 pub mod EventSteps
@@ -31,6 +32,8 @@ pub mod KeptAlike
 pub mod KeptArrivals
 pub mod KeptLaws
 pub mod KeptMore
+pub mod ListedPull
+pub mod ListsAhead
 pub mod LooseBack
 pub mod MemoryAnswers
 pub mod MemoryKept

@@ -1,4 +1,4 @@
--- The answers that tell of refused memory: three.
+-- The answers that tell of refused memory: four.
 use Rattle.std.proofs.Common.{◌≡◌, true, refl}
 use Rattle.h3_connection.specs.declared.event.Refusal.{Refusal}
 use Rattle.h3_connection.specs.declared.event.Refusal.TheVariants as refusal
@@ -7,14 +7,17 @@ use Rattle.h3_connection.specs.declared.event.Pull.{Pull}
 use Rattle.h3_connection.specs.declared.event.Pull.TheVariants as pull
 use Rattle.h3_world.specs.declared.event.Answer.{Answer}
 use Rattle.h3_world.specs.declared.event.Answer.TheVariants as answer
-use Rattle.h3_world.specs.Headline.{is_memory}
+use Rattle.h3_world.specs.declared.lists.ListPull.{ListPull}
+use Rattle.h3_world.specs.declared.lists.ListPull.TheVariants as list
+use Rattle.h3_world.specs.Headline.{is_out_of_memory}
 
 pub data LacksIt (a : Answer) : Type 0 where
   LacksRoom : a ≡ answer.Refused refusal.OutOfMemory → LacksIt a
   KeepsIt : a ≡ answer.Refused refusal.Kept → LacksIt a
   HandsNothing : a ≡ answer.Pulled (pull.Fault fault.Memory) → LacksIt a
+  HandsNoList : a ≡ answer.Listed (list.Fault fault.Memory) → LacksIt a
 
-refused_so : (r : Refusal) → is_memory (answer.Refused r) ≡ true → LacksIt (answer.Refused r)
+refused_so : (r : Refusal) → is_out_of_memory (answer.Refused r) ≡ true → LacksIt (answer.Refused r)
 refused_so (refusal.Closed code) e = absurd (cc)
 refused_so (refusal.Connection code) e = absurd (cc)
 refused_so refusal.NotReceiving e = absurd (cc)
@@ -35,7 +38,7 @@ refused_so refusal.NotRequestId e = absurd (cc)
 refused_so (refusal.Raised n) e = absurd (cc)
 refused_so refusal.OutOfMemory e = LacksRoom refl
 
-pulled_so : (p : Pull) → is_memory (answer.Pulled p) ≡ true → LacksIt (answer.Pulled p)
+pulled_so : (p : Pull) → is_out_of_memory (answer.Pulled p) ≡ true → LacksIt (answer.Pulled p)
 pulled_so (pull.Item i) e = absurd (cc)
 pulled_so pull.Pending e = absurd (cc)
 pulled_so (pull.Waiting count) e = absurd (cc)
@@ -44,9 +47,19 @@ pulled_so (pull.Fault (fault.Stream why)) e = absurd (cc)
 pulled_so (pull.Fault fault.Memory) e = HandsNothing refl
 pulled_so pull.NoMessages e = absurd (cc)
 
-pub lacks_it : (a : Answer) → is_memory a ≡ true → LacksIt a
+listed_so : (l : ListPull) → is_out_of_memory (answer.Listed l) ≡ true → LacksIt (answer.Listed l)
+listed_so (list.Item i) e = absurd (cc)
+listed_so list.Pending e = absurd (cc)
+listed_so (list.Waiting count) e = absurd (cc)
+listed_so (list.Fault (fault.Connection code)) e = absurd (cc)
+listed_so (list.Fault (fault.Stream why)) e = absurd (cc)
+listed_so (list.Fault fault.Memory) e = HandsNoList refl
+listed_so list.NoMessages e = absurd (cc)
+
+pub lacks_it : (a : Answer) → is_out_of_memory a ≡ true → LacksIt a
 lacks_it (answer.Refused r) e = refused_so r e
 lacks_it (answer.Pulled p) e = pulled_so p e
+lacks_it (answer.Listed l) e = listed_so l e
 lacks_it (answer.Opened id) e = absurd (cc)
 lacks_it answer.Done e = absurd (cc)
 lacks_it (answer.Delivered count) e = absurd (cc)

@@ -1,13 +1,11 @@
 -- An event after which memory was refused leaves a world sound, and what is kept readable.
-use Rattle.std.proofs.Common.{◌≡◌, inl, ℕ, ◌+◌, ◌-◌, ◌≤◌, Bool, true, false, not, ◌&&◌, ◌||◌, List, [], ◌∷◌, ◌++◌, length, take, refl, sym, ap, ◌∙◌, subst, arith, append-nil, if◌then◌else◌, Option, Some, None}
+use Rattle.std.proofs.Common.{◌≡◌, inl, inr, ℕ, ◌+◌, ◌-◌, ◌≤◌, Bool, true, false, not, ◌&&◌, ◌||◌, List, [], ◌∷◌, ◌++◌, length, take, refl, sym, ap, ◌∙◌, subst, arith, append-nil, if◌then◌else◌}
 use Rattle.std.specs.Prelude.{◌==◌}
 use Rattle.std.proofs.lemmas.Grind.{common_steps}
 use Rattle.h3_field.specs.Field.{Field}
 use Rattle.h3_proto.specs.declared.stream.Side.{Side}
 use Rattle.h3_connection.specs.OwnIds.{other, is_own}
 use Rattle.h3_connection.specs.Sections.{own_instructions}
-use Rattle.h3_connection.specs.declared.event.Refusal.{Refusal}
-use Rattle.h3_connection.specs.declared.event.Refusal.TheVariants as refusal
 use Rattle.h3_world.specs.declared.setup.Setup.{Setup}
 use Rattle.h3_world.specs.declared.event.Answer.TheVariants as answer
 use Rattle.h3_world.specs.Delivering.{is_closed, may_end}
@@ -21,9 +19,10 @@ use Rattle.h3_headline.specs.DeliverLaws.{waiting_is}
 use Rattle.h3_headline.specs.FlowLaws.{open_there, other-other}
 use Rattle.h3_memory.specs.Kept.{Delivery, Bytes, End, Reset, KeepingWorld, kept_at, with_kept, stream_of, caught_up, noticed, noticed_all, ReadsPart}
 use Rattle.h3_memory.specs.Keeping.{MayAllBeRead, came_of, text_of}
-use Rattle.h3_memory.specs.MemoryStep.{CutsSection, HandsNothingOut, Keeps, offered}
+use Rattle.h3_memory.specs.MemoryStep.{HandsNothingOut, Keeps, offered}
 use Rattle.h3_memory.specs.SoundKeeping.{CanBeRead, IsSoundKeeping}
 use Rattle.h3_memory.specs.Writing.{WritesOn, LeavesKept}
+use Rattle.h3_memory.proofs.Cuts.{Left}
 use Rattle.h3_memory.proofs.EventsKept.{kept_readable, with_world_sound, with_kept_sound, catches_up}
 use Rattle.h3_memory.proofs.Growing.{may_grow, may_on}
 use Rattle.h3_memory.proofs.KeptLaws.{KeptLaws}
@@ -44,30 +43,12 @@ insertions_leave setup w side id fields =
     (record { goaways = []; goaways_are = sym (append-nil p.own.goaways); instructions = own_instructions p.encoder id fields; instructions_are = refl; replies = []; replies_are = sym (append-nil p.own.replies) })
     (record { control = refl; encoder = refl; decoder = refl })
 
-pub section_cut : (q : KeptLaws) (setup : Setup) (k new : KeepingWorld) (side : Side) (id : ℕ) (fields : List Field) (o : Option Refusal) → IsSoundKeeping setup k → CutsSection o k side id fields new → IsSoundKeeping setup new
-section_cut q setup k new side id fields None h cut =
+pub section_cut : (q : KeptLaws) (setup : Setup) (k new : KeepingWorld) (side : Side) (id : ℕ) (fields : List Field) → IsSoundKeeping setup k → Left k side id fields new → IsSoundKeeping setup new
+section_cut q setup k new side id fields h (inl cut) =
     let front = take cut.front fields in
     subst (IsSoundKeeping setup) (sym cut.inserted)
     (with_world_sound setup k (with_insertions k.world side id front) h (q.insertions setup k.world side id front h.sound) (insertions_leave setup k.world side id front))
-section_cut q setup k new side id fields (Some (refusal.Closed code)) h cut = absurd cut
-section_cut q setup k new side id fields (Some (refusal.Connection code)) h cut = absurd cut
-section_cut q setup k new side id fields (Some refusal.NotReceiving) h cut = absurd cut
-section_cut q setup k new side id fields (Some refusal.AfterEnd) h cut = absurd cut
-section_cut q setup k new side id fields (Some refusal.Kept) h cut = absurd cut
-section_cut q setup k new side id fields (Some refusal.NotClient) h cut = absurd cut
-section_cut q setup k new side id fields (Some (refusal.GoingAway other_id)) h cut = absurd cut
-section_cut q setup k new side id fields (Some refusal.IdsUsedUp) h cut = absurd cut
-section_cut q setup k new side id fields (Some refusal.NotOpen) h cut = absurd cut
-section_cut q setup k new side id fields (Some refusal.OutOfOrder) h cut = absurd cut
-section_cut q setup k new side id fields (Some refusal.WrongSide) h cut = absurd cut
-section_cut q setup k new side id fields (Some refusal.PseudoInTrailer) h cut = absurd cut
-section_cut q setup k new side id fields (Some (refusal.Malformed why)) h cut = absurd cut
-section_cut q setup k new side id fields (Some (refusal.TooLarge n)) h cut = subst (IsSoundKeeping setup) (sym cut) h
-section_cut q setup k new side id fields (Some refusal.Critical) h cut = absurd cut
-section_cut q setup k new side id fields (Some refusal.Ended) h cut = absurd cut
-section_cut q setup k new side id fields (Some refusal.NotRequestId) h cut = absurd cut
-section_cut q setup k new side id fields (Some (refusal.Raised n)) h cut = absurd cut
-section_cut q setup k new side id fields (Some refusal.OutOfMemory) h cut = absurd cut
+section_cut q setup k new side id fields h (inr is) = subst (IsSoundKeeping setup) (sym is) h
 
 -- A receiver has got something on an open stream whose end has not come.
 seen_sound : (q : KeptLaws) (setup : Setup) (w : World) (writer : Side) (id : ℕ) → IsSoundWorld setup w → is_open w writer id ≡ true → (flow w writer id).delivered ≤ length (flow_bytes (flow w writer id)) → (flow w writer id).ended ≡ false

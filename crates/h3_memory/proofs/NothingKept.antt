@@ -13,7 +13,7 @@ use Rattle.h3_world.specs.declared.event.Event.TheVariants as event
 use Rattle.h3_world.specs.declared.event.Answer.{Answer}
 use Rattle.h3_world.specs.declared.event.Answer.TheVariants as answer
 use Rattle.h3_world.specs.Delivering.{delivery, end_delivery, reset_delivery, delivered, delivered_end, delivered_reset, is_closed, may_end}
-use Rattle.h3_world.specs.Headline.{Happens, is_memory, ComesOut}
+use Rattle.h3_world.specs.Headline.{Happens, is_out_of_memory, ComesOut}
 use Rattle.h3_memory.specs.Kept.{KeepingWorld, Bytes, End, Reset, nothing_kept, caught_up, with_kept, is_settled}
 use Rattle.h3_memory.specs.MemoryStep.{HappensWithMemory, StepOf, Answers, Pulls, UnlessMemory, offered, read_behind, reader_world}
 use Rattle.h3_world.specs.Refusals.{reset_refusal}
@@ -82,12 +82,11 @@ plain_reset setup w writer id given new e =
     told_by given new w (delivered_reset w writer id) (other writer) (not (has_outgoing w writer id)) (is_own writer id || not (flow w writer id).is_reset) (is_closed w writer id)
     (subst (λ v. (given, new) ≡ read_behind (nothing_kept w) (other writer) (reset_delivery v writer id)) (caught setup w (other writer)) e)
 
-plain_pull : (setup : Setup) (w : World) (side : Side) (id : ℕ) (given : Answer) (new : KeepingWorld) (settled : Bool) → Pulls setup (nothing_kept w) side id settled given new
-    → IsPlain setup w (event.Pull side id) given new
-plain_pull setup w side id given new true h = record { step = h.0; none = h.1 ∙ sym (ap (λ k. nothing_kept k.world) h.1) }
-plain_pull setup w side id given new false h =
+plain_pull : (setup : Setup) (w : World) (side : Side) (e : Event) (given : Answer) (new : KeepingWorld) (settled : Bool) → Pulls setup (nothing_kept w) side e settled given new → IsPlain setup w e given new
+plain_pull setup w side e given new true h = record { step = h.0; none = h.1 ∙ sym (ap (λ k. nothing_kept k.world) h.1) }
+plain_pull setup w side e given new false h =
     record {
-      step = subst (λ v. Step setup v (event.Pull side id) given new.world) (caught setup w side) h.0;
+      step = subst (λ v. Step setup v e given new.world) (caught setup w side) h.0;
       none = h.1 ∙ kept_none w new.world side;
     }
 
@@ -95,13 +94,16 @@ plain : (setup : Setup) (w : World) (e : Event) (a : Answer) (new : KeepingWorld
 plain setup w (event.Deliver writer id count) a new h = let x = plain_bytes setup w writer id count a new h in record { step = x.same; none = x.none }
 plain setup w (event.DeliverEnd writer id) a new h = let x = plain_end setup w writer id a new h in record { step = x.same; none = x.none }
 plain setup w (event.DeliverReset writer id) a new h = let x = plain_reset setup w writer id a new h in record { step = x.same; none = x.none }
-plain setup w (event.Pull side id) a new h = plain_pull setup w side id a new (is_settled w side id) h
+plain setup w (event.Pull side id) a new h = plain_pull setup w side (event.Pull side id) a new (is_settled w side id) h
+plain setup w (event.PullFields side id) a new h = plain_pull setup w side (event.PullFields side id) a new (is_settled w side id) h
 plain setup w (event.Reset side id) a new h =
     record { step = subst (λ v. Does (reset_refusal v side id) w answer.Done (cut_off w side id) a new.world) (caught setup w (other side)) h.0; none = h.1 }
 plain setup w (event.OpenRequest side) a new h = record { step = h.0; none = h.1 }
 plain setup w (event.Head side id head) a new h = record { step = h.0; none = h.1 }
+plain setup w (event.Fields side id fields) a new h = record { step = h.0; none = h.1 }
 plain setup w (event.Body side id bytes) a new h = record { step = h.0; none = h.1 }
 plain setup w (event.Trailer side id trailer) a new h = record { step = h.0; none = h.1 }
+plain setup w (event.TrailerFields side id fields) a new h = record { step = h.0; none = h.1 }
 plain setup w (event.Finish side id) a new h = record { step = h.0; none = h.1 }
 plain setup w (event.Cancel side id) a new h = record { step = h.0; none = h.1 }
 plain setup w (event.Goaway side id) a new h = record { step = h.0; none = h.1 }
@@ -110,14 +112,17 @@ plain setup w (event.Show side) a new h = record { step = h.0; none = h.1 }
 -- where a pull stands
 at_reader : (setup : Setup) (w : World) (e : Event) → reader_world setup (nothing_kept w) e ≡ w
 at_reader setup w (event.Pull side id) = caught setup w side
+at_reader setup w (event.PullFields side id) = caught setup w side
 at_reader setup w (event.Deliver writer id count) = refl
 at_reader setup w (event.DeliverEnd writer id) = refl
 at_reader setup w (event.DeliverReset writer id) = refl
 at_reader setup w (event.Reset side id) = refl
 at_reader setup w (event.OpenRequest side) = refl
 at_reader setup w (event.Head side id head) = refl
+at_reader setup w (event.Fields side id fields) = refl
 at_reader setup w (event.Body side id bytes) = refl
 at_reader setup w (event.Trailer side id trailer) = refl
+at_reader setup w (event.TrailerFields side id fields) = refl
 at_reader setup w (event.Finish side id) = refl
 at_reader setup w (event.Cancel side id) = refl
 at_reader setup w (event.Goaway side id) = refl
@@ -128,7 +133,7 @@ pub record HappensPlainly (setup : Setup) (w : World) (e : Event) (a : Answer) (
   pub happens : Happens setup w e a new.world
   pub none : new ≡ nothing_kept new.world
 
-pub happens_plainly : (setup : Setup) (w : World) (e : Event) (a : Answer) (new : KeepingWorld) → is_memory a ≡ false → HappensWithMemory setup (nothing_kept w) e a new → HappensPlainly setup w e a new
+pub happens_plainly : (setup : Setup) (w : World) (e : Event) (a : Answer) (new : KeepingWorld) → is_out_of_memory a ≡ false → HappensWithMemory setup (nothing_kept w) e a new → HappensPlainly setup w e a new
 happens_plainly setup w e a new not_memory h =
     let p = plain setup w e a new (subst (λ b. StepOf b setup (nothing_kept w) e a new) not_memory h.step) in
     record {
@@ -151,11 +156,11 @@ neither : (first rest : Bool) → (first || rest) ≡ false → (first ≡ false
 neither true rest h = absurd (cc)
 neither false rest h = (refl, h)
 
-pub runs_plainly : (setup : Setup) (w : World) (events : List Event) (answers : List Answer) (new : KeepingWorld) → list_any is_memory answers ≡ false
+pub runs_plainly : (setup : Setup) (w : World) (events : List Event) (answers : List Answer) (new : KeepingWorld) → list_any is_out_of_memory answers ≡ false
     → Run (HappensWithMemory setup) (nothing_kept w) events answers new → RunsPlainly setup w events answers new
 runs_plainly setup w [] [] new none run = record { run = ap (λ k. k.world) run; none = run ∙ sym (ap (λ k. nothing_kept k.world) run) }
 runs_plainly setup w (e ∷ events) (a ∷ answers) new none run =
-    let parts = neither (is_memory a) (list_any is_memory answers) none in
+    let parts = neither (is_out_of_memory a) (list_any is_out_of_memory answers) none in
     let first = happens_plainly setup w e a run.0 parts.0 run.1 in
     let rest = runs_plainly setup run.0.world events answers new parts.1 (subst (λ k. Run (HappensWithMemory setup) k events answers new) first.none run.2) in
     record { run = (run.0.world, first.happens, rest.run); none = rest.none }

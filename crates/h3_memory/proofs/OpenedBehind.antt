@@ -13,7 +13,7 @@ use Rattle.h3_connection.specs.StreamSetLaws.{set-distinct}
 use Rattle.h3_world.specs.declared.setup.Setup.{Setup}
 use Rattle.h3_world.specs.Flow.{Flow, Part, Section}
 use Rattle.h3_world.specs.Flow.Part.{Interim, Head, Body, Trailer, End}
-use Rattle.h3_world.specs.Order.{next_part}
+use Rattle.h3_world.specs.Order.{next_part, section_of_part}
 use Rattle.h3_world.specs.Sound.{IsSoundWorld}
 use Rattle.h3_world.specs.Streams.{flow, with_flow, is_open}
 use Rattle.h3_world.specs.World.{World}
@@ -25,7 +25,7 @@ use Rattle.h3_headline.specs.FlowLaws.{open_there}
 use Rattle.h3_headline.specs.MovesLaws.{sender_stands, set_at}
 use Rattle.h3_headline.specs.SendingLaws.{flow_count}
 use Rattle.h3_headline.specs.SettledPullLaws.{set_same}
-use Rattle.h3_headline.specs.Standing.{ReceivesFlow, StandsAt, StandsBefore, WaitsIn, section_of_part}
+use Rattle.h3_headline.specs.Standing.{ReceivesFlow, StandsAt, StandsBefore, WaitsIn}
 use Rattle.h3_headline.specs.Steps.{IsThere}
 use Rattle.h3_headline.specs.WaitingLaws.{self}
 use Rattle.h3_memory.specs.Kept.{Delivery}

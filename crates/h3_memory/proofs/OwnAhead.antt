@@ -7,7 +7,8 @@ use Rattle.h3_proto.specs.declared.stream.Side.TheVariants.{Client, Server}
 use Rattle.h3_connection.specs.ExcessiveInstructions.{listen_up_to}
 use Rattle.h3_connection.specs.declared.arrival.Arrival.{Arrival}
 use Rattle.h3_connection.specs.declared.arrival.Arrival.TheVariants.{BytesCame}
-use Rattle.h3_connection.specs.Control.{Found, read_control, read_encoder, read_decoder, listened_to, kept_unread, after_peer, then_decoder, if_learned, learned, is_table_usable, with_table}
+use Rattle.h3_connection.specs.Codes.{missing_settings, settings_error}
+use Rattle.h3_connection.specs.Control.{Found, after_peer, are_refused, holding, if_learned, is_table_usable, kept_unread, lacks_settings, learned, listened_to, read_control, read_decoder, read_encoder, read_held, settings_alone, taken_peer, then_decoder, with_table}
 use Rattle.h3_connection.specs.Delivering.{bytes_at, heard_as, unless_second, read_unidirectional, with_unidirectional, unidirectional_at}
 use Rattle.h3_connection.specs.Endpoint.{EndpointHistory, limit_of, goaway_encoding, is_second, kind_of}
 use Rattle.h3_connection.specs.Endpoint.Kind.{PeerUnidirectional}
@@ -15,7 +16,7 @@ use Rattle.h3_connection.specs.Incoming.{Incoming}
 use Rattle.h3_connection.specs.Keeping.{read_arrival}
 use Rattle.h3_connection.specs.Outgoing.{Outgoing}
 use Rattle.h3_connection.specs.OwnIds.{other, is_own, control_id, encoder_id, decoder_id}
-use Rattle.h3_connection.specs.PeerReading.{PeerFound, read_peer, with_unread}
+use Rattle.h3_connection.specs.PeerReading.{PeerFound, read_peer}
 use Rattle.h3_connection.specs.StreamSets.{Streams, stream_at}
 use Rattle.h3_connection.specs.Unidirectional.{Role, role_after, with_bytes}
 use Rattle.h3_connection.specs.Unidirectional.Role.{Untold, Control, Encoder, Decoder, Push, Session, Ignored}
@@ -112,8 +113,8 @@ learned_leaves e pairs = by_test (is_table_usable e.encoder.most_capacity capaci
     by_test true = refl
     by_test false = refl
 
-peer_leaves : (e : EndpointHistory) (x : PeerFound) → streams_of (after_peer e x).0 ≡ streams_of e
-peer_leaves e (p, code) = by_settings e.peer.settings p.settings code
+taken_leaves : (e : EndpointHistory) (x : PeerFound) → streams_of (taken_peer e x).0 ≡ streams_of e
+taken_leaves e (p, code) = by_settings e.peer.settings p.settings code
   where
     by_settings : (before after : Option (List (ℕ × ℕ))) (code : Option ℕ) → streams_of (then_decoder before after (if_learned before after (record e { peer = p })) code).0 ≡ streams_of e
     by_settings None (Some pairs) (Some code) = learned_leaves (record e { peer = p }) pairs
@@ -125,13 +126,27 @@ peer_leaves e (p, code) = by_settings e.peer.settings p.settings code
     by_settings (Some old) (Some new) (Some code) = refl
     by_settings (Some old) (Some new) None = refl
 
+peer_leaves : (e : EndpointHistory) (x : PeerFound) → streams_of (after_peer e x).0 ≡ streams_of e
+peer_leaves e x = by_refused (are_refused e e.peer.settings x.0.settings)
+  where
+    by_refused : (b : Bool) → streams_of (if◌then◌else◌ {A = Found} b (record e { peer = settings_alone e.peer x.0.settings }, Some settings_error) (taken_peer e x)).0 ≡ streams_of e
+    by_refused true = refl
+    by_refused false = taken_leaves e x
+
+held_leaves : (e : EndpointHistory) → streams_of (read_held e).0 ≡ streams_of e
+held_leaves e = by_missing (lacks_settings e)
+  where
+    by_missing : (b : Bool) → streams_of (if◌then◌else◌ {A = Found} b (e, Some missing_settings) (after_peer e (read_peer (limit_of e) e.side e.peer))).0 ≡ streams_of e
+    by_missing true = refl
+    by_missing false = peer_leaves e (read_peer (limit_of e) e.side e.peer)
+
 heard_leaves : (e : EndpointHistory) (id : ℕ) (role : Role) (bytes : List ℕ) → streams_of (heard_as e id role bytes).0 ≡ streams_of e
 heard_leaves e id (Untold front) bytes = refl
 heard_leaves e id Control bytes = by_test (is_second e.control_on id)
   where
     by_test : (b : Bool) → streams_of (unless_second b e (read_control (record e { control_on = Some id }) bytes)).0 ≡ streams_of e
     by_test true = refl
-    by_test false = peer_leaves (record e { control_on = Some id }) (read_peer (limit_of e) e.side (with_unread e.peer (e.peer.unread ++ bytes)))
+    by_test false = held_leaves (holding (record e { control_on = Some id }) bytes)
 heard_leaves e id Encoder bytes = by_test (is_second e.encoder_on id)
   where
     by_test : (b : Bool) → streams_of (unless_second b e (read_encoder (record e { encoder_on = Some id }) bytes)).0 ≡ streams_of e

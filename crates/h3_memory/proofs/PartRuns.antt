@@ -7,7 +7,7 @@ use Rattle.h3_connection.specs.Endpoint.{EndpointHistory, limit_of}
 use Rattle.h3_connection.specs.Keeping.{keeping}
 use Rattle.h3_connection.specs.OwnIds.{other}
 use Rattle.h3_connection.specs.PartReading as reading
-use Rattle.h3_connection.specs.PartReading.{PeerReadsPart, ReadsOn, ReadsWhole, ReadsFront, Holds, ReadsFrames, Hears, Listens, after_frames, early}
+use Rattle.h3_connection.specs.PartReading.{MayRead, PeerReadsPart, ReadsOn, ReadsWhole, ReadsFront, Holds, ReadsFrames, Hears, Listens, after_frames, early}
 use Rattle.h3_world.specs.declared.setup.Setup.{Setup}
 use Rattle.h3_world.specs.Setup.{IsMadeSetup}
 use Rattle.h3_world.specs.World.{World}
@@ -23,14 +23,14 @@ use Rattle.h3_memory.proofs.ReadingState.{Reading}
 abbrev pub ReadsFramesOn : Setup → Type 0
 ReadsFramesOn setup =
     (w : World) (side : Side) (mine ds : List Delivery) (f g : EndpointHistory) (id : ℕ) (p : Rattle.h3_connection.specs.PeerReading.Peer) (more : List Arrival) → Reading setup w side mine ds f g (BytesCame id [] ∷ more) → f.control_on ≡ Some id
-    → PeerReadsPart (limit_of f) f.side f.peer p → PartStep setup w side mine ds (after_frames f p) g (BytesCame id [] ∷ early f p ++ more)
+    → MayRead f p → PeerReadsPart (limit_of f) f.side f.peer p → PartStep setup w side mine ds (after_frames f p) g (BytesCame id [] ∷ early f p ++ more)
 
 pub on_step : (qpack : KeptLaws) (laws : Laws) (setup : Setup) (made : IsMadeSetup setup) (frames : ReadsFramesOn setup) (w : World) (side : Side) (mine ds : List Delivery) (g : EndpointHistory) {f next : EndpointHistory} {arrivals more : List Arrival}
     → ReadsOn f arrivals next more → Reading setup w side mine ds f g arrivals → PartStep setup w side mine ds next g more
 on_step qpack laws setup made frames w side mine ds g {f = f} {next = next} (ReadsWhole {a = a} {more = more} reads) r = whole_step qpack laws setup w side mine f g made next ds a more r reads
 on_step qpack laws setup made frames w side mine ds g {f = f} {next = next} (ReadsFront front rest {id = id} {more = more} reads) r = front_step qpack laws setup w side mine f g made next ds id front rest more r reads
 on_step qpack laws setup made frames w side mine ds g {f = f} (Holds {id = id} {bytes = bytes} {more = more} kind reads) r = holds_step qpack laws setup w side mine f g made ds id bytes more r kind reads
-on_step qpack laws setup made frames w side mine ds g {f = f} (ReadsFrames {id = id} {p = p} {more = more} on part) r = frames w side mine ds f g id p more r on part
+on_step qpack laws setup made frames w side mine ds g {f = f} (ReadsFrames {id = id} {p = p} {more = more} on may part) r = frames w side mine ds f g id p more r on may part
 on_step qpack laws setup made frames w side mine ds g {f = f} (Hears {id = id} {d = d} {more = more} on part) r = hears_step qpack laws setup w side mine f g made ds id d more r on part
 on_step qpack laws setup made frames w side mine ds g {f = f} (Listens {id = id} {s = s} {left = left} {pairs = pairs} {more = more} on known part) r = listens_step qpack laws setup w side mine f g made ds id s left pairs more r on known part
 

@@ -12,6 +12,7 @@ use Rattle.h3_world.specs.declared.setup.Setup.{Setup}
 use Rattle.h3_world.specs.declared.event.Event.TheVariants as event
 use Rattle.h3_world.specs.declared.event.Answer.{Answer}
 use Rattle.h3_world.specs.declared.event.Answer.TheVariants as answer
+use Rattle.h3_world.specs.Lists.{pull_of}
 use Rattle.h3_world.specs.Flow.{Flow, Part}
 use Rattle.h3_world.specs.Flow.Part.{Interim, Head, Body, Trailer, End}
 use Rattle.h3_world.specs.Items.{acknowledgment_of, after_item, after_piece, handed_out}
@@ -130,3 +131,17 @@ pull_leaves setup w v side id answer.NoStream step = absurd step
 pull_leaves setup w v side id answer.Early step = absurd step
 pull_leaves setup w v side id (answer.Shown limits sizes n) step = absurd step
 pull_leaves setup w v side id (answer.Refused r) step = absurd step
+pull_leaves setup w v side id (answer.Listed l) step = absurd step
+
+-- **And one with lists.**
+pub listed_leaves : (setup : Setup) (w v : World) (side : Side) (id : ℕ) (a : Answer) → Step setup w (event.PullFields side id) a v → LeavesKept setup w v
+listed_leaves setup w v side id (answer.Listed l) step = pull_leaves setup w v side id (answer.Pulled (pull_of l)) step.0
+listed_leaves setup w v side id (answer.Opened x) step = absurd step
+listed_leaves setup w v side id answer.Done step = absurd step
+listed_leaves setup w v side id (answer.Delivered n) step = absurd step
+listed_leaves setup w v side id (answer.Short n) step = absurd step
+listed_leaves setup w v side id answer.NoStream step = absurd step
+listed_leaves setup w v side id answer.Early step = absurd step
+listed_leaves setup w v side id (answer.Shown limits sizes n) step = absurd step
+listed_leaves setup w v side id (answer.Refused r) step = absurd step
+listed_leaves setup w v side id (answer.Pulled p) step = absurd step

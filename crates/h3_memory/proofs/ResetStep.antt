@@ -16,7 +16,7 @@ use Rattle.h3_world.specs.declared.event.Event.TheVariants as event
 use Rattle.h3_world.specs.declared.event.Answer.{Answer}
 use Rattle.h3_world.specs.declared.event.Answer.TheVariants as answer
 use Rattle.h3_world.specs.Ends.{Ends, end_at, with_end, answered, done}
-use Rattle.h3_world.specs.Headline.{is_memory}
+use Rattle.h3_world.specs.Headline.{is_out_of_memory}
 use Rattle.h3_world.specs.Order.{outgoing_of}
 use Rattle.h3_world.specs.Refusals.{reset_refusal}
 use Rattle.h3_world.specs.Sendable.{IsSendable}
@@ -38,7 +38,7 @@ use Rattle.h3_memory.proofs.KeptLaws.{KeptLaws}
 use Rattle.h3_memory.proofs.ResetEvent.{CanReset, may_reset, refused_not, resets_at}
 use Rattle.h3_memory.proofs.ResetJudged.{reset_judged}
 use Rattle.h3_memory.proofs.SendersStep.{refused_of, any_exact, steps, told}
-use Rattle.h3_memory.proofs.SendingEvents.{TellsMemory, Lacks, IsKept, PullLacks, AnswersAlike, keeps_at, call_alike}
+use Rattle.h3_memory.proofs.SendingEvents.{TellsMemory, Lacks, IsKept, PullLacks, ListLacks, AnswersAlike, keeps_at, call_alike}
 use Rattle.h3_memory.proofs.SendsHappen.{Answered}
 
 -- the endpoint that cut the stream off
@@ -127,8 +127,9 @@ module _ (qpack : KeptLaws) (laws : Laws) (setup : Setup) (k : KeepingWorld) (en
 pub reset_step : (qpack : KeptLaws) (laws : Laws) (setup : Setup) (side : Side) (id : ℕ) → StepsOn setup (event.Reset side id)
 reset_step qpack laws setup side id = steps setup (event.Reset side id) (λ b w a. any_exact b) (λ k ends sendable h. reset_answered qpack laws setup k ends h side id sendable) lacks
   where
-    lacks : (k : KeepingWorld) (ends new : Ends) (a : Answer) → IsSendable setup (event.Reset side id) → StandsKeeping setup k ends → TellsMemory a → is_memory a ≡ true → refused.LacksMemory ends (event.Reset side id) a new
+    lacks : (k : KeepingWorld) (ends new : Ends) (a : Answer) → IsSendable setup (event.Reset side id) → StandsKeeping setup k ends → TellsMemory a → is_out_of_memory a ≡ true → refused.LacksMemory ends (event.Reset side id) a new
         → StandsOn setup k (event.Reset side id) a new
     lacks k ends new a sendable h Lacks m l = absurd l
     lacks k ends new a sendable h IsKept m l = absurd l
     lacks k ends new a sendable h PullLacks m l = absurd l
+    lacks k ends new a sendable h ListLacks m l = absurd l

@@ -14,7 +14,7 @@ use Rattle.h3_connection.specs.Endpoint.{EndpointHistory, Own}
 use Rattle.h3_connection.specs.OwnIds.{other, encoder_id}
 use Rattle.h3_connection.specs.Sections.{own_instructions}
 use Rattle.h3_connection.specs.Sections as sections
-use Rattle.h3_connection.specs.Refusals.{first_of}
+use Rattle.h3_connection.specs.Refusals.{first_of, unless_going}
 use Rattle.h3_connection.specs.StreamSets.{stream_at}
 use Rattle.h3_connection.specs.declared.event.Refusal.{Refusal}
 use Rattle.h3_connection.specs.declared.event.Refusal.TheVariants as refusal
@@ -146,6 +146,17 @@ cut_off_keeps qpack laws setup k ends side id fields of_bytes small h =
     stands_called setup k v ends side h x (sections.with_insertions (end_at ends side) id fields) c.incoming (ap (λ e. sections.with_insertions e id fields) c.is) refl c.resumes c.distinct
     (cut_off_stands qpack laws setup k.world h.behind side id fields of_bytes small h.stands) (both_stay setup k v side (inserts_leave setup k.world side id fields))
 
+-- of a front of the fields
+front_cut : (qpack : KeptLaws) (laws : Laws) (setup : Setup) (k : KeepingWorld) (ends new : Ends) (side : Side) (id : ℕ) (fields : List Field) → AllByRecursion IsFieldOfBytes fields → section_size fields < 2 ^ 56 → StandsKeeping setup k ends
+    → refused.CutsOff ends side id fields new → (next : KeepingWorld) × memory_step.CutsOff k side id fields next × StandsKeeping setup next new
+front_cut qpack laws setup k ends new side id fields of_bytes small h c =
+    let front = take c.front fields in (
+      with_world k (with_insertions k.world side id front),
+      record { front = c.front; within = c.within; inserted = refl },
+      subst (StandsKeeping setup (with_world k (with_insertions k.world side id front))) (sym c.is)
+          (cut_off_keeps qpack laws setup k ends side id front (front_of_bytes c.front fields of_bytes) (omega (arith, small, front_is_smaller c.front fields)) h),
+    )
+
 -- What a refused section leaves.
 pub record CutKeeps (setup : Setup) (k : KeepingWorld) (new : Ends) (side : Side) (id : ℕ) (fields : List Field) (q : Option Refusal) : Type 0 where
   pub next : KeepingWorld
@@ -161,12 +172,22 @@ unless : (b : Bool) (o p : Option Refusal) → NeverMalformed o → NeverMalform
 unless true o p h g = h
 unless false o p h g = g
 
-pub head_judged : (a b c d : Bool) (size : ℕ) → NeverMalformed (first_of ((a, refusal.NotOpen) ∷ (b, refusal.OutOfOrder) ∷ (c, refusal.WrongSide) ∷ (d, refusal.TooLarge size) ∷ []))
-head_judged a b c d size =
-    let large : Option Refusal = if d then Some (refusal.TooLarge size) else None in
-    let placed : Option Refusal = if c then Some refusal.WrongSide else large in
-    let ordered : Option Refusal = if b then Some refusal.OutOfOrder else placed in
-    unless a (Some refusal.NotOpen) ordered tt (unless b (Some refusal.OutOfOrder) placed tt (unless c (Some refusal.WrongSide) large tt (unless d (Some (refusal.TooLarge size)) None tt tt)))
+pub head_judged : (a b : Bool) (going : Option ℕ) (c d : Bool) (size : ℕ)
+    → NeverMalformed (first_of ((a, refusal.NotOpen) ∷ (b, refusal.OutOfOrder) ∷ unless_going going ((c, refusal.WrongSide) ∷ (d, refusal.TooLarge size) ∷ [])))
+head_judged a b going c d size = unless a (Some refusal.NotOpen) ordered tt (unless b (Some refusal.OutOfOrder) (begun going) tt (by_goaway going))
+  where
+    large : Option Refusal
+    large = if d then Some (refusal.TooLarge size) else None
+
+    begun : Option ℕ → Option Refusal
+    begun o = first_of (unless_going o ((c, refusal.WrongSide) ∷ (d, refusal.TooLarge size) ∷ []))
+
+    ordered : Option Refusal
+    ordered = if b then Some refusal.OutOfOrder else begun going
+
+    by_goaway : (o : Option ℕ) → NeverMalformed (begun o)
+    by_goaway None = unless c (Some refusal.WrongSide) large tt (unless d (Some (refusal.TooLarge size)) None tt tt)
+    by_goaway (Some last) = tt
 
 pub trailer_judged : (a b c d : Bool) (size : ℕ) → NeverMalformed (first_of ((a, refusal.NotOpen) ∷ (b, refusal.OutOfOrder) ∷ (c, refusal.PseudoInTrailer) ∷ (d, refusal.TooLarge size) ∷ []))
 trailer_judged a b c d size =
@@ -178,14 +199,7 @@ trailer_judged a b c d size =
 -- **A section that would have been sent, or is too large.** The world judges none by the rules of strict messages.
 pub section_cut : (qpack : KeptLaws) (laws : Laws) (setup : Setup) (k : KeepingWorld) (ends new : Ends) (side : Side) (id : ℕ) (fields : List Field) (q : Option Refusal) → NeverMalformed q → AllByRecursion IsFieldOfBytes fields
     → section_size fields < 2 ^ 56 → StandsKeeping setup k ends → refused.CutsSection q ends side id fields new → CutKeeps setup k new side id fields q
-section_cut qpack laws setup k ends new side id fields None never of_bytes small h c =
-    let front = take c.front fields in
-    record {
-      next = with_world k (with_insertions k.world side id front);
-      cuts = record { front = c.front; within = c.within; inserted = refl };
-      stands = subst (StandsKeeping setup (with_world k (with_insertions k.world side id front))) (sym c.is)
-          (cut_off_keeps qpack laws setup k ends side id front (front_of_bytes c.front fields of_bytes) (omega (arith, small, front_is_smaller c.front fields)) h);
-    }
+section_cut qpack laws setup k ends new side id fields None never of_bytes small h c = let x = front_cut qpack laws setup k ends new side id fields of_bytes small h c in record { next = x.0; cuts = x.1; stands = x.2 }
 section_cut qpack laws setup k ends new side id fields (Some (refusal.Malformed why)) never of_bytes small h c = absurd never
 section_cut qpack laws setup k ends new side id fields (Some (refusal.TooLarge size)) never of_bytes small h c = record { next = k; cuts = refl; stands = subst (StandsKeeping setup k) (sym c) h }
 section_cut qpack laws setup k ends new side id fields (Some (refusal.Closed code)) never of_bytes small h c = absurd c
@@ -205,3 +219,33 @@ section_cut qpack laws setup k ends new side id fields (Some refusal.Ended) neve
 section_cut qpack laws setup k ends new side id fields (Some refusal.NotRequestId) never of_bytes small h c = absurd c
 section_cut qpack laws setup k ends new side id fields (Some (refusal.Raised earlier)) never of_bytes small h c = absurd c
 section_cut qpack laws setup k ends new side id fields (Some refusal.OutOfMemory) never of_bytes small h c = absurd c
+
+-- What a refused list leaves.
+pub record ListCutKeeps (setup : Setup) (k : KeepingWorld) (new : Ends) (side : Side) (id : ℕ) (fields : List Field) (q : Option Refusal) : Type 0 where
+  pub next : KeepingWorld
+  pub cuts : memory_step.CutsList q k side id fields next
+  pub stands : StandsKeeping setup next new
+
+-- **And a list,** of which more is judged before.
+pub list_cut : (qpack : KeptLaws) (laws : Laws) (setup : Setup) (k : KeepingWorld) (ends new : Ends) (side : Side) (id : ℕ) (fields : List Field) (q : Option Refusal) → AllByRecursion IsFieldOfBytes fields → section_size fields < 2 ^ 56
+    → StandsKeeping setup k ends → refused.CutsList q ends side id fields new → ListCutKeeps setup k new side id fields q
+list_cut qpack laws setup k ends new side id fields None of_bytes small h c = let x = front_cut qpack laws setup k ends new side id fields of_bytes small h c in record { next = x.0; cuts = x.1; stands = x.2 }
+list_cut qpack laws setup k ends new side id fields (Some (refusal.TooLarge size)) of_bytes small h c = record { next = k; cuts = refl; stands = subst (StandsKeeping setup k) (sym c) h }
+list_cut qpack laws setup k ends new side id fields (Some (refusal.Malformed why)) of_bytes small h c = record { next = k; cuts = (c.0, refl); stands = subst (StandsKeeping setup k) (sym c.1) h }
+list_cut qpack laws setup k ends new side id fields (Some refusal.WrongSide) of_bytes small h c = record { next = k; cuts = (c.0, refl); stands = subst (StandsKeeping setup k) (sym c.1) h }
+list_cut qpack laws setup k ends new side id fields (Some refusal.PseudoInTrailer) of_bytes small h c = record { next = k; cuts = (c.0, refl); stands = subst (StandsKeeping setup k) (sym c.1) h }
+list_cut qpack laws setup k ends new side id fields (Some (refusal.Closed code)) of_bytes small h c = absurd c
+list_cut qpack laws setup k ends new side id fields (Some (refusal.Connection code)) of_bytes small h c = absurd c
+list_cut qpack laws setup k ends new side id fields (Some refusal.NotReceiving) of_bytes small h c = absurd c
+list_cut qpack laws setup k ends new side id fields (Some refusal.AfterEnd) of_bytes small h c = absurd c
+list_cut qpack laws setup k ends new side id fields (Some refusal.Kept) of_bytes small h c = absurd c
+list_cut qpack laws setup k ends new side id fields (Some refusal.NotClient) of_bytes small h c = absurd c
+list_cut qpack laws setup k ends new side id fields (Some (refusal.GoingAway last)) of_bytes small h c = absurd c
+list_cut qpack laws setup k ends new side id fields (Some refusal.IdsUsedUp) of_bytes small h c = absurd c
+list_cut qpack laws setup k ends new side id fields (Some refusal.NotOpen) of_bytes small h c = absurd c
+list_cut qpack laws setup k ends new side id fields (Some refusal.OutOfOrder) of_bytes small h c = absurd c
+list_cut qpack laws setup k ends new side id fields (Some refusal.Critical) of_bytes small h c = absurd c
+list_cut qpack laws setup k ends new side id fields (Some refusal.Ended) of_bytes small h c = absurd c
+list_cut qpack laws setup k ends new side id fields (Some refusal.NotRequestId) of_bytes small h c = absurd c
+list_cut qpack laws setup k ends new side id fields (Some (refusal.Raised earlier)) of_bytes small h c = absurd c
+list_cut qpack laws setup k ends new side id fields (Some refusal.OutOfMemory) of_bytes small h c = absurd c

@@ -15,9 +15,10 @@ use Rattle.h3_connection.specs.declared.event.Fault.TheVariants as fault
 use Rattle.h3_world.specs.declared.setup.Setup.{Setup}
 use Rattle.h3_world.specs.declared.event.Answer.{Answer}
 use Rattle.h3_world.specs.declared.event.Answer.TheVariants as answer
+use Rattle.h3_world.specs.declared.lists.ListPull.TheVariants as list
 use Rattle.h3_world.specs.Delivering.{is_closed}
 use Rattle.h3_world.specs.Ends.{Ends, end_at, with_end, done}
-use Rattle.h3_world.specs.Headline.{is_memory}
+use Rattle.h3_world.specs.Headline.{is_out_of_memory}
 use Rattle.h3_world.specs.World.{World}
 use Rattle.h3_headline.specs.Standing.{Stands}
 use Rattle.h3_memory.specs.Kept.{Delivery, KeepingWorld, kept_at, with_world}
@@ -129,11 +130,13 @@ pub data TellsMemory : Answer → Type 0 where
   Lacks : TellsMemory (answer.Refused refusal.OutOfMemory)
   IsKept : TellsMemory (answer.Refused refusal.Kept)
   PullLacks : TellsMemory (answer.Pulled (pull.Fault fault.Memory))
+  ListLacks : TellsMemory (answer.Listed (list.Fault fault.Memory))
 
-pub tells_memory : (a : Answer) → is_memory a ≡ true → TellsMemory a
+pub tells_memory : (a : Answer) → is_out_of_memory a ≡ true → TellsMemory a
 tells_memory (answer.Refused refusal.OutOfMemory) e = Lacks
 tells_memory (answer.Refused refusal.Kept) e = IsKept
 tells_memory (answer.Pulled (pull.Fault fault.Memory)) e = PullLacks
+tells_memory (answer.Listed (list.Fault fault.Memory)) e = ListLacks
 tells_memory (answer.Opened id) e = cc
 tells_memory answer.Done e = cc
 tells_memory (answer.Delivered count) e = cc
@@ -164,3 +167,9 @@ tells_memory (answer.Pulled (pull.Waiting count)) e = cc
 tells_memory (answer.Pulled pull.NoMessages) e = cc
 tells_memory (answer.Pulled (pull.Fault (fault.Connection code))) e = cc
 tells_memory (answer.Pulled (pull.Fault (fault.Stream why))) e = cc
+tells_memory (answer.Listed (list.Item item)) e = cc
+tells_memory (answer.Listed list.Pending) e = cc
+tells_memory (answer.Listed (list.Waiting count)) e = cc
+tells_memory (answer.Listed list.NoMessages) e = cc
+tells_memory (answer.Listed (list.Fault (fault.Connection code))) e = cc
+tells_memory (answer.Listed (list.Fault (fault.Stream why))) e = cc

@@ -3,6 +3,7 @@ use Rattle.std.proofs.Common.{◌≡◌, ℕ, ◌*◌, ◌<◌, Bool, true, fals
 use Rattle.std.specs.Prelude.{not, ◌&&◌, ◌||◌, ◌==◌, ◌/◌, ◌^◌, length, nat_le}
 use Rattle.std.proofs.Math.Nat.{div-add-mod}
 use Rattle.std.proofs.lemmas.Grind.{common_steps}
+use Rattle.h3_field.specs.Field.{Field}
 use Rattle.h3_header.specs.Head.{Head as Fields}
 use Rattle.h3_proto.specs.StreamIds.{is_request_stream, index_of}
 use Rattle.h3_proto.specs.declared.stream.Side.{Side}
@@ -22,6 +23,7 @@ use Rattle.h3_world.specs.declared.event.Event.{Event}
 use Rattle.h3_world.specs.declared.event.Event.TheVariants as event
 use Rattle.h3_world.specs.declared.event.Answer.{Answer}
 use Rattle.h3_world.specs.declared.event.Answer.TheVariants as answer
+use Rattle.h3_world.specs.EndLists.{send_fields, send_trailer_fields}
 use Rattle.h3_world.specs.Ends.{Ends, end_at, answered, done}
 use Rattle.h3_world.specs.Refusals.{next_id}
 use Rattle.h3_world.specs.Sendable.{IsSendable}
@@ -32,16 +34,16 @@ use Rattle.h3_world.specs.World.{World}
 use Rattle.h3_headline.specs.Cited.{Laws}
 use Rattle.h3_headline.specs.FlowLaws.{same_number}
 use Rattle.h3_headline.specs.SendingLaws.{both_of}
-use Rattle.h3_headline.specs.SentEventLaws.{opened_on, head_on, body_on, trailer_on, finish_on, cancel_on, goaway_on, show_on}
+use Rattle.h3_headline.specs.SentEventLaws.{opened_on, head_on, fields_on, body_on, trailer_on, trailer_fields_on, finish_on, cancel_on, goaway_on, show_on}
 use Rattle.h3_headline.specs.Standing.{Stands}
 use Rattle.h3_memory.specs.Kept.{KeepingWorld, kept_at, with_world}
 use Rattle.h3_memory.specs.Keeping.{StandsKeeping, ahead, bytes_in}
 use Rattle.h3_memory.specs.MemoryStep.{Answers}
 use Rattle.h3_memory.specs.Writing.{LeavesKept}
-use Rattle.h3_memory.proofs.CallsAhead.{CallAhead, open_alike, head_alike, body_alike, trailer_alike, finish_alike, cancel_alike, goaway_alike, waits_alike}
+use Rattle.h3_memory.proofs.CallsAhead.{CallAhead, open_alike, head_alike, fields_alike, body_alike, trailer_alike, trailer_fields_alike, finish_alike, cancel_alike, goaway_alike, waits_alike}
 use Rattle.h3_memory.proofs.KeptAlike.{none_of_closed}
 use Rattle.h3_memory.proofs.SendingEvents.{keeps_at, both_stay, call_alike}
-use Rattle.h3_memory.proofs.SendsLeave.{open_leaves, head_leaves, body_leaves, trailer_leaves, finish_leaves, cancel_leaves, goaway_leaves}
+use Rattle.h3_memory.proofs.SendsLeave.{open_leaves, head_leaves, fields_leaves, body_leaves, trailer_leaves, trailer_fields_leaves, finish_leaves, cancel_leaves, goaway_leaves}
 
 -- What comes of an event that was not refused memory, where it reads nothing of what is kept.
 pub record Answered (setup : Setup) (k : KeepingWorld) (ends : Ends) (e : Event) : Type 0 where
@@ -124,6 +126,19 @@ module _ (laws : Laws) (setup : Setup) (k : KeepingWorld) (ends : Ends) (h : Sta
       (head_leaves setup k.world on.new side id head (answered h.behind (event.Head side id head)).0 on.happens.step) in
       record { new = on.new; step = (both.0, refl); stands = both.1 }
 
+  -- and as a list
+  pub fields_calls : (side : Side) → IsPlain (announced_at setup side) → (id : ℕ) (fields : List Field) → Calls setup k ends h side (λ e. send_fields e id fields)
+  fields_calls side plain id fields =
+      let c = keeps_at setup k ends side h in
+      calls setup k ends h side (λ e. send_fields e id fields) (fields_alike (kept_at k (other side)) c.held c.arrivals side (end_at h.behind side) c.incoming c.resumes (announces_plainly side plain) id fields)
+
+  pub fields_answered : (side : Side) → IsPlain (announced_at setup side) → (id : ℕ) (fields : List Field) → IsSendable setup (event.Fields side id fields) → Answered setup k ends (event.Fields side id fields)
+  fields_answered side plain id fields sendable =
+      let on = fields_on laws setup k.world h.behind side id fields plain sendable h.stands in
+      let both = happens side answer.Done (λ e. send_fields e id fields) (λ v a. Step setup k.world (event.Fields side id fields) a v) on.new (fields_calls side plain id fields) on.happens.step on.stands
+      (fields_leaves setup k.world on.new side id fields (answered h.behind (event.Fields side id fields)).0 on.happens.step) in
+      record { new = on.new; step = (both.0, refl); stands = both.1 }
+
   -- **A piece of the body.**
   pub body_calls : (side : Side) (id : ℕ) (bytes : List ℕ) → Calls setup k ends h side (λ e. sender.send_body e id bytes)
   body_calls side id bytes =
@@ -148,6 +163,18 @@ module _ (laws : Laws) (setup : Setup) (k : KeepingWorld) (ends : Ends) (h : Sta
       let on = trailer_on laws setup k.world h.behind side id trailer plain sendable h.stands in
       let both = happens side answer.Done (λ e. sender.send_trailer e id trailer) (λ v a. Step setup k.world (event.Trailer side id trailer) a v) on.new (trailer_calls side id trailer) on.happens.step on.stands
       (trailer_leaves setup k.world on.new side id trailer (answered h.behind (event.Trailer side id trailer)).0 on.happens.step) in
+      record { new = on.new; step = (both.0, refl); stands = both.1 }
+
+  pub trailer_fields_calls : (side : Side) (id : ℕ) (fields : List Field) → Calls setup k ends h side (λ e. send_trailer_fields e id fields)
+  trailer_fields_calls side id fields =
+      let c = keeps_at setup k ends side h in
+      calls setup k ends h side (λ e. send_trailer_fields e id fields) (trailer_fields_alike (kept_at k (other side)) c.held c.arrivals side (end_at h.behind side) c.incoming c.resumes id fields)
+
+  pub trailer_fields_answered : (side : Side) → IsPlain (announced_at setup side) → (id : ℕ) (fields : List Field) → IsSendable setup (event.TrailerFields side id fields) → Answered setup k ends (event.TrailerFields side id fields)
+  trailer_fields_answered side plain id fields sendable =
+      let on = trailer_fields_on laws setup k.world h.behind side id fields plain sendable h.stands in
+      let both = happens side answer.Done (λ e. send_trailer_fields e id fields) (λ v a. Step setup k.world (event.TrailerFields side id fields) a v) on.new (trailer_fields_calls side id fields) on.happens.step on.stands
+      (trailer_fields_leaves setup k.world on.new side id fields (answered h.behind (event.TrailerFields side id fields)).0 on.happens.step) in
       record { new = on.new; step = (both.0, refl); stands = both.1 }
 
   -- **The end of a message.**

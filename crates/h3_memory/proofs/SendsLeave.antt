@@ -5,14 +5,16 @@ use Rattle.std.proofs.lemmas.Grind.{flat_map-append}
 use Rattle.h3_field.specs.Field.{Field, section_size}
 use Rattle.h3_field.specs.Instruction.DecoderInstruction.{CancelStream}
 use Rattle.h3_header.specs.Head.{Head as Fields, head_fields, has_pseudo}
+use Rattle.h3_header.specs.Reads.{head_of_fields}
 use Rattle.h3_wire.specs.Encoded.{frame_encoding}
 use Rattle.h3_proto.specs.declared.stream.Side.{Side}
 use Rattle.h3_proto.specs.declared.stream.Side.TheVariants.{Client, Server}
 use Rattle.h3_connection.specs.Outgoing.{takes_head, takes_body, takes_end, is_unsent, last_is_trailer}
 use Rattle.h3_connection.specs.OwnIds.{other}
-use Rattle.h3_connection.specs.Pulling.{is_for, is_interim}
+use Rattle.h3_connection.specs.Pulling.{is_interim}
 use Rattle.h3_connection.specs.Sections.{own_instructions}
-use Rattle.h3_connection.specs.Refusals.{is_too_large}
+use Rattle.h3_connection.specs.Refusals.{is_too_large, of_list, unless_going, with_pseudo, wrong_side}
+use Rattle.h3_connection.specs.StrictSending.{unless_malformed}
 use Rattle.h3_connection.specs.declared.event.Refusal.{Refusal}
 use Rattle.h3_connection.specs.declared.event.Refusal.TheVariants as refusal
 use Rattle.h3_connection.specs.declared.event.StreamFault.{StreamFault}
@@ -24,8 +26,10 @@ use Rattle.h3_world.specs.Came.{settings_known}
 use Rattle.h3_world.specs.Flow.{Flow, Part, part_bytes, flow_bytes}
 use Rattle.h3_world.specs.Flow.Part.{Interim, Head, Body, Trailer, End}
 use Rattle.h3_world.specs.Order.{is_finished, is_over, outgoing_of}
-use Rattle.h3_world.specs.Refusals.{next_id, is_critical, open_refusal, head_refusal, body_refusal, trailer_refusal, finish_refusal, cancel_refusal, goaway_refusal}
-use Rattle.h3_world.specs.Sending.{appended, opened, having_encoded, section_sent, sent_head, sent_body, sent_trailer, finished, given_up, with_goaway}
+use Rattle.h3_world.specs.Refusals.{next_id, none_after, is_critical, open_refusal, head_refusal, fields_refusal, body_refusal, trailer_refusal, trailer_fields_refusal, finish_refusal, cancel_refusal, goaway_refusal}
+use Rattle.h3_world.specs.Lists.{unreadable}
+use Rattle.h3_world.specs.Setup.{announced_at, takes_any}
+use Rattle.h3_world.specs.Sending.{appended, opened, having_encoded, section_sent, sent_head, sent_fields, sent_body, sent_trailer, sent_trailer_fields, finished, given_up, with_goaway}
 use Rattle.h3_world.specs.Step.{Does}
 use Rattle.h3_world.specs.Streams.{flow, with_flow, is_open}
 use Rattle.h3_world.specs.World.{World, Party, party, with_party}
@@ -115,13 +119,22 @@ head_leaves setup w v side id head a h =
     does_leave setup w (sent_head w side id head) v answer.Done a (head_refusal setup w side id head)
     (λ none.
     let f = flow w side id in
-    let opened = not_refused_open (is_open w side id) (
-    (not (takes_head (outgoing_of f)), refusal.OutOfOrder) ∷ (not (is_for (other side) head), refusal.WrongSide) ∷
-    (is_too_large (settings_known setup w side) (head_fields head), refusal.TooLarge (section_size (head_fields head))) ∷ []) none in
-    let takes = not_refused (not (takes_head (outgoing_of f))) refusal.OutOfOrder (
-    (not (is_for (other side) head), refusal.WrongSide) ∷
-    (is_too_large (settings_known setup w side) (head_fields head), refusal.TooLarge (section_size (head_fields head))) ∷ []) opened.1 in
+    let rest : List (Bool × Refusal) = unless_going (none_after setup w side) (wrong_side side head ∷ of_list None (settings_known setup w side) (head_fields head)) in
+    let opened = not_refused_open (is_open w side id) ((not (takes_head (outgoing_of f)), refusal.OutOfOrder) ∷ rest) none in
+    let takes = not_refused (not (takes_head (outgoing_of f))) refusal.OutOfOrder rest opened.1 in
     section_leaves setup w side id (head_fields head) ((if is_interim head.status then Interim else Head) (section_sent (party w side) id (head_fields head) f)) opened.0 (takes_head_open f takes.0)) h
+
+-- a list
+pub fields_leaves : (setup : Setup) (w v : World) (side : Side) (id : ℕ) (fields : List Field) (a : Answer) → Does (fields_refusal setup w side id fields) w answer.Done (sent_fields w side id fields) a v → LeavesKept setup w v
+fields_leaves setup w v side id fields a h =
+    does_leave setup w (sent_fields w side id fields) v answer.Done a (fields_refusal setup w side id fields)
+    (λ none.
+    let f = flow w side id in
+    let head = head_of_fields fields in
+    let rest : List (Bool × Refusal) = unless_going (none_after setup w side) (unless_malformed (unreadable (takes_any (announced_at setup side)) fields) (wrong_side side head ∷ of_list None (settings_known setup w side) fields)) in
+    let opened = not_refused_open (is_open w side id) ((not (takes_head (outgoing_of f)), refusal.OutOfOrder) ∷ rest) none in
+    let takes = not_refused (not (takes_head (outgoing_of f))) refusal.OutOfOrder rest opened.1 in
+    section_leaves setup w side id fields ((if is_interim head.status then Interim else Head) (section_sent (party w side) id fields f)) opened.0 (takes_head_open f takes.0)) h
 
 pub body_leaves : (setup : Setup) (w v : World) (side : Side) (id : ℕ) (bytes : List ℕ) (a : Answer) → Does (body_refusal w side id) w answer.Done (sent_body w side id bytes) a v → LeavesKept setup w v
 body_leaves setup w v side id bytes a h =
@@ -147,6 +160,16 @@ trailer_leaves setup w v side id trailer a h =
     let takes = not_refused (not (takes_body (outgoing_of f))) refusal.OutOfOrder (
     (has_pseudo trailer, refusal.PseudoInTrailer) ∷ (is_too_large (settings_known setup w side) (head_fields trailer), refusal.TooLarge (section_size (head_fields trailer))) ∷ []) opened.1 in
     section_leaves setup w side id (head_fields trailer) (Trailer (section_sent (party w side) id (head_fields trailer) f)) opened.0 (takes_body_open f takes.0)) h
+
+pub trailer_fields_leaves : (setup : Setup) (w v : World) (side : Side) (id : ℕ) (fields : List Field) (a : Answer) → Does (trailer_fields_refusal setup w side id fields) w answer.Done (sent_trailer_fields w side id fields) a v → LeavesKept setup w v
+trailer_fields_leaves setup w v side id fields a h =
+    does_leave setup w (sent_trailer_fields w side id fields) v answer.Done a (trailer_fields_refusal setup w side id fields)
+    (λ none.
+    let f = flow w side id in
+    let rest : List (Bool × Refusal) = unless_malformed (unreadable (takes_any (announced_at setup side)) fields) (with_pseudo (head_of_fields fields) ∷ of_list None (settings_known setup w side) fields) in
+    let opened = not_refused_open (is_open w side id) ((not (takes_body (outgoing_of f)), refusal.OutOfOrder) ∷ rest) none in
+    let takes = not_refused (not (takes_body (outgoing_of f))) refusal.OutOfOrder rest opened.1 in
+    section_leaves setup w side id fields (Trailer (section_sent (party w side) id fields f)) opened.0 (takes_body_open f takes.0)) h
 
 pub finish_leaves : (setup : Setup) (w v : World) (side : Side) (id : ℕ) (a : Answer) → Does (finish_refusal w side id) w answer.Done (finished w side id) a v → LeavesKept setup w v
 finish_leaves setup w v side id a h =

@@ -9,6 +9,7 @@ use Rattle.h3_connection.specs.OwnIds.{other}
 use Rattle.h3_connection.specs.StreamSets.{HaveDistinctIds}
 use Rattle.h3_connection.specs.declared.event.Pull.{Pull}
 use Rattle.h3_world.specs.declared.setup.Setup.{Setup}
+use Rattle.h3_world.specs.declared.event.Event.{Event}
 use Rattle.h3_world.specs.declared.event.Event.TheVariants as event
 use Rattle.h3_world.specs.declared.event.Answer.TheVariants as answer
 use Rattle.h3_world.specs.Ends.{Ends, end_at, with_end, answered}
@@ -31,11 +32,11 @@ use Rattle.h3_memory.proofs.Settling.{settled_later, settled_some, settles_there
 use Rattle.h3_memory.proofs.Written.{unchanged}
 
 -- What comes of a pull that is not refused memory.
-pub record PullAnswered (setup : Setup) (k : KeepingWorld) (ends : Ends) (side : Side) (id : ℕ) : Type 0 where
+pub record PullAnswered (setup : Setup) (k : KeepingWorld) (ends : Ends) (side : Side) (e : Event) : Type 0 where
   pub new : KeepingWorld
-  pub step : Answers setup k (event.Pull side id) (answered ends (event.Pull side id)).0 new
-  pub exact : IsExact (caught_up setup k side) (event.Pull side id) (answered ends (event.Pull side id)).0
-  pub stands : StandsKeeping setup new (answered ends (event.Pull side id)).1
+  pub step : Answers setup k e (answered ends e).0 new
+  pub exact : IsExact (caught_up setup k side) e (answered ends e).0
+  pub stands : StandsKeeping setup new (answered ends e).1
 
 -- what the side keeps can be read
 pub theirs_readable : (setup : Setup) (k : KeepingWorld) (ends : Ends) (side : Side) → StandsKeeping setup k ends → CanBeRead setup k.world (other side) (kept_at k side)
@@ -79,7 +80,7 @@ module _ (laws : Laws) (setup : Setup) (made : IsMadeSetup setup) (plain : Judge
       (settled_ahead (kept_at k (other side)) c.held c.arrivals b c.incoming id here.nothing_kept (settles_there setup k.world side id b here h.stands.sound ∙ settled)
       (subst (λ s. EachResumes s b.announced b.incoming c.incoming) (sym here.side_is) c.resumes))
 
-  pub settled_answered : is_settled k.world side id ≡ true → PullAnswered setup k ends side id
+  pub settled_answered : is_settled k.world side id ≡ true → PullAnswered setup k ends side (event.Pull side id)
   settled_answered settled =
       let on = pull_on laws setup k.world h.behind side id made plain h.stands in
       let p = pulls_alike settled in
@@ -91,7 +92,7 @@ module _ (laws : Laws) (setup : Setup) (made : IsMadeSetup setup) (plain : Judge
       let step : Step setup k.world (event.Pull side id) (answer.Pulled x.0) k.world = subst (λ v. Step setup k.world (event.Pull side id) (answer.Pulled x.0) v) is_same on.happens.step in
       record {
         new = k;
-        step = subst (λ t. PullsKeeping setup k side id t (answered ends (event.Pull side id)).0 k) (sym settled) (subst (λ a. Step setup k.world (event.Pull side id) a k.world) (sym given) step, refl);
+        step = subst (λ t. PullsKeeping setup k side (event.Pull side id) t (answered ends (event.Pull side id)).0 k) (sym settled) (subst (λ a. Step setup k.world (event.Pull side id) a k.world) (sym given) step, refl);
         exact = subst (IsExact (caught_up setup k side) (event.Pull side id)) (sym given)
             (exact_settled (caught_up setup k side) side id x.0 (settled_some (caught_up setup k side) side id (settled_later setup k side id (theirs_readable setup k ends side h) settled)));
         stands = subst (StandsKeeping setup k) (sym left)

@@ -4,7 +4,8 @@ use Rattle.std.specs.Prelude.{◌==◌, is_some}
 use Rattle.h3_field.specs.Instruction.{DecoderInstruction}
 use Rattle.h3_proto.specs.declared.stream.Side.{Side}
 use Rattle.h3_connection.specs.declared.arrival.Arrival.TheVariants.{BytesCame}
-use Rattle.h3_connection.specs.Control.{Found, increment, read_control, read_encoder, read_decoder, listened_to, kept_unread, after_peer, then_decoder, if_learned}
+use Rattle.h3_connection.specs.Codes.{decoder_stream_error, encoder_stream_error}
+use Rattle.h3_connection.specs.Control.{Found, increment, read_control, read_encoder, read_decoder, listened_to, kept_unread, taken_peer, then_decoder, if_learned}
 use Rattle.h3_connection.specs.Delivering.{bytes_at, heard_as, unless_second, read_unidirectional, with_unidirectional}
 use Rattle.h3_connection.specs.Endpoint.{EndpointHistory, limit_of, is_second, kind_of}
 use Rattle.h3_connection.specs.Endpoint.Kind.{PeerUnidirectional}
@@ -15,6 +16,8 @@ use Rattle.h3_connection.specs.LimitedListeningLaws.{listens_nothing}
 use Rattle.h3_connection.specs.PeerReading.{Peer, read_peer, with_unread}
 use Rattle.h3_connection.specs.StreamSets.{stream_at}
 use Rattle.h3_connection.specs.StreamSetLaws.{set-same}
+use Rattle.h3_connection.specs.StrictConnection.{is_strict, stream_fault}
+use Rattle.h3_connection.specs.StrictConnectionLaws.{nothing_held, nothing_told}
 use Rattle.h3_connection.specs.Unidirectional.{Unidirectional, Role, untold, role_after, with_bytes}
 use Rattle.h3_connection.specs.Unidirectional.Role.{Untold, Control, Encoder, Decoder}
 use Rattle.h3_headline.specs.PeerStreams.{with_role}
@@ -83,6 +86,7 @@ pub no_bytes_heard : (e : EndpointHistory) → e.decoding.unread ≡ [] → read
 no_bytes_heard e none =
     ap (λ l. read_as (hear_up_to (limit_of e) e.decoding.decoder (l ++ []))) none
     ∙ ap read_as (hears_nothing (limit_of e) e.decoding.decoder)
+    ∙ ap (λ (t : Option ℕ). ((saying_so (increment (e.decoding.decoder.table.inserted - e.decoding.decoder.table.inserted))).0, t)) (nothing_told (is_strict e.announced) encoder_stream_error)
     ∙ ap (λ n. saying_so n) (none_added e.decoding.decoder.table.inserted)
     ∙ ap (λ (l : List DecoderInstruction). (record e { decoding = record { decoder = e.decoding.decoder; unread = [] }; own = record e.own { replies = l } }, None)) (append-nil e.own.replies)
     ∙ ap (λ l. (record e { decoding = record { decoder = e.decoding.decoder; unread = l } }, None)) (sym none)
@@ -90,7 +94,7 @@ no_bytes_heard e none =
     read_as : Rattle.h3_qpack.specs.Hearing.Heard → Found
     read_as h = (
       Rattle.h3_connection.specs.Endpoint.replied (record e { decoding = Rattle.h3_connection.specs.Listeners.after_hearing h }) (increment (Rattle.h3_connection.specs.Listeners.insertions_heard e.decoding h)),
-      Rattle.h3_connection.specs.Listeners.hearing_fault (limit_of e) h,
+      stream_fault (is_strict e.announced) encoder_stream_error (Rattle.h3_connection.specs.Listeners.hearing_fault (limit_of e) h),
     )
 
     saying_so : List DecoderInstruction → Found
@@ -104,7 +108,8 @@ no_bytes_listened e none = by_settings (is_some e.peer.settings)
   where
     by_settings : (b : Bool) → (if b then listened_to e (listen_up_to (limit_of e) e.encoder (e.decoder_unread ++ [])) else kept_unread e (e.decoder_unread ++ [])) ≡ (e, None)
     by_settings true =
-        ap (λ l. listened_to e (listen_up_to (limit_of e) e.encoder (l ++ []))) none ∙ ap (listened_to e) (listens_nothing (limit_of e) e.encoder) ∙ ap (λ l. (record e { decoder_unread = l }, None)) (sym none)
+        ap (λ l. listened_to e (listen_up_to (limit_of e) e.encoder (l ++ []))) none ∙ ap (listened_to e) (listens_nothing (limit_of e) e.encoder)
+        ∙ ap (λ (t : Option ℕ). (record e { decoder_unread = [] }, t)) (nothing_told (is_strict e.announced) decoder_stream_error) ∙ ap (λ l. (record e { decoder_unread = l }, None)) (sym none)
     by_settings false =
         ap (λ l. kept_unread e (l ++ [])) none ∙ ap (λ l. (record e { decoder_unread = l }, None)) (sym none)
 
@@ -114,8 +119,9 @@ no_frames limit side p = refl
 
 pub no_bytes_controlled : (e : EndpointHistory) → e.peer.unread ≡ [] → read_control e [] ≡ (e, None)
 no_bytes_controlled e none =
-    ap (λ l. after_peer e (read_peer (limit_of e) e.side (with_unread e.peer (l ++ [])))) none ∙ ap (after_peer e) (no_frames (limit_of e) e.side e.peer)
-    ∙ ap (λ l. after_peer e (with_unread e.peer l, None)) (sym none) ∙ by_settings e.peer.settings
+    nothing_held e none
+    ∙ ap (λ l. taken_peer e (read_peer (limit_of e) e.side (with_unread e.peer (l ++ [])))) none ∙ ap (taken_peer e) (no_frames (limit_of e) e.side e.peer)
+    ∙ ap (λ l. taken_peer e (with_unread e.peer l, None)) (sym none) ∙ by_settings e.peer.settings
   where
     by_settings : (o : Option (List (ℕ × ℕ))) → then_decoder o o (if_learned o o e) None ≡ (e, None)
     by_settings None = refl

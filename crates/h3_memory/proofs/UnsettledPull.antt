@@ -13,11 +13,15 @@ use Rattle.h3_connection.specs.StreamSets.{HaveDistinctIds}
 use Rattle.h3_world.specs.declared.setup.Setup.{Setup}
 use Rattle.h3_world.specs.declared.event.Event.TheVariants as event
 use Rattle.h3_world.specs.declared.event.Answer.TheVariants as answer
+use Rattle.h3_connection.specs.Coming.{fields_behind, fields_item, fields_of_kind}
+use Rattle.h3_world.specs.Lists.{listed_pull}
+use Rattle.h3_world.specs.Pulling.{list_next}
 use Rattle.h3_world.specs.Ends.{Ends, end_at, with_end, answered}
 use Rattle.h3_world.specs.Setup.{IsMadeSetup, JudgesPlainly}
 use Rattle.h3_world.specs.Step.{Step, IsExact}
 use Rattle.h3_world.specs.World.{World}
 use Rattle.h3_headline.specs.Cited.{Laws}
+use Rattle.h3_headline.specs.ListEventLaws.{same_lists}
 use Rattle.h3_headline.specs.PeerPullLaws.{plain_pull}
 use Rattle.h3_headline.specs.PullEventLaws.{pull_on}
 use Rattle.h3_headline.specs.SendingLaws.{both_of}
@@ -30,6 +34,7 @@ use Rattle.h3_memory.proofs.AheadPulls.{PullsAhead, pull_at_ahead, settles_ahead
 use Rattle.h3_memory.proofs.CatchesUp.{ReadsAll, keeping_so, reading_of, reads_all, standing_of}
 use Rattle.h3_memory.proofs.Growing.{kept_on, may_on}
 use Rattle.h3_memory.proofs.KeptLaws.{KeptLaws}
+use Rattle.h3_memory.proofs.ListsAhead.{lists_ahead}
 use Rattle.h3_memory.proofs.PullSpares.{Spares, pulls_spare}
 use Rattle.h3_memory.proofs.PullsLeave.{pull_leaves}
 use Rattle.h3_memory.proofs.ReadingEnds.{Two, ends_of, stands_of, two_of}
@@ -163,7 +168,7 @@ module _ (qpack : KeptLaws) (laws : Laws) (setup : Setup) (made : IsMadeSetup se
         there = writes_on setup u v side mine [] r.ew g on r.there;
       }
 
-  pub unsettled_answered : is_settled k.world side id ≡ false → PullAnswered setup k ends side id
+  pub unsettled_answered : is_settled k.world side id ≡ false → PullAnswered setup k ends side (event.Pull side id)
   unsettled_answered open_still =
       let next = all.next in
       let r = all.then_reads in
@@ -185,9 +190,47 @@ module _ (qpack : KeptLaws) (laws : Laws) (setup : Setup) (made : IsMadeSetup se
       let new = with_kept k side v [] in
       record {
         new = new;
-        step = subst (λ t. PullsKeeping setup k side id t (answered ends (event.Pull side id)).0 new) (sym open_still)
+        step = subst (λ t. PullsKeeping setup k side (event.Pull side id) t (answered ends (event.Pull side id)).0 new) (sym open_still)
             (subst (λ a. Step setup u (event.Pull side id) a new.world) (sym given) (subst (Step setup u (event.Pull side id) (answer.Pulled x.0)) (sym (world_is k side v)) step), ap (λ w. with_kept k side w []) (sym (world_is k side v)));
         exact = subst (IsExact u (event.Pull side id)) (answer_there ∙ sym given) on.happens.exact;
         stands = subst (StandsKeeping setup new) (ends_are ends side y ∙ sym left)
             (subst (λ m. StandsKeeping setup m (ends_of side y g)) (keeping_is k side v) (standing_of setup v side mine [] y g y [] read refl));
       }
+
+  -- The list that comes next behind what is kept.
+  read_lists : (next : EndpointHistory) → read_all (end_at ends side).kept (unkept (end_at ends side)) ≡ (next, None) → settles (end_at ends side) id ≡ false → fields_behind (end_at ends side).kept (end_at ends side) id ≡ fields_item next id
+  read_lists next all open_still = by_kept e.kept refl all
+    where
+      by_kept : (l : List Arrival) → (end_at ends side).kept ≡ l → read_all l (unkept (end_at ends side)) ≡ (next, None) → fields_behind l (end_at ends side) id ≡ fields_item next id
+      by_kept [] none all =
+          let same : e ≡ next = ap (λ l. record e { kept = l }) none ∙ ap (λ (x : Found). x.0) all in
+          ap (λ x. fields_item x id) same
+      by_kept (a ∷ l) none all =
+          ap (λ t. if t then fields_item e id else fields_item (read_all (a ∷ l) (unkept e)).0 id) open_still ∙ ap (λ (x : Found). fields_item x.0 id) all
+
+  -- **The answer with it is that with the list that is next in the world,** where all that is kept has been read.
+  pub unsettled_lists : is_settled k.world side id ≡ false
+      → listed_pull (fields_behind (end_at ends side).kept (end_at ends side) id) (pulls (end_at ends side) id).0 ≡ listed_pull (list_next setup (caught_up setup k side) side id) (pulls (end_at ends side) id).0
+  unsettled_lists open_still =
+      let next = all.next in
+      let r = all.then_reads in
+      let p = pulled_read next r in
+      let x = pulls r.er id in
+      let at = r.two.both.here in
+      let stands = stands_of setup u side r.er r.ew r.two in
+      let on = pull_on laws setup u (ends_of side r.er r.ew) side id made plain stands in
+      let answer_there : (answered (ends_of side r.er r.ew) (event.Pull side id)).0 ≡ answer.Pulled x.0 = ap (λ z. answer.Pulled (pulls z id).0) (at_reader side r.er r.ew) in
+      let step : Step setup u (event.Pull side id) (answer.Pulled x.0) on.new = subst (λ a. Step setup u (event.Pull side id) a on.new) answer_there on.happens.step in
+      let exact : IsExact u (event.Pull side id) (answer.Pulled x.0) = subst (IsExact u (event.Pull side id)) answer_there on.happens.exact in
+      let is : (pulls e id).0 ≡ x.0 = ap (λ (z : Pull × EndpointHistory). z.0) (pulls_read next all.reads (not_settled open_still) ∙ p.alike.is) in
+      let kind = kind_of r.er.side id in
+      let y = ahead r.er mine r.here.held r.here.incoming [] in
+      let same : pulls r.er id ≡ pull_at r.er id kind = plain_pull setup u side id r.er at ∙ ap (λ s. pull_at r.er id (kind_of s id)) (sym at.side_is) in
+      let there : listed_pull (fields_item y id) x.0 ≡ listed_pull (fields_item r.er id) x.0 =
+      subst (λ (q : Pull × EndpointHistory). listed_pull (fields_of_kind y id kind) q.0 ≡ listed_pull (fields_of_kind r.er id kind) q.0) (sym same)
+      (lists_ahead mine r.here.held [] r.er r.here.incoming id kind (subst (λ s. EachResumes s r.er.announced r.er.incoming r.here.incoming) (sym at.side_is) r.here.resumes)) in
+      let nothing : fields_item r.er id ≡ fields_behind r.er.kept r.er id = ap (λ l. fields_behind l r.er id) (sym at.nothing_kept) in
+      subst (λ q. listed_pull (fields_behind e.kept e id) q ≡ listed_pull (list_next setup u side id) q) (sym is)
+      (ap (λ o. listed_pull o x.0) (read_lists next all.reads (not_settled open_still) ∙ ap (λ z. fields_item z id) r.here.is)
+      ∙ there ∙ ap (λ o. listed_pull o x.0) nothing
+      ∙ same_lists laws setup u on.new side id r.er x.0 made at stands.sound step exact)

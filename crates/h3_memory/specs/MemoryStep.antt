@@ -1,5 +1,5 @@
 -- What may come of one event, where memory may be refused.
-use Rattle.std.specs.Prelude.{◌≡◌, ◌≢◌, ℕ, ◌≤◌, Bool, true, false, List, [], ◌∷◌, ◌++◌, length, take, Option, Some, None}
+use Rattle.std.specs.Prelude.{◌≡◌, ◌≢◌, ℕ, ◌≤◌, ◌<◌, Bool, true, false, List, [], ◌∷◌, ◌++◌, length, take, Option, Some, None}
 use Rattle.h3_field.specs.Field.{Field}
 use Rattle.h3_header.specs.Head.{head_fields}
 use Rattle.h3_proto.specs.StreamIds.{is_request_stream}
@@ -14,11 +14,12 @@ use Rattle.h3_world.specs.declared.event.Event.{Event}
 use Rattle.h3_world.specs.declared.event.Event.TheVariants as event
 use Rattle.h3_world.specs.declared.event.Answer.{Answer}
 use Rattle.h3_world.specs.declared.event.Answer.TheVariants as answer
+use Rattle.h3_world.specs.declared.lists.ListPull.TheVariants as list
 use Rattle.h3_world.specs.Delivering.{delivery, end_delivery, reset_delivery}
-use Rattle.h3_world.specs.Headline.{is_memory, is_connection_fault, ComesOut}
+use Rattle.h3_world.specs.Headline.{is_out_of_memory, is_connection_fault, ComesOut}
 use Rattle.h3_memory.specs.Kept.{Delivery, Bytes, End, Reset, KeepingWorld, kept_at, with_world, with_kept, stream_of, caught_up, noticed_all, ReadsPart, is_settled}
 use Rattle.h3_world.specs.Refused.{with_insertions}
-use Rattle.h3_world.specs.Refusals.{open_refusal, head_refusal, trailer_refusal, reset_refusal, cancel_refusal, goaway_refusal}
+use Rattle.h3_world.specs.Refusals.{open_refusal, head_refusal, fields_refusal, trailer_refusal, trailer_fields_refusal, reset_refusal, cancel_refusal, goaway_refusal}
 use Rattle.h3_world.specs.Sending.{cut_off}
 use Rattle.h3_world.specs.Step.{Step, Does, IsExact, IsWithinLimits}
 use Rattle.h3_world.specs.World.{World}
@@ -37,16 +38,17 @@ offered setup k writer (Bytes id count) = delivery setup (caught_up setup k (oth
 offered setup k writer (End id) = end_delivery setup (caught_up setup k (other writer)) writer id
 offered setup k writer (Reset id) = reset_delivery (caught_up setup k (other writer)) writer id
 
--- A pull reads all that its side keeps, unless its answer is settled.
-abbrev pub Pulls : Setup → KeepingWorld → Side → ℕ → Bool → Answer → KeepingWorld → Type 0
-Pulls setup k side id true given new = Step setup k.world (event.Pull side id) given new.world × (new ≡ k)
-Pulls setup k side id false given new = Step setup (caught_up setup k side) (event.Pull side id) given new.world × (new ≡ with_kept k side new.world [])
+-- A pull, with lists or without, reads all that its side keeps, unless its answer is settled.
+abbrev pub Pulls : Setup → KeepingWorld → Side → Event → Bool → Answer → KeepingWorld → Type 0
+Pulls setup k side e true given new = Step setup k.world e given new.world × (new ≡ k)
+Pulls setup k side e false given new = Step setup (caught_up setup k side) e given new.world × (new ≡ with_kept k side new.world [])
 
 abbrev pub Answers : Setup → KeepingWorld → Event → Answer → KeepingWorld → Type 0
 Answers setup k (event.Deliver writer id count) given new = (given, new) ≡ read_behind k (other writer) (offered setup k writer (Bytes id count))
 Answers setup k (event.DeliverEnd writer id) given new = (given, new) ≡ read_behind k (other writer) (offered setup k writer (End id))
 Answers setup k (event.DeliverReset writer id) given new = (given, new) ≡ read_behind k (other writer) (offered setup k writer (Reset id))
-Answers setup k (event.Pull side id) given new = Pulls setup k side id (is_settled k.world side id) given new
+Answers setup k (event.Pull side id) given new = Pulls setup k side (event.Pull side id) (is_settled k.world side id) given new
+Answers setup k (event.PullFields side id) given new = Pulls setup k side (event.PullFields side id) (is_settled k.world side id) given new
 -- what the other side keeps was handed over
 Answers setup k (event.Reset side id) given new =
     Does (reset_refusal (caught_up setup k (other side)) side id) k.world answer.Done (cut_off k.world side id) given new.world × (new ≡ with_world k new.world)
@@ -65,6 +67,16 @@ abbrev pub CutsSection : Option Refusal → KeepingWorld → Side → ℕ → Li
 CutsSection None k side id fields new = CutsOff k side id fields new
 CutsSection (Some (refusal.TooLarge size)) k side id fields new = new ≡ k
 CutsSection (Some r) k side id fields new = ⊥
+
+-- The same of a list. It is at hand, so all else is judged before memory is told of; but for a list of more than 24,576 fields, which takes memory to be
+-- judged.
+abbrev pub CutsList : Option Refusal → KeepingWorld → Side → ℕ → List Field → KeepingWorld → Type 0
+CutsList None k side id fields new = CutsOff k side id fields new
+CutsList (Some (refusal.TooLarge size)) k side id fields new = new ≡ k
+CutsList (Some (refusal.Malformed why)) k side id fields new = (24576 < length fields) × (new ≡ k)
+CutsList (Some refusal.WrongSide) k side id fields new = (24576 < length fields) × (new ≡ k)
+CutsList (Some refusal.PseudoInTrailer) k side id fields new = (24576 < length fields) × (new ≡ k)
+CutsList (Some r) k side id fields new = ⊥
 
 -- What was handed over is kept behind what was kept, and a part of all that is read; some is left.
 pub record Keeps (setup : Setup) (k : KeepingWorld) (writer : Side) (d : Delivery) (new : KeepingWorld) : Type 0 where
@@ -87,9 +99,13 @@ abbrev pub LacksMemory : Setup → KeepingWorld → Event → Answer → Keeping
 LacksMemory setup k (event.OpenRequest side) (answer.Refused refusal.OutOfMemory) new = (open_refusal setup k.world side ≡ None) × (new ≡ k)
 LacksMemory setup k (event.Head side id head) (answer.Refused refusal.OutOfMemory) new =
     CutsSection (head_refusal setup k.world side id head) k side id (head_fields head) new
+LacksMemory setup k (event.Fields side id fields) (answer.Refused refusal.OutOfMemory) new =
+    CutsList (fields_refusal setup k.world side id fields) k side id fields new
 LacksMemory setup k (event.Body side id bytes) (answer.Refused refusal.OutOfMemory) new = new ≡ k
 LacksMemory setup k (event.Trailer side id trailer) (answer.Refused refusal.OutOfMemory) new =
     CutsSection (trailer_refusal setup k.world side id trailer) k side id (head_fields trailer) new
+LacksMemory setup k (event.TrailerFields side id fields) (answer.Refused refusal.OutOfMemory) new =
+    CutsList (trailer_fields_refusal setup k.world side id fields) k side id fields new
 LacksMemory setup k (event.Cancel side id) (answer.Refused refusal.OutOfMemory) new = (cancel_refusal k.world side id ≡ None) × (new ≡ k)
 LacksMemory setup k (event.Goaway side id) (answer.Refused refusal.OutOfMemory) new = (goaway_refusal k.world side id ≡ None) × (new ≡ k)
 LacksMemory setup k (event.Deliver writer id count) (answer.Refused refusal.OutOfMemory) new = new ≡ k
@@ -100,6 +116,7 @@ LacksMemory setup k (event.Deliver writer id count) (answer.Refused refusal.Kept
 LacksMemory setup k (event.DeliverEnd writer id) (answer.Refused refusal.Kept) new = ((offered setup k writer (End id)).0 ≡ answer.Done) × Keeps setup k writer (End id) new
 LacksMemory setup k (event.DeliverReset writer id) (answer.Refused refusal.Kept) new = ((offered setup k writer (Reset id)).0 ≡ answer.Done) × Keeps setup k writer (Reset id) new
 LacksMemory setup k (event.Pull side id) (answer.Pulled (pull.Fault fault.Memory)) new = HandsNothingOut setup k side id new
+LacksMemory setup k (event.PullFields side id) (answer.Listed (list.Fault fault.Memory)) new = HandsNothingOut setup k side id new
 LacksMemory setup k e given new = ⊥
 
 abbrev pub StepOf : Bool → Setup → KeepingWorld → Event → Answer → KeepingWorld → Type 0
@@ -108,11 +125,12 @@ StepOf false = Answers
 
 -- What may come of an event: as in `Step`, which it is where nothing is kept and no memory is refused.
 abbrev pub StepWithMemory : Setup → KeepingWorld → Event → Answer → KeepingWorld → Type 0
-StepWithMemory setup k e given new = StepOf (is_memory given) setup k e given new
+StepWithMemory setup k e given new = StepOf (is_out_of_memory given) setup k e given new
 
 -- Where a pull stands that is not refused memory: behind all that its side keeps.
 abbrev pub reader_world : Setup → KeepingWorld → Event → World
 reader_world setup k (event.Pull side id) = caught_up setup k side
+reader_world setup k (event.PullFields side id) = caught_up setup k side
 reader_world setup k e = k.world
 
 abbrev pub UnlessMemory : Bool → Type 0 → Type 0
@@ -122,7 +140,7 @@ UnlessMemory false said = said
 -- one step, with all that is said of it
 pub record HappensWithMemory (setup : Setup) (k : KeepingWorld) (e : Event) (a : Answer) (new : KeepingWorld) : Type 0 where
   pub step : StepWithMemory setup k e a new
-  pub exact : UnlessMemory (is_memory a) (IsExact (reader_world setup k e) e a)
-  pub comes_out : UnlessMemory (is_memory a) (ComesOut setup (reader_world setup k e) e a)
+  pub exact : UnlessMemory (is_out_of_memory a) (IsExact (reader_world setup k e) e a)
+  pub comes_out : UnlessMemory (is_out_of_memory a) (ComesOut setup (reader_world setup k e) e a)
   pub no_connection_fault : is_connection_fault a ≡ false
   pub within_limits : IsWithinLimits setup new.world

@@ -1,6 +1,6 @@
 -- What two endpoints answer to an event and are after it, where memory may be refused: what the contracts of `Endpoint` say of it. And their
 -- whole runs.
-use Rattle.std.specs.Prelude.{◌≡◌, ◌≢◌, ◌⊎◌, ℕ, ◌≤◌, Bool, true, false, List, [], ◌∷◌, ◌++◌, length, take, Option, Some, None}
+use Rattle.std.specs.Prelude.{◌≡◌, ◌≢◌, ◌⊎◌, ℕ, ◌≤◌, ◌<◌, Bool, true, false, List, [], ◌∷◌, ◌++◌, length, take, Option, Some, None}
 use Rattle.h3_field.specs.Field.{Field}
 use Rattle.h3_header.specs.Head.{head_fields}
 use Rattle.h3_proto.specs.declared.stream.Side.{Side}
@@ -13,7 +13,8 @@ use Rattle.h3_connection.specs.Endpoint.Kind.{Request}
 use Rattle.h3_connection.specs.Incoming.{Incoming}
 use Rattle.h3_connection.specs.Keeping.{settles, unkept}
 use Rattle.h3_connection.specs.OwnIds.{other}
-use Rattle.h3_connection.specs.PartReading.{ReadsPart, Resumes}
+use Rattle.h3_connection.specs.PartReading.{ReadsPart}
+use Rattle.h3_connection.specs.PartReading.{Resumes}
 use Rattle.h3_connection.specs.ReceivingContracts.{IsTaken}
 use Rattle.h3_connection.specs.Sections.{with_insertions}
 use Rattle.h3_connection.specs.Sending as sender
@@ -26,10 +27,12 @@ use Rattle.h3_world.specs.declared.event.Event.{Event}
 use Rattle.h3_world.specs.declared.event.Event.TheVariants as event
 use Rattle.h3_world.specs.declared.event.Answer.{Answer}
 use Rattle.h3_world.specs.declared.event.Answer.TheVariants as answer
+use Rattle.h3_world.specs.declared.lists.ListPull.TheVariants as list
+use Rattle.h3_world.specs.EndLists.{send_fields, send_trailer_fields}
 use Rattle.h3_world.specs.Run.{Run}
 use Rattle.h3_world.specs.Delivering.{reset_code}
 use Rattle.h3_world.specs.Ends.{Ends, end_at, with_end, answered}
-use Rattle.h3_world.specs.Headline.{is_memory}
+use Rattle.h3_world.specs.Headline.{is_out_of_memory}
 use Rattle.h3_connection.specs.Shown.{waiting, has_outgoing, is_finished, is_reset}
 
 -- Nothing was sent, but the insertions for a front of the fields were made.
@@ -44,6 +47,15 @@ CutsSection None ends side id fields new = CutsOff ends side id fields new
 CutsSection (Some (refusal.Malformed why)) ends side id fields new = new ≡ ends
 CutsSection (Some (refusal.TooLarge size)) ends side id fields new = new ≡ ends
 CutsSection (Some r) ends side id fields new = ⊥
+
+-- The same of a list, which is at hand: all else is judged before memory is told of, but for a list of more than 24,576 fields.
+abbrev pub CutsList : Option Refusal → Ends → Side → ℕ → List Field → Ends → Type 0
+CutsList None ends side id fields new = CutsOff ends side id fields new
+CutsList (Some (refusal.TooLarge size)) ends side id fields new = new ≡ ends
+CutsList (Some (refusal.Malformed why)) ends side id fields new = (24576 < length fields) × (new ≡ ends)
+CutsList (Some refusal.WrongSide) ends side id fields new = (24576 < length fields) × (new ≡ ends)
+CutsList (Some refusal.PseudoInTrailer) ends side id fields new = (24576 < length fields) × (new ≡ ends)
+CutsList (Some r) ends side id fields new = ⊥
 
 -- What was handed over is kept, and a part of all that is kept was read. What comes on a request stream is kept only behind what is kept.
 pub record Stores (ends : Ends) (reader : Side) (a : Arrival) (sent : Ends) (new : Ends) : Type 0 where
@@ -76,9 +88,11 @@ abbrev pub LacksMemory : Ends → Event → Answer → Ends → Type 0
 LacksMemory ends (event.OpenRequest side) (answer.Refused refusal.OutOfMemory) new = ((sender.open_request (end_at ends side)).0 ≡ None) × (new ≡ ends)
 LacksMemory ends (event.Head side id head) (answer.Refused refusal.OutOfMemory) new =
     CutsSection (sender.send_head (end_at ends side) id head).0 ends side id (head_fields head) new
+LacksMemory ends (event.Fields side id fields) (answer.Refused refusal.OutOfMemory) new = CutsList (send_fields (end_at ends side) id fields).0 ends side id fields new
 LacksMemory ends (event.Body side id bytes) (answer.Refused refusal.OutOfMemory) new = new ≡ ends
 LacksMemory ends (event.Trailer side id trailer) (answer.Refused refusal.OutOfMemory) new =
     CutsSection (sender.send_trailer (end_at ends side) id trailer).0 ends side id (head_fields trailer) new
+LacksMemory ends (event.TrailerFields side id fields) (answer.Refused refusal.OutOfMemory) new = CutsList (send_trailer_fields (end_at ends side) id fields).0 ends side id fields new
 LacksMemory ends (event.Cancel side id) (answer.Refused refusal.OutOfMemory) new = ((sender.cancel (end_at ends side) id).0 ≡ None) × (new ≡ ends)
 LacksMemory ends (event.Goaway side id) (answer.Refused refusal.OutOfMemory) new = ((sender.goaway (end_at ends side) id).0 ≡ None) × (new ≡ ends)
 LacksMemory ends (event.Deliver writer id count) (answer.Refused refusal.OutOfMemory) new = new ≡ ends
@@ -94,6 +108,7 @@ LacksMemory ends (event.DeliverEnd writer id) (answer.Refused refusal.Kept) new 
 LacksMemory ends (event.DeliverReset writer id) (answer.Refused refusal.Kept) new =
     (is_reset (end_at ends writer) id ≡ true) × Stores ends (other writer) (ResetCame id reset_code) ends new
 LacksMemory ends (event.Pull side id) (answer.Pulled (pull.Fault fault.Memory)) new = LosesNothing ends side id new
+LacksMemory ends (event.PullFields side id) (answer.Listed (list.Fault fault.Memory)) new = LosesNothing ends side id new
 LacksMemory ends e given new = ⊥
 
 abbrev pub AnswerOf : Bool → Ends → Event → Answer → Ends → Type 0
@@ -102,7 +117,7 @@ AnswerOf false ends e given new = (given ≡ (answered ends e).0) × (new ≡ (a
 
 -- The event is answered so, and leaves the endpoints so.
 abbrev pub EndsStep : Ends → Event → Answer → Ends → Type 0
-EndsStep ends e given new = AnswerOf (is_memory given) ends e given new
+EndsStep ends e given new = AnswerOf (is_out_of_memory given) ends e given new
 
 -- They answer the events so, each as the events before it left them.
 abbrev pub EndsRun : Ends → List Event → List Answer → Ends → Type 0

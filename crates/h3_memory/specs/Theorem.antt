@@ -4,7 +4,7 @@ use Rattle.h3_world.specs.declared.event.Answer.{Answer}
 use Rattle.h3_world.specs.declared.event.Event.{Event}
 use Rattle.h3_world.specs.declared.setup.Setup.{Setup}
 use Rattle.h3_world.specs.Ends.{Ends}
-use Rattle.h3_world.specs.Headline.{is_memory}
+use Rattle.h3_world.specs.Headline.{is_out_of_memory}
 use Rattle.h3_world.specs.Sendable.{IsSendable}
 use Rattle.h3_world.specs.Step.{IsExact}
 use Rattle.h3_world.specs.World.{empty_world}
@@ -19,7 +19,7 @@ use Rattle.h3_world.specs.Run.{Run}
 pub record StandsOn (setup : Setup) (k : KeepingWorld) (e : Event) (a : Answer) (ends : Ends) : Type 0 where
   pub new : KeepingWorld
   pub step : StepWithMemory setup k e a new
-  pub exact : UnlessMemory (is_memory a) (IsExact (reader_world setup k e) e a)
+  pub exact : UnlessMemory (is_out_of_memory a) (IsExact (reader_world setup k e) e a)
   pub stands : StandsKeeping setup new ends
 
 -- So it is whatever is kept, and however the endpoints answer that memory may be refused.

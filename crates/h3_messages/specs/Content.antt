@@ -28,6 +28,7 @@ is_without_content status = bytes_eq status (codes "204") || bytes_eq status (co
 abbrev pub content_of_status : List ℕ → List ℕ → Content
 content_of_status status size = if is_without_content status then NoContent else said size
 
+-- RFC 9110 9.3.2: no content after HEAD
 -- Responses to HEAD never include content. A 2xx response to CONNECT is a tunnel's beginning, and its content-length is ignored
 -- (RFC 9110, 9.3.6)
 abbrev pub content_expected : Asked → List ℕ → List ℕ → Content
@@ -64,6 +65,7 @@ content_behind_status content status size = if is_interim_status status then con
 abbrev pub content_behind_response : Content → List Field → Content
 content_behind_response content fields = content_behind_status content (value_of (codes ":status") fields) (value_of (codes "content-length") fields)
 
+-- RFC 9114 4.1.2: content-length and content
 -- What is left of it behind DATA of so many bytes: the sum of their lengths does not pass content-length (4.1.2)
 abbrev pub left_behind : Content → ℕ → Content
 left_behind (Exactly left) size = if nat_le size left then Exactly (left - size) else Exceeded
@@ -77,6 +79,7 @@ abbrev pub is_exceeded : Content → Bool
 is_exceeded Exceeded = true
 is_exceeded _ = false
 
+-- RFC 9114 4.1.2: content-length and content
 -- the content may end here, by the stream's end or a trailer: what came equals content-length (4.1.2)
 abbrev pub may_end : Content → Bool
 may_end (Exactly left) = left == 0

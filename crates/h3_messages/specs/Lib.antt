@@ -5,5 +5,8 @@ pub mod Messages
 pub mod OwnMessageLaws
 pub mod OwnMessages
 pub mod FlagLaws
+pub mod InvalidField
+pub mod FirstInvalid
+pub mod InvalidFieldLaws
 pub mod ResponseSaid
 pub mod Survey

@@ -38,6 +38,7 @@ is_word word text = bytes_eq (map to_ascii_lowercase text) (map to_ascii_lowerca
 abbrev pub is_pseudo : Field → Bool
 is_pseudo f = slice_index f.name 0 == 58
 
+-- RFC 9114 4.3: pseudo-header fields come first
 -- All pseudo-header fields MUST appear in the header section before regular header fields (RFC 9114, 4.3)
 abbrev pub pseudo_first : List Field → Bool
 pseudo_first [] = true
@@ -57,6 +58,7 @@ only_pseudo_of names fields = list_all (λ f. not (is_pseudo f) || is_one_of nam
 abbrev pub connection_names : List (List ℕ)
 connection_names = codes "connection" ∷ codes "keep-alive" ∷ codes "proxy-connection" ∷ codes "transfer-encoding" ∷ codes "upgrade" ∷ []
 
+-- RFC 9114 4.2: connection-specific fields
 abbrev pub has_connection_field : List Field → Bool
 has_connection_field fields = list_any (λ f. is_one_of connection_names f.name) fields
 
@@ -68,6 +70,7 @@ is_te_wrong fields = not (values_pass (is_word (codes "trailers")) (codes "te") 
 abbrev pub number_of : List ℕ → ℕ
 number_of digits = fold (λ n b. n * 10 + (b - 48)) 0 digits
 
+-- RFC 9110 8.6: content-length of 2^62 and more
 -- no stream carries 2 ^ 62 bytes (RFC 9000, 4.5)
 abbrev pub is_length : List ℕ → Bool
 is_length text = nat_lt 0 (length text) && (list_all is_ascii_digit text && nat_lt (number_of text) (2 ^ 62))
@@ -111,6 +114,7 @@ misses_pseudo fields =
 abbrev pub repeats_pseudo : List Field → Bool
 repeats_pseudo fields = list_any (λ name. repeats name fields) request_names
 
+-- RFC 8441 4: :protocol with CONNECT alone
 -- :protocol MAY be included in requests with method CONNECT (RFC 8441, 4), where the server announced it (RFC 9220, 3)
 abbrev pub is_protocol_wrong : Bool → List Field → Bool
 is_protocol_wrong extended_connect fields = holds (codes ":protocol") fields && not (extended_connect && is_connect fields)
@@ -165,6 +169,7 @@ is_host_wrong fields =
 abbrev pub is_target_wrong : List Field → Bool
 is_target_wrong fields = (needs_authority fields || is_connect fields) && not (is_plain_host (value_of (codes ":authority") fields))
 
+-- RFC 9114 4.3.1: :authority and host
 abbrev pub is_authority_wrong : List Field → Bool
 is_authority_wrong fields = misses_authority fields || (is_host_wrong fields || is_target_wrong fields)
 

@@ -70,6 +70,7 @@ is_no_trailer_name name =
 abbrev pub has_no_trailer_field : List Field → Bool
 has_no_trailer_field fields = list_any (λ f. is_no_trailer_name f.name) fields
 
+-- RFC 9110 6.5.1: fields that no trailer section has, sent
 -- what a trailer breaks that is sent
 abbrev pub violation_of_own_trailer : List Field → Option Violation
 violation_of_own_trailer fields = or_broken (violation_of_trailer fields) (has_no_trailer_field fields) TrailerField

@@ -92,6 +92,7 @@ impl Content {
         }
     }
 
+    // RFC 9114 4.1.2: content-length and content
     /// What is left after DATA of so many bytes (RFC 9114, 4.1.2).
     pub fn left_behind(self, size: u64) -> Content
         ensures { result ≡ left_behind self size }
@@ -125,6 +126,7 @@ impl Content {
         }
     }
 
+    // RFC 9114 4.1.2: content-length and content
     /// Whether the content may end here, by the stream's end or a trailer (RFC 9114, 4.1.2).
     pub fn may_end(self) -> bool
         ensures { result ≡ may_end self }
@@ -191,6 +193,7 @@ pub(crate) fn content_of_status(status: &[u8], size: &[u8]) -> Content
     said(size)
 }
 
+// RFC 9110 9.3.2: no content after HEAD
 // The same for a request of this method.
 fn content_expected(asked: Asked, status: &[u8], size: &[u8]) -> Content
     ensures { result ≡ content_expected asked status.now size.now }

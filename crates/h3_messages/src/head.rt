@@ -13,7 +13,7 @@ use crate::violation::Violation;
 /// What the header section of a request says.
 #[derive(Clone, Copy, Debug, PartialEq, Eq)]
 pub struct RequestRead {
-    /// The first rule that it breaks, as `request_violation` tells it.
+    /// The first rule that it breaks.
     pub violation: Option<Violation>,
     /// The content after it, by `content-length` and CONNECT.
     pub content: Content,
@@ -25,7 +25,7 @@ pub struct RequestRead {
 /// What the header section of a response says.
 #[derive(Clone, Copy, Debug, PartialEq, Eq)]
 pub struct ResponseRead {
-    /// The first rule that it breaks, as `response_violation` tells it.
+    /// The first rule that it breaks.
     pub violation: Option<Violation>,
     /// The content after it. An interim one leaves what was awaited.
     pub content: Content,

@@ -33,6 +33,7 @@ fn are_alike(survey: &Survey) -> bool
     is_same(survey.value_of(Known::Authority), host)
 }
 
+// RFC 9114 4.3.1: :authority and host
 /// Whether `host` comes twice, is no host, or is unlike `:authority`.
 #[tactic(auto, using(crate::proofs::Rules::no_host, crate::proofs::Rules::lone_host))]
 pub(crate) fn is_host_wrong(survey: &Survey) -> bool

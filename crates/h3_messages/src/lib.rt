@@ -8,6 +8,7 @@
 pub mod content;
 pub mod head;
 mod host;
+mod invalid;
 mod known;
 pub mod laws;
 mod name_set;
@@ -25,9 +26,9 @@ pub mod violation;
 
 pub use content::{Asked, Content, is_interim_status};
 pub use head::{RequestRead, ResponseRead, request_by, response_by};
+pub use invalid::invalid_field;
 pub use own::{OwnResponseRead, own_request_by, own_response_by, own_trailer_violation};
-pub use request::request_violation;
-pub use response::{response_violation, trailer_violation, trailer_violation_by};
+pub use response::trailer_violation_by;
 pub use response_said::ResponseSaid;
 pub use seen::Seen;
 pub use survey::Survey;

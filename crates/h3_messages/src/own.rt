@@ -17,7 +17,7 @@ use h3_field::HeaderField;
 /// What the header section of a response says that is to be sent.
 #[derive(Clone, Copy, Debug, PartialEq, Eq)]
 pub struct OwnResponseRead {
-    /// The first rule that it breaks: one of `response_violation`, or else of its sender.
+    /// The first rule that it breaks: one of a response that is received, or else of its sender.
     pub violation: Option<Violation>,
     /// What it says of the content after it.
     pub said: ResponseSaid,
@@ -56,6 +56,7 @@ pub fn own_response_by(survey: &Survey) -> OwnResponseRead
     }
 }
 
+// RFC 9110 6.5.1: fields that no trailer section has, sent
 /// The first rule that a trailer breaks that is to be sent, or none.
 pub fn own_trailer_violation(fields: &[HeaderField]) -> Option<Violation>
     ensures { result ≡ violation_of_own_trailer fields.now }

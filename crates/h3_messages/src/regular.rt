@@ -6,6 +6,7 @@ use crate::known::Known;
 use crate::survey::Survey;
 use crate::text::length_of;
 
+// RFC 9114 4.2: connection-specific fields
 /// Whether a field of the list is connection-specific (RFC 9114, 4.2).
 #[tactic(auto, using(crate::proofs::Rules::any_connection))]
 pub(crate) fn has_connection_field(survey: &Survey) -> bool

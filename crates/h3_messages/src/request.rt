@@ -6,22 +6,11 @@ use crate::host::{is_host_wrong, is_plain_host};
 use crate::known::Known;
 use crate::pseudo::{has_request_pseudo_only, repeats_pseudo};
 use crate::regular::{has_connection_field, is_length_wrong};
-use crate::seen::Seen;
 use crate::survey::Survey;
 use crate::text::{byte_at, has_byte, is_same, is_scheme, is_word, names_port};
 use crate::violation::Violation;
-use h3_field::{Fields, HeaderField};
 
 /// The first rule that the header section of a request breaks, or none. The choice is whether its server announced extended CONNECT.
-pub fn request_violation(fields: &[HeaderField], extended_connect: bool) -> Option<Violation>
-    ensures { result ≡ violation_of_request extended_connect fields.now }
-{
-    let fields = Fields::of(fields);
-    let mut seen = Seen::new();
-    seen.take_all(&fields);
-    violation_of(&Survey::of(&fields, &seen), extended_connect)
-}
-
 #[tactic(auto, unfolding(crate::specs::Messages::violation_of_request))]
 pub(crate) fn violation_of(survey: &Survey, extended_connect: bool) -> Option<Violation>
     ensures { result ≡ violation_of_request extended_connect survey.now.fields.now }
@@ -87,6 +76,7 @@ fn needs_authority(survey: &Survey) -> bool
     is_word(b"http", scheme) || is_word(b"https", scheme)
 }
 
+// RFC 8441 4: :protocol with CONNECT alone
 /// Whether `:protocol` may not be there (RFC 8441, 4; RFC 9220, 3).
 fn is_protocol_wrong(survey: &Survey, extended_connect: bool) -> bool
     ensures { result ≡ is_protocol_wrong extended_connect survey.now.fields.now }
@@ -136,6 +126,7 @@ fn is_target_wrong(survey: &Survey) -> bool
         && (needs_authority(survey) || is_connect(survey))
 }
 
+// RFC 9114 4.3.1: :authority and host
 /// Whether the authority is missing or wrong.
 fn is_authority_wrong(survey: &Survey) -> bool
     ensures { result ≡ is_authority_wrong survey.now.fields.now }

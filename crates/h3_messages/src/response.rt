@@ -12,15 +12,6 @@ use crate::violation::Violation;
 use h3_field::{Fields, HeaderField};
 
 /// The first rule that the header section of a response breaks, interim or final, or none.
-pub fn response_violation(fields: &[HeaderField]) -> Option<Violation>
-    ensures { result ≡ violation_of_response fields.now }
-{
-    let fields = Fields::of(fields);
-    let mut seen = Seen::new();
-    seen.take_all(&fields);
-    violation_of(&Survey::of(&fields, &seen))
-}
-
 #[tactic(auto, unfolding(crate::specs::Messages::violation_of_response))]
 pub(crate) fn violation_of(survey: &Survey) -> Option<Violation>
     ensures { result ≡ violation_of_response survey.now.fields.now }
@@ -75,7 +66,7 @@ fn is_length_misplaced(survey: &Survey) -> bool
 }
 
 /// The first rule that a trailer breaks, or none.
-pub fn trailer_violation(fields: &[HeaderField]) -> Option<Violation>
+pub(crate) fn trailer_violation(fields: &[HeaderField]) -> Option<Violation>
     ensures { result ≡ violation_of_trailer fields.now }
 {
     let fields = Fields::of(fields);

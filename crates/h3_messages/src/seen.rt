@@ -117,6 +117,7 @@ impl<'a> Seen<'a> {
         }
     }
 
+    // RFC 9114 4.3: pseudo-header fields come first
     // One pseudo-header field more, of this name.
     #[inline(always)]
     fn take_pseudo(&mut self, known: Known, field: &FieldRef<'a>)

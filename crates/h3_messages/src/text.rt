@@ -84,6 +84,7 @@ fn number_of(digits: &[u8]) -> u64
     number
 }
 
+// RFC 9110 8.6: content-length of 2^62 and more
 /// The number of bytes that a `content-length` says, or none if it is no length (RFC 9110, 8.6).
 pub(crate) fn length_of(text: &[u8]) -> Option<u64>
     ensures { result ≡ (if is_length text.now then Some (number_of text.now) else None) }

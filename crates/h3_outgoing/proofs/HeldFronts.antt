@@ -260,13 +260,13 @@ full_put w before out n f full =
     ∙ ap (λ l. take (length before) w ++ l) (drop_all (length (front_of w)) before fits ∙ sym (drop_all (length w) before long))
 
 -- a payload that the caller holds, and what is left of its frame
-head_fewer : (head : List ℕ) (start count of_head : ℕ) → length head ≡ 9 → start ≤ 9 → of_head ≡ min count (9 - start) → drop (start + of_head) head ≡ drop count (drop start head)
-head_fewer head start count of_head size within is = elim (cases_lt (9 - start) count) [
+head_fewer : (head : List ℕ) (start count of_head : ℕ) → length head ≡ 16 → start ≤ 16 → of_head ≡ min count (16 - start) → drop (start + of_head) head ≡ drop count (drop start head)
+head_fewer head start count of_head size within is = elim (cases_lt (16 - start) count) [
   | inl more ↦ drop_all (start + of_head) head (omega (arith, size, within, is, more)) ∙ sym (drop_all count (drop start head) (omega (arith, length-drop start head, size, more)))
   | inr few ↦ (let all : of_head ≡ count = omega (arith, is, few) in ap (λ n. drop (start + n) head) all ∙ sym (drop-drop count start head))
 ]
 
-pub held_fewer : (head : List ℕ) (start left count of_head : ℕ) → length head ≡ 9 → start ≤ 9 → of_head ≡ min count (9 - start)
+pub held_fewer : (head : List ℕ) (start left count of_head : ℕ) → length head ≡ 16 → start ≤ 16 → of_head ≡ min count (16 - start)
     → ◌≡◌ {A = Piece} (record { head = drop (start + of_head) head; payload = held (left - (count - of_head)) }) (without_first count (record { head = drop start head; payload = held left }))
 held_fewer head start left count of_head size within is =
     let heads : drop (start + of_head) head ≡ drop count (drop start head) = head_fewer head start count of_head size within is in

@@ -10,12 +10,18 @@ use std::marker::Model;
 /// The type of a DATA frame (RFC 9114, section 7.2.1).
 const DATA: u8 = 0;
 
+/// The bytes of two words, in which a type and a length have room.
+const WORDS: usize = 16;
+
+/// The place from which on they may begin.
+const HEAD_START: usize = WORDS - HEAD_ROOM;
+
 /// A DATA frame that waits, whose payload the caller holds: its type and length, and how many bytes of the payload are left. A contract sees
 /// the places of these bytes.
 #[derive(Drop)]
 pub(crate) struct HeldFrame {
-    // the type and the length end with the last byte
-    head: [u8; HEAD_ROOM],
+    // the type and the length end with the last byte, and lie in two words, so that a move of them is one of two words
+    head: [u8; WORDS],
     start: usize,
     left: usize,
 }
@@ -29,7 +35,7 @@ impl Model for HeldFrame {
 
     ghost view = { λ f. record { head = drop f.start f.head; payload = held f.left } };
 
-    ghost invariant = { λ f. (f.start ≤ 9) × (f.left < 2 ^ 62) };
+    ghost invariant = { λ f. (f.start ≤ 16) × (f.left < 2 ^ 62) };
 }
 
 impl HeldFrame {
@@ -38,11 +44,11 @@ impl HeldFrame {
         requires { len < 2 ^ 62 }
         ensures { result ≡ frame_piece 0 (held len) }
     {
-        let mut head = [0; HEAD_ROOM];
-        let start = write_front(&mut head, DATA, len as u64);
+        let mut head = [0; WORDS];
+        let start = write_front(&mut head[HEAD_START..], DATA, len as u64);
         HeldFrame {
             head,
-            start,
+            start: HEAD_START + start,
             left: len,
         }
     }
@@ -65,7 +71,7 @@ impl HeldFrame {
     pub(crate) fn remaining(&self) -> usize
         ensures { result ≡ length (all_of self.now) }
     {
-        HEAD_ROOM - self.start + self.left
+        WORDS - self.start + self.left
     }
 
     /// Takes the first bytes of what is left.
@@ -73,7 +79,7 @@ impl HeldFrame {
         requires { count ≤ length (all_of self.old) }
         ensures { self.new ≡ without_first count self.old }
     {
-        let of_head = count.min(HEAD_ROOM - self.start);
+        let of_head = count.min(WORDS - self.start);
         self.start += of_head;
         self.left -= count - of_head;
     }

@@ -46,6 +46,7 @@ error_text (Repeated id) = codes "got setting 0x" ++ digits 16 false id ++ codes
 error_text (InvalidSettingId id) = codes "setting id 0x" ++ digits 16 false id ++ codes " is invalid"
 error_text (InvalidSettingValue id value) = codes "setting 0x" ++ (digits 16 false id ++ (codes " has invalid value " ++ decimal value))
 
+-- RFC 9114 7.2.4: a setting twice
 -- the pairs with one more at the end, or why it is refused
 abbrev pub inserted : List (ℕ × ℕ) → ℕ → ℕ → Result (List (ℕ × ℕ)) SettingsError
 inserted pairs id value =

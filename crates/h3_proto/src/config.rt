@@ -113,6 +113,8 @@ pub struct Extensions {
     pub secrets_guarded: bool,
     /// The local encoder writes a string plain if its Huffman code is not shorter.
     pub shortest_strings: bool,
+    /// The connection is judged by the rules of the standards that peers may be forgiven, as `Config::with_strict_connection` says.
+    pub strict_connection: bool,
 }
 
 impl Default for Extensions {
@@ -125,6 +127,7 @@ impl Default for Extensions {
             any_protocol: false,
             secrets_guarded: false,
             shortest_strings: false,
+            strict_connection: false,
         }
     }
 }
@@ -333,6 +336,27 @@ impl Config {
         } }
     {
         self.choices.extensions.shortest_strings = shortest;
+        self
+    }
+
+    /// Whether the connection is judged by rules that are else not asked for. Off by default. A peer that breaks one of them ends the
+    /// connection:
+    /// - Settings: 8 (at a client; RFC 8441, section 3) and 0x33 (RFC 9297, section 2.1.1) are 0 or 1. If the local end announces
+    ///   WebTransport, so is 0x2b603742, and it is 1 only beside 0x33 = 1. Else H3_SETTINGS_ERROR.
+    /// - The first frame of a control stream is SETTINGS, not one of unknown type either (RFC 9114, section 6.2.1). Else
+    ///   H3_MISSING_SETTINGS, as soon as the type and the length of that frame came.
+    /// - An instruction that is longer than the limit on what is unfinished is an error of its stream (RFC 9204, section 7.4):
+    ///   QPACK_ENCODER_STREAM_ERROR or QPACK_DECODER_STREAM_ERROR.
+    /// - The id of a WebTransport session names a bidirectional stream that a client opened. Else H3_ID_ERROR.
+    ///
+    /// The local end keeps two rules itself: after a GOAWAY of its peer it sends no header section on a stream on which nothing was sent
+    /// (RFC 9114, section 5.2), and it does not announce WebTransport without datagrams.
+    pub fn with_strict_connection(mut self, strict: bool) -> Self
+        ensures { result ≡ record self {
+          choices = record self.choices { extensions = record self.choices.extensions { strict_connection = strict } };
+        } }
+    {
+        self.choices.extensions.strict_connection = strict;
         self
     }
 

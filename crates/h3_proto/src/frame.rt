@@ -179,6 +179,7 @@ impl Settings {
     /// The most bytes that a payload of eight settings has.
     pub const MAX_ENCODED_SIZE: usize = 128;
 
+    // RFC 9114 7.2.4: a setting twice
     /// Adds a setting at the end. Refuses, in this order, a ninth one, an id that is there already,
     /// and an id or a value of 2^62 or more, and then changes nothing.
     pub fn insert(&mut self, id: SettingId, value: u64) -> Result<(), SettingsError>

@@ -23,7 +23,8 @@ use Rattle.h3_table.specs.Cancellations.{counts_as_canceled}
 use Rattle.h3_qpack.specs.EncoderState.{EncoderState, encoder_state, was_canceled_in}
 use Rattle.h3_qpack.proofs.EncoderStates.{tracked_state}
 use Rattle.h3_qpack.specs.SectionEncoding.{Draft, add_line, add_literal, add_ahead, write_indexed, write_field, add_field, unnamed, held, found, found_name, any_equal, is_usable, is_worth_to, literal_value, marked, marks_after, entry_name_line, evictions_by, finds_room, is_insertable, is_new, is_insertable_ahead, guarded_fields, draft_of, required_insert_count, encoded_section, instructions_for, having_inserted, sent_section}
-use Rattle.h3_qpack.specs.StaticSections.{literal_line_by, line_or_literal_by, static_line_by, chosen_line, static_section}
+use Rattle.h3_field.specs.StaticLines.{literal_line_by, line_or_literal_by, static_line_by}
+use Rattle.h3_qpack.specs.StaticSections.{chosen_line, static_section}
 use Rattle.h3_qpack.specs.declared.encoder_choices.EncoderChoices.{EncoderChoices}
 use Rattle.h3_qpack.specs.Drafting.{IsSent, IsCutOff}
 use Rattle.h3_qpack.proofs.Newest.{newest_from-none}

@@ -159,7 +159,7 @@ found_is_named s d f number h =
     lt_is : (a b : ℕ) → nat_lt a b ≡ true → a < b
     lt_is a b e = grind (arith, common_steps)
 
-found_name_is_named : (s : EncoderHistory) (d : Draft) (f : Field) (number : ℕ) → found_name s d f ≡ Some number → IsNamed s d.inserted number
+pub found_name_is_named : (s : EncoderHistory) (d : Draft) (f : Field) (number : ℕ) → found_name s d f ≡ Some number → IsNamed s d.inserted number
 found_name_is_named s d f number h =
     let p = newest_from-passes _ 1 d.inserted number h in
     let a = and_parts _ (is_usable s number) p.test_is in

@@ -6,8 +6,9 @@ use Rattle.h3_field.specs.LineReading.{LineForm, line}
 use Rattle.h3_field.specs.Reading.{Reading, Whole, Unfinished, Bad}
 use Rattle.h3_field.specs.Section.{AreLines, NoLine, NextLine}
 use Rattle.h3_table.specs.TableState.{TableState}
-use Rattle.h3_qpack.specs.Meaning.{HaveFields}
-use Rattle.h3_qpack.specs.SectionAnswers.{BeginsWith, BeginsWithNone, LinesAskMemory, IsReasonWith}
+use Rattle.h3_qpack.specs.DecoderState.{DecoderState}
+use Rattle.h3_qpack.specs.Meaning.{HaveFields, MeansFields}
+use Rattle.h3_qpack.specs.SectionAnswers.{BeginsWith, BeginsWithNone, LinesAskMemory, MayAskMemory, IsReasonWith}
 use Rattle.h3_qpack.proofs.Hearings.{asks_memory}
 use Rattle.h3_field.specs.Values.{line_of}
 use Rattle.h3_field.specs.SectionAnswer.{BeginsWithString}
@@ -52,6 +53,22 @@ first_line : (h : TableState) (base : ℕ) (bytes : List ℕ) (lines : List Fiel
 first_line h base bytes lines fields (NoLine) named above none = omega (arith, above)
 first_line h base bytes lines [] (NextLine b rest l ls here are) named above none = named
 first_line h base bytes lines (f ∷ fs) (NextLine b rest l ls here are) named above none = none rest l f here named.0
+
+-- a section that has fields begins with a line of one
+some_ask : (h : TableState) (base : ℕ) (bytes : List ℕ) (lines : List FieldLine) (fields : List Field) → AreLines bytes lines → HaveFields h base lines fields → 0 < length fields → LinesAskMemory h base bytes
+some_ask h base bytes lines [] are named some = absurd (omega (arith, some))
+some_ask h base bytes lines (f ∷ fs) (NoLine) named some = absurd named
+some_ask h base bytes lines (f ∷ fs) (NextLine b rest l ls here are) named some = inr (f, rest, record { line = l; here = here; names = named.0; less = line_less b rest here.form here.whole })
+
+pub section_asks : (r : DecoderState) (bytes : List ℕ) (count : ℕ) (fields : List Field) → MeansFields r bytes count fields → 0 < length fields → MayAskMemory r bytes
+section_asks r bytes count fields m some = record {
+  rest = m.rest;
+  count = count;
+  base = m.base;
+  begins = m.begins;
+  received = m.received;
+  lines = some_ask r.table m.base m.rest m.lines fields m.split m.named some;
+}
 
 -- what begins with no line of a field
 pub no_line : (h : TableState) (base : ℕ) (bytes : List ℕ) → 0 < length bytes → BeginsWithNone h base bytes → fields_in h base bytes ≡ None

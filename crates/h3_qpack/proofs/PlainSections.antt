@@ -1,6 +1,6 @@
 -- A field section that names no entry in the midst of its writing.
 use Rattle.std.proofs.Common.{◌≡◌, ℕ, ◌+◌, ◌≤◌, List, [], ◌∷◌, ◌++◌, length, take, flat_map, refl, ap, sym, ◌∙◌, append_assoc, append-nil}
-use Rattle.std.proofs.Common.{false, Option, Some, None}
+use Rattle.std.proofs.Common.{Some}
 use Rattle.std.specs.List.{AllByRecursion, slice_get}
 use Rattle.std.proofs.lemmas.Option.{get_or_from_slice_get, slice_get_within}
 use Rattle.std.proofs.lemmas.List.{take_more, take_all, take_at}
@@ -9,11 +9,12 @@ use Rattle.h3_field.specs.Field.{Field}
 use Rattle.h3_field.specs.Secret.{guarded}
 use Rattle.h3_field.specs.ReadBack.{IsFieldOfBytes}
 use Rattle.h3_field.specs.Line.{line_bytes}
-use Rattle.h3_field.specs.Section.{literal_line, line_or_literal, static_line, static_lines, section_bytes}
-use Rattle.h3_field.specs.StaticTable.{static_field, static_name}
+use Rattle.h3_field.specs.Section.{static_line, static_lines, section_bytes}
 use Rattle.h3_qpack.specs.EncoderHistory.{no_choices}
 use Rattle.h3_table.specs.ReleasingLaws.{All-join}
-use Rattle.h3_qpack.specs.StaticSections.{literal_line_by, line_or_literal_by, static_line_by, chosen_line, static_section}
+use Rattle.h3_field.specs.StaticLines.{static_line_by}
+use Rattle.h3_field.specs.StaticLineLaws.{unchosen_line}
+use Rattle.h3_qpack.specs.StaticSections.{chosen_line, static_section}
 use Rattle.h3_qpack.specs.declared.encoder_choices.EncoderChoices.{EncoderChoices}
 
 -- What was appended so far.
@@ -53,18 +54,10 @@ pub put_refused : (choices : EncoderChoices) (start items new : List ℕ) (field
 put_refused choices start items new fields index p e = rw (e, p.items_are) (take_at start (static_section choices (take index fields)) (length start) refl)
 
 -- If nothing is chosen the section is that of a writer without choices.
-same_line : (name : Option ℕ) (f : Field) → literal_line_by false name f ≡ literal_line name f
-same_line (Some index) f = refl
-same_line None f = refl
-
-same_static_line : (entry : Option ℕ) (f : Field) → line_or_literal_by false entry f ≡ line_or_literal entry f
-same_static_line (Some index) f = refl
-same_static_line None f = same_line (static_name f.name) f
-
 same_lines : (fields : List Field) → flat_map (λ f. line_bytes (chosen_line no_choices f)) fields ≡ static_lines fields
 same_lines [] = refl
 same_lines (f ∷ fields) =
-    ap (λ l. line_bytes l ++ flat_map (λ g. line_bytes (chosen_line no_choices g)) fields) (same_static_line (static_field f) f)
+    ap (λ l. line_bytes l ++ flat_map (λ g. line_bytes (chosen_line no_choices g)) fields) (unchosen_line f)
     ∙ ap (λ bytes. line_bytes (static_line f) ++ bytes) (same_lines fields)
 
 pub nothing_chosen : (fields : List Field) → static_section no_choices fields ≡ section_bytes fields

@@ -1,5 +1,5 @@
--- An encoded field section is no longer than four times its fields, and with the shortest strings hardly longer than they are.
-use Rattle.std.proofs.Common.{◌≡◌, ℕ, ◌+◌, ◌*◌, ◌-◌, ◌%◌, ◌≤◌, Bool, true, false, List, [], ◌∷◌, ◌++◌, length, max, refl, ap, arith, length-append, fold, nat_lt, nat_le, if◌then◌else◌}
+-- An encoded field section is no longer than four times its fields, and with the shortest strings its lines are shorter than they are.
+use Rattle.std.proofs.Common.{◌≡◌, ℕ, ◌+◌, ◌*◌, ◌-◌, ◌%◌, ◌≤◌, Bool, true, false, List, [], ◌∷◌, ◌++◌, length, refl, ap, arith, length-append, fold, nat_lt, nat_le, if◌then◌else◌}
 use Rattle.std.specs.Prelude.{flat_map, sum_by, ◌==◌}
 use Rattle.std.proofs.lemmas.Grind.{flat_map-append}
 use Rattle.std.proofs.lemmas.List.Sums.{sum_by-cons}
@@ -12,7 +12,7 @@ use Rattle.h3_field.specs.StaticTable.{static_field, static_name}
 use Rattle.h3_field.specs.StringLiteral.{coded, string_literal}
 use Rattle.h3_qpack.specs.EncoderHistory.{EncoderHistory}
 use Rattle.h3_qpack.specs.SectionEncoding.{Draft, add_field, add_literal, first_draft, guarded_fields, draft_of, encoded_section, entry_name_line, found, found_name, is_insertable, required_insert_count, write_field}
-use Rattle.h3_qpack.specs.SectionSizes.{most_encoded, most_encoded_shortest}
+use Rattle.h3_qpack.specs.SectionSizes.{most_encoded}
 use Rattle.h3_field.specs.SecretLaws.{guarded_sizes}
 use Rattle.h3_qpack.specs.GuardLaws.{guarded_count}
 use Rattle.h3_qpack.specs.ShortLaws.{prefixed_short, string_short, shortest_short}
@@ -20,10 +20,10 @@ use Rattle.h3_qpack.proofs.Drafts.{either_way, with_field}
 use Rattle.h3_qpack.proofs.Newest.{chosen}
 
 -- Each line that is written for a field with such strings takes no more than its share.
-record LinesFit (shortest : Bool) (share : Field → ℕ) : Type 0 where
-  index : (size flags index : ℕ) (f : Field) → length (prefixed size flags index) ≤ share f
-  named : (size flags index : ℕ) (f : Field) → length (prefixed size flags index ++ string_literal 8 0 (coded shortest f.value)) ≤ share f
-  literal : (flags : ℕ) (f : Field) → length (string_literal 4 flags (coded shortest f.name) ++ string_literal 8 0 (coded shortest f.value)) ≤ share f
+pub record LinesFit (shortest : Bool) (share : Field → ℕ) : Type 0 where
+  pub index : (size flags index : ℕ) (f : Field) → length (prefixed size flags index) ≤ share f
+  pub named : (size flags index : ℕ) (f : Field) → length (prefixed size flags index ++ string_literal 8 0 (coded shortest f.value)) ≤ share f
+  pub literal : (flags : ℕ) (f : Field) → length (string_literal 4 flags (coded shortest f.name) ++ string_literal 8 0 (coded shortest f.value)) ≤ share f
 
 -- however strings are coded
 abbrev great_share : Field → ℕ
@@ -48,10 +48,10 @@ all_fit shortest =
     }
 
 -- the shortest ones
-abbrev least_share : Field → ℕ
+abbrev pub least_share : Field → ℕ
 least_share f = 20 + length f.name + length f.value
 
-shortest_fit : (shortest : Bool) → shortest ≡ true → LinesFit shortest least_share
+pub shortest_fit : (shortest : Bool) → shortest ≡ true → LinesFit shortest least_share
 shortest_fit shortest e =
     record {
       index = λ size flags index f. omega (arith, prefixed_short size flags index);
@@ -123,7 +123,7 @@ least_shares_are : (fields : List Field) → sum_by least_share fields + 12 * le
 least_shares_are [] = refl
 least_shares_are (f ∷ fields) = omega (arith, least_shares_are fields, sum_by-cons least_share f fields, sum_by-cons field_size f fields)
 
-prefix_short : (capacity count base : ℕ) → length (prefix_bytes capacity count base) ≤ 20
+pub prefix_short : (capacity count base : ℕ) → length (prefix_bytes capacity count base) ≤ 20
 prefix_short capacity count base = by_test (count == 0) (nat_lt base count)
   where
     first : List ℕ
@@ -141,7 +141,7 @@ lines_short share s fields fit = none_before (sum_by share (guarded_fields s fie
     none_before : (most : ℕ) (d : Draft) → LinesWithin (0 + most) d → LinesWithin most d
     none_before most d h = omega (arith, h)
 
-section_length : (s : EncoderHistory) (fields : List Field)
+pub section_length : (s : EncoderHistory) (fields : List Field)
     → length (encoded_section s fields) ≡ length (prefix_bytes s.announced (required_insert_count (draft_of s fields)) (length s.inserted)) + length (flat_map line_bytes (draft_of s fields).lines)
 section_length s fields = length-append (prefix_bytes s.announced (required_insert_count (draft_of s fields)) (length s.inserted)) (flat_map line_bytes (draft_of s fields).lines)
 
@@ -161,7 +161,7 @@ section_short s (f ∷ fields) =
       sum_by-cons field_size f fields,
     )
 
--- **With the shortest strings each line leaves twelve of its field's size,**
+-- **With the shortest strings each line leaves twelve of its field's size.**
 pub shortest_lines_short : (s : EncoderHistory) (fields : List Field) → s.choices.shortest_strings ≡ true → length (flat_map line_bytes (draft_of s fields).lines) + 12 * length fields ≤ section_size fields
 shortest_lines_short s fields e =
     omega (
@@ -171,22 +171,3 @@ shortest_lines_short s fields e =
       guarded_sizes s.choices.guards_secrets fields,
       guarded_count s.choices.guards_secrets fields,
     )
-
--- **so a section is at most eight bytes longer than the size of its list,**
-pub shortest_section_short : (s : EncoderHistory) (fields : List Field) → s.choices.shortest_strings ≡ true → length (encoded_section s fields) ≤ most_encoded_shortest fields
-shortest_section_short s [] e = omega arith
-shortest_section_short s (f ∷ fields) e =
-    let all = f ∷ fields in
-    omega (arith, section_length s all, prefix_short s.announced (required_insert_count (draft_of s all)) (length s.inserted), shortest_lines_short s all e)
-
--- **and no longer where it is of several fields,**
-pub shortest_several_short : (s : EncoderHistory) (fields : List Field) → s.choices.shortest_strings ≡ true → 2 ≤ length fields → length (encoded_section s fields) ≤ section_size fields
-shortest_several_short s fields e several =
-    omega (arith, several, section_length s fields, prefix_short s.announced (required_insert_count (draft_of s fields)) (length s.inserted), shortest_lines_short s fields e)
-
--- **or names no entry.**
-pub shortest_unnamed_short : (s : EncoderHistory) (fields : List Field) → s.choices.shortest_strings ≡ true → required_insert_count (draft_of s fields) ≡ 0 → length (encoded_section s fields) ≤ max 2 (section_size fields)
-shortest_unnamed_short s [] e none = omega arith
-shortest_unnamed_short s (f ∷ fields) e none =
-    let all = f ∷ fields in
-    omega (arith, section_length s all, ap (λ n. length (prefix_bytes s.announced n (length s.inserted))) none, shortest_lines_short s all e)

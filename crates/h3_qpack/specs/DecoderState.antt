@@ -15,6 +15,7 @@ pub record DecoderState : Type 0 where
 abbrev pub announcing : ℕ → DecoderState
 announcing capacity = record { announced = Some capacity; table = no_entries }
 
+-- RFC 9204 4.3.1: a capacity above the limit
 -- the greatest capacity that may be set
 abbrev pub greatest_capacity : DecoderState → ℕ
 greatest_capacity r = unwrap_or r.announced (2 ^ 30 - 1)

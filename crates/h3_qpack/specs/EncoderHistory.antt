@@ -43,6 +43,7 @@ no_choices = record { economical = false; guards_secrets = false; shortest_strin
 abbrev pub no_table : EncoderHistory
 no_table = record { most_capacity = 2 ^ 30 - 1; announced = 0; capacity = 0; limit = 0; inserted = []; known_received = 0; required_insert_counts = []; tracked = []; canceled = none_canceled None; counts_acknowledgments = false; choices = no_choices; marks = no_marks }
 
+-- RFC 9204 3.2.3: capacity of the local encoder's table
 -- The decoder announced this: the encoder sets the lesser of the capacity and the most that its table may have (RFC 9204, section 3.2.3).
 abbrev pub using_table : EncoderHistory → ℕ → ℕ → EncoderHistory
 using_table s announced limit = record s { announced = announced; capacity = min s.most_capacity announced; limit = limit }
@@ -92,6 +93,7 @@ was_canceled s stream = counts_as_canceled s.canceled stream (is_tracked s strea
 abbrev pub writing_on : EncoderHistory → ℕ → EncoderHistory
 writing_on s stream = if was_canceled s stream then record s { announced = 0; capacity = 0; limit = 0; choices = record s.choices { economical = false } } else s
 
+-- RFC 9204 2.1.4: known received count
 -- the encoder after an instruction of the decoder. The known received count stops at the greatest number of 64 bits.
 abbrev pub encoder_after : EncoderHistory → DecoderInstruction → EncoderHistory
 encoder_after s (Acknowledge stream) = record s { known_received = known_by s stream; tracked = released stream s.tracked }
@@ -102,6 +104,7 @@ abbrev pub encoder_after_all : EncoderHistory → List DecoderInstruction → En
 encoder_after_all s [] = s
 encoder_after_all s (instruction ∷ rest) = encoder_after_all (encoder_after s instruction) rest
 
+-- RFC 9204 4.4.1: section acknowledgment, read
 -- an acknowledgment of a stream without a tracked section. An increment that is 0 or past what was inserted (RFC 9204, section 4.4.3)
 -- is refused where acknowledgments count
 abbrev pub is_refused : EncoderHistory → DecoderInstruction → Bool

@@ -83,6 +83,7 @@ encoder_state_after s (Acknowledge stream) = record (raised_by s stream) { track
 encoder_state_after s (CancelStream stream) = record s { tracked = without_all_of stream s.tracked; canceled = with_canceled s.canceled stream }
 encoder_state_after s (Increment count) = raised s count
 
+-- RFC 9204 2.1.1: entries that may be evicted
 -- The field may be inserted: it may be indexed, it fits, and the entries that it evicts are known to be received, named by no section that
 -- is tracked, and below the oldest entry that is otherwise named.
 pub record MayInsertInto (s : EncoderState) (f : Field) (oldest : ℕ) : Type 0 where

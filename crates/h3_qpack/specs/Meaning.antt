@@ -33,6 +33,7 @@ pub record MeansFields (r : DecoderState) (bytes : List ℕ) (count : ℕ) (fiel
   pub split : AreLines rest lines
   pub named : HaveFields r.table base lines fields
 
+-- RFC 9204 2.2.1: missing insertions
 -- The section needs so many insertions, and not all were read.
 pub record IsMissing (r : DecoderState) (bytes : List ℕ) (count : ℕ) : Type 0 where
   pub rest : List ℕ

@@ -18,6 +18,8 @@ entry_number base (RelativeName index value n) = base - index
 entry_number base (PostBaseName index value n) = base + index + 1
 entry_number base (Literal name value n) = 0
 
+-- RFC 9204 3.2.6: post-base index
+-- RFC 9204 3.2.5: relative index
 -- the field of a line, where what it names is there
 abbrev pub line_field_by : (ℕ → Option Field) → ℕ → FieldLine → Option Field
 line_field_by entry base (StaticField index) = slice_get static_table index

@@ -21,6 +21,7 @@ pub record Draft : Type 0 where
   pub lines : List FieldLine
   pub references : List ℕ
 
+-- RFC 9204 2.1.2: limit of blocked streams, at the encoder
 -- The decoder has the entry, or one more section may be blocked on it.
 abbrev pub is_usable : EncoderHistory → ℕ → Bool
 is_usable s number = nat_le number s.known_received || nat_lt (blocks_out s) s.limit
@@ -170,6 +171,7 @@ write_indexed s draft f =
     unwrap_or (option_map (λ number. add_line draft (RelativeField (length s.inserted - number)) (number ∷ [])) (found s draft f))
     (if is_insertable s draft f then add_inserted s draft f else add_literal s draft f))
 
+-- RFC 9204 4.5.4: never-indexed fields
 -- A never-indexed field is a literal (RFC 9204, section 4.5.4).
 abbrev pub write_field : EncoderHistory → Draft → Field → Draft
 write_field s draft f = if f.never_indexed then add_literal s draft f else write_indexed s draft f
@@ -202,6 +204,7 @@ guarded_fields s fields = map (guarded s.choices.guards_secrets) fields
 abbrev pub draft_of : EncoderHistory → List Field → Draft
 draft_of s fields = draft_as_given s (guarded_fields s fields)
 
+-- RFC 9204 2.1.2: required insert count of a section
 -- the greatest number that a line names, or 0
 abbrev pub required_insert_count : Draft → ℕ
 required_insert_count draft = fold max 0 draft.references

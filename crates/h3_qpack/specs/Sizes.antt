@@ -3,8 +3,6 @@ use Rattle.std.specs.Prelude.{◌≡◌, ◌<◌, ◌≤◌, ℕ, ◌+◌, ◌-�
 use Rattle.h3_field.specs.Field.{Field, field_size, section_size}
 use Rattle.h3_table.specs.TableState.{TableState}
 use Rattle.h3_qpack.specs.DecodedSection.{fields_in}
-use Rattle.h3_qpack.specs.declared.within.DecodedWithin.{DecodedWithin}
-use Rattle.h3_qpack.specs.declared.within.DecodedWithin.TheVariants.{Fields, TooLarge}
 use Rattle.h3_qpack.specs.declared.within.LargeSection.{LargeSection}
 use Rattle.h3_qpack.specs.declared.block_within.BlockWithin.{BlockWithin}
 use Rattle.h3_qpack.specs.declared.block_within.BlockWithin.TheVariants as within
@@ -46,14 +44,8 @@ pub record IsLarge (name : List ℕ) (dyn_ref : Bool) (fields : List Field) (l :
   pub dynamic : l.dyn_ref ≡ dyn_ref
   pub last : option_map (λ v. v.items) l.last_value ≡ last_value name fields
 
--- The answer of a decoder whose caller takes sums up to a limit and asks for the last value of a name: the fields, or their
--- exact sum.
-abbrev pub IsWithin : ℕ → List ℕ → Bool → List Field → DecodedWithin → Type 0
-IsWithin max name dyn_ref fields (Fields d) =
-    (told_size fields ≤ max) × (d.fields.items ≡ fields) × (d.dyn_ref ≡ dyn_ref) × (d.mem_size ≡ told_size fields)
-IsWithin max name dyn_ref fields (TooLarge l) = (max < told_size fields) × IsLarge name dyn_ref fields l
-
--- The same where the fields are put into a block, which they alone are in then.
+-- The answer of a decoder whose caller takes sums up to a limit and asks for the last value of a name: the fields, which alone are in the block
+-- then, or their exact sum.
 abbrev pub IsBlockWithin : ℕ → List ℕ → Bool → List Field → BlockWithin → List Field → Type 0
 IsBlockWithin max name dyn_ref fields (within.Fields d) block =
     (told_size fields ≤ max) × (block ≡ fields) × (d.dyn_ref ≡ dyn_ref) × (d.mem_size ≡ told_size fields)

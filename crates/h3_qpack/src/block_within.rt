@@ -10,7 +10,6 @@ ghost use Rattle.h3_qpack.specs.SectionAnswers.{LinesAskMemory, IsReasonFor, Has
 ghost use Rattle.h3_qpack.specs.Sizes.{IsBlockWithin, PassesLimit, told_size};
 
 use crate::lines::{Lines, lent, post_base, relative};
-use crate::listing::SectionSummary;
 use crate::within::LargeSection;
 use h3_field::block::{
     HeaderBlockField, Indexed, IndexedWithPostBase, LiteralWithNameRef, LiteralWithPostBaseNameRef,
@@ -18,6 +17,15 @@ use h3_field::block::{
 };
 use h3_field::static_::StaticTable;
 use h3_field::{DecoderError, FieldBlock, FieldRef, SliceCursor};
+
+/// What the caller learns of a decoded field section whose fields are in its block.
+#[derive(Copy, Clone)]
+pub struct SectionSummary {
+    /// Whether the required insert count was above 0: then the section has to be acknowledged.
+    pub dyn_ref: bool,
+    /// The sum of the sizes of its fields, in bytes, which stops at the greatest number (RFC 9204, section 3.2.1).
+    pub mem_size: u64,
+}
 
 /// A field section that was decoded into a block, under a limit on the sum of its fields' sizes.
 #[derive(Drop)]
@@ -216,6 +224,7 @@ impl<'t> Lines<'t> {
         }
     }
 
+    // RFC 9114 4.2.2: size of a section, received
     /// Reads the lines, to the end of `buf`, and adds their fields to an empty block as long as they sum to at most `max`.
     /// Answers their sum. None: they pass `max`, and nothing of `buf` is taken. No memory is asked for before the first line is
     /// read or has a string.

@@ -1,5 +1,5 @@
 //! A decoder with its dynamic table (RFC 9204, sections 2.2 and 4).
-ghost use Rattle.std.specs.Prelude.{◌≡◌, ◌≢◌, ◌≤◌, ◌<◌, ◌^◌, ℕ, ◌-◌, List, [], true, false, length, min, nat_lt, drop, IfOk, IfErr, OnOk, OnErr, ◌++◌, vec_capacity};
+ghost use Rattle.std.specs.Prelude.{◌≡◌, ◌≢◌, ◌≤◌, ◌<◌, ◌^◌, ℕ, ◌-◌, List, [], true, false, length, min, nat_lt, drop, IfOk, IfErr, OnOk, OnErr, ◌++◌};
 ghost use Rattle.h3_field.specs.Instruction.{decoder_bytes};
 ghost use Rattle.h3_field.specs.Instruction.DecoderInstruction.{Acknowledge, CancelStream};
 ghost use Rattle.h3_field.specs.Reading.{Unfinished};
@@ -11,18 +11,16 @@ ghost use Rattle.h3_field.specs.Shapes.{begins};
 ghost use Rattle.h3_qpack.specs.DecoderState.{DecoderState, announcing, greatest_capacity};
 ghost use Rattle.h3_qpack.specs.Meaning.{HasPrefix, MeansFields};
 ghost use Rattle.h3_qpack.specs.DecodedSection.{decode_section, fields_in, with_fields, IsRefusalOf, Fields};
-ghost use Rattle.h3_qpack.specs.Sizes.{IsWithin, IsBlockWithin};
+ghost use Rattle.h3_qpack.specs.Sizes.{IsBlockWithin};
 ghost use Rattle.h3_qpack.specs.SectionAnswers.{MayAskMemory, IsRefusal, IsReasonFor};
 ghost use Rattle.h3_qpack.specs.InstructionAnswers.{AnswersInsertionRead, AnswersOne};
 ghost use Rattle.h3_qpack.specs.Instructions.{HasRead, BeginsBad};
 ghost use Rattle.h3_qpack.specs.Hearing.{heard, hear};
 
-use crate::block_within::BlockWithin;
+use crate::block_within::{BlockWithin, SectionSummary};
 use crate::dynamic::DynamicTable;
 use crate::lines::{Lines, relative, relative_name_room};
-use crate::listing::SectionSummary;
 use crate::reserved::{INCREMENT_LEN, put_increment};
-use crate::within::DecodedWithin;
 use h3_field::block::HeaderPrefix;
 use h3_field::dynamic::Error;
 use h3_field::static_::StaticTable;
@@ -99,6 +97,7 @@ impl Decoder {
         self.entries.size()
     }
 
+    // RFC 9204 2.2.1: missing insertions
     /// The required insert count and the base of the section at the front, whose lines are left. What needs insertions that
     /// were not read is refused.
     fn take_prefix(&self, buf: &mut SliceCursor<'_>) -> Result<(usize, usize), DecoderError>
@@ -123,8 +122,8 @@ impl Decoder {
         Ok((count, base))
     }
 
-    /// Decodes an encoded field section, to the end of `buf`, whose fields may sum to any size: as `decode_header_within`. A caller of
-    /// many sections may keep one list for them all: `decode_header_into`.
+    /// Decodes an encoded field section, to the end of `buf` (RFC 9204, section 4.5), as `decode_block`, into a list of fields of their own.
+    /// A refused read takes nothing.
     pub fn decode_header(&self, buf: &mut SliceCursor<'_>) -> Result<Decoded, DecoderError>
         ensures ok { IfOk result (λ d. (count : ℕ) × MeansFields self.now buf.old count d.fields.items × (d.dyn_ref ≡ nat_lt 0 count)
             × (d.mem_size ≡ min (2 ^ 64 - 1) (section_size d.fields.items)) × (buf.new ≡ [])) }
@@ -133,92 +132,31 @@ impl Decoder {
         ensures refusal { IfErr result (IsRefusalOf (decode_section self.now buf.old)) }
         ensures memory { IfErr result (λ e. e ≡ OutOfMemory → MayAskMemory self.now buf.old) }
     {
-        let mut fields = Vec::new(self.alloc);
-        match self.decode_header_into(buf, &mut fields) {
-            Ok(told) => Ok(Decoded {
-                fields,
-                dyn_ref: told.dyn_ref,
-                mem_size: told.mem_size,
-            }),
-            Err(e) => {
-                drop(fields);
-                Err(e)
-            }
-        }
-    }
-
-    /// Decodes an encoded field section, to the end of `buf` (RFC 9204, section 4.5), as `decode_header`, into a list whose memory serves
-    /// again. The fields that it holds are removed first, and its room is kept, which is that of the longest section so far.
-    ///
-    /// `MissingRefs(n)`: the section needs n insertions, and not all were read; no line is read then. `OutOfMemory`: it may be tried
-    /// again. Every other refusal is of a bad section. A refused read takes nothing, and leaves the list empty.
-    pub fn decode_header_into(
-        &self,
-        buf: &mut SliceCursor<'_>,
-        fields: &mut Vec<HeaderField>,
-    ) -> Result<SectionSummary, DecoderError>
-        ensures ok { IfOk result (λ d. (count : ℕ) × MeansFields self.now buf.old count fields.new.items × (d.dyn_ref ≡ nat_lt 0 count)
-            × (d.mem_size ≡ min (2 ^ 64 - 1) (section_size fields.new.items)) × (buf.new ≡ [])) }
-        ensures value { IfOk result (λ d. (count : ℕ) × (decode_section self.now buf.old ≡ Fields fields.new.items count) × (d.dyn_ref ≡ nat_lt 0 count)) }
-        ensures err { IfErr result (λ e. IsRefusal self.now buf.old e × (buf.new ≡ buf.old) × (fields.new.items ≡ [])) }
-        ensures refusal { IfErr result (IsRefusalOf (decode_section self.now buf.old)) }
-        ensures memory { IfErr result (λ e. e ≡ OutOfMemory → MayAskMemory self.now buf.old) }
-        ensures room { vec_capacity fields.old ≤ vec_capacity fields.new }
-    {
-        fields.clear();
         let mut ahead = SliceCursor::new(buf.chunk());
-        let (count, base) = match self.take_prefix(&mut ahead) {
-            Ok(found) => found,
+        let mut block = FieldBlock::new(self.alloc);
+        let told = match self.decode_block(&mut ahead, &mut block) {
+            Ok(told) => told,
             Err(e) => return Err(e),
         };
-        let lines = Lines::new(self.alloc, &self.entries, base, usize::MAX);
-        match lines.list(&mut ahead, fields) {
-            Ok(mem_size) => {
-                *buf = ahead;
-                Ok(SectionSummary {
-                    dyn_ref: count > 0,
-                    mem_size,
-                })
-            }
-            Err(e) => Err(e),
-        }
-    }
-
-    /// Decodes an encoded field section, to the end of `buf` (RFC 9204, section 4.5). It answers the fields if their sizes sum to at most
-    /// `max`. Else it answers the sum, and the value of the last field named `name`, and keeps no field. What it holds at one time is at
-    /// most the fields up to the limit, one line and one value. The value's block may have room for a name of at most `max` bytes.
-    ///
-    /// If the section needs insertions that were not read, no line is read. A bad section is refused even if its fields before the bad line
-    /// pass the limit. A refused read takes nothing. No memory is asked for before the first line is read or has a string.
-    pub fn decode_header_within(
-        &self,
-        buf: &mut SliceCursor<'_>,
-        max: u64,
-        name: &[u8],
-    ) -> Result<DecodedWithin, DecoderError>
-        ensures ok { IfOk result (λ d. (fields : List Field) × (count : ℕ) × (decode_section self.now buf.old ≡ Fields fields count)
-            × IsWithin max name.now (nat_lt 0 count) fields d × (buf.new ≡ [])) }
-        ensures err { IfErr result (λ e. IsRefusalOf (decode_section self.now buf.old) e × (buf.new ≡ buf.old)) }
-        ensures memory { IfErr result (λ e. e ≡ OutOfMemory → MayAskMemory self.now buf.old) }
-    {
-        let mut ahead = SliceCursor::new(buf.chunk());
-        let (count, base) = match self.take_prefix(&mut ahead) {
-            Ok(found) => found,
-            Err(e) => return Err(e),
+        let Ok(fields) = block.to_fields(self.alloc) else {
+            return Err(DecoderError::OutOfMemory);
         };
-        let lines = Lines::new(self.alloc, &self.entries, base, max as usize);
-        match lines.take_within(&mut ahead, count > 0, max, name) {
-            Ok(decoded) => {
-                *buf = ahead;
-                Ok(decoded)
-            }
-            Err(e) => Err(e),
-        }
+        *buf = ahead;
+        Ok(Decoded {
+            fields,
+            dyn_ref: told.dyn_ref,
+            mem_size: told.mem_size,
+        })
     }
 
-    /// Decodes an encoded field section, to the end of `buf`, as `decode_header_within`, into a block whose memory serves again: the fields
-    /// that it holds are removed first. If the section's fields sum to more than `max` the block is left empty, and after a refusal it
-    /// holds anything.
+    /// Decodes an encoded field section, to the end of `buf` (RFC 9204, section 4.5), into a block whose memory serves again: the fields that
+    /// it holds are removed first. If the sizes of the section's fields sum to at most `max` the block has them. Else it is left empty, and
+    /// the answer is the sum and the value of the last field named `name`. What is held at one time is at most the fields up to the limit,
+    /// one line and one value. The value's block may have room for a name of at most `max` bytes.
+    ///
+    /// `MissingRefs(n)`: the section needs n insertions, and not all were read; no line is read then. `OutOfMemory`: it may be tried again.
+    /// Every other refusal is of a bad section, also if its fields before the bad line pass the limit. A refused read takes nothing, and
+    /// leaves anything in the block. No memory is asked for before the first line is read or has a string.
     pub fn decode_block_within(
         &self,
         buf: &mut SliceCursor<'_>,
@@ -247,8 +185,8 @@ impl Decoder {
         }
     }
 
-    /// Decodes an encoded field section, to the end of `buf`, as `decode_header_into`, into a block whose memory serves again: the fields
-    /// that it holds are removed first. A refused read takes nothing, and leaves the block empty.
+    /// Decodes an encoded field section, to the end of `buf`, as `decode_block_within`, whatever the sizes of its fields sum to. A refused
+    /// read takes nothing, and leaves the block empty.
     pub fn decode_block(
         &self,
         buf: &mut SliceCursor<'_>,
@@ -364,6 +302,7 @@ impl Decoder {
         }
     }
 
+    // RFC 9204 4.3.1: a capacity above the limit
     /// Reads a capacity at the front, and sets it. What is refused is left unread.
     fn take_capacity(&mut self, buf: &mut SliceCursor<'_>) -> Result<bool, DecoderError>
         requires some { 0 < length buf.old }

@@ -269,6 +269,7 @@ impl DynamicTable {
         Ok(())
     }
 
+    // RFC 9204 3.2.3: capacity of the local encoder's table
     /// Takes what the decoder of a table without entries announced, a capacity and how many sections may be blocked there. The table gets
     /// the lesser of that capacity and the most that it may have.
     pub(crate) fn use_announced(&mut self, announced: usize, limit: usize)
@@ -309,14 +310,15 @@ impl DynamicTable {
         self.entries.size()
     }
 
-    /// How many entries are evicted once the field is inserted, if it may be inserted. One that is never indexed may not. The entries have
-    /// to be known to be received, named by no tracked section, and below `oldest`.
+    // RFC 9204 2.1.1: entries that may be evicted
+    /// How many entries are evicted once the field, which has no flag, is inserted, if it may be inserted. The entries have to be known to be
+    /// received, named by no tracked section, and below `oldest`.
     pub(crate) fn room_for(&self, field: &FieldRef<'_>, oldest: usize) -> Option<usize>
+        requires plain { field.now.never_indexed ≡ false }
         ensures some { IfSome result (λ n. MayInsertInto self.now field.now oldest × (n ≡ evicted (with_entry self.now.table field.now)) × (evicted self.now.table ≤ n)) }
         ensures none { IfNone result (MayInsertInto self.now field.now oldest → ⊥) }
     {
-        if field.is_never_indexed()
-            || self.entries.inserted() + 1 >= MOST_INSERTIONS
+        if self.entries.inserted() + 1 >= MOST_INSERTIONS
             || size_of(field) > self.entries.capacity()
         {
             return None;
@@ -510,6 +512,7 @@ impl DynamicTable {
         }
     }
 
+    // RFC 9204 2.1.4: known received count
     /// Releases the oldest tracked section of a stream, and tells whether there was one. If acknowledgments count, the insertions that the
     /// section needs are known to be received then.
     pub(crate) fn acknowledge(&mut self, stream: u64) -> bool

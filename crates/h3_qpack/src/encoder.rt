@@ -188,6 +188,7 @@ impl Encoder {
         table.use_announced(announced, blocked);
     }
 
+    // RFC 9204 4.4.1: section acknowledgment, read
     /// Reads the acknowledgment at the front. What is refused is left unread.
     fn take_acknowledgment(&mut self, buf: &mut SliceCursor<'_>) -> Result<bool, EncoderError>
         requires some { 0 < length buf.old }
@@ -310,6 +311,7 @@ impl Encoder {
         self.encode_lent(stream, block, encoder_buf, &Fields::of(fields))
     }
 
+    // RFC 9204 2.1.2: required insert count of a section
     /// The same for fields that lie in a list or in a block.
     pub fn encode_lent(
         &mut self,

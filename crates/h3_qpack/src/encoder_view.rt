@@ -219,7 +219,7 @@ impl<'a> DynamicTableEncoder<'a> {
         ensures same_reference { self.new.table.ghost_name ≡ self.old.table.ghost_name }
         ensures stream { self.new.stream ≡ self.old.stream }
     {
-        if !self.section.may_block {
+        if !self.section.may_block || field.is_never_indexed() {
             return Ok(DynamicInsertionResult::NotInserted);
         }
         let lent = FieldRef::of(field);

@@ -26,7 +26,7 @@ ghost use Rattle.h3_qpack.specs.StaticSections.{static_section};
 ghost use Rattle.h3_qpack.specs.SectionEncoding.{Draft, guarded_fields, draft_of, encoded_section, finds_room, found, having_inserted, held, instructions_for, is_insertable, is_insertable_ahead, marks_after, required_insert_count, sent_section};
 ghost use Rattle.h3_field.specs.Line.{FieldLine, line_bytes};
 ghost use Rattle.h3_qpack.specs.Secrets.{MayBeIndexed, has_bit_n, without_secrets, line_without_secret};
-ghost use Rattle.h3_qpack.specs.SectionSizes.{most_encoded, most_encoded_shortest};
+ghost use Rattle.h3_qpack.specs.SectionSizes.{most_encoded};
 ghost use Rattle.h3_qpack.specs.InstructionSizes.{most_instruction};
 ghost use Rattle.h3_qpack.specs.Encodings.{decoder_of, HasInsertions, IsDecoderAt, IsWritten, IsWrittenInstruction, tried};
 ghost use Rattle.h3_field.specs.Prefix.{most_entries, IsRequiredCount};
@@ -205,16 +205,21 @@ pub fn sections_leave_their_counts()
 
 /// The encoding of a list of fields is no longer than four times the list's size, whatever its encoder did before. That size is the sum of
 /// names, values and 32 for each field (RFC 9114, section 4.2.2). The encoding of an empty list takes two bytes. If each string is written
-/// in the Huffman code, whose words have up to thirty bits, the encoding may be longer than the list's size. With the shortest strings it
-/// is at most eight bytes longer. The lines then leave twelve bytes of each field's size, and the prefix takes up to twenty: so a section
-/// of two fields or more is no longer than its list's size, and nor is one that names no entry, whose prefix takes two bytes.
+/// in the Huffman code, whose words have up to thirty bits, the encoding may be longer than the list's size. With the shortest strings the
+/// lines leave twelve bytes of each field's size.
 pub fn encoded_sections_are_short()
     ensures short { (s : EncoderHistory) (fields : List Field) → length (encoded_section s fields) ≤ most_encoded fields }
     ensures empty { (s : EncoderHistory) → length (encoded_section s []) ≡ 2 }
     ensures lines { (s : EncoderHistory) (fields : List Field) → s.choices.shortest_strings ≡ true → length (flat_map line_bytes (draft_of s fields).lines) + 12 * length fields ≤ section_size fields }
-    ensures shortest { (s : EncoderHistory) (fields : List Field) → s.choices.shortest_strings ≡ true → length (encoded_section s fields) ≤ most_encoded_shortest fields }
-    ensures several { (s : EncoderHistory) (fields : List Field) → s.choices.shortest_strings ≡ true → 2 ≤ length fields → length (encoded_section s fields) ≤ section_size fields }
-    ensures unnamed { (s : EncoderHistory) (fields : List Field) → s.choices.shortest_strings ≡ true → required_insert_count (draft_of s fields) ≡ 0 → length (encoded_section s fields) ≤ max 2 (section_size fields) }
+{}
+
+/// With the shortest strings the encoding of a list of fields is no longer than the list's size (RFC 9114, section 4.2.2), or takes two
+/// bytes if the list is empty. So it is for every encoder whose table has a capacity below 2^30, whatever it did before and whatever its
+/// decoder announced, and so over every schedule whose decoder announced a capacity below 2^30.
+pub fn sections_are_no_longer_than_their_lists()
+    ensures history { (s : EncoderHistory) (fields : List Field) → s.choices.shortest_strings ≡ true → s.capacity < 2 ^ 30 → length (encoded_section s fields) ≤ max 2 (section_size fields) }
+    ensures session { (counts : Bool) (most announced limit : ℕ) (events : List SessionEvent) (s : Session) (stream : ℕ) (fields : List Field) → SessionRun (beginning counts most announced limit) events s →
+        s.encoder.announced < 2 ^ 30 → s.encoder.choices.shortest_strings ≡ true → length (encoded_section (writing_on s.encoder stream) fields) ≤ max 2 (section_size fields) }
 {}
 
 /// An instruction of an encoder that a decoder takes is written in at most ten bytes, or in four times the capacity that the decoder

@@ -10,7 +10,6 @@ pub mod encoder_view;
 pub mod examples;
 pub mod laws;
 mod lines;
-pub mod listing;
 mod marks;
 mod pending_section;
 pub mod reserved;
@@ -21,7 +20,7 @@ pub mod view;
 pub mod within;
 mod writing;
 
-pub use block_within::BlockWithin;
+pub use block_within::{BlockWithin, SectionSummary};
 pub use decoder::{Decoder, ack_header, stream_canceled};
 pub use dynamic::DynamicTable;
 pub use encoder::{Encoder, set_dynamic_table_size};
@@ -32,7 +31,6 @@ pub use h3_field::{
     SliceCursor, block, cursor, decode_stateless, decode_stateless_into, encode_stateless, field,
     parse_error, prefix_int, prefix_string, section_size, static_, stream, vas,
 };
-pub use listing::SectionSummary;
 pub use session::{SessionAnswer, SessionEvent, run};
 pub use view::DynamicTableDecoder;
-pub use within::{DecodedWithin, LargeSection};
+pub use within::LargeSection;

@@ -130,20 +130,6 @@ impl<'t> LineField<'t> {
         self.name() == name
     }
 
-    /// The field, with copies of the bytes that are an entry's. A static name is not copied.
-    pub(crate) fn into_field(self, alloc: Global) -> Result<HeaderField, AllocError>
-        ensures { IfOk result (λ f. f ≡ self.entry) }
-    {
-        match self.source {
-            Source::Own(field) => Ok(field),
-            Source::Entry(entry) => entry.copy(alloc),
-            Source::Named(entry, value, never_indexed) => {
-                let field = entry.with_value(value)?;
-                Ok(field.with_never_indexed(never_indexed))
-            }
-        }
-    }
-
     /// A copy of the value.
     pub(crate) fn copy_value(&self, alloc: Global) -> Result<Vec<u8>, AllocError>
         ensures { IfOk result (λ v. v.items ≡ self.now.value) }
@@ -152,6 +138,7 @@ impl<'t> LineField<'t> {
     }
 }
 
+// RFC 9204 3.2.5: relative index
 /// The entry at a distance below the base.
 pub(crate) fn relative(
     entries: &Entries,
@@ -166,6 +153,7 @@ pub(crate) fn relative(
     }
 }
 
+// RFC 9204 3.2.6: post-base index
 /// The entry at a distance from the base on.
 pub(crate) fn post_base(
     entries: &Entries,

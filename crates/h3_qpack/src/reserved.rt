@@ -22,6 +22,7 @@ pub fn put_capacity(capacity: u64, out: &mut Vec<u8>)
     prefix_int::put(5, 1, capacity, out);
 }
 
+// RFC 9204 4.4.3: insert count increment, written
 /// Appends an increment by so many insertions, and nothing for none.
 pub fn put_increment(count: usize, write: &mut Vec<u8>)
     requires few { count < 2 ^ 62 }

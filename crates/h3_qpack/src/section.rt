@@ -55,6 +55,7 @@ pub(crate) struct Section {
 }
 
 impl Section {
+    // RFC 9204 2.1.2: limit of blocked streams, at the encoder
     /// A section before its first field.
     pub(crate) fn begin(table: &DynamicTable) -> Section
         ensures value { result ≡ begun table.now }
@@ -77,6 +78,7 @@ impl Section {
         self.newest = self.newest.max(number);
     }
 
+    // RFC 9204 2.1.2: limit of blocked streams, at the encoder
     /// The greatest number that a line may name, of those up to a number.
     pub(crate) fn most_usable(&self, table: &DynamicTable, number: usize) -> usize
         ensures { result ≡ most_usable table.now self.now number }
@@ -105,6 +107,7 @@ impl Section {
         Choice::Literal
     }
 
+    // RFC 9204 4.5.4: never-indexed fields
     /// How a field is written: a static entry, else an older entry that does not drain, else a new one, else a literal. One that is never
     /// indexed is a literal (RFC 9204, section 4.5.4).
     pub(crate) fn choose(&self, table: &DynamicTable, field: &FieldRef<'_>) -> Choice

@@ -1,24 +1,15 @@
-//! Field sections whose fields are kept up to a limit on the sum of their sizes, and only counted past it.
+//! Field sections whose fields are only counted, since the sum of their sizes passes a limit.
 ghost use Rattle.std.specs.Prelude.{◌≡◌, ◌<◌, [], List, IfOk, OnOk, IfErr, Some, None};
 ghost use Rattle.h3_field.specs.Field.{Field};
 ghost use Rattle.h3_field.specs.declared.decoder_error.DecoderError.TheVariants.{OutOfMemory};
 ghost use Rattle.h3_qpack.specs.DecodedSection.{fields_in};
 ghost use Rattle.h3_qpack.specs.SectionAnswers.{LinesAskMemory, IsReasonFor};
-ghost use Rattle.h3_qpack.specs.Sizes.{IsWithin, IsLarge, counted, counted_on};
+ghost use Rattle.h3_qpack.specs.Sizes.{IsLarge, counted, counted_on};
 
 use crate::lines::{LineField, Lines};
-use h3_field::{Decoded, DecoderError, SliceCursor};
+use h3_field::{DecoderError, SliceCursor};
 use std::alloc::{AllocError, Global};
 use std::marker::Model;
-
-/// A decoded field section, under a limit on the sum of its fields' sizes.
-#[derive(Drop)]
-pub enum DecodedWithin {
-    /// The sum is at most the limit.
-    Fields(Decoded),
-    /// The sum passes the limit.
-    TooLarge(LargeSection),
-}
 
 /// What the caller learns of a field section whose fields sum to more than a limit.
 #[derive(Drop)]
@@ -102,40 +93,6 @@ impl<'t> Lines<'t> {
                 last_value: count.last,
             }),
             Err(e) => Err(e),
-        }
-    }
-
-    /// Reads the lines, to the end of `buf`. Their fields are kept as long as they sum to at most `max`. Once they pass it they are freed,
-    /// and all lines are read again and counted. No memory is asked for before the first line is read or has a string.
-    pub(crate) fn take_within(
-        &self,
-        buf: &mut SliceCursor<'_>,
-        dyn_ref: bool,
-        max: u64,
-        name: &[u8],
-    ) -> Result<DecodedWithin, DecoderError>
-        ensures ok { IfOk result (λ d. (fields : List Field) × (fields_in self.now.table self.now.base buf.old ≡ Some fields) × IsWithin max name.now dyn_ref fields d × (buf.new ≡ [])) }
-        ensures err { IfErr result (IsReasonFor (fields_in self.now.table self.now.base buf.old ≡ None) (λ count. ⊥)) }
-        ensures memory { IfErr result (λ e. e ≡ OutOfMemory → LinesAskMemory self.now.table self.now.base buf.old) }
-    {
-        let mut fields = Vec::new(self.alloc());
-        match self.list_within(buf, max, &mut fields) {
-            Ok(Some(mem_size)) => Ok(DecodedWithin::Fields(Decoded {
-                fields,
-                dyn_ref,
-                mem_size,
-            })),
-            Ok(None) => {
-                drop(fields);
-                match self.take_large(buf, dyn_ref, name) {
-                    Ok(large) => Ok(DecodedWithin::TooLarge(large)),
-                    Err(e) => Err(e),
-                }
-            }
-            Err(e) => {
-                drop(fields);
-                Err(e)
-            }
         }
     }
 }

@@ -99,6 +99,7 @@ fn put_entry(
     Ok(())
 }
 
+// RFC 9204 3.2.6: post-base index
 /// Inserts a field that may be, and appends the instruction for it and the line that is the new entry. A refusal inserts
 /// nothing, and may leave the line.
 fn put_inserted(
@@ -263,7 +264,9 @@ fn put_field(
     Ok(())
 }
 
+// RFC 9204 7.1.3: guarded secrets
 /// The field as an encoder takes it: with the flag if it is a secret and the encoder guards these.
+#[inline(always)]
 pub(crate) fn guard(guards: bool, field: FieldRef<'_>) -> FieldRef<'_>
     ensures { result ≡ guarded guards field.entry }
 {
@@ -304,6 +307,7 @@ pub(crate) fn put_fields(
     Ok(())
 }
 
+// RFC 9204 4.5.1.2: base of a section
 /// Appends a section that is written: its prefix, and then its lines. A refusal appends nothing.
 pub(crate) fn put_section(
     table: &DynamicTable,

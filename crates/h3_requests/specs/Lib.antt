@@ -1,3 +1,4 @@
+pub mod Bounds
 pub mod Boxed
 pub mod Changing
 pub mod Counted

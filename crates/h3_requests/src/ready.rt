@@ -66,6 +66,7 @@ impl ReadyStreams {
     }
 
     /// Room for a stream on which a header section goes out, for its bytes and for its end, if it has none. What is ready stays as it was.
+    #[inline(always)]
     pub(crate) fn reserve_both(&mut self, id: StreamId) -> Result<(), AllocError>
         ensures listed { OnOk result (is_listed self.new id ≡ true) }
         ensures placed { OnOk result (has_place self.new.ends id ≡ true) }

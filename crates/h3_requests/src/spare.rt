@@ -1,4 +1,4 @@
-//! A block that a stream has left, for the next stream.
+//! Blocks that streams have left, for the next streams.
 ghost use Rattle.std.specs.Prelude.{◌≡◌, IfOk};
 ghost use Rattle.h3_connection.specs.Calls.{fresh_request};
 
@@ -7,50 +7,65 @@ use crate::stream::RequestStream;
 use std::alloc::{AllocError, Global};
 use std::marker::Model;
 
-/// At most one block, with a stream in it on which nothing has happened: so a connection with one stream after the other takes one block
-/// for all of them.
+/// So many blocks are kept at most: some 30 KB, however many streams there were at once.
+const MOST: usize = 64;
+
+/// The blocks that are kept, with a stream in each on which nothing has happened: so streams that come and go, one after the other or many at
+/// once, take no new block each time.
 #[derive(Drop)]
 pub(crate) struct Spare {
-    stream: Option<BoxedStream>,
+    streams: Vec<BoxedStream>,
 }
 
 impl Model for Spare {
-    ghost use Rattle.std.specs.Prelude.{◌≡◌, Option, IfSome};
+    ghost use Rattle.std.specs.List.{All};
+    ghost use Rattle.std.specs.Prelude.{◌≡◌, List};
     ghost use Rattle.h3_connection.specs.Calls.{fresh_request};
     ghost use Rattle.h3_connection.specs.State.{RequestState};
 
-    ghost Value = { Option RequestState };
+    ghost Value = { List RequestState };
 
-    ghost view = { λ s. s.stream };
+    ghost view = { λ s. s.streams.items };
 
-    ghost invariant = { λ s. IfSome s.stream (λ r. r ≡ fresh_request) };
+    ghost invariant = { λ s. All (λ r. r ≡ fresh_request) s.streams.items };
 }
 
 impl Spare {
-    /// No block.
-    pub(crate) fn new() -> Spare {
-        Spare { stream: None }
-    }
-
-    /// A block with a stream in it on which nothing has happened: the one that is there, or a new one.
-    pub(crate) fn take(&mut self, alloc: Global) -> Result<BoxedStream, AllocError>
-        ensures { IfOk result (λ b. b ≡ fresh_request) }
-    {
-        match self.stream.take() {
-            Some(stream) => Ok(stream),
-            None => new_block(alloc),
+    /// No block. It takes no memory.
+    pub(crate) fn new(alloc: Global) -> Spare {
+        Spare {
+            streams: Vec::new(alloc),
         }
     }
 
-    /// Drops a stream, and keeps its block if none is there. It takes no memory.
+    /// A block with a stream in it on which nothing has happened: one that is kept, or a new one.
+    pub(crate) fn take(&mut self, alloc: Global) -> Result<BoxedStream, AllocError>
+        ensures { IfOk result (λ b. b ≡ fresh_request) }
+    {
+        if let Some(stream) = self.streams.pop() {
+            return Ok(stream);
+        }
+        make_room(&mut self.streams);
+        new_block(alloc)
+    }
+
+    /// Drops a stream, and keeps its block if there is room for it. It takes no memory.
     pub(crate) fn keep(&mut self, alloc: Global, stream: BoxedStream) {
-        if self.stream.is_some() {
+        if self.streams.len() == self.streams.capacity() {
             return;
         }
         let mut stream = stream;
         stream.renew(alloc);
-        self.stream = Some(stream);
+        self.streams.push_reserved(stream);
     }
+}
+
+// Room for the block that comes back: one for the first stream of a connection, and then all. Without memory fewer are kept.
+fn make_room(streams: &mut Vec<BoxedStream>)
+    ensures { streams.new.items ≡ streams.old.items }
+{
+    let room = if streams.capacity() == 0 { 1 } else { MOST };
+    let _ = streams.reserve_exact(room);
 }
 
 // A new block with such a stream.

@@ -31,7 +31,7 @@ pub(crate) struct StreamsUnderWay {
     row: Row,
     // those that found their place taken
     others: Others,
-    // the block of a stream that went
+    // the blocks of streams that went
     spare: Spare,
 }
 
@@ -56,7 +56,7 @@ impl StreamsUnderWay {
         StreamsUnderWay {
             row: Row::new(alloc),
             others: Others::new(alloc),
-            spare: Spare::new(),
+            spare: Spare::new(alloc),
         }
     }
 
@@ -106,7 +106,8 @@ impl StreamsUnderWay {
         )
     }
 
-    /// The stream of this id, to be changed.
+    /// The stream of this id, to be changed. In its callers, so that one that stands in the row is found with no call.
+    #[inline(always)]
     pub(crate) fn get_mut(&mut self, id: u64) -> Option<&mut RequestStream>
         ensures* writes_back { sem 𝓛 (LendsUnderWay self.entry id result) }
         ensures value { option_copied_mut result ≡ kept_at self.old id }

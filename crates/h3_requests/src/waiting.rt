@@ -9,12 +9,14 @@ ghost use Rattle.h3_requests.specs.Ready.{IsOneTest};
 use h3_proto::stream::StreamId;
 use std::alloc::{AllocError, Global};
 
+mod bounded;
+mod bounds;
 mod near;
 mod word;
 mod words;
 
+use bounded::BoundedWords;
 use word::Word;
-use words::Words;
 
 /// The ids of request streams are four apart (RFC 9000, section 2.1).
 const STEP: u64 = 4;
@@ -30,7 +32,7 @@ const WORDS: u64 = 1 << 54;
 #[derive(Drop)]
 pub(crate) struct WaitingStreams {
     // of each number the streams from 256 times that on, if one has a place or something waits on it
-    words: Words,
+    words: BoundedWords,
 }
 
 /// The number of the word in which a stream has its bit.
@@ -68,7 +70,7 @@ impl WaitingStreams {
         ensures { (q : ℕ) → is_waiting result q ≡ false }
     {
         WaitingStreams {
-            words: Words::new(alloc),
+            words: BoundedWords::new(alloc),
         }
     }
 
@@ -105,7 +107,7 @@ impl WaitingStreams {
         let Some(word) = self.words.near(number) else {
             return self.add_far_places(number, bits);
         };
-        self.words.set_near(
+        self.words.set_near_places(
             number,
             Word {
                 places: word.places | bits,
@@ -268,7 +270,7 @@ impl WaitingStreams {
             self.take_far_places(number, bits);
             return;
         };
-        self.words.set_near(
+        self.words.set_near_places(
             number,
             Word {
                 places: word.places & !bits,

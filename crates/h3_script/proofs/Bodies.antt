@@ -130,8 +130,10 @@ is_body line acting stream bytes h =
 pub words_say : (line : List ℕ) (e : Event) → SaysWords (words_of line) e → SaysEvent line e
 words_say line (does.OpenRequest side) h = h
 words_say line (does.Head side id head) h = h
+words_say line (does.Fields side id fields) h = absurd h
 words_say line (does.Body side id bytes) h = absurd h
 words_say line (does.Trailer side id trailer) h = h
+words_say line (does.TrailerFields side id fields) h = absurd h
 words_say line (does.Finish side id) h = h
 words_say line (does.Reset side id) h = h
 words_say line (does.Cancel side id) h = h
@@ -140,14 +142,17 @@ words_say line (does.Deliver side id count) h = h
 words_say line (does.DeliverEnd side id) h = h
 words_say line (does.DeliverReset side id) h = h
 words_say line (does.Pull side id) h = h
+words_say line (does.PullFields side id) h = h
 words_say line (does.Show side) h = h
 
 -- where the line has no piece of a body, its words say the event
 pub says_words : (line : List ℕ) → None ≡ body_of line → ((e : Event) × SaysEvent line e) → (e : Event) × SaysWords (words_of line) e
 says_words line none (does.OpenRequest side, h) = (does.OpenRequest side, h)
 says_words line none (does.Head side id head, h) = (does.Head side id head, h)
+says_words line none (does.Fields side id fields, h) = absurd h
 says_words line none (does.Body side id bytes, h) = let no : ◌≡◌ {A = Option (Side × ℕ × List ℕ)} None (Some (side, id, bytes)) = none ∙ body_is line side id bytes h in cc
 says_words line none (does.Trailer side id trailer, h) = (does.Trailer side id trailer, h)
+says_words line none (does.TrailerFields side id fields, h) = absurd h
 says_words line none (does.Finish side id, h) = (does.Finish side id, h)
 says_words line none (does.Reset side id, h) = (does.Reset side id, h)
 says_words line none (does.Cancel side id, h) = (does.Cancel side id, h)
@@ -156,6 +161,7 @@ says_words line none (does.Deliver side id count, h) = (does.Deliver side id cou
 says_words line none (does.DeliverEnd side id, h) = (does.DeliverEnd side id, h)
 says_words line none (does.DeliverReset side id, h) = (does.DeliverReset side id, h)
 says_words line none (does.Pull side id, h) = (does.Pull side id, h)
+says_words line none (does.PullFields side id, h) = (does.PullFields side id, h)
 says_words line none (does.Show side, h) = (does.Show side, h)
 
 -- where the line has no piece of a body, and its words say no event, it says none

@@ -68,8 +68,10 @@ setup_read (a ∷ b ∷ c ∷ d ∷ e ∷ f ∷ g ∷ h ∷ ws) w i j k l m n se
 IsShort : Option Event → Type 0
 IsShort None = Unit {0}
 IsShort (Some (does.Head side id head)) = ⊥
+IsShort (Some (does.Fields side id fields)) = ⊥
 IsShort (Some (does.Body side id bytes)) = ⊥
 IsShort (Some (does.Trailer side id trailer)) = ⊥
+IsShort (Some (does.TrailerFields side id fields)) = ⊥
 IsShort (Some _) = Unit {0}
 
 -- the first event whose test holds
@@ -107,11 +109,12 @@ short_number command (Some side) (Some number) =
     (bytes_eq command (codes "reset"), does.Reset side number) ∷
     (bytes_eq command (codes "cancel"), does.Cancel side number) ∷
     (bytes_eq command (codes "pull"), does.Pull side number) ∷
+    (bytes_eq command (codes "pulls"), does.PullFields side number) ∷
     (bytes_eq command (codes "end"), does.DeliverEnd side number) ∷
     (bytes_eq command (codes "gone"), does.DeliverReset side number) ∷
     (bytes_eq command (codes "goaway"), does.Goaway side number) ∷
     []
-    ) (tt, (tt, (tt, (tt, (tt, (tt, (tt, tt)))))))
+    ) (tt, (tt, (tt, (tt, (tt, (tt, (tt, (tt, tt))))))))
 
 short_deliver : (command : List ℕ) (side : Option Side) (id count : Option ℕ) → IsShort (deliver_by command side id count)
 unfolding IsShort
@@ -134,8 +137,10 @@ pub short_says : (ws : List (List ℕ)) (e : Event) → Some e ≡ short_event w
 unfolding IsShort
 short_says ws (does.OpenRequest side) h = sym h
 short_says ws (does.Head side id head) h = absurd (subst IsShort (sym h) (is_short ws))
+short_says ws (does.Fields side id fields) h = absurd (subst IsShort (sym h) (is_short ws))
 short_says ws (does.Body side id bytes) h = absurd (subst IsShort (sym h) (is_short ws))
 short_says ws (does.Trailer side id trailer) h = absurd (subst IsShort (sym h) (is_short ws))
+short_says ws (does.TrailerFields side id fields) h = absurd (subst IsShort (sym h) (is_short ws))
 short_says ws (does.Finish side id) h = sym h
 short_says ws (does.Reset side id) h = sym h
 short_says ws (does.Cancel side id) h = sym h
@@ -144,6 +149,7 @@ short_says ws (does.Deliver side id count) h = sym h
 short_says ws (does.DeliverEnd side id) h = sym h
 short_says ws (does.DeliverReset side id) h = sym h
 short_says ws (does.Pull side id) h = sym h
+short_says ws (does.PullFields side id) h = sym h
 short_says ws (does.Show side) h = sym h
 
 none_some : (found : Option Event) (e : Event) → None ≡ found → found ≡ Some e → ⊥
@@ -153,8 +159,10 @@ none_some found e h k = let no : ◌≡◌ {A = Option Event} None (Some e) = h 
 pub says_section : (ws : List (List ℕ)) → None ≡ short_event ws → ((e : Event) × SaysWords ws e) → (e : Event) × IsSectionEvent ws e
 says_section ws h (does.OpenRequest side, k) = absurd (none_some _ _ h k)
 says_section ws h (does.Head side id head, k) = (does.Head side id head, k)
+says_section ws h (does.Fields side id fields, k) = absurd k
 says_section ws h (does.Body side id bytes, k) = absurd k
 says_section ws h (does.Trailer side id trailer, k) = (does.Trailer side id trailer, k)
+says_section ws h (does.TrailerFields side id fields, k) = absurd k
 says_section ws h (does.Finish side id, k) = absurd (none_some _ _ h k)
 says_section ws h (does.Reset side id, k) = absurd (none_some _ _ h k)
 says_section ws h (does.Cancel side id, k) = absurd (none_some _ _ h k)
@@ -163,6 +171,7 @@ says_section ws h (does.Deliver side id count, k) = absurd (none_some _ _ h k)
 says_section ws h (does.DeliverEnd side id, k) = absurd (none_some _ _ h k)
 says_section ws h (does.DeliverReset side id, k) = absurd (none_some _ _ h k)
 says_section ws h (does.Pull side id, k) = absurd (none_some _ _ h k)
+says_section ws h (does.PullFields side id, k) = absurd (none_some _ _ h k)
 says_section ws h (does.Show side, k) = absurd (none_some _ _ h k)
 
 -- a word is one command
@@ -172,8 +181,10 @@ one_command word x y h k = sym ((bytes_eq-Decides word x).0 h) ∙ (bytes_eq-Dec
 section_head : (a b c : List ℕ) (words : List (List ℕ)) → bytes_eq a (codes "head") ≡ true → ((e : Event) × IsSectionEvent (a ∷ b ∷ c ∷ words) e) → (head : Fields) × IsHeadText words head
 section_head a b c words is (does.OpenRequest side, h) = absurd h
 section_head a b c words is (does.Head side id head, h) = (head, h.section_is)
+section_head a b c words is (does.Fields side id fields, h) = absurd h
 section_head a b c words is (does.Body side id bytes, h) = absurd h
 section_head a b c words is (does.Trailer side id trailer, h) = let no : codes "head" ≡ codes "trailer" = one_command a _ _ is h.command_is in cc
+section_head a b c words is (does.TrailerFields side id fields, h) = absurd h
 section_head a b c words is (does.Finish side id, h) = absurd h
 section_head a b c words is (does.Reset side id, h) = absurd h
 section_head a b c words is (does.Cancel side id, h) = absurd h
@@ -182,13 +193,16 @@ section_head a b c words is (does.Deliver side id count, h) = absurd h
 section_head a b c words is (does.DeliverEnd side id, h) = absurd h
 section_head a b c words is (does.DeliverReset side id, h) = absurd h
 section_head a b c words is (does.Pull side id, h) = absurd h
+section_head a b c words is (does.PullFields side id, h) = absurd h
 section_head a b c words is (does.Show side, h) = absurd h
 
 section_trailer : (a b c : List ℕ) (words : List (List ℕ)) → bytes_eq a (codes "head") ≡ false → ((e : Event) × IsSectionEvent (a ∷ b ∷ c ∷ words) e) → (trailer : Fields) × IsTrailerText words trailer
 section_trailer a b c words is (does.OpenRequest side, h) = absurd h
 section_trailer a b c words is (does.Head side id head, h) = let no : true ≡ false = sym h.command_is ∙ is in cc
+section_trailer a b c words is (does.Fields side id fields, h) = absurd h
 section_trailer a b c words is (does.Body side id bytes, h) = absurd h
 section_trailer a b c words is (does.Trailer side id trailer, h) = (trailer, h.section_is)
+section_trailer a b c words is (does.TrailerFields side id fields, h) = absurd h
 section_trailer a b c words is (does.Finish side id, h) = absurd h
 section_trailer a b c words is (does.Reset side id, h) = absurd h
 section_trailer a b c words is (does.Cancel side id, h) = absurd h
@@ -197,6 +211,7 @@ section_trailer a b c words is (does.Deliver side id count, h) = absurd h
 section_trailer a b c words is (does.DeliverEnd side id, h) = absurd h
 section_trailer a b c words is (does.DeliverReset side id, h) = absurd h
 section_trailer a b c words is (does.Pull side id, h) = absurd h
+section_trailer a b c words is (does.PullFields side id, h) = absurd h
 section_trailer a b c words is (does.Show side, h) = absurd h
 
 -- the head in the words of a line that sends one

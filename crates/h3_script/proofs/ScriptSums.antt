@@ -245,8 +245,10 @@ body_few line side acting stream bytes h =
 event_few : (line : List ℕ) (side : Side) (event : Event) → SaysEvent line event → sent_by side event ≤ 128 * (length line + 1)
 event_few line side (does.OpenRequest acting) h = omega arith
 event_few line side (does.Head acting stream head) h = sent_few line side acting head (section_few (codes "head") IsHeadText head_few (words_of line) acting stream head h)
+event_few line side (does.Fields acting stream fields) h = absurd h
 event_few line side (does.Body acting stream bytes) h = body_few line side acting stream bytes h
 event_few line side (does.Trailer acting stream trailer) h = sent_few line side acting trailer (section_few (codes "trailer") IsTrailerText trailer_few (words_of line) acting stream trailer h)
+event_few line side (does.TrailerFields acting stream fields) h = absurd h
 event_few line side (does.Finish acting stream) h = omega arith
 event_few line side (does.Reset acting stream) h = omega arith
 event_few line side (does.Cancel acting stream) h = omega arith
@@ -255,6 +257,7 @@ event_few line side (does.Deliver acting stream count) h = omega arith
 event_few line side (does.DeliverEnd acting stream) h = omega arith
 event_few line side (does.DeliverReset acting stream) h = omega arith
 event_few line side (does.Pull acting stream) h = omega arith
+event_few line side (does.PullFields acting stream) h = omega arith
 event_few line side (does.Show acting) h = omega arith
 
 -- No header of a script has a protocol.
@@ -287,8 +290,10 @@ section_taken any name Says none (a ∷ b ∷ c ∷ words) acting stream x h = s
 event_taken : (any : Bool) (line : List ℕ) (event : Event) → SaysEvent line event → NamesTaken any event
 event_taken any line (does.OpenRequest acting) h = tt
 event_taken any line (does.Head acting stream head) h = section_taken any (codes "head") IsHeadText head_none (words_of line) acting stream head h
+event_taken any line (does.Fields acting stream fields) h = absurd h
 event_taken any line (does.Body acting stream bytes) h = tt
 event_taken any line (does.Trailer acting stream trailer) h = section_taken any (codes "trailer") IsTrailerText trailer_none (words_of line) acting stream trailer h
+event_taken any line (does.TrailerFields acting stream fields) h = absurd h
 event_taken any line (does.Finish acting stream) h = tt
 event_taken any line (does.Reset acting stream) h = tt
 event_taken any line (does.Cancel acting stream) h = tt
@@ -297,6 +302,7 @@ event_taken any line (does.Deliver acting stream count) h = tt
 event_taken any line (does.DeliverEnd acting stream) h = tt
 event_taken any line (does.DeliverReset acting stream) h = tt
 event_taken any line (does.Pull acting stream) h = tt
+event_taken any line (does.PullFields acting stream) h = tt
 event_taken any line (does.Show acting) h = tt
 
 events_taken : (any : Bool) (lines : List (List ℕ)) (events : List Event) → SayEvents lines events → AllByRecursion (NamesTaken any) events

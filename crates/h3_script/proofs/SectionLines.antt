@@ -51,8 +51,10 @@ trailer_parts (a ∷ b ∷ c ∷ ws) Says acting stream trailer h =
 in_parts : (ws : List (List ℕ)) → ((e : Event) × IsSectionEvent ws e) → InParts ws
 in_parts ws (does.OpenRequest side, h) = absurd h
 in_parts ws (does.Head side id head, h) = head_parts ws _ side id head h
+in_parts ws (does.Fields side id fields, h) = absurd h
 in_parts ws (does.Body side id bytes, h) = absurd h
 in_parts ws (does.Trailer side id trailer, h) = trailer_parts ws _ side id trailer h
+in_parts ws (does.TrailerFields side id fields, h) = absurd h
 in_parts ws (does.Finish side id, h) = absurd h
 in_parts ws (does.Reset side id, h) = absurd h
 in_parts ws (does.Cancel side id, h) = absurd h
@@ -61,6 +63,7 @@ in_parts ws (does.Deliver side id count, h) = absurd h
 in_parts ws (does.DeliverEnd side id, h) = absurd h
 in_parts ws (does.DeliverReset side id, h) = absurd h
 in_parts ws (does.Pull side id, h) = absurd h
+in_parts ws (does.PullFields side id, h) = absurd h
 in_parts ws (does.Show side, h) = absurd h
 
 -- a line of fewer words sends none

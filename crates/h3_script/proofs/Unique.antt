@@ -154,8 +154,10 @@ data Said (line : List ℕ) (e : Event) : Type 0 where
 said_by : (line : List ℕ) (e : Event) → SaysEvent line e → Said line e
 said_by line (does.OpenRequest side) h = SaidShort h
 said_by line (does.Head side id head) h = SaidHead side id head refl h
+said_by line (does.Fields side id fields) h = absurd h
 said_by line (does.Body side id bytes) h = SaidBody side id bytes refl h
 said_by line (does.Trailer side id trailer) h = SaidTrailer side id trailer refl h
+said_by line (does.TrailerFields side id fields) h = absurd h
 said_by line (does.Finish side id) h = SaidShort h
 said_by line (does.Reset side id) h = SaidShort h
 said_by line (does.Cancel side id) h = SaidShort h
@@ -164,6 +166,7 @@ said_by line (does.Deliver side id count) h = SaidShort h
 said_by line (does.DeliverEnd side id) h = SaidShort h
 said_by line (does.DeliverReset side id) h = SaidShort h
 said_by line (does.Pull side id) h = SaidShort h
+said_by line (does.PullFields side id) h = SaidShort h
 said_by line (does.Show side) h = SaidShort h
 
 -- a line has one command

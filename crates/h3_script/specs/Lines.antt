@@ -18,6 +18,10 @@ use Rattle.h3_script.specs.declared.text.Behind.{Behind}
 use Rattle.h3_script.specs.declared.text.Behind.TheVariants as behind
 use Rattle.h3_world.specs.declared.event.Answer.{Answer}
 use Rattle.h3_world.specs.declared.event.Answer.TheVariants as answer
+use Rattle.h3_world.specs.declared.lists.ListItem.{ListItem}
+use Rattle.h3_world.specs.declared.lists.ListItem.TheVariants as list_item
+use Rattle.h3_world.specs.declared.lists.ListPull.{ListPull}
+use Rattle.h3_world.specs.declared.lists.ListPull.TheVariants as list_pull
 
 -- the name of a refusal, with the code, the id, the size or the rule that it carries
 abbrev pub refusal_text : Refusal → List ℕ
@@ -77,6 +81,24 @@ pull_line (pull.Waiting count) = codes "waiting " ++ decimal count
 pull_line (pull.Fault fault) = codes "fault " ++ fault_text fault
 pull_line pull.NoMessages = codes "no messages"
 
+-- the line of an item with a list: that of an item, with the fields as they came
+abbrev pub list_item_line : ListItem → List ℕ
+list_item_line (list_item.Interim fields) = section_line (codes "interim") fields
+list_item_line (list_item.Head fields) = section_line (codes "head") fields
+list_item_line (list_item.Body bytes) = codes "body " ++ lossy bytes
+list_item_line (list_item.Trailer fields) = section_line (codes "trailer") fields
+list_item_line (list_item.TooLarge size) = codes "too large " ++ decimal size
+list_item_line (list_item.Session id) = codes "session " ++ decimal id
+list_item_line (list_item.Raw bytes) = codes "raw " ++ lossy bytes
+list_item_line list_item.End = codes "end"
+
+abbrev pub list_pull_line : ListPull → List ℕ
+list_pull_line (list_pull.Item item) = list_item_line item
+list_pull_line list_pull.Pending = codes "pending"
+list_pull_line (list_pull.Waiting count) = codes "waiting " ++ decimal count
+list_pull_line (list_pull.Fault fault) = codes "fault " ++ fault_text fault
+list_pull_line list_pull.NoMessages = codes "no messages"
+
 -- the peer's limits, or a `-` for each of them until its settings came
 abbrev pub limits_words : Option PeerLimits → List ℕ
 limits_words None = codes "- - -"
@@ -97,6 +119,7 @@ answer_line (answer.Short waits) = codes "short " ++ decimal waits
 answer_line answer.NoStream = codes "no stream"
 answer_line answer.Early = codes "early"
 answer_line (answer.Pulled pull) = pull_line pull
+answer_line (answer.Listed pull) = list_pull_line pull
 answer_line (answer.Shown peer tables waiting) = shown_line peer tables waiting
 answer_line (answer.Refused refusal) = codes "refused " ++ refusal_text refusal
 

@@ -42,16 +42,17 @@ side_event command side =
     if bytes_eq command (codes "open") then Some (event.OpenRequest side) else (
     if bytes_eq command (codes "show") then Some (event.Show side) else None)
 
--- `finish`, `reset`, `cancel`, `pull`, `end` and `gone` with a side and a stream id, and `goaway` with a side and a number
+-- `finish`, `reset`, `cancel`, `pull`, `pulls`, `end` and `gone` with a side and a stream id, and `goaway` with a side and a number
 abbrev pub number_event : List ℕ → Side → ℕ → Option Event
 number_event command side number =
     if bytes_eq command (codes "finish") then Some (event.Finish side number) else (
     if bytes_eq command (codes "reset") then Some (event.Reset side number) else (
     if bytes_eq command (codes "cancel") then Some (event.Cancel side number) else (
     if bytes_eq command (codes "pull") then Some (event.Pull side number) else (
+    if bytes_eq command (codes "pulls") then Some (event.PullFields side number) else (
     if bytes_eq command (codes "end") then Some (event.DeliverEnd side number) else (
     if bytes_eq command (codes "gone") then Some (event.DeliverReset side number) else (
-    if bytes_eq command (codes "goaway") then Some (event.Goaway side number) else None))))))
+    if bytes_eq command (codes "goaway") then Some (event.Goaway side number) else None)))))))
 
 -- `deliver` with a side, a stream id and a number
 abbrev pub deliver_event : List ℕ → Side → ℕ → ℕ → Option Event
@@ -97,11 +98,13 @@ IsSectionEvent words (event.Head acting stream head) = SaysHead words acting str
 IsSectionEvent words (event.Trailer acting stream trailer) = SaysTrailer words acting stream trailer
 IsSectionEvent words _ = ⊥
 
--- the words are those of the event
+-- The words are those of the event. No line sends a list of fields.
 abbrev pub SaysWords : List (List ℕ) → Event → Type 0
 SaysWords words (event.Head acting stream head) = SaysHead words acting stream head
 SaysWords words (event.Trailer acting stream trailer) = SaysTrailer words acting stream trailer
 SaysWords words (event.Body acting stream bytes) = ⊥
+SaysWords words (event.Fields acting stream fields) = ⊥
+SaysWords words (event.TrailerFields acting stream fields) = ⊥
 SaysWords words event = short_event words ≡ Some event
 
 -- `body`, a side and a stream id, each with one blank behind it, and then any bytes

@@ -158,8 +158,8 @@ fn side_event(command: &[u8], side: Side) -> Option<Event>
     None
 }
 
-/// `finish`, `reset`, `cancel`, `pull`, `end` and `gone` with a side and a stream id, and `goaway`
-/// with a side and a number.
+/// `finish`, `reset`, `cancel`, `pull`, `pulls`, `end` and `gone` with a side and a stream id, and
+/// `goaway` with a side and a number.
 fn number_event(command: &[u8], side: Side, number: VarInt) -> Option<Event>
     ensures { result ≡ number_event command.now side number }
 {
@@ -175,6 +175,9 @@ fn number_event(command: &[u8], side: Side, number: VarInt) -> Option<Event>
     }
     if is(command, "pull") {
         return Some(Event::Pull(side, id));
+    }
+    if is(command, "pulls") {
+        return Some(Event::PullFields(side, id));
     }
     if is(command, "end") {
         return Some(Event::DeliverEnd(side, id));

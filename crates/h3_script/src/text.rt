@@ -1,7 +1,7 @@
 //! The lines that answers are printed as.
 ghost use Rattle.std.specs.Prelude.{◌≡◌, ◌++◌, string_bytes, IfOk, OnOk};
 ghost use Rattle.std.specs.Fmt.{decimal};
-ghost use Rattle.h3_script.specs.Lines.{answer_line, pull_line, item_line, section_line, field_word, limits_words, lossy, refusal_text, shown_line, tables_words, with_behind};
+ghost use Rattle.h3_script.specs.Lines.{answer_line, pull_line, item_line, list_item_line, list_pull_line, section_line, field_word, limits_words, lossy, refusal_text, shown_line, tables_words, with_behind};
 ghost use Rattle.h3_header.specs.Head.{head_fields};
 
 use bstr::BStr;
@@ -10,6 +10,7 @@ use h3_field::HeaderField;
 use h3_header::Header;
 use h3_proto::error::Code;
 use h3_world::event::Answer;
+use h3_world::lists::{ListItem, ListPull};
 use std::alloc::{AllocError, Global};
 use std::fmt;
 use std::fmt::Write;
@@ -101,6 +102,7 @@ pub fn answer_text(alloc: Global, answer: &Answer) -> Result<String, AllocError>
         Answer::NoStream => String::from_str(alloc, "no stream"),
         Answer::Early => String::from_str(alloc, "early"),
         Answer::Pulled(pull) => pull_text(alloc, pull),
+        Answer::Listed(pull) => list_pull_text(alloc, pull),
         Answer::Shown(peer, tables, waiting) => shown_text(alloc, *peer, *tables, *waiting),
         Answer::Refused(refusal) => {
             let refusal = RefusalText(*refusal);
@@ -182,6 +184,36 @@ fn item_text(alloc: Global, item: &Item) -> Result<String, AllocError>
         Item::Session(id) => numbered(alloc, "session ", id.into_inner()),
         Item::Raw(bytes) => bytes_text(alloc, "raw ", bytes.as_slice()),
         Item::End => String::from_str(alloc, "end"),
+    }
+}
+
+fn list_pull_text(alloc: Global, pull: &ListPull) -> Result<String, AllocError>
+    ensures { IfOk result (λ text. string_bytes text ≡ list_pull_line pull.now) }
+{
+    match pull {
+        ListPull::Item(item) => list_item_text(alloc, item),
+        ListPull::Pending => String::from_str(alloc, "pending"),
+        ListPull::Waiting(count) => numbered(alloc, "waiting ", *count as u64),
+        ListPull::Fault(fault) => {
+            let fault = FaultText(*fault);
+            format!(in alloc; "fault {fault}")
+        }
+        ListPull::NoMessages => String::from_str(alloc, "no messages"),
+    }
+}
+
+fn list_item_text(alloc: Global, item: &ListItem) -> Result<String, AllocError>
+    ensures { IfOk result (λ text. string_bytes text ≡ list_item_line item.now) }
+{
+    match item {
+        ListItem::Interim(list) => fields_text(alloc, "interim", list.fields()),
+        ListItem::Head(list) => fields_text(alloc, "head", list.fields()),
+        ListItem::Body(bytes) => bytes_text(alloc, "body ", bytes.as_slice()),
+        ListItem::Trailer(list) => fields_text(alloc, "trailer", list.fields()),
+        ListItem::TooLarge(size) => numbered(alloc, "too large ", *size),
+        ListItem::Session(id) => numbered(alloc, "session ", id.into_inner()),
+        ListItem::Raw(bytes) => bytes_text(alloc, "raw ", bytes.as_slice()),
+        ListItem::End => String::from_str(alloc, "end"),
     }
 }
 

@@ -6,15 +6,16 @@ use Rattle.h3_connection.specs.SendingContracts.{Opens, SendsHead, SendsBody, Se
 use Rattle.h3_connection.specs.ReceivingContracts.{PullsNext}
 use Rattle.h3_connection.specs.State.{EndpointState}
 use Rattle.h3_connection.specs.declared.event.Refusal.TheVariants as refusal
-use Rattle.h3_world.specs.Headline.{is_memory}
+use Rattle.h3_world.specs.Headline.{is_out_of_memory}
 use Rattle.h3_world.specs.declared.event.Answer.{Answer}
 use Rattle.h3_world.specs.declared.event.Answer.TheVariants as answer
 use Rattle.h3_world.specs.declared.event.Event.{Event}
 use Rattle.h3_world.specs.declared.event.Event.TheVariants as event
-use Rattle.h3_session.specs.Acting.{Acts, ByOne, SendsShared, Tells}
+use Rattle.h3_session.specs.Acting.{Acts, ByOne, PullsList, SendsShared, Tells}
+use Rattle.h3_session.specs.SendingLists.{SendsFieldList, SendsTrailerList}
 use Rattle.h3_session.specs.Running.{Shown, body_answer, done_answer, opened_answer}
 use Rattle.h3_session.proofs.Running.{AnswersEvent}
-use Rattle.h3_session.proofs.RunningCalls.{client_open, client_head, client_body, client_trailer, client_finish, client_reset, client_cancel, client_goaway, client_carries, client_ends, client_resets, client_pull, client_show, server_open, server_head, server_body, server_trailer, server_finish, server_reset, server_cancel, server_goaway, server_carries, server_ends, server_resets, server_pull, server_show}
+use Rattle.h3_session.proofs.RunningCalls.{client_open, client_head, client_body, client_trailer, client_finish, client_reset, client_cancel, client_goaway, client_carries, client_ends, client_resets, client_pull, client_show, client_fields, client_trailer_fields, client_lists, server_fields, server_trailer_fields, server_lists, server_open, server_head, server_body, server_trailer, server_finish, server_reset, server_cancel, server_goaway, server_carries, server_ends, server_resets, server_pull, server_show}
 
 -- by the side that acts
 by_client : (e : Event) (client server : EndpointState) (given made : Answer) (client_after server_after : EndpointState) → given ≡ made → server_after ≡ server
@@ -48,7 +49,7 @@ not_shared Server id bytes client server = (inr (refl, refl), refl)
 
 -- of which nothing is said where memory is not refused
 unshared : (e : Event) (client server : EndpointState) (given : Answer) (client_after server_after : EndpointState) → given ≡ answer.Refused refusal.OutOfMemory → AnswersEvent e client server given client_after server_after
-unshared e client server given client_after server_after is ends c s not_memory = absurd (cc (subst (λ a. is_memory a ≡ false) is not_memory))
+unshared e client server given client_after server_after is ends c s not_memory = absurd (cc (subst (λ a. is_out_of_memory a ≡ false) is not_memory))
 
 client_shares : (id : ℕ) (bytes : List ℕ) (client server : EndpointState) (given : Answer) (client_after server_after : EndpointState) → SendsShared id bytes client client_after given → server_after ≡ server
     → AnswersEvent (event.Body Client id bytes) client server given client_after server_after
@@ -80,12 +81,20 @@ acts_answers (event.Head Client id head) client server a c s h =
     client_tells done_answer (λ s t r. SendsHead s t id head r) (event.Head Client id head) client server a c s h (λ r called. client_head client c server id head r called)
 acts_answers (event.Head Server id head) client server a c s h =
     server_tells done_answer (λ s t r. SendsHead s t id head r) (event.Head Server id head) client server a c s h (λ r called. server_head client server s id head r called)
+acts_answers (event.Fields Client id fields) client server a c s h =
+    client_tells done_answer (λ s t r. SendsFieldList s t id fields r) (event.Fields Client id fields) client server a c s h (λ r called. client_fields client c server id fields r called)
+acts_answers (event.Fields Server id fields) client server a c s h =
+    server_tells done_answer (λ s t r. SendsFieldList s t id fields r) (event.Fields Server id fields) client server a c s h (λ r called. server_fields client server s id fields r called)
 acts_answers (event.Body Client id bytes) client server a c s h = client_shares id bytes client server a c s h.0 h.1
 acts_answers (event.Body Server id bytes) client server a c s h = server_shares id bytes client server a c s h.0 h.1
 acts_answers (event.Trailer Client id trailer) client server a c s h =
     client_tells done_answer (λ s t r. SendsTrailer s t id trailer r) (event.Trailer Client id trailer) client server a c s h (λ r called. client_trailer client c server id trailer r called)
 acts_answers (event.Trailer Server id trailer) client server a c s h =
     server_tells done_answer (λ s t r. SendsTrailer s t id trailer r) (event.Trailer Server id trailer) client server a c s h (λ r called. server_trailer client server s id trailer r called)
+acts_answers (event.TrailerFields Client id fields) client server a c s h =
+    client_tells done_answer (λ s t r. SendsTrailerList s t id fields r) (event.TrailerFields Client id fields) client server a c s h (λ r called. client_trailer_fields client c server id fields r called)
+acts_answers (event.TrailerFields Server id fields) client server a c s h =
+    server_tells done_answer (λ s t r. SendsTrailerList s t id fields r) (event.TrailerFields Server id fields) client server a c s h (λ r called. server_trailer_fields client server s id fields r called)
 acts_answers (event.Finish Client id) client server a c s h = client_tells done_answer (λ s t r. Finishes s t id r) (event.Finish Client id) client server a c s h (λ r called. client_finish client c server id r called)
 acts_answers (event.Finish Server id) client server a c s h = server_tells done_answer (λ s t r. Finishes s t id r) (event.Finish Server id) client server a c s h (λ r called. server_finish client server s id r called)
 acts_answers (event.Reset Client id) client server a c s h = client_tells done_answer (λ s t r. Resets s t id r) (event.Reset Client id) client server a c s h (λ r called. client_reset client c server id r called)
@@ -102,5 +111,7 @@ acts_answers (event.DeliverReset Client id) client server a c s h = client_reset
 acts_answers (event.DeliverReset Server id) client server a c s h = server_resets client server c s id a h.goes
 acts_answers (event.Pull Client id) client server a c s h = client_tells answer.Pulled (λ s t p. PullsNext s t id p) (event.Pull Client id) client server a c s h (λ p called. client_pull client c server id p called)
 acts_answers (event.Pull Server id) client server a c s h = server_tells answer.Pulled (λ s t p. PullsNext s t id p) (event.Pull Server id) client server a c s h (λ p called. server_pull client server s id p called)
+acts_answers (event.PullFields Client id) client server a c s h = client_tells answer.Listed (λ s t l. PullsList s t id l) (event.PullFields Client id) client server a c s h (λ l called. client_lists client c server id l called)
+acts_answers (event.PullFields Server id) client server a c s h = server_tells answer.Listed (λ s t l. PullsList s t id l) (event.PullFields Server id) client server a c s h (λ l called. server_lists client server s id l called)
 acts_answers (event.Show Client) client server a c s h = client_shows client server a c s h.0.0 h.0.1 h.1
 acts_answers (event.Show Server) client server a c s h = server_shows client server a c s h.0.0 h.0.1 h.1

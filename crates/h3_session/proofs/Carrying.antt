@@ -15,7 +15,7 @@ use Rattle.h3_connection.specs.declared.arrival.Arrival.TheVariants.{BytesCame, 
 use Rattle.h3_connection.specs.declared.event.DeliverError.{DeliverError}
 use Rattle.h3_connection.specs.declared.event.DeliverError.TheVariants as deliver_error
 use Rattle.h3_connection.specs.declared.event.Refusal.{Refusal}
-use Rattle.h3_world.specs.Headline.{is_memory}
+use Rattle.h3_world.specs.Headline.{is_out_of_memory}
 use Rattle.h3_world.specs.declared.event.Answer.{Answer}
 use Rattle.h3_world.specs.declared.event.Answer.TheVariants as answer
 use Rattle.h3_session.specs.Acting.{HasBytes, HasEnd, HasReset, Offers}
@@ -28,7 +28,7 @@ Handed writer reader given c = (given ≡ c.given) × StandsFor writer c.writer 
 -- Of the bytes that wait on the stream so many were offered, these; unless memory was refused.
 abbrev HandsOver : EndpointState → EndpointState → ℕ → ℕ → List ℕ → Answer → EndpointState → EndpointState → Type 0
 HandsOver writer reader id count bytes given writer_after reader_after =
-    (w r : EndpointHistory) → StandsFor writer w → StandsFor reader r → count ≤ waiting w id → is_memory given ≡ false →
+    (w r : EndpointHistory) → StandsFor writer w → StandsFor reader r → count ≤ waiting w id → is_out_of_memory given ≡ false →
     Handed writer_after reader_after given (bytes_taken w r id count (arrives r (BytesCame id bytes)))
 
 -- the bytes were taken
@@ -79,7 +79,7 @@ told_by w writer reader result x hw is hr =
     by None = (refl, hw, hr)
     by (Some r) = (refl, hw, hr)
 
-clear : (result : Result Unit DeliverError) → is_memory (told_answer result) ≡ false → lacks_memory result ≡ false
+clear : (result : Result Unit DeliverError) → is_out_of_memory (told_answer result) ≡ false → lacks_memory result ≡ false
 clear (Ok done) h = refl
 clear (Err (deliver_error.Refused r)) h = refl
 clear (Err (deliver_error.OutOfMemory bytes)) h = absurd (cc)
@@ -91,7 +91,7 @@ end_told writer reader reader_after id result given has finished count shows_has
     let has_is : has_outgoing w id ≡ true = sym (shows_has w hw) ∙ there in
     let finished_is : is_finished w id ≡ true = sym (shows_finished w hw) ∙ ended in
     let none_waits : waiting w id ≡ 0 = sym (shows_waiting w hw) ∙ none in
-    let x = delivers.receives.done r hr (clear result (subst (λ a. is_memory a ≡ false) same not_memory)) in
+    let x = delivers.receives.done r hr (clear result (subst (λ a. is_out_of_memory a ≡ false) same not_memory)) in
     let handed = told_by w writer reader_after result (arrives r (EndCame id)) hw x.0 x.1 in
     rw (has_is, finished_is, none_waits) (subst (λ a. Handed writer reader_after a (told w (arrives r (EndCame id)))) (sym same) handed)
 
@@ -100,7 +100,7 @@ pub reset_told : (writer reader reader_after : EndpointState) (id : ℕ) (result
 reset_told writer reader reader_after id result given has was shows_has there shows_reset reset delivers same w r hw hr not_memory =
     let has_is : has_outgoing w id ≡ true = sym (shows_has w hw) ∙ there in
     let was_is : is_reset w id ≡ true = sym (shows_reset w hw) ∙ reset in
-    let x = delivers.receives.done r hr (clear result (subst (λ a. is_memory a ≡ false) same not_memory)) in
+    let x = delivers.receives.done r hr (clear result (subst (λ a. is_out_of_memory a ≡ false) same not_memory)) in
     let handed = told_by w writer reader_after result (arrives r (ResetCame id reset_code)) hw x.0 x.1 in
     rw (has_is, was_is) (subst (λ a. Handed writer reader_after a (told w (arrives r (ResetCame id reset_code)))) (sym same) handed)
 

@@ -15,8 +15,8 @@ use Rattle.h3_headline.specs.Standing.{Stands}
 use Rattle.h3_memory.specs.Refused.{EndsRun}
 use Rattle.h3_memory.specs.Theorem.{RunsWithMemory}
 use Rattle.h3_session.specs.Acting.{RunsByCalls}
-use Rattle.h3_session.specs.Headlines.{RunsInKeepingWorld, RunsInWorld, RunsUntilMemory}
-use Rattle.h3_session.specs.Running.{AnswersEach, RunsTo}
+use Rattle.h3_session.specs.Headlines.{RunsInKeepingWorld, RunsInWorld}
+use Rattle.h3_session.specs.Running.{RunsTo}
 use Rattle.h3_session.specs.Typed.{IsTyped}
 use Rattle.h3_session.proofs.MemorySteps.{calls_run}
 use Rattle.h3_session.proofs.Sendables.{few_are_sendable}
@@ -43,14 +43,6 @@ pub front_of_all : {X : Type 0} (P : X → Type 0) (n : ℕ) (xs : List X) → A
 front_of_all P zero xs h = tt
 front_of_all P (suc n) [] h = tt
 front_of_all P (suc n) (x ∷ xs) h = (h.0, front_of_all P n xs h.1)
-
--- So are those up to the first that tells of refused memory.
-pub runs_until_memory : (setup : Setup) (events : List Event) (answers : List Answer) → ((front : List Event) → AllByRecursion (IsSendable setup) front → RunOfEnds setup front)
-    → AllByRecursion IsTyped events → AnswersEach (new_ends setup) events answers → AreFew setup events → RunsUntilMemory setup events answers
-runs_until_memory setup events answers law typed h few = λ n not_memory.
-    let front = take n events in
-    let on = law front (front_of_all (IsSendable setup) n events (few_are_sendable setup events typed few)) in
-    (on.0, subst (λ given. Run (Happens setup) (empty_world setup) front given on.0) (sym (h.until_memory n not_memory)) on.1)
 
 -- So are all, memory refused or not, of a world in which memory may be refused.
 pub runs_in_keeping_world : (setup : Setup) (events : List Event) (answers : List Answer) (client server : EndpointState)

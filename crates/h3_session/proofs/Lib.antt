@@ -17,6 +17,7 @@ pub mod SendingSections
 pub mod SendingHeads
 pub mod Remembering
 pub mod JudgedLists
+pub mod InvalidFields
 pub mod Lists
 pub mod ReadLists
 pub mod Costs
@@ -35,6 +36,8 @@ pub mod PullingStreams
 pub mod PullingKept
 pub mod Listing
 pub mod Running
+pub mod ListEvents
+pub mod NamedLists
 pub mod RunningCalls
 pub mod Acting
 pub mod Copying
@@ -43,6 +46,7 @@ pub mod Carrying
 pub mod Sendables
 pub mod Headlines
 pub mod Messages
+mod Between
 pub mod Strict
 pub mod LentFrames
 pub mod WellSentLists

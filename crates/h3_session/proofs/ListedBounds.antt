@@ -8,6 +8,7 @@ use Rattle.h3_field.specs.Field.{Field}
 use Rattle.h3_header.specs.HeadRead.{HeadRead, IsHead, IsNone, head_by}
 use Rattle.h3_messages.specs.Content.{awaited_by}
 use Rattle.h3_messages.specs.declared.content.Content.{Content}
+use Rattle.h3_connection.specs.Answers.{call_refused}
 use Rattle.h3_connection.specs.Bounds.{IsBounded, OfStream, StandsBounded, TriesTwice, WaitsOnce}
 use Rattle.h3_connection.specs.Calls.{IsSame}
 use Rattle.h3_connection.specs.Endpoint.{EndpointHistory}
@@ -20,9 +21,7 @@ use Rattle.h3_connection.specs.StreamSets.{Streams, set_stream, stream_at}
 use Rattle.h3_connection.specs.StreamSetLaws.{other_id, set-here, set-other}
 use Rattle.h3_connection.specs.declared.event.Refusal.{Refusal}
 use Rattle.h3_connection.specs.declared.event.Refusal.TheVariants as refusal
-use Rattle.h3_session.specs.SendingLists.{SendsFieldList, SendsList, SendsTrailerList, after_trailer, as_error, list_told, listed_head_refusal, listed_trailer_refusal, no_memory, send_fields, send_read_head, send_read_trailer, send_trailer_fields}
-use Rattle.h3_session.specs.declared.endpoint.lists.FieldsError.{FieldsError}
-use Rattle.h3_session.specs.declared.endpoint.lists.FieldsError.TheVariants as error
+use Rattle.h3_session.specs.SendingLists.{SendsFieldList, SendsList, SendsTrailerList, after_trailer, listed_head_refusal, listed_trailer_refusal, send_fields, send_read_head, send_read_trailer, send_trailer_fields}
 use Rattle.h3_session.proofs.MemoryUnchanged.{stands_unchanged}
 
 pub same_bounded : (old new : EndpointState) → IsSame old new → StandsBounded old → StandsBounded new
@@ -81,7 +80,7 @@ asks e id fields h = by_choice (remembers e.side e.announced)
         rests f (record f { outgoing = (asked e id fields).outgoing }) refl refl refl refl (awaits e id (awaited_by fields) (stream_at e.incoming id) refl h)
     by_choice false = rests e (record e { outgoing = (asked e id fields).outgoing }) refl refl refl refl h
 
-does_on : (r : Option Refusal) (e f : EndpointHistory) → IsBounded e → IsBounded f → IsBounded (as_error (does r e f)).1
+does_on : (r : Option Refusal) (e f : EndpointHistory) → IsBounded e → IsBounded f → IsBounded (does r e f).1
 does_on (Some r) e f h k = h
 does_on None e f h k = k
 
@@ -98,18 +97,18 @@ sends_trailer e id fields (IsHead trailer) h =
 sends_trailer e id fields (IsNone why) h = h
 
 -- want of memory, or another error
-abbrev is_no_memory : FieldsError → Bool
-is_no_memory (error.Refused refusal.OutOfMemory) = true
+abbrev is_no_memory : Refusal → Bool
+is_no_memory refusal.OutOfMemory = true
 is_no_memory _ = false
 
-no_memory_is : (e : FieldsError) → is_no_memory e ≡ true → e ≡ no_memory
-no_memory_is (error.Refused refusal.OutOfMemory) h = refl
+no_memory_is : (r : Refusal) → is_no_memory r ≡ true → r ≡ refusal.OutOfMemory
+no_memory_is refusal.OutOfMemory h = refl
 no_memory_is _ h = cc
 
 abbrev CutBounded : Type 0
 CutBounded = (e : EndpointHistory) (id : ℕ) (fields : List Field) (new : EndpointState) → IsBounded e → CutsOff e id fields new → StandsBounded new
 
-list_bounded : CutBounded → (act : EndpointHistory → Option FieldsError × EndpointHistory) (old new : EndpointState) (id : ℕ) (fields : List Field) (told : Option FieldsError)
+list_bounded : CutBounded → (act : EndpointHistory → Option Refusal × EndpointHistory) (old new : EndpointState) (id : ℕ) (fields : List Field) (told : Option Refusal)
     → ((e : EndpointHistory) → IsBounded e → IsBounded (act e).1) → SendsList act old new id fields told → StandsBounded old → StandsBounded new
 list_bounded cut act old new id fields None keeps s h = record { history = (act h.history).1; stands = (s.done h.history h.stands (λ x. cc)).1; bounded = keeps h.history h.bounded }
 list_bounded cut act old new id fields (Some e) keeps s h = by (is_no_memory e) refl
@@ -118,8 +117,8 @@ list_bounded cut act old new id fields (Some e) keeps s h = by (is_no_memory e) 
     by true is = cut h.history id fields new h.bounded (s.memory h.history h.stands (ap Some (no_memory_is e is))).1
     by false is = same_bounded old new (s.same (λ x. cc) (λ x. let wrong : true ≡ false = ap (λ o. elim o [ None ↦ false | Some y ↦ is_no_memory y ]) (sym x) ∙ is in cc)) h
 
-pub fields_bounded : CutBounded → (old new : EndpointState) (id : ℕ) (fields : List Field) (result : Result Unit FieldsError) → SendsFieldList old new id fields result → StandsBounded old → StandsBounded new
-fields_bounded cut old new id fields result = list_bounded cut (λ e. send_fields e id fields) old new id fields (list_told result) (λ e. sends_head e id fields (head_by e.announced.choices.extensions.any_protocol fields))
+pub fields_bounded : CutBounded → (old new : EndpointState) (id : ℕ) (fields : List Field) (result : Result Unit Refusal) → SendsFieldList old new id fields result → StandsBounded old → StandsBounded new
+fields_bounded cut old new id fields result = list_bounded cut (λ e. send_fields e id fields) old new id fields (call_refused result) (λ e. sends_head e id fields (head_by e.announced.choices.extensions.any_protocol fields))
 
-pub trailer_bounded : CutBounded → (old new : EndpointState) (id : ℕ) (fields : List Field) (result : Result Unit FieldsError) → SendsTrailerList old new id fields result → StandsBounded old → StandsBounded new
-trailer_bounded cut old new id fields result = list_bounded cut (λ e. send_trailer_fields e id fields) old new id fields (list_told result) (λ e. sends_trailer e id fields (head_by e.announced.choices.extensions.any_protocol fields))
+pub trailer_bounded : CutBounded → (old new : EndpointState) (id : ℕ) (fields : List Field) (result : Result Unit Refusal) → SendsTrailerList old new id fields result → StandsBounded old → StandsBounded new
+trailer_bounded cut old new id fields result = list_bounded cut (λ e. send_trailer_fields e id fields) old new id fields (call_refused result) (λ e. sends_trailer e id fields (head_by e.announced.choices.extensions.any_protocol fields))

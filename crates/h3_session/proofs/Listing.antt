@@ -12,7 +12,8 @@ use Rattle.h3_connection.specs.State.{EndpointState, RequestState, StandsFor, ke
 use Rattle.h3_connection.specs.StreamSets.{stream_at}
 use Rattle.h3_incoming.specs.Answering.{Lists}
 use Rattle.h3_requests.specs.Coming.{fields_at}
-use Rattle.h3_session.specs.Listing.{ListsItem, ListsNext, fields_there, fields_of_kind, fields_item, fields_behind}
+use Rattle.h3_connection.specs.Coming.{fields_there, fields_of_kind, fields_item, fields_behind}
+use Rattle.h3_session.specs.Listing.{ListsItem, ListsNext}
 use Rattle.h3_session.specs.Reading.{Finds}
 use Rattle.h3_session.proofs.ReceivingReading.{finds_by}
 

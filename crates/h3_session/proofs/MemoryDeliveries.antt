@@ -19,7 +19,7 @@ use Rattle.h3_connection.specs.declared.event.DeliverError.TheVariants as delive
 use Rattle.h3_connection.specs.declared.event.Refusal.TheVariants as refusal
 use Rattle.h3_world.specs.Delivering.{reset_code}
 use Rattle.h3_world.specs.Ends.{Ends, end_at, with_end}
-use Rattle.h3_world.specs.Headline.{is_memory}
+use Rattle.h3_world.specs.Headline.{is_out_of_memory}
 use Rattle.h3_world.specs.declared.event.Answer.{Answer}
 use Rattle.h3_world.specs.declared.event.Answer.TheVariants as answer
 use Rattle.h3_world.specs.declared.event.Event.{Event}
@@ -82,7 +82,7 @@ kept ends side a sent old new h behind stands =
 -- Bytes were offered.
 module _ (ends : Ends) (side : Side) (id count : ℕ) (writer reader writer_after reader_after : EndpointState) (writer_stands : StandsFor writer (end_at ends side)) (reader_stands : StandsFor reader (end_at ends (other side))) where
   offered : (result : Result Unit DeliverError) (bytes : List ℕ) → bytes ≡ take count (bytes_waiting (end_at ends side) id) → HasBytes id count (end_at ends side) → Delivers reader reader_after id bytes result
-      → (is_stored result ≡ true → Advances writer writer_after id count) → (is_stored result ≡ false → writer_after ≡ writer) → is_memory (answer_of (answer.Delivered count) (delivery_refused result)) ≡ true
+      → (is_stored result ≡ true → Advances writer writer_after id count) → (is_stored result ≡ false → writer_after ≡ writer) → is_out_of_memory (answer_of (answer.Delivered count) (delivery_refused result)) ≡ true
       → BothLack ends side (event.Deliver side id count) (answer_of (answer.Delivered count) (delivery_refused result)) writer_after reader_after
   offered (Ok done) bytes is there delivers taken left memory = absurd (cc)
   offered (Err (deliver_error.Refused why)) bytes is there delivers taken left memory =
@@ -102,7 +102,7 @@ module _ (ends : Ends) (side : Side) (id count : ℕ) (writer reader writer_afte
         lacks = (there.0, there.1, subst (λ b. Stores ends (other side) (BytesCame id b) (handed_over ends side id count) (with_end (handed_over ends side id count) (other side) stays.read)) is stays.stores);
       }
 
-  pub bytes_lack : (a : Answer) → CarriesBytes id count writer reader a writer_after reader_after → is_memory a ≡ true → BothLack ends side (event.Deliver side id count) a writer_after reader_after
+  pub bytes_lack : (a : Answer) → CarriesBytes id count writer reader a writer_after reader_after → is_out_of_memory a ≡ true → BothLack ends side (event.Deliver side id count) a writer_after reader_after
   bytes_lack a h memory = by (h.lacks memory)
     where
       by : OffersFront id count writer reader a writer_after reader_after ⊎ ((a ≡ answer.Refused refusal.OutOfMemory) × (writer_after ≡ writer) × (reader_after ≡ reader))
@@ -110,7 +110,7 @@ module _ (ends : Ends) (side : Side) (id count : ℕ) (writer reader writer_afte
       by (inl front) =
           subst (λ v. BothLack ends side (event.Deliver side id count) v writer_after reader_after) (sym front.offers.given_is)
           (offered front.offers.result front.bytes (front.front (end_at ends side) writer_stands) (h.there memory (end_at ends side) writer_stands) front.offers.delivers front.offers.taken front.offers.left
-          (subst (λ v. is_memory v ≡ true) front.offers.given_is memory))
+          (subst (λ v. is_out_of_memory v ≡ true) front.offers.given_is memory))
       by (inr none) =
           subst (λ v. BothLack ends side (event.Deliver side id count) v writer_after reader_after) (sym none.0)
           (both_unchanged ends side (event.Deliver side id count) (answer.Refused refusal.OutOfMemory) writer_after reader_after (subst (λ s. StandsFor s (end_at ends side)) (sym none.1) writer_stands)
@@ -120,7 +120,7 @@ module _ (ends : Ends) (side : Side) (id count : ℕ) (writer reader writer_afte
 module _ (ends : Ends) (side : Side) (arrival : Arrival) (e : Event) (old new : EndpointState) (stands : StandsFor old (end_at ends (other side))) (there : Type 0) where
   told : (has : there) → (there → IsTaken (end_at ends (other side)) (stream_of arrival) → LacksMemory ends e (answer.Refused refusal.OutOfMemory) ends)
       → (there → (new : Ends) → Stores ends (other side) arrival ends new → LacksMemory ends e (answer.Refused refusal.Kept) new)
-      → (result : Result Unit DeliverError) → Receives old new arrival result → KeepsBehind old (stream_of arrival) result → is_memory (told_answer result) ≡ true → OneLacks ends (other side) e (told_answer result) new
+      → (result : Result Unit DeliverError) → Receives old new arrival result → KeepsBehind old (stream_of arrival) result → is_out_of_memory (told_answer result) ≡ true → OneLacks ends (other side) e (told_answer result) new
   told has unchanged keeps (Ok done) h behind memory = absurd (cc)
   told has unchanged keeps (Err (deliver_error.Refused why)) h behind memory =
       let r = end_at ends (other side) in not_by_rules why (arrives r arrival).0 (arrives_tells r arrival) (h.done r stands refl).0 memory
@@ -131,12 +131,12 @@ module _ (ends : Ends) (side : Side) (arrival : Arrival) (e : Event) (old new : 
       record { after = stays.read; stands = stays.stands; lacks = keeps has (with_end ends (other side) stays.read) stays.stores }
 
 module _ (ends : Ends) (side : Side) (id : ℕ) (old new : EndpointState) (a : Answer) (stands : StandsFor old (end_at ends (other side))) where
-  pub end_lacks : HasEnd id (end_at ends side) → Tells told_answer (λ s t r. DeliversEnd s t id r) old new a → is_memory a ≡ true → OneLacks ends (other side) (event.DeliverEnd side id) a new
+  pub end_lacks : HasEnd id (end_at ends side) → Tells told_answer (λ s t r. DeliversEnd s t id r) old new a → is_out_of_memory a ≡ true → OneLacks ends (other side) (event.DeliverEnd side id) a new
   end_lacks has h memory =
       tells_lacks told_answer (λ s t r. DeliversEnd s t id r) ends (other side) (event.DeliverEnd side id) old new a h memory
       (λ r called. told ends side (EndCame id) (event.DeliverEnd side id) old new stands (HasEnd id (end_at ends side)) has (λ there taken. (there.0, there.1, taken, refl)) (λ there new stores. (there.0, there.1, stores)) r called.receives called.behind)
 
-  pub reset_lacks : HasReset id (end_at ends side) → Tells told_answer (λ s t r. DeliversReset s t id reset_code r) old new a → is_memory a ≡ true → OneLacks ends (other side) (event.DeliverReset side id) a new
+  pub reset_lacks : HasReset id (end_at ends side) → Tells told_answer (λ s t r. DeliversReset s t id reset_code r) old new a → is_out_of_memory a ≡ true → OneLacks ends (other side) (event.DeliverReset side id) a new
   reset_lacks has h memory =
       tells_lacks told_answer (λ s t r. DeliversReset s t id reset_code r) ends (other side) (event.DeliverReset side id) old new a h memory
       (λ r called. told ends side (ResetCame id reset_code) (event.DeliverReset side id) old new stands (HasReset id (end_at ends side)) has (λ there taken. (there, taken, refl)) (λ there new stores. (there, stores)) r called.receives called.behind)

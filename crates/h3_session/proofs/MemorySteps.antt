@@ -5,7 +5,7 @@ use Rattle.h3_proto.specs.declared.stream.Side.TheVariants.{Client, Server}
 use Rattle.h3_connection.specs.OwnIds.{other}
 use Rattle.h3_connection.specs.State.{EndpointState, StandsFor}
 use Rattle.h3_world.specs.Ends.{Ends, end_at, with_end, answered}
-use Rattle.h3_world.specs.Headline.{is_memory}
+use Rattle.h3_world.specs.Headline.{is_out_of_memory}
 use Rattle.h3_world.specs.declared.event.Answer.{Answer}
 use Rattle.h3_world.specs.declared.event.Event.{Event}
 use Rattle.h3_world.specs.declared.event.Event.TheVariants as event
@@ -14,8 +14,8 @@ use Rattle.h3_session.specs.Acting.{Acts, ActsEach, ByOne, FromOne, RunsByCalls}
 use Rattle.h3_session.specs.Running.{Shown}
 use Rattle.h3_session.proofs.Acting.{acts_answers}
 use Rattle.h3_session.proofs.MemoryDeliveries.{BothLack, bytes_lack, end_lacks, reset_lacks as reset_delivery_lacks}
-use Rattle.h3_session.proofs.MemoryPulls.{pull_lacks}
-use Rattle.h3_session.proofs.MemorySends.{OneLacks, open_lacks, head_lacks, body_lacks, trailer_lacks, finish_lacks, reset_lacks, cancel_lacks, goaway_lacks}
+use Rattle.h3_session.proofs.MemoryPulls.{lists_lack, pull_lacks}
+use Rattle.h3_session.proofs.MemorySends.{OneLacks, open_lacks, head_lacks, body_lacks, trailer_lacks, fields_lack, trailer_fields_lack, finish_lacks, reset_lacks, cancel_lacks, goaway_lacks}
 
 -- what both endpoints stand for after an event that was refused memory
 pub record Lacks (ends : Ends) (e : Event) (a : Answer) (client server : EndpointState) : Type 0 where
@@ -64,17 +64,19 @@ module _ (ends : Ends) (e : Event) (a : Answer) (client server c s : EndpointSta
       record { new = with_end ends Client x.1.after; lacks = x.1.lacks; client_stands = x.1.stands; server_stands = subst (λ v. StandsFor v ends.server) (sym x.0) server_stands }
 
 -- what an end shows never tells of refused memory
-shown_lacks : (ends : Ends) (side : Side) (old new : EndpointState) (a : Answer) → StandsFor old (end_at ends side) → Shown old a → is_memory a ≡ true → OneLacks ends side (event.Show side) a new
+shown_lacks : (ends : Ends) (side : Side) (old new : EndpointState) (a : Answer) → StandsFor old (end_at ends side) → Shown old a → is_out_of_memory a ≡ true → OneLacks ends side (event.Show side) a new
 shown_lacks ends side old new a stands shown memory =
-    let none : false ≡ true = subst (λ v. is_memory v ≡ true) (shown (end_at ends side) stands) memory in
+    let none : false ≡ true = subst (λ v. is_out_of_memory v ≡ true) (shown (end_at ends side) stands) memory in
     absurd (cc)
 
 -- where memory was refused
-acts_lack : (ends : Ends) (e : Event) (client server : EndpointState) (a : Answer) (c s : EndpointState) → Acts e client server a c s → StandsFor client ends.client → StandsFor server ends.server → is_memory a ≡ true → Lacks ends e a c s
+acts_lack : (ends : Ends) (e : Event) (client server : EndpointState) (a : Answer) (c s : EndpointState) → Acts e client server a c s → StandsFor client ends.client → StandsFor server ends.server → is_out_of_memory a ≡ true → Lacks ends e a c s
 acts_lack ends (event.OpenRequest side) client server a c s h hc hs memory = by_one ends (event.OpenRequest side) a client server c s hc hs side _ h (λ old new stands called. open_lacks ends side old new a called stands memory)
 acts_lack ends (event.Head side id head) client server a c s h hc hs memory = by_one ends (event.Head side id head) a client server c s hc hs side _ h (λ old new stands called. head_lacks ends side old new a id head called stands memory)
+acts_lack ends (event.Fields side id fields) client server a c s h hc hs memory = by_one ends (event.Fields side id fields) a client server c s hc hs side _ h (λ old new stands called. fields_lack ends side old new a id fields called stands memory)
 acts_lack ends (event.Body side id bytes) client server a c s h hc hs memory = by_one ends (event.Body side id bytes) a client server c s hc hs side _ h (λ old new stands called. body_lacks ends side old new a id bytes called stands memory)
 acts_lack ends (event.Trailer side id trailer) client server a c s h hc hs memory = by_one ends (event.Trailer side id trailer) a client server c s hc hs side _ h (λ old new stands called. trailer_lacks ends side old new a id trailer called stands memory)
+acts_lack ends (event.TrailerFields side id fields) client server a c s h hc hs memory = by_one ends (event.TrailerFields side id fields) a client server c s hc hs side _ h (λ old new stands called. trailer_fields_lack ends side old new a id fields called stands memory)
 acts_lack ends (event.Finish side id) client server a c s h hc hs memory = by_one ends (event.Finish side id) a client server c s hc hs side _ h (λ old new stands called. finish_lacks ends side old new a id called stands memory)
 acts_lack ends (event.Reset side id) client server a c s h hc hs memory = by_one ends (event.Reset side id) a client server c s hc hs side _ h (λ old new stands called. reset_lacks ends side old new a id called stands memory)
 acts_lack ends (event.Cancel side id) client server a c s h hc hs memory = by_one ends (event.Cancel side id) a client server c s hc hs side _ h (λ old new stands called. cancel_lacks ends side old new a id called stands memory)
@@ -89,12 +91,13 @@ acts_lack ends (event.DeliverReset side id) client server a c s h hc hs memory =
     told ends (event.DeliverReset side id) a client server c s hc hs side _ h
     (λ writer reader writer_after reader_after writer_stands reader_stands goes. (goes.same, reset_delivery_lacks ends side id reader reader_after a reader_stands (goes.there memory (end_at ends side) writer_stands) (goes.lacks memory) memory))
 acts_lack ends (event.Pull side id) client server a c s h hc hs memory = by_one ends (event.Pull side id) a client server c s hc hs side _ h (λ old new stands called. pull_lacks ends side id old new a called stands memory)
+acts_lack ends (event.PullFields side id) client server a c s h hc hs memory = by_one ends (event.PullFields side id) a client server c s hc hs side _ h (λ old new stands called. lists_lack ends side id old new a called stands memory)
 acts_lack ends (event.Show side) client server a c s h hc hs memory = by_one ends (event.Show side) a client server c s hc hs side _ h (λ old new stands called. shown_lacks ends side old new a stands called.1 memory)
 
 pub acts_step : (ends : Ends) (e : Event) (client server : EndpointState) (a : Answer) (c s : EndpointState) → Acts e client server a c s → StandsFor client ends.client → StandsFor server ends.server → Steps ends e a c s
-acts_step ends e client server a c s h hc hs = by (is_memory a) refl
+acts_step ends e client server a c s h hc hs = by (is_out_of_memory a) refl
   where
-    by : (b : Bool) → is_memory a ≡ b → Steps ends e a c s
+    by : (b : Bool) → is_out_of_memory a ≡ b → Steps ends e a c s
     by false is =
         let x = acts_answers e client server a c s h ends hc hs is in
         record { new = (answered ends e).1; step = subst (λ b. AnswerOf b ends e a (answered ends e).1) (sym is) (x.0, refl); client_stands = x.1; server_stands = x.2 }

@@ -1,8 +1,9 @@
 -- No call is refused for memory by its rules: an answer that tells of refused memory is none of the definitions.
 use Rattle.std.proofs.Common.{◌≡◌, ◌⊎◌, inl, inr, ℕ, List, [], ◌∷◌, length, Bool, true, false, Option, Some, None, refl, sym, subst}
 use Rattle.std.specs.Prelude.{◌&&◌, ◌||◌, not, ◌++◌, ◌%◌, ◌==◌, ◌^◌, nat_le, nat_lt, if◌then◌else◌, is_some}
-use Rattle.h3_field.specs.Field.{section_size}
+use Rattle.h3_field.specs.Field.{Field, section_size}
 use Rattle.h3_header.specs.Head.{Head, head_fields, has_pseudo}
+use Rattle.h3_header.specs.Reads.{head_of_fields}
 use Rattle.h3_proto.specs.declared.stream.Side.{Side}
 use Rattle.h3_proto.specs.declared.stream.Side.TheVariants.{Client, Server}
 use Rattle.h3_connection.specs.Arrivals.{stream_of, is_closed_in}
@@ -27,12 +28,15 @@ use Rattle.h3_connection.specs.declared.event.Malformation.{Malformation}
 use Rattle.h3_connection.specs.declared.event.Malformation.TheVariants as malformation
 use Rattle.h3_connection.specs.declared.event.Refusal.{Refusal}
 use Rattle.h3_connection.specs.declared.event.Refusal.TheVariants as refusal
-use Rattle.h3_world.specs.Headline.{is_memory}
+use Rattle.h3_world.specs.EndLists as lists
+use Rattle.h3_world.specs.Headline.{is_out_of_memory}
+use Rattle.h3_world.specs.Lists.{unreadable}
+use Rattle.h3_world.specs.Setup.{takes_any}
 use Rattle.h3_world.specs.declared.event.Answer.TheVariants as answer
 
 abbrev pub TellsNoMemory : Option Refusal → Type 0
 TellsNoMemory None = Unit {0}
-TellsNoMemory (Some r) = is_memory (answer.Refused r) ≡ false
+TellsNoMemory (Some r) = is_out_of_memory (answer.Refused r) ≡ false
 
 -- what comes
 closed_tells : (b : Bool) → TellsNoMemory (closed_refusal b)
@@ -128,18 +132,42 @@ malformed_tells : (why : Option Malformation) (rules : List (Bool × Refusal)) �
 malformed_tells None rules h = h
 malformed_tells (Some why) rules h = refl
 
+-- nor does one that begins a message after a GOAWAY
+begun_tells : (going : Option ℕ) (rules : List (Bool × Refusal)) → TellsNoMemory (refusals.first_of rules) → TellsNoMemory (refusals.first_of (refusals.unless_going going rules))
+begun_tells None rules h = h
+begun_tells (Some id) rules h = refl
+
 pub head_tells : (e : EndpointHistory) (id : ℕ) (head : Head) → TellsNoMemory (sender.send_head e id head).0
 head_tells e id head =
     let broken = broken_head e.side e.announced e.peer.settings (head_fields head) in
     let listed = by_list broken (refusals.is_too_large e.peer.settings (head_fields head)) (section_size (head_fields head)) in
     let rules = unless_malformed broken ((refusals.is_too_large e.peer.settings (head_fields head), refusal.TooLarge (section_size (head_fields head))) ∷ []) in
     let sides : Bool × Refusal = (not (is_for (other e.side) head), refusal.WrongSide) in
+    let going = (sender.sender_at e id).going in
     does_tells (sender.head_refusal e id head) e _
     (unless_closed_tells e.closed _
-    (unordered_tells (not (sender.is_open e id)) (not (takes_head (sender.outgoing_at e id))) (refusals.first_of (unless_malformed (broken_protocol e.announced head) (sides ∷ rules)))
+    (unordered_tells (not (sender.is_open e id)) (not (takes_head (sender.outgoing_at e id))) (refusals.first_of (refusals.unless_going going (unless_malformed (broken_protocol e.announced head) (sides ∷ rules))))
+    (begun_tells going (unless_malformed (broken_protocol e.announced head) (sides ∷ rules))
     (malformed_tells (broken_protocol e.announced head) (sides ∷ rules)
     (if_tells (not (is_for (other e.side) head)) (Some refusal.WrongSide) listed refl
-    (list_tells broken (refusals.is_too_large e.peer.settings (head_fields head)) (section_size (head_fields head)))))))
+    (list_tells broken (refusals.is_too_large e.peer.settings (head_fields head)) (section_size (head_fields head))))))))
+
+-- and a list that goes out as it is
+pub fields_tell : (e : EndpointHistory) (id : ℕ) (fields : List Field) → TellsNoMemory (lists.send_fields e id fields).0
+fields_tell e id fields =
+    let unread = unreadable (takes_any e.announced) fields in
+    let broken = broken_head e.side e.announced e.peer.settings fields in
+    let large = refusals.is_too_large e.peer.settings fields in
+    let rules = unless_malformed broken ((large, refusal.TooLarge (section_size fields)) ∷ []) in
+    let wrong = not (is_for (other e.side) (head_of_fields fields)) in
+    let sides : Bool × Refusal = (wrong, refusal.WrongSide) in
+    let going = (sender.sender_at e id).going in
+    does_tells (lists.fields_refusal e id fields) e _
+    (unless_closed_tells e.closed _
+    (unordered_tells (not (sender.is_open e id)) (not (takes_head (sender.outgoing_at e id))) (refusals.first_of (refusals.unless_going going (unless_malformed unread (sides ∷ rules))))
+    (begun_tells going (unless_malformed unread (sides ∷ rules))
+    (malformed_tells unread (sides ∷ rules)
+    (if_tells wrong (Some refusal.WrongSide) (by_list broken large (section_size fields)) refl (list_tells broken large (section_size fields)))))))
 
 -- more content than the head said, or less
 content_tells : (b : Bool) → TellsNoMemory (if b then Some (refusal.Malformed malformation.ContentLength) else None)
@@ -166,6 +194,20 @@ trailer_tells e id head =
     (if_tells (has_pseudo head) (Some refusal.PseudoInTrailer) listed refl
     (both_tell early broken (refusals.is_too_large e.peer.settings (head_fields head)) (section_size (head_fields head)))))))
 
+pub trailer_fields_tell : (e : EndpointHistory) (id : ℕ) (fields : List Field) → TellsNoMemory (lists.send_trailer_fields e id fields).0
+trailer_fields_tell e id fields =
+    let unread = unreadable (takes_any e.announced) fields in
+    let early = early_trailer (sender.outgoing_at e id).content in
+    let broken = broken_trailer e.announced fields in
+    let large = refusals.is_too_large e.peer.settings fields in
+    let rules = unless_malformed early (unless_malformed broken ((large, refusal.TooLarge (section_size fields)) ∷ [])) in
+    let pseudo : Bool × Refusal = (has_pseudo (head_of_fields fields), refusal.PseudoInTrailer) in
+    does_tells (lists.trailer_fields_refusal e id fields) e _
+    (unless_closed_tells e.closed _
+    (unordered_tells (not (sender.is_open e id)) (not (takes_body (sender.outgoing_at e id))) (refusals.first_of (unless_malformed unread (pseudo ∷ rules)))
+    (malformed_tells unread (pseudo ∷ rules)
+    (if_tells (has_pseudo (head_of_fields fields)) (Some refusal.PseudoInTrailer) (by_both early broken large (section_size fields)) refl (both_tell early broken large (section_size fields))))))
+
 pub finish_tells : (e : EndpointHistory) (id : ℕ) → TellsNoMemory (sender.finish e id).0
 finish_tells e id =
     does_tells (sender.finish_refusal e id) e _ (unless_closed_tells e.closed _ (unordered_tells (not (sender.is_open e id)) (not (takes_end (sender.outgoing_at e id))) _ (content_tells (not (may_end (sender.outgoing_at e id).content)))))
@@ -191,13 +233,13 @@ goaway_tells e id =
     (unless_closed_tells e.closed _ (if_tells (not (is_client e.side) && not (id % 4 == 0)) (Some refusal.NotRequestId) _ refl (raised_tells id (last_id e.own.goaways))))
 
 -- So a refusal that tells of refused memory is none of the rules'.
-pub not_by_rules : {X : Type 0} (r : Refusal) (o : Option Refusal) → TellsNoMemory o → Some r ≡ o → is_memory (answer.Refused r) ≡ true → X
+pub not_by_rules : {X : Type 0} (r : Refusal) (o : Option Refusal) → TellsNoMemory o → Some r ≡ o → is_out_of_memory (answer.Refused r) ≡ true → X
 not_by_rules r o h is memory =
-    let told : is_memory (answer.Refused r) ≡ false = subst TellsNoMemory (sym is) h in
+    let told : is_out_of_memory (answer.Refused r) ≡ false = subst TellsNoMemory (sym is) h in
     absurd (cc)
 
 -- Two refusals tell of refused memory.
-pub memory_refusals : (r : Refusal) → is_memory (answer.Refused r) ≡ true → (r ≡ refusal.OutOfMemory) ⊎ (r ≡ refusal.Kept)
+pub memory_refusals : (r : Refusal) → is_out_of_memory (answer.Refused r) ≡ true → (r ≡ refusal.OutOfMemory) ⊎ (r ≡ refusal.Kept)
 memory_refusals refusal.OutOfMemory h = inl refl
 memory_refusals refusal.Kept h = inr refl
 memory_refusals r h = absurd (cc)

@@ -1,13 +1,19 @@
 -- What is handed out in a run is what was sent, memory refused or not.
-use Rattle.std.proofs.Common.{ℕ, zero, suc, List, [], ◌∷◌, take, refl}
-use Rattle.std.specs.List.{AllByRecursion}
+use Rattle.std.proofs.Common.{◌≡◌, true, false, ℕ, zero, suc, List, [], ◌∷◌, take, refl}
+use Rattle.std.specs.List.{AllByRecursion, list_any}
+use Rattle.h3_proto.specs.declared.stream.Side.{Side}
+use Rattle.h3_connection.specs.OwnIds.{other}
 use Rattle.h3_world.specs.declared.event.Answer.{Answer}
 use Rattle.h3_world.specs.declared.event.Event.{Event}
 use Rattle.h3_world.specs.declared.setup.Setup.{Setup}
 use Rattle.h3_world.specs.Few.{AreFew}
+use Rattle.h3_world.specs.Headline.{is_connection_fault}
 use Rattle.h3_world.specs.Run.{Run}
 use Rattle.h3_world.specs.Sendable.{IsSendable}
 use Rattle.h3_world.specs.World.{empty_world}
+use Rattle.h3_headline.specs.Exactly.{IsAllOf, IsExactly, reader_at}
+use Rattle.h3_headline.specs.Messages.{IsFrontOf, has_finished, has_pulled_end, pulled, sent}
+use Rattle.h3_headline.specs.PlainlyLaws.{all_as_long, all_read_back, front_plainly}
 use Rattle.h3_memory.specs.Kept.{KeepingWorld, nothing_kept}
 use Rattle.h3_memory.specs.MemoryStep.{HappensWithMemory}
 use Rattle.h3_session.specs.Messages.{HandsOutAlways, HandsOutWhatWasSent}
@@ -35,3 +41,18 @@ pub hands_out_always : (setup : Setup) (events : List Event) (answers : List Ans
 hands_out_always setup events answers k law typed few run = λ n.
     let front = run_front (HappensWithMemory setup) (nothing_kept (empty_world setup)) k events answers n run in
     law (take n events) (take n answers) front.0 (front_of_all (IsSendable setup) n events (few_are_sendable setup events typed few)) front.1
+
+-- What is exactly what was sent is so by names and values.
+pub hands_out : (setup : Setup) (events : List Event) (answers : List Answer) → AllByRecursion (IsSendable setup) events → list_any is_connection_fault answers ≡ false
+    → ((side : Side) (id : ℕ) → IsFrontOf (IsExactly (reader_at setup side)) (pulled side id events answers) (sent (other side) id events answers))
+    → ((side : Side) (id : ℕ) → has_pulled_end side id events answers ≡ true
+    → IsAllOf (IsExactly (reader_at setup side)) (pulled side id events answers) (sent (other side) id events answers) × (has_finished (other side) id events answers ≡ true))
+    → HandsOutWhatWasSent setup events answers
+hands_out setup events answers sendable well begins ends = record {
+  no_connection_fault = well;
+  begins = λ side id.
+      front_plainly (reader_at setup side) (pulled side id events answers) (sent (other side) id events answers) (all_read_back setup (other side) id events answers sendable) (begins side id);
+  ends = λ side id ended.
+      let is = ends side id ended in
+      (all_as_long (reader_at setup side) (pulled side id events answers) (sent (other side) id events answers) is.0, is.1);
+}

@@ -1,7 +1,8 @@
 -- What is read on streams that are no request streams looks at none of these, and leaves them.
-use Rattle.std.proofs.Common.{◌≡◌, ℕ, Bool, true, false, if◌then◌else◌, List, [], ◌++◌, Option, Some, None, refl}
+use Rattle.std.proofs.Common.{◌≡◌, ℕ, Bool, true, false, if◌then◌else◌, List, [], ◌++◌, Option, Some, None, refl, ap, ◌∙◌}
 use Rattle.std.specs.Prelude.{◌≢◌, is_some}
-use Rattle.h3_connection.specs.Control.{Found, listened_to, kept_unread, read_decoder, with_table, if_learned, then_decoder, read_control}
+use Rattle.h3_connection.specs.Codes.{missing_settings, settings_error}
+use Rattle.h3_connection.specs.Control.{Found, after_peer, are_refused, holding, if_learned, kept_unread, lacks_settings, listened_to, read_control, read_decoder, read_held, settings_alone, taken_peer, then_decoder, with_table}
 use Rattle.h3_connection.specs.Delivering.{unidirectional_at, with_unidirectional, unless_second, heard_as, read_unidirectional}
 use Rattle.h3_connection.specs.Endpoint.{EndpointHistory, limit_of, Kind, is_second}
 use Rattle.h3_connection.specs.Endpoint.Kind.{Request, ServerOpened, OwnUnidirectional, PeerUnidirectional}
@@ -9,8 +10,9 @@ use Rattle.h3_connection.specs.ExcessiveInstructions.{listen_up_to}
 use Rattle.h3_connection.specs.Incoming.{Incoming}
 use Rattle.h3_connection.specs.Outgoing.{Outgoing}
 use Rattle.h3_connection.specs.PartReading.{held_as, after_frames}
-use Rattle.h3_connection.specs.PeerReading.{Peer, with_unread, read_peer}
+use Rattle.h3_connection.specs.PeerReading.{Peer, PeerFound, read_peer}
 use Rattle.h3_connection.specs.StreamSets.{Streams}
+use Rattle.h3_connection.specs.StrictConnectionLaws.{refused_alike}
 use Rattle.h3_connection.specs.Unidirectional.{Unidirectional, Role, role_after, with_bytes}
 use Rattle.h3_connection.specs.Unidirectional.Role.{Untold, Control, Encoder, Decoder, Session, Push, Ignored}
 use Rattle.h3_connection.specs.declared.arrival.Arrival.{Arrival}
@@ -70,11 +72,38 @@ peer_by e (Some first) None None = nothing_found e None
 peer_by e (Some first) (Some pairs) (Some code) = nothing_found e (Some code)
 peer_by e (Some first) (Some pairs) None = nothing_found e None
 
-control_elsewhere : (e : EndpointHistory) (bytes : List ℕ) → LooksElsewhere e (read_control e bytes) (λ ins outs. read_control (with_requests e ins outs) bytes)
-control_elsewhere e bytes =
-    let found = read_peer (limit_of e) e.side (with_unread e.peer (e.peer.unread ++ bytes)) in
+either_by : (b : Bool) (e : EndpointHistory) (one two : Found) (other_one other_two : Streams Incoming → Streams Outgoing → Found) → LooksElsewhere e one other_one → LooksElsewhere e two other_two
+    → LooksElsewhere e (if◌then◌else◌ {A = Found} b one two) (λ ins outs. if◌then◌else◌ {A = Found} b (other_one ins outs) (other_two ins outs))
+either_by true e one two other_one other_two h k = h
+either_by false e one two other_one other_two h k = k
+
+-- settings that are not taken, and a stream that begins with another frame
+taken_elsewhere : (e : EndpointHistory) (found : PeerFound) → LooksElsewhere e (after_peer e found) (λ ins outs. after_peer (with_requests e ins outs) found)
+taken_elsewhere e found =
     let h = peer_by (record e { peer = found.0 }) e.peer.settings found.0.settings found.1 in
-    record { apart = h.apart; side = h.side; kept = h.kept }
+    let alone = settings_alone e.peer found.0.settings in
+    let b = are_refused e e.peer.settings found.0.settings in
+    let either = either_by b e (record e { peer = alone }, Some settings_error) (taken_peer e found)
+    (λ ins outs. (record (with_requests e ins outs) { peer = alone }, Some settings_error)) (λ ins outs. taken_peer (with_requests e ins outs) found)
+    (record { apart = λ ins outs. refl; side = refl; kept = refl }) (record { apart = h.apart; side = h.side; kept = h.kept }) in
+    record {
+      apart = λ ins outs.
+          ap (λ r. if◌then◌else◌ {A = Found} r (record (with_requests e ins outs) { peer = alone }, Some settings_error) (taken_peer (with_requests e ins outs) found))
+          (refused_alike (with_requests e ins outs) e e.peer.settings found.0.settings refl refl)
+          ∙ either.apart ins outs;
+      side = either.side;
+      kept = either.kept;
+    }
+
+held_by : (e : EndpointHistory) → LooksElsewhere e (read_held e) (λ ins outs. read_held (with_requests e ins outs))
+held_by e =
+    let found = read_peer (limit_of e) e.side e.peer in
+    either_by (lacks_settings e) e (e, Some missing_settings) (after_peer e found)
+    (λ ins outs. (with_requests e ins outs, Some missing_settings)) (λ ins outs. after_peer (with_requests e ins outs) found)
+    (nothing_found e (Some missing_settings)) (taken_elsewhere e found)
+
+control_elsewhere : (e : EndpointHistory) (bytes : List ℕ) → LooksElsewhere e (read_control e bytes) (λ ins outs. read_control (with_requests e ins outs) bytes)
+control_elsewhere e bytes = let h = held_by (holding e bytes) in record { apart = h.apart; side = h.side; kept = h.kept }
 
 -- By a stream's role.
 second_by : (b : Bool) (e : EndpointHistory) (found : Found) (other : Streams Incoming → Streams Outgoing → Found) → LooksElsewhere e found other
@@ -91,7 +120,7 @@ heard_elsewhere e id Encoder bytes = second_by (is_second e.encoder_on id) e _ _
 heard_elsewhere e id Decoder bytes =
     let h = decoder_elsewhere (record e { decoder_on = Some id }) bytes in
     second_by (is_second e.decoder_on id) e _ _ (record { apart = h.apart; side = h.side; kept = h.kept })
-heard_elsewhere e id (Session n) bytes = nothing_found e None
+heard_elsewhere e id (Session n) bytes = nothing_found e _
 heard_elsewhere e id (Push n) bytes = nothing_found e _
 heard_elsewhere e id Ignored bytes = nothing_found e None
 

@@ -1,8 +1,9 @@
 -- A request stream whose pull was refused memory goes on as if it had not been asked.
-use Rattle.std.proofs.Common.{◌≡◌, ℕ, Bool, true, false, List, [], ◌∷◌, ◌++◌, append-nil, append_assoc, None, refl, ap, sym, ◌∙◌}
+use Rattle.std.proofs.Common.{◌≡◌, ◌⊎◌, ℕ, Bool, true, false, List, [], ◌∷◌, ◌++◌, append-nil, append_assoc, None, refl, ap, sym, ◌∙◌, subst}
 use Rattle.std.specs.Prelude.{◌||◌, is_some, if◌then◌else◌}
 use Rattle.h3_proto.specs.declared.stream.Side.{Side}
 use Rattle.h3_wire.specs.Pieces.{with_piece}
+use Rattle.h3_connection.specs.Coming.{HasNoHeader, fields_next}
 use Rattle.h3_connection.specs.Delivering.{kept}
 use Rattle.h3_connection.specs.Incoming.{Incoming}
 use Rattle.h3_connection.specs.PartReading.{with_pieces, with_more}
@@ -60,4 +61,8 @@ goes_on_as_before side own id old new h none = record {
   pulls = λ r pieces ends. ap (pull_stream side own id r) (more_is old pieces ends none)
       ∙ sym (h.pulls side id r (some_pieces pieces) ends)
       ∙ sym (ap (pull_stream side own id r) (more_is new pieces ends (h.fault ∙ none)));
+  lists = λ r pieces ends.
+      subst (λ (i : Incoming). HasNoHeader (pull_stream side own id r i).answer ⊎ (fields_next r (with_more new pieces ends) ≡ fields_next r i)) (sym (more_is old pieces ends none))
+      (subst (λ (i : Incoming). HasNoHeader (pull_stream side own id r (delivered old (some_pieces pieces) ends)).answer ⊎ (fields_next r i ≡ fields_next r (delivered old (some_pieces pieces) ends))) (sym (more_is new pieces ends (h.fault ∙ none)))
+      (h.lists side id r (some_pieces pieces) ends));
 }

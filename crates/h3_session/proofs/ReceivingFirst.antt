@@ -7,19 +7,21 @@ use Rattle.std.proofs.lemmas.List.Elements.{All-weaker, All-nil}
 use Rattle.h3_blocked.specs.Sums.{TakesOut}
 use Rattle.h3_connection.specs.Arrivals.{stream_of, is_closed_in}
 use Rattle.h3_connection.specs.Calls.{Sets, IsSame, fresh_request}
-use Rattle.h3_connection.specs.Control.{Found, increment}
+use Rattle.h3_connection.specs.Control.{Found, are_refused, increment, lacks_settings}
 use Rattle.h3_connection.specs.Delivering.{opened_at, closed_by, request_refusal, unidirectional_at, with_unidirectional}
 use Rattle.h3_connection.specs.Endpoint.{EndpointHistory, limit_of, kind_of, replied}
 use Rattle.h3_connection.specs.Endpoint.Kind.{Request, PeerUnidirectional}
 use Rattle.h3_connection.specs.Incoming.{Incoming, nothing_came}
 use Rattle.h3_connection.specs.Keeping.{read_arrival, read_all, keeping, unkept, arrives, refused_behind}
 use Rattle.h3_connection.specs.Outgoing.{Outgoing, nothing_sent}
-use Rattle.h3_connection.specs.PartReading.{ReadsOn, ReadsPart, PeerReadsPart, HearsPart, ListensPart, is_reader, held, after_frames, early}
+use Rattle.h3_connection.specs.PartReading.{ReadsOn, ReadsPart, MayRead, PeerReadsPart, HearsPart, ListensPart, is_reader, held, after_frames, early}
+use Rattle.h3_connection.specs.PeerReading.{Peer}
 use Rattle.h3_connection.specs.PartReading.ReadsOn.{ReadsWhole, ReadsFront, Holds, ReadsFrames, Hears, Listens}
 use Rattle.h3_connection.specs.PartReading.ReadsPart.{Stops, Goes}
 use Rattle.h3_connection.specs.ReceivingContracts.{Receives, StoresArrival, IsTaken, bytes_of}
 use Rattle.h3_connection.specs.State.{EndpointState, RequestState, StandsFor, IsOfOutgoing, KeepsOpen, SameAt, kept_at}
 use Rattle.h3_connection.specs.StreamSets.{Streams, stream_at}
+use Rattle.h3_connection.specs.StrictConnectionLaws.{refused_alike}
 use Rattle.h3_connection.specs.StreamSetLaws.{other_id, set-here, set-other}
 use Rattle.h3_connection.specs.Unidirectional.{role_after, with_bytes}
 use Rattle.h3_proto.specs.declared.stream.Side.{Side}
@@ -50,6 +52,15 @@ then_lands id e next other arrivals more on l = record { to = l.to; read = Goes 
 -- what looks at other parts alone is so of both
 by_rest : (P : EndpointHistory → Type 0) (id : ℕ) (e f : EndpointHistory) → OpenBeside id e f → P f → P (with_requests e f.incoming f.outgoing)
 by_rest P id e f b h = subst P b.rest h
+
+-- whether frames are read looks at no request stream
+may_by_rest : (p : Peer) (id : ℕ) (e f : EndpointHistory) → OpenBeside id e f → MayRead f p → MayRead e p
+may_by_rest p id e f b may =
+    record {
+      first = by_rest (λ y. lacks_settings y ≡ false) id e f b may.first;
+      taken = refused_alike e (with_requests e f.incoming f.outgoing) e.peer.settings p.settings refl refl
+          ∙ by_rest (λ y. are_refused y y.peer.settings p.settings ≡ false) id e f b may.taken;
+    }
 
 whole : (id : ℕ) (e f new : EndpointHistory) (a : Arrival) → OpenBeside id e f → read_arrival f a ≡ (new, None) → (read_arrival e a ≡ ((read_arrival e a).0, None)) × OpenBeside id (read_arrival e a).0 new
 whole id e f new a b is =
@@ -128,10 +139,10 @@ lands id e f other arrivals b kind some (Goes (Holds {id = q} {bytes} {more} kin
     (Holds (by_rest (λ y. kind_of y.side q ≡ PeerUnidirectional) id e f b kinds) (by_rest (λ y. is_reader y q (role_after (unidirectional_at y q).role bytes).0 ≡ true) id e f b reads))
     (λ beside then_kind same. lands id (held e q bytes) (held f q bytes) other (BytesCame q [] ∷ more) beside then_kind
     (moves_on id (BytesCame q [] ∷ more) e (held e q bytes) same (same_stream id e (BytesCame q bytes) (BytesCame q []) more refl some)) read)
-lands id e f other arrivals b kind some (Goes (ReadsFrames {id = q} {p} {more} on part) read) =
+lands id e f other arrivals b kind some (Goes (ReadsFrames {id = q} {p} {more} on may part) read) =
     let h = frames_elsewhere e p in
     lands_else id e f other (BytesCame q [] ∷ more) (BytesCame q [] ∷ early e p ++ more) (λ y. after_frames y p) b kind h
-    (ReadsFrames (by_rest (λ y. y.control_on ≡ Some q) id e f b on) (by_rest (λ y. PeerReadsPart (limit_of y) y.side y.peer p) id e f b part))
+    (ReadsFrames (by_rest (λ y. y.control_on ≡ Some q) id e f b on) (may_by_rest p id e f b may) (by_rest (λ y. PeerReadsPart (limit_of y) y.side y.peer p) id e f b part))
     (λ beside then_kind same. subst (λ l. Lands id (after_frames e p) (BytesCame q [] ∷ l ++ more) other) (ap (λ y. early y p) b.rest)
     (lands id (after_frames e p) (after_frames f p) other (BytesCame q [] ∷ early f p ++ more) beside then_kind (frame_moves id q (early f p) more e (after_frames e p) same some) read))
 lands id e f other arrivals b kind some (Goes (Hears {id = q} {d} {more} on part) read) =

@@ -6,7 +6,6 @@ use Rattle.h3_connection.specs.Arrivals.{stream_of}
 use Rattle.h3_connection.specs.Calls.{AllSame}
 use Rattle.h3_connection.specs.Control.{Found}
 use Rattle.h3_connection.specs.Delivering.{bytes_at}
-use Rattle.h3_connection.specs.declared.setup.Announced.{Announced}
 use Rattle.h3_connection.specs.Endpoint.{EndpointHistory, Kind, kind_of}
 use Rattle.h3_connection.specs.Endpoint.Kind.{Request, ServerOpened, OwnUnidirectional, PeerUnidirectional}
 use Rattle.h3_connection.specs.Codes.{stream_creation_error}
@@ -159,16 +158,16 @@ pub leaves_peer : (s new : EndpointState) (a : Arrival) → ((e : EndpointHistor
 leaves_peer s new a same e h keeps = leaves_all new e a (same e h) keeps
 
 -- Bytes of a unidirectional stream of the peer.
-due : (s : EndpointState) (old : StreamsState) (e : EndpointHistory) (id : ℕ) → placed s old ≡ s → kind_of s.side id ≡ PeerUnidirectional → StandsFor s e → IsDue s old e s.side s.announced.choices id
+due : (s : EndpointState) (old : StreamsState) (e : EndpointHistory) (id : ℕ) → placed s old ≡ s → kind_of s.side id ≡ PeerUnidirectional → StandsFor s e → IsDue s old e s.side s.announced id
 due s old e id same kind h = record {
   stands = subst (λ t. StandsFor t e) (sym same) h;
   side_is = sym h.side;
-  choices_are = ap (λ (own : Announced). own.choices) (sym h.announced);
+  own_is = sym h.announced;
   kind = ap (λ side. kind_of side id) (sym h.side) ∙ kind;
 }
 
 pub reads_bytes : (s : EndpointState) (old new : StreamsState) (id : ℕ) (bytes : List ℕ) (fault : Option ℕ) → placed s old ≡ s → kind_of s.side id ≡ PeerUnidirectional
-    → ((t : EndpointState) (e : EndpointHistory) → IsDue t old e s.side s.announced.choices id → Reads t fault new (bytes_at e id bytes PeerUnidirectional)) → ReadsEach s (BytesCame id bytes) (Ok fault) (placed s new)
+    → ((t : EndpointState) (e : EndpointHistory) → IsDue t old e s.side s.announced id → Reads t fault new (bytes_at e id bytes PeerUnidirectional)) → ReadsEach s (BytesCame id bytes) (Ok fault) (placed s new)
 reads_bytes s old new id bytes fault same kind reads =
     reads_peer s (placed s new) (BytesCame id bytes) fault kind (record { side = refl; requests = refl; kept = refl })
     (λ e h. reads_finds s new fault (bytes_at e id bytes PeerUnidirectional) (reads s e (due s old e id same kind h)))
@@ -183,7 +182,7 @@ peers_open e next left same kinds = All-weaker (IsPeers e.side) (KeepsOpen next.
 
 pub leaves_bytes : (s : EndpointState) (old new : StreamsState) (id : ℕ) (bytes : List ℕ) (left : Left) (unread : Unread) → placed s old ≡ s → kind_of s.side id ≡ PeerUnidirectional
     → unread_arrivals unread ≡ left_arrivals left
-    → ((t : EndpointState) (e : EndpointHistory) → IsDue t old e s.side s.announced.choices id → StopsAt t new e (BytesCame id bytes ∷ []) (left_arrivals left)) → ReadsEach s (BytesCame id bytes) (Err unread) (placed s new)
+    → ((t : EndpointState) (e : EndpointHistory) → IsDue t old e s.side s.announced id → StopsAt t new e (BytesCame id bytes ∷ []) (left_arrivals left)) → ReadsEach s (BytesCame id bytes) (Err unread) (placed s new)
 leaves_bytes s old new id bytes left unread same kind is stops e h keeps =
     let stop : StopsAt s new e (BytesCame id bytes ∷ []) (left_arrivals left) = stops s e (due s old e id same kind h) in
     let on : GoesOn e stop.after = goes_on_same s (placed s new) e stop.after (record { side = refl; requests = refl; kept = refl }) h stop.stands in

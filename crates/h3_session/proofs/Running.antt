@@ -10,7 +10,7 @@ use Rattle.h3_connection.specs.declared.arrival.Arrival.TheVariants.{BytesCame, 
 use Rattle.h3_connection.specs.declared.event.Refusal.{Refusal}
 use Rattle.h3_world.specs.Delivering.{reset_code}
 use Rattle.h3_world.specs.Ends.{Ends, answered, done, was_offered, delivery, end_delivery, reset_delivery}
-use Rattle.h3_world.specs.Headline.{is_memory}
+use Rattle.h3_world.specs.Headline.{is_out_of_memory}
 use Rattle.h3_world.specs.declared.event.Answer.{Answer}
 use Rattle.h3_world.specs.declared.event.Event.{Event}
 use Rattle.h3_world.specs.declared.event.Answer.TheVariants as answer
@@ -20,7 +20,7 @@ use Rattle.h3_session.specs.Running.{answer_of, Carried, nothing_goes, bytes_tak
 -- unless memory was refused.
 abbrev pub AnswersEvent : Event → EndpointState → EndpointState → Answer → EndpointState → EndpointState → Type 0
 AnswersEvent event client server given client_after server_after =
-    (ends : Ends) → StandsFor client ends.client → StandsFor server ends.server → is_memory given ≡ false →
+    (ends : Ends) → StandsFor client ends.client → StandsFor server ends.server → is_out_of_memory given ≡ false →
     (given ≡ (answered ends event).0) × StandsFor client_after (answered ends event).1.client × StandsFor server_after (answered ends event).1.server
 
 -- a call of one end: the answer, and what both stand for then

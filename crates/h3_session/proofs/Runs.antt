@@ -4,7 +4,7 @@ use Rattle.std.specs.List.{list_any}
 use Rattle.std.specs.Prelude.{◌||◌, Result, Ok, IfOk}
 use Rattle.h3_connection.specs.State.{EndpointState, StandsFor}
 use Rattle.h3_world.specs.Ends.{Ends, answered, answers_of_ends}
-use Rattle.h3_world.specs.Headline.{is_memory}
+use Rattle.h3_world.specs.Headline.{is_out_of_memory}
 use Rattle.h3_world.specs.declared.event.Answer.{Answer}
 use Rattle.h3_world.specs.declared.event.Event.{Event}
 use Rattle.h3_session.specs.Acting.{Acts, ActsEach, RunsByCalls}
@@ -31,11 +31,11 @@ none_behind true rest h = absurd (cc)
 none_behind false rest h = (refl, h)
 
 until_memory : (client server : EndpointState) (events : List Event) (answers : List Answer) (c s : EndpointState) (ends : Ends) → ActsEach client server events answers c s
-    → StandsFor client ends.client → StandsFor server ends.server → (n : ℕ) → list_any is_memory (take n answers) ≡ false → take n answers ≡ answers_of_ends ends (take n events)
+    → StandsFor client ends.client → StandsFor server ends.server → (n : ℕ) → list_any is_out_of_memory (take n answers) ≡ false → take n answers ≡ answers_of_ends ends (take n events)
 until_memory client server events answers c s ends h at_client at_server zero not_memory = refl
 until_memory client server [] [] c s ends h at_client at_server (suc n) not_memory = refl
 until_memory client server (e ∷ events) (a ∷ answers) c s ends h at_client at_server (suc n) not_memory =
-    let parts = none_behind (is_memory a) (list_any is_memory (take n answers)) not_memory in
+    let parts = none_behind (is_out_of_memory a) (list_any is_out_of_memory (take n answers)) not_memory in
     let x = acts_answers e client server a h.0 h.1 h.2 ends at_client at_server parts.0 in
     let rest = until_memory h.0 h.1 events answers c s (answered ends e).1 h.3 x.1 x.2 n parts.1 in
     (λ k. x.0 k ∷ rest k)
@@ -47,18 +47,18 @@ answers_each ends events answers c s h =
     record { as_many = as_many h.client h.server events answers c s h.acts; until_memory = until_memory h.client h.server events answers c s ends h.acts h.client_stands h.server_stands }
 
 acts_to : (client server : EndpointState) (events : List Event) (answers : List Answer) (c s : EndpointState) (ends : Ends) → ActsEach client server events answers c s
-    → StandsFor client ends.client → StandsFor server ends.server → list_any is_memory answers ≡ false → RunsTo ends events answers c s
+    → StandsFor client ends.client → StandsFor server ends.server → list_any is_out_of_memory answers ≡ false → RunsTo ends events answers c s
 acts_to client server [] [] c s ends h at_client at_server not_memory =
     record { answered_so = refl; client_stands = subst (λ v. StandsFor v ends.client) (sym h.0) at_client; server_stands = subst (λ v. StandsFor v ends.server) (sym h.1) at_server }
 acts_to client server (e ∷ events) (a ∷ answers) c s ends h at_client at_server not_memory =
-    let parts = none_behind (is_memory a) (list_any is_memory answers) not_memory in
+    let parts = none_behind (is_out_of_memory a) (list_any is_out_of_memory answers) not_memory in
     let x = acts_answers e client server a h.0 h.1 h.2 ends at_client at_server parts.0 in
     let rest = acts_to h.0 h.1 events answers c s (answered ends e).1 h.3 x.1 x.2 parts.1 in
     record { answered_so = (λ k. x.0 k ∷ rest.answered_so k); client_stands = rest.client_stands; server_stands = rest.server_stands }
 acts_to client server [] (a ∷ answers) c s ends h at_client at_server not_memory = absurd h
 acts_to client server (e ∷ events) [] c s ends h at_client at_server not_memory = absurd h
 
-pub runs_to : (ends : Ends) (events : List Event) (answers : List Answer) (c s : EndpointState) → RunsByCalls ends events answers c s → list_any is_memory answers ≡ false → RunsTo ends events answers c s
+pub runs_to : (ends : Ends) (events : List Event) (answers : List Answer) (c s : EndpointState) → RunsByCalls ends events answers c s → list_any is_out_of_memory answers ≡ false → RunsTo ends events answers c s
 runs_to ends events answers c s h not_memory = acts_to h.client h.server events answers c s ends h.acts h.client_stands h.server_stands not_memory
 
 -- Two endpoints that were made, a run between them, and what is handed back of it.

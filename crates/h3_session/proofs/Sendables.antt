@@ -5,21 +5,23 @@ use Rattle.std.proofs.lemmas.Bool.Decides.{Decides-and, Decides-by_and, Decides-
 use Rattle.std.proofs.lemmas.List.Sums.{sum_by-cons}
 use Rattle.std.specs.List.{AllByRecursion, list_all}
 use Rattle.std.specs.Prelude.{All, Decides, IfSome, IsTrue}
+use Rattle.h3_field.specs.Field.{Field}
+use Rattle.h3_field.specs.ReadBack.{IsFieldOfBytes}
 use Rattle.h3_header.specs.HeadTests.{takes_protocol}
 use Rattle.h3_header.specs.NamedProtocolLaws.{named_taken}
 use Rattle.h3_header.specs.ProtocolText.{IsProtocolBy}
-use Rattle.h3_header.specs.TakenLaws.{takes_named}
 use Rattle.h3_header.specs.Head.{Head as Fields, head_fields}
 use Rattle.h3_proto.specs.declared.stream.Side.TheVariants.{Client, Server}
 use Rattle.h3_connection.specs.Sending.{fields_cost}
 use Rattle.h3_world.specs.Few.{AreFew}
-use Rattle.h3_world.specs.Sendable.{IsSendable, IsSendableBy, IsSendableHead, NamesTaken, sent_by}
+use Rattle.h3_world.specs.Sendable.{IsSendable, IsSendableBy, IsSendableHead, IsSendableList, NamesTaken, NamesTakenIn, sent_by}
 use Rattle.h3_world.specs.Setup.{both_take_any}
 use Rattle.h3_world.specs.declared.event.Event.{Event}
 use Rattle.h3_world.specs.declared.event.Event.TheVariants as event
 use Rattle.h3_world.specs.declared.setup.Setup.{Setup}
 use Rattle.h3_session.specs.Typed.{IsHeader, IsTyped}
 use Rattle.h3_session.proofs.Costs.{cost_is}
+use Rattle.h3_session.proofs.NamedLists.{list_taken}
 
 passes : (test : ℕ → Bool) (xs : List ℕ) → Decides (list_all test xs) (All (λ b. IsTrue (test b)) xs)
 passes test xs = Decides-by_and test (λ b. IsTrue (test b)) (list_all test) (λ x. (λ e. e, λ e. e)) refl (λ x xs. refl) xs
@@ -33,30 +35,33 @@ protocol_taken false protocol is = named_taken protocol is
 protocol_taken true None is = refl
 protocol_taken true (Some text) is = (Decides-and _ _ (Decides-and _ _ (Decides-ltb 0 (length text)) (passes _ text)) (at_most (length text) 31)).1 is
 
--- by who takes any, too
-any_taken : (any : Bool) (protocol : Option (List ℕ)) → takes_protocol any protocol ≡ true → takes_protocol true protocol ≡ true
-any_taken true protocol taken = taken
-any_taken false protocol taken = takes_named true protocol taken
-
 head_sendable : (any : Bool) (head : Fields) → IsHeader head → IfSome head.protocol (IsProtocolBy any) → fields_cost (head_fields head) + 64 < 2 ^ 56 → IsSendableHead any head
 head_sendable any head h named few =
     let taken = protocol_taken any head.protocol named in
     record {
       taken = taken;
       reads_back = h.reads_back;
-      section = record { of_bytes = h.of_bytes; reads_back = h.reads_back true (any_taken any head.protocol taken); small = omega (arith, few, cost_is (head_fields head)) };
+      section = record { of_bytes = h.of_bytes; small = omega (arith, few, cost_is (head_fields head)) };
       read_as = h.read_as;
     }
+
+list_sendable : (any : Bool) (fields : List Field) → AllByRecursion IsFieldOfBytes fields → AllByRecursion (NamesTakenIn any) fields → fields_cost fields + 64 < 2 ^ 56 → IsSendableList any fields
+list_sendable any fields of_bytes named few =
+    record { taken = list_taken any fields named; section = record { of_bytes = of_bytes; small = omega (arith, few, cost_is fields) } }
 
 -- what a side is handed is within both bounds
 event_sendable : (any : Bool) (e : Event) → IsTyped e → NamesTaken any e → sent_by Client e < 2 ^ 56 → sent_by Server e < 2 ^ 56 → IsSendableBy any e
 event_sendable any (event.OpenRequest side) h n c s = tt
 event_sendable any (event.Head Client id head) h n c s = head_sendable any head h n c
 event_sendable any (event.Head Server id head) h n c s = head_sendable any head h n s
+event_sendable any (event.Fields Client id fields) h n c s = list_sendable any fields h n c
+event_sendable any (event.Fields Server id fields) h n c s = list_sendable any fields h n s
 event_sendable any (event.Body Client id bytes) h n c s = omega (arith, c)
 event_sendable any (event.Body Server id bytes) h n c s = omega (arith, s)
 event_sendable any (event.Trailer Client id trailer) h n c s = head_sendable any trailer h n c
 event_sendable any (event.Trailer Server id trailer) h n c s = head_sendable any trailer h n s
+event_sendable any (event.TrailerFields Client id fields) h n c s = list_sendable any fields h n c
+event_sendable any (event.TrailerFields Server id fields) h n c s = list_sendable any fields h n s
 event_sendable any (event.Finish side id) h n c s = tt
 event_sendable any (event.Reset side id) h n c s = tt
 event_sendable any (event.Cancel side id) h n c s = tt
@@ -65,6 +70,7 @@ event_sendable any (event.Deliver side id count) h n c s = tt
 event_sendable any (event.DeliverEnd side id) h n c s = tt
 event_sendable any (event.DeliverReset side id) h n c s = tt
 event_sendable any (event.Pull side id) h n c s = tt
+event_sendable any (event.PullFields side id) h n c s = tt
 event_sendable any (event.Show side) h n c s = tt
 
 below_sum : (f : Event → ℕ) (e : Event) (events : List Event) → sum_by f (e ∷ events) < 2 ^ 56 → (f e < 2 ^ 56) × (sum_by f events < 2 ^ 56)

@@ -25,7 +25,7 @@ use Rattle.h3_connection.specs.declared.place.SendPlace.TheVariants.{NothingSent
 use Rattle.h3_requests.specs.Refused.{head_refused_at, body_refused_at, early_trailer_at}
 use Rattle.h3_session.proofs.Opened.{stands_same}
 use Rattle.h3_session.specs.SendingLists.{IsJudgedOr, NotMalformed, SendsJudged, SendsJudgedHead, SendsJudgedTrailer, SendsListedHead, SendsListedTrailer, after_head, after_trailer, listed_head_refusal, listed_trailer_refusal, send_listed_head, send_listed_trailer}
-use Rattle.h3_session.specs.Refused.{list_refused, refused_behind, broken_behind, own_head_refused, own_trailer_refused, head_refused, trailer_refused}
+use Rattle.h3_session.specs.Refused.{list_refused, refused_behind, broken_behind, own_head_refused, own_trailer_refused, head_refused, trailer_refused, going_refused, head_refused_in}
 use Rattle.h3_session.proofs.ReceivingCancel.{requests_same}
 use Rattle.h3_session.specs.SendingFields.{IsPart, SendsFields, asking}
 use Rattle.h3_session.proofs.Parts.{before_head, in_body, place_pushed}
@@ -202,10 +202,14 @@ not_first : (b : Bool) (r : Refusal) (rest : Option Refusal) → or_later (first
 not_first true r rest h = refl
 not_first false r rest h = absurd (cc)
 
-head_allowed : (later : Option Refusal) (closed : Option ℕ) (there : Option RequestState) → closed_or closed (or_later (head_refused_at there) later) ≡ None → TakesHead there
-head_allowed later (Some code) there h = absurd (cc)
-head_allowed later None None h = absurd (cc)
-head_allowed later None (Some r) h = not_first (sent.takes_head r.outgoing) refusal.OutOfOrder later h
+none_before : (first later : Option Refusal) → or_later first later ≡ None → first ≡ None
+none_before None later h = refl
+none_before (Some r) later h = absurd (cc)
+
+head_allowed : (going later : Option Refusal) (closed : Option ℕ) (there : Option RequestState) → closed_or closed (or_later (or_later (head_refused_at there) going) later) ≡ None → TakesHead there
+head_allowed going later (Some code) there h = absurd (cc)
+head_allowed going later None None h = absurd (cc)
+head_allowed going later None (Some r) h = not_first (sent.takes_head r.outgoing) refusal.OutOfOrder going (none_before (or_later (head_refused_at (Some r)) going) later h)
 
 head_is : (s : EndpointState) (e : EndpointHistory) (id : ℕ) (head : Head) (fields : List Field) (there : Option RequestState) → StandsFor s e → kept_at s.requests id ≡ there → TakesHead there
     → IsPart e id fields (place_behind (is_interim head.status)) (head_part head (written_section e.encoder id fields))
@@ -237,42 +241,42 @@ head_sends old new id head given fields place result none are at h =
     let sent_here : SendsFields (asking id fields) old new id fields (place_behind (is_interim head.status)) (call_refused result)
     = subst (λ p. SendsFields (asking id fields) old new id fields p (call_refused result)) at (subst (λ fs. SendsFields (asking id fs) old new id fs place (call_refused result)) are h) in
     section_sends (λ e. listed_head_refusal e id head fields) (λ e. after_head e id head fields) old id fields (broken_head old.side old.announced old.peer.settings fields) (asking id fields) new (place_behind (is_interim head.status)) (call_refused result) (λ e. head_part head (written_section e.encoder id fields))
-    (head_rule old id head fields none) (λ e stands. head_is old e id head fields (kept_at old.requests id) stands refl (head_allowed (own_head_refused old.announced old.side head) old.closed (kept_at old.requests id) none)) (λ e. refl)
+    (head_rule old id head fields none) (λ e stands. head_is old e id head fields (kept_at old.requests id) stands refl (head_allowed (going_refused old) (own_head_refused old.announced old.side head) old.closed (kept_at old.requests id) none)) (λ e. refl)
     (behind_head (is_interim head.status) old fields) sent_here
 
-head_open : (s : EndpointState) (id : ℕ) (head : Head) → s.closed ≡ None → head_refused s id head ≡ or_later (head_refused_at (kept_at s.requests id)) (own_head_refused s.announced s.side head)
-head_open s id head closed = ap (λ c. closed_or c (or_later (head_refused_at (kept_at s.requests id)) (own_head_refused s.announced s.side head))) closed
+head_open : (s : EndpointState) (id : ℕ) (head : Head) → s.closed ≡ None → head_refused s id head ≡ or_later (head_refused_in s id) (own_head_refused s.announced s.side head)
+head_open s id head closed = ap (λ c. closed_or c (or_later (head_refused_in s id) (own_head_refused s.announced s.side head))) closed
 
 head_refused_by : (s : EndpointState) (id : ℕ) (head : Head) (fields : List Field) (rule : Option Refusal) → head_refused s id head ≡ rule → SendsListedHead s s id head fields (Err (unwrap_or rule refusal.OutOfMemory))
 head_refused_by s id head fields (Some r) is = head_refuses s id head fields r is
 head_refused_by s id head fields None is = head_lacks s id head fields is
 
 pub head_closed : (s : EndpointState) (id : ℕ) (head : Head) (fields : List Field) (code : ℕ) → s.closed ≡ Some code → SendsListedHead s s id head fields (Err (refusal.Closed code))
-head_closed s id head fields code closed = head_refuses s id head fields (refusal.Closed code) (ap (λ c. closed_or c (or_later (head_refused_at (kept_at s.requests id)) (own_head_refused s.announced s.side head))) closed)
+head_closed s id head fields code closed = head_refuses s id head fields (refusal.Closed code) (ap (λ c. closed_or c (or_later (head_refused_in s id) (own_head_refused s.announced s.side head))) closed)
 
 -- no room was made for it,
 pub head_unreserved : (s n : EndpointState) (id : ℕ) (head : Head) (fields : List Field) (later : Option Refusal) (r : Refusal) → s.closed ≡ None → later ≡ own_head_refused s.announced s.side head → n ≡ record s { requests = n.requests } → AllSame s.requests n.requests
-    → r ≡ unwrap_or (or_later (head_refused_at (kept_at s.requests id)) later) refusal.OutOfMemory → SendsListedHead s n id head fields (Err r)
+    → r ≡ unwrap_or (or_later (head_refused_in s id) later) refusal.OutOfMemory → SendsListedHead s n id head fields (Err r)
 head_unreserved s n id head fields later r closed is rest same why =
-    let rule = or_later (head_refused_at (kept_at s.requests id)) (own_head_refused s.announced s.side head) in
+    let rule = or_later (head_refused_in s id) (own_head_refused s.announced s.side head) in
     subst (λ v. SendsListedHead s v id head fields (Err r)) (sym rest)
-    (subst (λ r. SendsListedHead s (record s { requests = n.requests }) id head fields (Err r)) (sym (why ∙ ap (λ l. unwrap_or (or_later (head_refused_at (kept_at s.requests id)) l) refusal.OutOfMemory) is))
+    (subst (λ r. SendsListedHead s (record s { requests = n.requests }) id head fields (Err r)) (sym (why ∙ ap (λ l. unwrap_or (or_later (head_refused_in s id) l) refusal.OutOfMemory) is))
     (section_alike (λ e. send_listed_head e id head fields) s id fields n.requests same (unwrap_or rule refusal.OutOfMemory) (head_refused_by s id head fields rule (head_open s id head closed))))
 
 -- its fields could not be listed,
 pub head_unlisted : (s n : EndpointState) (id : ℕ) (head : Head) (fields : List Field) (later : Option Refusal) → s.closed ≡ None → later ≡ own_head_refused s.announced s.side head → n ≡ record s { requests = n.requests } → AllSame s.requests n.requests
-    → or_later (head_refused_at (kept_at s.requests id)) later ≡ None → SendsListedHead s n id head fields (Err refusal.OutOfMemory)
+    → or_later (head_refused_in s id) later ≡ None → SendsListedHead s n id head fields (Err refusal.OutOfMemory)
 head_unlisted s n id head fields later closed is rest same none =
     head_unreserved s n id head fields later refusal.OutOfMemory closed is rest same (ap (λ o. unwrap_or o refusal.OutOfMemory) (sym none))
 
 -- or they were sent
 pub head_sent : (s m n : EndpointState) (id : ℕ) (head : Head) (later : Option Refusal) (given fields : List Field) (place : SendPlace) (result : Result Unit Refusal) → s.closed ≡ None → later ≡ own_head_refused s.announced s.side head
-    → m ≡ record s { requests = m.requests } → AllSame s.requests m.requests → or_later (head_refused_at (kept_at s.requests id)) later ≡ None → given ≡ fields
+    → m ≡ record s { requests = m.requests } → AllSame s.requests m.requests → or_later (head_refused_in s id) later ≡ None → given ≡ fields
     → place ≡ (if is_interim head.status then NothingSent else HeadSent) → SendsFields (asking id given) m n id given place (call_refused result) → SendsListedHead s n id head fields result
 head_sent s m n id head later given fields place result closed is rest same none are at h =
     let mid = record s { requests = m.requests } in
     let taken : head_refused mid id head ≡ None = head_open mid id head closed
-    ∙ ap (λ o. or_later (head_refused_at o) (own_head_refused s.announced s.side head)) (same.each id) ∙ ap (or_later (head_refused_at (kept_at s.requests id))) (sym is) ∙ none in
+    ∙ ap (λ o. or_later (or_later (head_refused_at o) (going_refused s)) (own_head_refused s.announced s.side head)) (same.each id) ∙ ap (or_later (head_refused_in s id)) (sym is) ∙ none in
     section_begun (λ e. send_listed_head e id head fields) s id fields m.requests same n (call_refused result)
     (head_sends mid n id head given fields place result taken are at (subst (λ v. SendsFields (asking id given) v n id given place (call_refused result)) rest h))
 
@@ -284,13 +288,13 @@ rules_at s n head fields place at rest =
 
 pub head_judged : (s n : EndpointState) (id : ℕ) (head : Head) (fields : List Field) (place : SendPlace) (refused r : Refusal) → s.closed ≡ None → own_head_refused s.announced s.side head ≡ None
     → place ≡ (if is_interim head.status then NothingSent else HeadSent) → n ≡ record s { requests = n.requests } → AllSame s.requests n.requests
-    → refused ≡ unwrap_or (or_later (head_refused_at (kept_at s.requests id)) None) refusal.OutOfMemory → IsJudgedOr n place fields refused r → SendsJudgedHead s n id head fields (Err r)
-head_judged s n id head fields place refused r closed sent at rest same why judged = by (or_later (head_refused_at (kept_at s.requests id)) None) refl
+    → refused ≡ unwrap_or (or_later (head_refused_in s id) None) refusal.OutOfMemory → IsJudgedOr n place fields refused r → SendsJudgedHead s n id head fields (Err r)
+head_judged s n id head fields place refused r closed sent at rest same why judged = by (or_later (head_refused_in s id) None) refl
   where
-    open_rule : head_refused s id head ≡ or_later (head_refused_at (kept_at s.requests id)) None
-    open_rule = head_open s id head closed ∙ ap (or_later (head_refused_at (kept_at s.requests id))) sent
+    open_rule : head_refused s id head ≡ or_later (head_refused_in s id) None
+    open_rule = head_open s id head closed ∙ ap (or_later (head_refused_in s id)) sent
 
-    by : (rule : Option Refusal) → or_later (head_refused_at (kept_at s.requests id)) None ≡ rule → SendsJudgedHead s n id head fields (Err r)
+    by : (rule : Option Refusal) → or_later (head_refused_in s id) None ≡ rule → SendsJudgedHead s n id head fields (Err r)
     by (Some q) is =
         let here : refused ≡ q = why ∙ ap (λ o. unwrap_or o refusal.OutOfMemory) is in
         let differs : q ≢ refusal.OutOfMemory = λ want. head_takes_none s id head (open_rule ∙ is ∙ ap Some want) in
@@ -311,14 +315,14 @@ head_judged s n id head fields place refused r closed sent at rest same why judg
 
 -- or it was sent
 pub head_sent_judged : (s m n : EndpointState) (id : ℕ) (head : Head) (later : Option Refusal) (given fields : List Field) (place : SendPlace) (result : Result Unit Refusal) → s.closed ≡ None → later ≡ own_head_refused s.announced s.side head
-    → m ≡ record s { requests = m.requests } → AllSame s.requests m.requests → or_later (head_refused_at (kept_at s.requests id)) later ≡ None → given ≡ fields
+    → m ≡ record s { requests = m.requests } → AllSame s.requests m.requests → or_later (head_refused_in s id) later ≡ None → given ≡ fields
     → place ≡ (if is_interim head.status then NothingSent else HeadSent) → SendsFields (asking id given) m n id given place (call_refused result) → SendsJudgedHead s n id head fields result
 head_sent_judged s m n id head later given fields place result closed is rest same none are at h =
     record {
       sends = head_sent s m n id head later given fields place result closed is rest same none are at h;
       judged = λ e stands memory.
           unbroken_told (λ e. listed_head_refusal e id head fields) (λ e. after_head e id head fields) s id fields (broken_head s.side s.announced s.peer.settings fields)
-          (head_rule s id head fields (head_open s id head closed ∙ ap (or_later (head_refused_at (kept_at s.requests id))) (sym is) ∙ none))
+          (head_rule s id head fields (head_open s id head closed ∙ ap (or_later (head_refused_in s id)) (sym is) ∙ none))
           (rules_at s m head fields place at rest ∙ ap (broken_behind place m) (sym are) ∙ h.unbroken memory) e stands;
     }
 

@@ -16,7 +16,7 @@ use Rattle.h3_connection.specs.Lasts.{last_id}
 use Rattle.h3_connection.specs.Outgoing.{Outgoing, nothing_sent, is_sent_off, takes_body, takes_head}
 use Rattle.h3_connection.specs.Pulling.{is_client, is_for}
 use Rattle.h3_connection.specs.OwnIds.{other}
-use Rattle.h3_connection.specs.Refusals.{Sender, SenderStream, first_of, going_away, needed, not_next, of_list, or_later, raised, refusal_of_body, refusal_of_end, refusal_of_goaway, refusal_of_head, refusal_of_trailer, refusal_to_open, refusal_to_stop, seen}
+use Rattle.h3_connection.specs.Refusals.{Sender, SenderStream, first_of, going_away, needed, not_next, of_list, or_later, raised, refusal_of_body, refusal_of_end, refusal_of_goaway, refusal_of_head, refusal_of_trailer, refusal_to_open, refusal_to_stop, seen, unless_going}
 use Rattle.h3_connection.specs.Sending.{closed_or, outgoing_at, is_open, open_refusal, body_refusal, finish_refusal, reset_refusal, goaway_refusal, seen_at, sender_at}
 use Rattle.h3_connection.specs.State.{EndpointState, RequestState, StandsFor, IsOfOutgoing, SameAt, kept_at}
 use Rattle.h3_connection.specs.StreamSets.{stream_at}
@@ -27,7 +27,8 @@ use Rattle.h3_connection.specs.declared.event.Refusal.{Refusal}
 use Rattle.h3_connection.specs.declared.event.Refusal.TheVariants as refusal
 use Rattle.h3_requests.specs.Refused.{body_refused_at, data_refused_at, early_trailer_at, end_refused_at, head_refused_at, outgoing_in, seen_in}
 use Rattle.h3_session.specs.SendingLists.{listed_head_refusal, listed_trailer_refusal, order_refusal, place_refusal}
-use Rattle.h3_session.specs.Refused.{body_refused, end_refused, goaway_refused, head_refused, is_critical_in, list_refused, open_refused, own_head_refused, own_trailer_refused, protocol_refused, pseudo_refused, reset_refused, sender_on, side_refused, streams_of, trailer_refused}
+use Rattle.h3_session.specs.Refused.{body_refused, end_refused, goaway_refused, head_refused, is_critical_in, list_refused, open_refused, own_head_refused, own_trailer_refused, protocol_refused, pseudo_refused, reset_refused, sender_on, side_refused, streams_of, trailer_refused, going_refused, head_refused_in}
+use Rattle.h3_connection.specs.StrictConnection.{begins_none_after}
 
 -- a stream, by what is stored of its sender's part
 record SameSender (o : Option Outgoing) (r : Option RequestState) : Type 0 where
@@ -52,14 +53,16 @@ seen_same : (s : EndpointState) (e : EndpointHistory) (id : ℕ) → StandsFor s
 seen_same s e id h = stream_same (stream_at e.outgoing id) (kept_at s.requests id) (stored s e id h)
 
 -- the sender
-abbrev sender : Side → SenderStream → Option (List (ℕ × ℕ)) → Sender
-sender side v settings = record { side = side; stream = v; settings = settings }
+abbrev sender : Side → SenderStream → Option (List (ℕ × ℕ)) → Option ℕ → Sender
+sender side v settings going = record { side = side; stream = v; settings = settings; going = going }
 
 sender_same : (s : EndpointState) (e : EndpointHistory) (id : ℕ) → StandsFor s e → sender_on s id ≡ sender_at e id
 sender_same s e id h =
-    ap (λ side. sender side (seen_in (kept_at s.requests id)) s.peer.settings) h.side
-    ∙ ap (λ v. sender e.side v s.peer.settings) (seen_same s e id h)
-    ∙ ap (λ p. sender e.side (seen_at e id) p.settings) h.peer
+    ap (λ side. sender side (seen_in (kept_at s.requests id)) s.peer.settings (begins_none_after s.announced side (last_id s.peer.goaways))) h.side
+    ∙ ap (λ v. sender e.side v s.peer.settings (begins_none_after s.announced e.side (last_id s.peer.goaways))) (seen_same s e id h)
+    ∙ ap (λ a. sender e.side (seen_at e id) s.peer.settings (begins_none_after a e.side (last_id s.peer.goaways))) h.announced
+    ∙ ap (λ p. sender e.side (seen_at e id) p.settings (begins_none_after e.announced e.side (last_id p.goaways))) h.peer
+    ∙ ap (λ o. sender e.side (seen_at e id) e.peer.settings (begins_none_after e.announced e.side o)) (last_kept (keeps_last e.announced.choices) e.peer.goaways)
 
 -- how much content is still to be sent
 content_at : (o : Option Outgoing) (r : Option RequestState) → SameSender o r → (outgoing_in r).content ≡ (unwrap_or o nothing_sent).content
@@ -111,20 +114,35 @@ pub order_refusal_is : (s : EndpointState) (e : EndpointHistory) (id : ℕ) → 
 order_refusal_is s e id h =
     ap (λ c. closed_or c (body_refused_at (kept_at s.requests id))) h.closed ∙ ap (λ v. closed_or e.closed (first_of (not_next v v.takes_body []))) (seen_same s e id h)
 
-pub place_refusal_is : (s : EndpointState) (e : EndpointHistory) (id : ℕ) → StandsFor s e → closed_or s.closed (head_refused_at (kept_at s.requests id)) ≡ place_refusal e id
+pub later_twice : (first second third : Option Refusal) → or_later (or_later first second) third ≡ or_later first (or_later second third)
+later_twice (Some r) second third = refl
+later_twice None second third = refl
+
+-- with the GOAWAY behind it
+then_going : (a b : Bool) (p q : Refusal) (going : Option ℕ) → or_later (first_of ((a, p) ∷ (b, q) ∷ [])) (first_of (unless_going going [])) ≡ first_of ((a, p) ∷ (b, q) ∷ unless_going going [])
+then_going true b p q going = refl
+then_going false true p q going = refl
+then_going false false p q None = refl
+then_going false false p q (Some id) = refl
+
+pub place_refusal_is : (s : EndpointState) (e : EndpointHistory) (id : ℕ) → StandsFor s e → closed_or s.closed (head_refused_in s id) ≡ place_refusal e id
 place_refusal_is s e id h =
-    ap (λ c. closed_or c (head_refused_at (kept_at s.requests id))) h.closed ∙ ap (λ v. closed_or e.closed (first_of (not_next v v.takes_head []))) (seen_same s e id h)
+    let v = seen_in (kept_at s.requests id) in
+    ap (λ c. closed_or c (head_refused_in s id)) h.closed
+    ∙ ap (closed_or e.closed) (then_going (not v.is_open) (not v.takes_head) refusal.NotOpen refusal.OutOfOrder (sender_on s id).going)
+    ∙ ap (λ (x : Sender). closed_or e.closed (first_of (not_next x.stream x.stream.takes_head (unless_going x.going [])))) (sender_same s e id h)
 
 -- The rules of a head are asked in parts, one behind the other: that of the stream, that of the side, and those of the list.
-in_parts : (closed : Option ℕ) (a b c : Bool) (p q r : Refusal) (protocol : Option Malformation) (list : List (Bool × Refusal))
-    → or_later (closed_or closed (or_later (first_of ((a, p) ∷ (b, q) ∷ [])) (or_later (first_of (unless_malformed protocol [])) (first_of ((c, r) ∷ []))))) (first_of list)
-    ≡ closed_or closed (first_of ((a, p) ∷ (b, q) ∷ unless_malformed protocol ((c, r) ∷ list)))
-in_parts (Some code) a b c p q r protocol list = refl
-in_parts None true b c p q r protocol list = refl
-in_parts None false true c p q r protocol list = refl
-in_parts None false false c p q r (Some why) list = refl
-in_parts None false false true p q r None list = refl
-in_parts None false false false p q r None list = refl
+in_parts : (closed : Option ℕ) (a b c : Bool) (p q r : Refusal) (going : Option ℕ) (protocol : Option Malformation) (list : List (Bool × Refusal))
+    → or_later (closed_or closed (or_later (or_later (first_of ((a, p) ∷ (b, q) ∷ [])) (first_of (unless_going going []))) (or_later (first_of (unless_malformed protocol [])) (first_of ((c, r) ∷ []))))) (first_of list)
+    ≡ closed_or closed (first_of ((a, p) ∷ (b, q) ∷ unless_going going (unless_malformed protocol ((c, r) ∷ list))))
+in_parts (Some code) a b c p q r going protocol list = refl
+in_parts None true b c p q r going protocol list = refl
+in_parts None false true c p q r going protocol list = refl
+in_parts None false false c p q r (Some id) protocol list = refl
+in_parts None false false c p q r None (Some why) list = refl
+in_parts None false false true p q r None None list = refl
+in_parts None false false false p q r None None list = refl
 
 -- of a trailer, also what was sent in front of it
 in_more_parts : (closed : Option ℕ) (a b c : Bool) (p q r : Refusal) (protocol early : Option Malformation) (list : List (Bool × Refusal))
@@ -144,7 +162,7 @@ pub head_refusal_is : (s : EndpointState) (e : EndpointHistory) (id : ℕ) (head
 head_refusal_is s e id head fields h =
     let v = seen_in (kept_at s.requests id) in
     let broken = broken_head s.side s.announced s.peer.settings fields in
-    in_parts s.closed (not v.is_open) (not v.takes_head) (not (is_for (other s.side) head)) refusal.NotOpen refusal.OutOfOrder refusal.WrongSide (broken_protocol s.announced head) (of_list broken s.peer.settings fields)
+    in_parts s.closed (not v.is_open) (not v.takes_head) (not (is_for (other s.side) head)) refusal.NotOpen refusal.OutOfOrder refusal.WrongSide (sender_on s id).going (broken_protocol s.announced head) (of_list broken s.peer.settings fields)
     ∙ ap (λ c. closed_or c (refusal_of_head (sender_on s id) (broken_protocol s.announced head) broken head fields)) h.closed
     ∙ ap (λ v. closed_or e.closed (refusal_of_head v (broken_protocol s.announced head) broken head fields)) (sender_same s e id h)
     ∙ ap (λ own. closed_or e.closed (refusal_of_head (sender_at e id) (broken_protocol own head) broken head fields)) h.announced
@@ -262,6 +280,10 @@ rule_takes_none : (why : Option Malformation) → option_map refusal.Malformed w
 rule_takes_none None is = absurd (cc)
 rule_takes_none (Some why) is = absurd (cc)
 
+pub going_takes_none : (going : Option ℕ) → first_of (unless_going going []) ≢ Some refusal.OutOfMemory
+going_takes_none None is = absurd (cc)
+going_takes_none (Some id) is = absurd (cc)
+
 malformed_takes_none : (why : Option Malformation) → first_of (unless_malformed why []) ≢ Some refusal.OutOfMemory
 malformed_takes_none None is = absurd (cc)
 malformed_takes_none (Some why) is = absurd (cc)
@@ -269,8 +291,10 @@ malformed_takes_none (Some why) is = absurd (cc)
 pub head_takes_none : (s : EndpointState) (id : ℕ) (head : Head) → head_refused s id head ≢ Some refusal.OutOfMemory
 head_takes_none s id head =
     let v = seen_in (kept_at s.requests id) in
-    unless_it_closed s.closed (or_later (head_refused_at (kept_at s.requests id)) (own_head_refused s.announced s.side head)) (later_takes_none (head_refused_at (kept_at s.requests id)) (own_head_refused s.announced s.side head)
+    unless_it_closed s.closed (or_later (head_refused_in s id) (own_head_refused s.announced s.side head)) (later_takes_none (head_refused_in s id) (own_head_refused s.announced s.side head)
+    (later_takes_none (head_refused_at (kept_at s.requests id)) (going_refused s)
     (two_take_none (not v.is_open) (not v.takes_head) refusal.NotOpen refusal.OutOfOrder (λ same. absurd (cc)) (λ same. absurd (cc)))
+    (going_takes_none (sender_on s id).going))
     (later_takes_none (protocol_refused s.announced head) (side_refused s.side head) (malformed_takes_none (broken_protocol s.announced head))
     (one_takes_none (not (is_for (other s.side) head)) refusal.WrongSide (λ same. absurd (cc)))))
 

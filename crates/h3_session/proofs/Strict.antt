@@ -1,28 +1,35 @@
--- Two endpoints that may ask for strict messages, over a whole run.
-use Rattle.std.proofs.Common.{◌≡◌, ℕ, List, [], ◌∷◌, take, true, false, sym, subst}
+-- Two endpoints of which one may judge more, over a whole run.
+use Rattle.std.proofs.Common.{◌≡◌, ◌⊎◌, inl, inr, ℕ, Bool, List, [], ◌∷◌, take, true, false, refl, ap, sym, ◌∙◌, subst}
+use Rattle.std.specs.Prelude.{◌||◌}
 use Rattle.std.specs.List.{AllByRecursion, list_any}
+use Rattle.h3_proto.specs.Config.{is_limit}
+use Rattle.h3_proto.specs.declared.stream.Side.{Side}
+use Rattle.h3_proto.specs.declared.stream.Side.TheVariants.{Client, Server}
 use Rattle.h3_connection.specs.State.{EndpointState}
+use Rattle.h3_connection.specs.declared.setup.Announced.{Announced}
 use Rattle.h3_world.specs.declared.event.Answer.{Answer}
 use Rattle.h3_world.specs.declared.event.Event.{Event}
 use Rattle.h3_world.specs.declared.event.Event.TheVariants as event
 use Rattle.h3_world.specs.declared.setup.Setup.{Setup}
 use Rattle.h3_world.specs.Ends.{Ends, answered, answers_of_ends, ends_after, new_ends}
 use Rattle.h3_world.specs.Few.{AreFew}
-use Rattle.h3_world.specs.Headline.{Happens, is_memory}
+use Rattle.h3_world.specs.Headline.{Happens, is_out_of_memory}
 use Rattle.h3_world.specs.Run.{Run}
 use Rattle.h3_world.specs.Sendable.{IsSendable}
+use Rattle.h3_world.specs.Setup.{IsPlain, JudgesPlainly}
 use Rattle.h3_world.specs.World.{World, empty_world}
 use Rattle.h3_headline.specs.Standing.{Stands}
 use Rattle.h3_connection.specs.OwnIds.{other}
-use Rattle.h3_strict.specs.Limits.{EarlyAreTaken, IsTaken, is_early}
+use Rattle.h3_strict.specs.Limits.{AsksForStrict, EarlyAreTaken, IsTaken, is_early}
 use Rattle.h3_strict.specs.ServerKnows.{ServerKnows}
 use Rattle.h3_strict.specs.Tallies.{JudgesStrictly}
-use Rattle.h3_strict.specs.PlainEnds.{RunsPlainly, answers_without_malformed, finds_fault, plain_ends, plain_setup, without_malformed}
+use Rattle.h3_strict.specs.PlainEnds.{RunsPlainly, answers_without_malformed, asks_strictly, finds_fault, plain_ends, plain_setup, without_malformed}
 use Rattle.h3_session.specs.Messages.{HandsOutWhatWasSent}
 use Rattle.h3_session.specs.Running.{AnswersEach, RunsTo}
-use Rattle.h3_session.specs.Strict.{RunsFaultless, RunsUntilFault, RunsWithoutMalformed}
+use Rattle.h3_session.specs.Strict.{BothStrict, FindsNone, RunsBetween, RunsToEnd, RunsUntilMemory, TakesWhatIsSent, judges_more, one_judges_more}
 use Rattle.h3_session.specs.Typed.{IsTyped}
-use Rattle.h3_session.proofs.Headlines.{front_of_all}
+use Rattle.h3_session.proofs.Between.{runs_plainly, runs_with_refused}
+use Rattle.h3_session.proofs.Headlines.{RunOfEnds, front_of_all}
 use Rattle.h3_session.proofs.Sendables.{few_are_sendable}
 
 -- what is cited of two endpoints, over some events
@@ -32,72 +39,126 @@ WorldOfEnds setup events =
     (w : World) × Run (Happens (plain_setup setup)) (empty_world (plain_setup setup)) (without_malformed events answers) (answers_without_malformed answers) w
     × Stands (plain_setup setup) w (plain_ends (ends_after (new_ends setup) events))
 
-abbrev pub LawOfWorlds : Setup → Type 0
-LawOfWorlds setup = (events : List Event) → AllByRecursion (IsSendable setup) events → RunsPlainly (new_ends setup) events → WorldOfEnds setup events
+abbrev pub HandsOutByEnds : Setup → List Event → Type 0
+HandsOutByEnds setup events = HandsOutWhatWasSent setup events (answers_of_ends (new_ends setup) events)
 
-abbrev pub LawOfMessages : Setup → Type 0
-LawOfMessages setup = (events : List Event) → AllByRecursion (IsSendable setup) events → RunsPlainly (new_ends setup) events → HandsOutWhatWasSent setup events (answers_of_ends (new_ends setup) events)
+abbrev pub FindsNoFault : Setup → List Event → Type 0
+FindsNoFault setup events = list_any (finds_fault (asks_strictly (new_ends setup))) (answers_of_ends (new_ends setup) events) ≡ false
 
-abbrev pub LawOfAnswers : Setup → Type 0
-LawOfAnswers setup = (events : List Event) → list_any finds_fault (answers_of_ends (new_ends setup) events) ≡ false → RunsPlainly (new_ends setup) events
+-- The laws on such schedules: of sides that judge plainly, and of those that may judge more and find no fault; and that two strict sides find none.
+pub record LawsOfEnds (setup : Setup) : Type 0 where
+  pub plain_world : (events : List Event) → JudgesPlainly setup → AllByRecursion (IsSendable setup) events → RunOfEnds setup events
+  pub plain_messages : (events : List Event) → JudgesPlainly setup → AllByRecursion (IsSendable setup) events → HandsOutByEnds setup events
+  pub plainly : (events : List Event) → FindsNoFault setup events → RunsPlainly (new_ends setup) events
+  pub world : (events : List Event) → AllByRecursion (IsSendable setup) events → RunsPlainly (new_ends setup) events → WorldOfEnds setup events
+  pub messages : (events : List Event) → AllByRecursion (IsSendable setup) events → RunsPlainly (new_ends setup) events → HandsOutByEnds setup events
+  pub strict : (events : List Event) → AllByRecursion (IsSendable setup) events → AsksForStrict setup → ServerKnows events (answers_of_ends (new_ends setup) events)
+      → EarlyAreTaken setup (new_ends setup) events → FindsNoFault setup events
 
-module _ (setup : Setup) (in_world : LawOfWorlds setup) (hands_out : LawOfMessages setup) where
-  -- by what two endpoints answer
-  runs_by_ends : (events : List Event) → AllByRecursion (IsSendable setup) events → RunsPlainly (new_ends setup) events → RunsWithoutMalformed setup events (answers_of_ends (new_ends setup) events)
-  runs_by_ends events sendable plainly =
-      let on = in_world events sendable plainly in
-      record { world = on.0; run = on.1; hands_out = hands_out events sendable plainly }
+-- A side judges plainly, or more.
+is_plain : (a : Announced) → IsPlain a ⊎ (judges_more a ≡ true)
+is_plain a = of a.choices.strict_messages refl (is_limit a.choices.unfinished_limit) refl
+  where
+    of : (b : Bool) → a.choices.strict_messages ≡ b → (c : Bool) → is_limit a.choices.unfinished_limit ≡ c → IsPlain a ⊎ (judges_more a ≡ true)
+    of true e c f = inr (ap (λ x. x || is_limit a.choices.unfinished_limit) e)
+    of false e true f = inr (ap (λ x. x || is_limit a.choices.unfinished_limit) e ∙ f)
+    of false e false f = inl (e, f)
 
-  -- up to the first answer that tells of refused memory, where they answer as without strict messages
-  pub runs_front : (events : List Event) (answers : List Answer) → AllByRecursion IsTyped events → AnswersEach (new_ends setup) events answers → AreFew setup events
-      → (n : ℕ) → take n answers ≡ answers_of_ends (new_ends setup) (take n events) → RunsPlainly (new_ends setup) (take n events) → RunsWithoutMalformed setup (take n events) (take n answers)
-  runs_front events answers typed h few n is plainly =
-      subst (RunsWithoutMalformed setup (take n events)) (sym is) (runs_by_ends (take n events) (front_of_all (IsSendable setup) n events (few_are_sendable setup events typed few)) plainly)
+plain_judges : (a : Announced) → IsPlain a → judges_more a ≡ false
+plain_judges a plain = ap (λ b. b || is_limit a.choices.unfinished_limit) plain.0 ∙ plain.1
 
-  pub runs_until_fault : (events : List Event) (answers : List Answer)
-      → LawOfAnswers setup → AllByRecursion IsTyped events → AnswersEach (new_ends setup) events answers → AreFew setup events → RunsUntilFault setup events answers
-  runs_until_fault events answers faultless typed h few = λ n not_memory none.
+pub judges_no_more : (setup : Setup) → JudgesPlainly setup → one_judges_more setup ≡ false
+judges_no_more setup plain = ap (λ b. b || judges_more setup.server) (plain_judges setup.client (plain Client)) ∙ plain_judges setup.server (plain Server)
+
+or_true : (b : Bool) → (b || true) ≡ true
+or_true true = refl
+or_true false = refl
+
+plain_or_more : (setup : Setup) → JudgesPlainly setup ⊎ (one_judges_more setup ≡ true)
+plain_or_more setup = of (is_plain setup.client) (is_plain setup.server)
+  where
+    both : IsPlain setup.client → IsPlain setup.server → JudgesPlainly setup
+    both client server Client = client
+    both client server Server = server
+
+    of : IsPlain setup.client ⊎ (judges_more setup.client ≡ true) → IsPlain setup.server ⊎ (judges_more setup.server ≡ true) → JudgesPlainly setup ⊎ (one_judges_more setup ≡ true)
+    of (inr more) server = inr (ap (λ b. b || judges_more setup.server) more)
+    of (inl client) (inr more) = inr (ap (λ b. judges_more setup.client || b) more ∙ or_true (judges_more setup.client))
+    of (inl client) (inl server) = inl (both client server)
+
+module _ (setup : Setup) (laws : LawsOfEnds setup) where
+  abbrev RunsByEnds : List Event → Type 0
+  RunsByEnds events = RunsBetween setup events (answers_of_ends (new_ends setup) events)
+
+  not_strict : JudgesPlainly setup → AsksForStrict setup → ⊥
+  not_strict plain strict = let none = (plain Client).0 in let asks = strict Client in cc
+
+  by_plain : (events : List Event) → JudgesPlainly setup → AllByRecursion (IsSendable setup) events → RunsByEnds events
+  by_plain events plain sendable =
+      let on = laws.plain_world events plain sendable in
+      record {
+        world = on.0;
+        run = runs_plainly setup (empty_world setup) on.0 events (answers_of_ends (new_ends setup) events) on.1;
+        hands_out = laws.plain_messages events plain sendable;
+        strict = λ strict. absurd (not_strict plain strict);
+      }
+
+  -- by the world of the sides without what they judge
+  by_world : (events : List Event) → one_judges_more setup ≡ true → AllByRecursion (IsSendable setup) events → (plainly : RunsPlainly (new_ends setup) events) → FindsNoFault setup events
+      → (on : WorldOfEnds setup events) → RunsByEnds events
+  by_world events more sendable plainly none on =
+      record {
+        world = on.0;
+        run = runs_with_refused setup more (new_ends setup) (empty_world setup) on.0 events on.1;
+        hands_out = laws.messages events sendable plainly;
+        strict = λ strict. none;
+      }
+
+  finds_none : (events : List Event) → AllByRecursion (IsSendable setup) events → TakesWhatIsSent setup events (answers_of_ends (new_ends setup) events) → FindsNoFault setup events
+  finds_none events sendable (BothStrict strict knows early) = laws.strict events sendable strict knows early
+  finds_none events sendable (FindsNone none) = none
+
+  runs_by_ends : (events : List Event) → AllByRecursion (IsSendable setup) events → JudgesPlainly setup ⊎ TakesWhatIsSent setup events (answers_of_ends (new_ends setup) events) → RunsByEnds events
+  runs_by_ends events sendable (inl plain) = by_plain events plain sendable
+  runs_by_ends events sendable (inr takes) = by_choice (plain_or_more setup)
+    where
+      by_choice : JudgesPlainly setup ⊎ (one_judges_more setup ≡ true) → RunsByEnds events
+      by_choice (inl plain) = by_plain events plain sendable
+      by_choice (inr more) =
+          let none = finds_none events sendable takes in
+          let plainly = laws.plainly events none in
+          by_world events more sendable plainly none (laws.world events sendable plainly)
+
+  -- up to the first answer that tells of refused memory
+  pub runs_until_memory : (events : List Event) (answers : List Answer) → AllByRecursion IsTyped events → AnswersEach (new_ends setup) events answers → AreFew setup events → RunsUntilMemory setup events answers
+  runs_until_memory events answers typed h few = λ n not_memory takes.
       let is = h.until_memory n not_memory in
-      runs_front events answers typed h few n is (faultless (take n events) (subst (λ given. list_any finds_fault given ≡ false) is none))
+      subst (RunsBetween setup (take n events)) (sym is)
+      (runs_by_ends (take n events) (front_of_all (IsSendable setup) n events (few_are_sendable setup events typed few)) (subst (λ given. JudgesPlainly setup ⊎ TakesWhatIsSent setup (take n events) given) is takes))
 
   -- and over all of them
-  pub runs_faultless : (events : List Event) (answers : List Answer) (client server : EndpointState) → LawOfAnswers setup
-      → AllByRecursion IsTyped events → RunsTo (new_ends setup) events answers client server → list_any finds_fault answers ≡ false → AreFew setup events → RunsFaultless setup events answers client server
-  runs_faultless events answers client server faultless typed h none few =
+  pub runs_to_end : (events : List Event) (answers : List Answer) (client server : EndpointState) → AllByRecursion IsTyped events → RunsTo (new_ends setup) events answers client server → AreFew setup events
+      → one_judges_more setup ≡ true → TakesWhatIsSent setup events answers → RunsToEnd setup events answers client server
+  unfolding by_world
+  runs_to_end events answers client server typed h few more takes =
       let sendable = few_are_sendable setup events typed few in
-      let plainly = faultless events (subst (λ given. list_any finds_fault given ≡ false) h.answered_so none) in
-      let on = in_world events sendable plainly in
-      subst (λ given. RunsFaultless setup events given client server) (sym h.answered_so) (record {
-        runs = record { world = on.0; run = on.1; hands_out = hands_out events sendable plainly };
+      let none = finds_none events sendable (subst (TakesWhatIsSent setup events) h.answered_so takes) in
+      let plainly = laws.plainly events none in
+      let on = laws.world events sendable plainly in
+      subst (λ given. RunsToEnd setup events given client server) (sym h.answered_so) (record {
+        runs = by_world events more sendable plainly none on;
         ends = ends_after (new_ends setup) events;
         stands = on.2;
         client_stands = h.client_stands;
         server_stands = h.server_stands;
       })
 
--- what has to be known of a schedule of two strict sides
-abbrev pub KnownOf : Setup → List Event → List Answer → Type 0
-KnownOf setup events answers = ServerKnows events answers × EarlyAreTaken setup (new_ends setup) events
-
--- Where what two endpoints answer finds no fault, of schedules of which this is known, so do these answers.
-module _ (setup : Setup) (Known : List Event → List Answer → Type 0)
-    (finds_none : (events : List Event) → AllByRecursion (IsSendable setup) events → Known events (answers_of_ends (new_ends setup) events) → list_any finds_fault (answers_of_ends (new_ends setup) events) ≡ false) where
-  by_ends : (events : List Event) (answers : List Answer) → AllByRecursion (IsSendable setup) events → answers ≡ answers_of_ends (new_ends setup) events → Known events answers → list_any finds_fault answers ≡ false
-  by_ends events answers sendable is known = subst (λ given. list_any finds_fault given ≡ false) (sym is) (finds_none events sendable (subst (Known events) is known))
-
-  pub front_finds_none : (events : List Event) (answers : List Answer) → AllByRecursion IsTyped events → AnswersEach (new_ends setup) events answers → AreFew setup events
-      → (n : ℕ) → list_any is_memory (take n answers) ≡ false → Known (take n events) (take n answers) → list_any finds_fault (take n answers) ≡ false
-  front_finds_none events answers typed h few = λ n not_memory known.
-      by_ends (take n events) (take n answers) (front_of_all (IsSendable setup) n events (few_are_sendable setup events typed few)) (h.until_memory n not_memory) known
-
-  pub run_finds_none : (events : List Event) (answers : List Answer) (client server : EndpointState) → AllByRecursion IsTyped events → RunsTo (new_ends setup) events answers client server → AreFew setup events
-      → Known events answers → list_any finds_fault answers ≡ false
-  run_finds_none events answers client server typed h few known = by_ends events answers (few_are_sendable setup events typed few) h.answered_so known
-
 -- A side without a limit takes each list that is sent to it.
 takes_early : (setup : Setup) (ends : Ends) (e : Event) → JudgesStrictly setup → is_early ends e ≡ true → IsTaken setup e (answered ends e).0
 takes_early setup ends (event.Head side id head) strict early = λ done limit. let none = (strict (other side)).1 in absurd (cc)
 takes_early setup ends (event.Trailer side id trailer) strict early = λ done limit. let none = (strict (other side)).1 in absurd (cc)
+takes_early setup ends (event.Fields side id fields) strict early = λ done limit. let none = (strict (other side)).1 in absurd (cc)
+takes_early setup ends (event.TrailerFields side id fields) strict early = λ done limit. let none = (strict (other side)).1 in absurd (cc)
 takes_early setup ends e strict early = absurd (cc)
 
 pub takes_all : (setup : Setup) (ends : Ends) (events : List Event) → JudgesStrictly setup → EarlyAreTaken setup ends events

@@ -1,12 +1,11 @@
 -- What a run is: over any schedule, a client and a server answer as the world of a connection allows, and stand in it.
-use Rattle.std.specs.Prelude.{◌≡◌, ℕ, false, List, take}
-use Rattle.std.specs.List.{list_any}
+use Rattle.std.specs.Prelude.{List}
 use Rattle.h3_connection.specs.State.{EndpointState, StandsFor}
 use Rattle.h3_world.specs.declared.event.Answer.{Answer}
 use Rattle.h3_world.specs.declared.event.Event.{Event}
 use Rattle.h3_world.specs.declared.setup.Setup.{Setup}
 use Rattle.h3_world.specs.Ends.{Ends}
-use Rattle.h3_world.specs.Headline.{Happens, is_memory}
+use Rattle.h3_world.specs.Headline.{Happens}
 use Rattle.h3_world.specs.Run.{Run}
 use Rattle.h3_world.specs.World.{World, empty_world}
 use Rattle.h3_headline.specs.Standing.{Stands}
@@ -21,11 +20,6 @@ pub record RunsInWorld (setup : Setup) (events : List Event) (answers : List Ans
   pub stands : Stands setup world ends
   pub client_stands : StandsFor client ends.client
   pub server_stands : StandsFor server ends.server
-
--- The answers up to the first that tells of refused memory are those of a run from the empty world, each step of which happens.
-abbrev pub RunsUntilMemory : Setup → List Event → List Answer → Type 0
-RunsUntilMemory setup events answers =
-    (n : ℕ) → list_any is_memory (take n answers) ≡ false → (w : World) × Run (Happens setup) (empty_world setup) (take n events) (take n answers) w
 
 -- Memory refused or not, the answers are those of a run of a world in which memory may be refused, from the empty one with nothing kept, each step of
 -- which happens; and these endpoints stand in the world that it leads to, with what they keep.

@@ -9,8 +9,7 @@ use Rattle.h3_connection.specs.declared.event.DeliverError.{DeliverError}
 use Rattle.h3_connection.specs.declared.event.DeliverError.TheVariants as deliver_error
 use Rattle.h3_connection.specs.declared.event.Refusal.{Refusal}
 use Rattle.h3_connection.specs.declared.event.Refusal.TheVariants as refusal
-use Rattle.h3_session.specs.SendingLists.{SendsFieldList, SendsTrailerList, order_refusal, place_refusal}
-use Rattle.h3_session.specs.declared.endpoint.lists.FieldsError.TheVariants as error
+use Rattle.h3_session.specs.SendingLists.{NotMalformed, SendsFieldList, SendsTrailerList, order_refusal, place_refusal}
 
 -- `send_body` of so many bytes
 abbrev pub RefusesBodies : EndpointState → ℕ → ℕ → Option Refusal → Type 0
@@ -26,10 +25,10 @@ RefusesDeliveries s id why = (bytes : List ℕ) → Delivers s s id bytes (Err (
 
 -- `send_fields`: no rule of its place in the message refuses the list
 abbrev pub RefusesHeads : EndpointState → ℕ → Option Refusal → Type 0
-RefusesHeads s id (Some r) = (fields : List Field) → SendsFieldList s s id fields (Err (error.Refused r))
+RefusesHeads s id (Some r) = NotMalformed (Some r) × ((fields : List Field) → SendsFieldList s s id fields (Err r))
 RefusesHeads s id None = (e : EndpointHistory) → StandsFor s e → place_refusal e id ≡ None
 
 -- `send_trailer_fields`
 abbrev pub RefusesTrailers : EndpointState → ℕ → Option Refusal → Type 0
-RefusesTrailers s id (Some r) = (fields : List Field) → SendsTrailerList s s id fields (Err (error.Refused r))
+RefusesTrailers s id (Some r) = NotMalformed (Some r) × ((fields : List Field) → SendsTrailerList s s id fields (Err r))
 RefusesTrailers s id None = (e : EndpointHistory) → StandsFor s e → order_refusal e id ≡ None

@@ -26,6 +26,7 @@ pub mod Frames
 pub mod SendingLists
 pub mod Lacking
 pub mod JudgedLists
+pub mod InvalidFields
 pub mod StrictLists
 pub mod ReadingBodies
 pub mod Datagrams

@@ -1,5 +1,5 @@
 -- What a run hands out, by its events and their answers alone (RFC 9114, section 4.1).
-use Rattle.std.specs.Prelude.{◌≡◌, ℕ, true, false, List, map, take}
+use Rattle.std.specs.Prelude.{◌≡◌, ℕ, true, false, List, length, take}
 use Rattle.std.specs.List.{list_any}
 use Rattle.h3_proto.specs.declared.stream.Side.{Side}
 use Rattle.h3_connection.specs.Announcing.{section_of}
@@ -9,20 +9,18 @@ use Rattle.h3_world.specs.declared.event.Event.{Event}
 use Rattle.h3_world.specs.declared.setup.Setup.{Setup}
 use Rattle.h3_world.specs.Headline.{is_connection_fault}
 use Rattle.h3_world.specs.Setup.{announced_at}
-use Rattle.h3_headline.specs.Messages.{MessageContent, IsFrontOf, at_reader, has_finished, has_pulled_end, pulled, sent}
-
--- what the other side sent on the stream, each field section above the side's limit as its size alone
-abbrev pub sent_to : Setup → Side → ℕ → List Event → List Answer → List MessageContent
-sent_to setup side id events answers = map (at_reader (section_of (announced_at setup side))) (sent (other side) id events answers)
+use Rattle.h3_headline.specs.Messages.{Is, IsFrontOf, has_finished, has_pulled_end, pulled, sent}
 
 -- Each side is handed of each stream what the other side sent on it.
 pub record HandsOutWhatWasSent (setup : Setup) (events : List Event) (answers : List Answer) : Type 0 where
   pub no_connection_fault : list_any is_connection_fault answers ≡ false
   -- never anything else, and in order
-  pub begins : (side : Side) (id : ℕ) → IsFrontOf (pulled side id events answers) (sent_to setup side id events answers)
+  pub begins : (side : Side) (id : ℕ) →
+      IsFrontOf (Is (section_of (announced_at setup side))) (pulled side id events answers) (sent (other side) id events answers)
   -- with the end all of it, and no end before the other side has finished
   pub ends : (side : Side) (id : ℕ) → has_pulled_end side id events answers ≡ true →
-      (pulled side id events answers ≡ sent_to setup side id events answers) × (has_finished (other side) id events answers ≡ true)
+      (length (pulled side id events answers) ≡ length (sent (other side) id events answers))
+      × (has_finished (other side) id events answers ≡ true)
 
 -- So it is behind each event, of the events so far and their answers.
 abbrev pub HandsOutAlways : Setup → List Event → List Answer → Type 0

@@ -8,9 +8,10 @@ use Rattle.h3_outgoing.specs.Sent.{is_sent_off}
 use Rattle.h3_proto.specs.declared.stream.Side.{Side}
 use Rattle.h3_connection.specs.Endpoint.{kind_of}
 use Rattle.h3_connection.specs.Lasts.{last_id}
-use Rattle.h3_connection.specs.Refusals.{Sender, first_of, needed, of_list, or_later, refusal_of_goaway, refusal_to_open, refusal_to_stop, too_large, with_pseudo, wrong_side}
+use Rattle.h3_connection.specs.Refusals.{Sender, first_of, needed, of_list, or_later, refusal_of_goaway, refusal_to_open, refusal_to_stop, too_large, unless_going, with_pseudo, wrong_side}
 use Rattle.h3_connection.specs.Sending.{closed_or}
 use Rattle.h3_connection.specs.State.{EndpointState, OutgoingState, kept_at}
+use Rattle.h3_connection.specs.StrictConnection.{begins_none_after}
 use Rattle.h3_connection.specs.StrictMessages.{malformation_by}
 use Rattle.h3_connection.specs.StrictSending.{broken_protocol, unless_malformed, violation_of_own_head}
 use Rattle.h3_connection.specs.declared.event.Malformation.{Malformation}
@@ -27,7 +28,8 @@ sender_in s id = option_map (λ r. r.outgoing) (kept_at s.requests id)
 
 -- the sender on a stream
 abbrev pub sender_on : EndpointState → ℕ → Sender
-sender_on s id = record { side = s.side; stream = seen_in (kept_at s.requests id); settings = s.peer.settings }
+sender_on s id =
+    record { side = s.side; stream = seen_in (kept_at s.requests id); settings = s.peer.settings; going = begins_none_after s.announced s.side (last_id s.peer.goaways) }
 
 -- The rules of a sender in the parts in which a call asks them: that of the stream, what a head or a trailer is judged by before its list is made, what
 -- was sent in front of a trailer, and the list.
@@ -47,9 +49,17 @@ own_head_refused own side head = or_later (protocol_refused own head) (side_refu
 abbrev pub own_trailer_refused : Announced → Head → Option Refusal
 own_trailer_refused own trailer = or_later (protocol_refused own trailer) (pseudo_refused trailer)
 
+-- no request begins
+abbrev pub going_refused : EndpointState → Option Refusal
+going_refused s = first_of (unless_going (begins_none_after s.announced s.side (last_id s.peer.goaways)) [])
+
+-- the stream takes no head, whatever is in it
+abbrev pub head_refused_in : EndpointState → ℕ → Option Refusal
+head_refused_in s id = or_later (head_refused_at (kept_at s.requests id)) (going_refused s)
+
 -- a head, its list apart
 abbrev pub head_refused : EndpointState → ℕ → Head → Option Refusal
-head_refused s id head = closed_or s.closed (or_later (head_refused_at (kept_at s.requests id)) (own_head_refused s.announced s.side head))
+head_refused s id head = closed_or s.closed (or_later (head_refused_in s id) (own_head_refused s.announced s.side head))
 
 -- a trailer, its list apart
 abbrev pub trailer_refused : EndpointState → ℕ → Head → Option Refusal

@@ -16,7 +16,7 @@ use Rattle.h3_world.specs.declared.event.Answer.{Answer}
 use Rattle.h3_world.specs.declared.event.Answer.TheVariants as answer
 use Rattle.h3_world.specs.Delivering.{reset_code}
 use Rattle.h3_world.specs.Ends.{Ends, ends_after, answers_of_ends}
-use Rattle.h3_world.specs.Headline.{is_memory}
+use Rattle.h3_world.specs.Headline.{is_out_of_memory}
 
 -- success, or why the call was refused
 abbrev pub answer_of : Answer → Option Refusal → Answer
@@ -73,7 +73,7 @@ reset_goes w r id =
 -- It goes so between what is stored, unless memory was refused.
 abbrev pub Carries : (EndpointHistory → EndpointHistory → Carried) → EndpointState → EndpointState → Answer → EndpointState → EndpointState → Type 0
 Carries goes writer reader given writer_after reader_after =
-    (w r : EndpointHistory) → StandsFor writer w → StandsFor reader r → is_memory given ≡ false →
+    (w r : EndpointHistory) → StandsFor writer w → StandsFor reader r → is_out_of_memory given ≡ false →
     (given ≡ (goes w r).given) × StandsFor writer_after (goes w r).writer × StandsFor reader_after (goes w r).reader
 
 -- The first bytes that wait on the stream were appended.
@@ -93,7 +93,7 @@ pub record RunsTo (ends : Ends) (events : List Event) (answers : List Answer) (c
 -- Each event is answered; and the answers, up to the first that tells of refused memory, are those of these ends.
 pub record AnswersEach (ends : Ends) (events : List Event) (answers : List Answer) : Type 0 where
   pub as_many : length answers ≡ length events
-  pub until_memory : (n : ℕ) → list_any is_memory (take n answers) ≡ false → take n answers ≡ answers_of_ends ends (take n events)
+  pub until_memory : (n : ℕ) → list_any is_out_of_memory (take n answers) ≡ false → take n answers ≡ answers_of_ends ends (take n events)
 
 -- a delivery that failed
 abbrev pub failed : DeliverError → Result Unit DeliverError

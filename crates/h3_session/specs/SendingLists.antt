@@ -1,6 +1,6 @@
 -- Lists of fields that go out as they are, in their order: what each reads as says whether it may go, as of a head or trailer (RFC 9114,
 -- sections 4.1 to 4.3).
-use Rattle.std.specs.Prelude.{◌≡◌, ◌≢◌, ℕ, ◌≤◌, List, [], length, Option, Some, None, option_map, Result, Ok, Err}
+use Rattle.std.specs.Prelude.{◌≡◌, ◌≢◌, ℕ, ◌≤◌, List, [], length, Option, Some, None, Result}
 use Rattle.h3_field.specs.Field.{Field}
 use Rattle.h3_header.specs.Head.{Head}
 use Rattle.h3_header.specs.HeadRead.{HeadRead, HeadRefusal, IsHead, IsNone, head_by}
@@ -10,7 +10,7 @@ use Rattle.h3_connection.specs.Endpoint.{EndpointHistory}
 use Rattle.h3_connection.specs.Outgoing.OwnPart.{OwnTrailer}
 use Rattle.h3_connection.specs.Pulling.{malformation_of}
 use Rattle.h3_connection.specs.Sections.{written_section}
-use Rattle.h3_connection.specs.Refusals.{first_of, not_next, refusal_of_head, refusal_of_trailer}
+use Rattle.h3_connection.specs.Refusals.{first_of, not_next, refusal_of_head, refusal_of_trailer, unless_going}
 use Rattle.h3_connection.specs.Sending.{does, unless_closed, outgoing_at, seen_at, sender_at, appended, asked, counted, encoded, fields_cost, head_part}
 use Rattle.h3_connection.specs.SendingContracts.{CutsOff, MayLackMemory, SendsSection}
 use Rattle.h3_connection.specs.State.{EndpointState, StandsFor}
@@ -19,8 +19,6 @@ use Rattle.h3_connection.specs.declared.event.Refusal.{Refusal}
 use Rattle.h3_connection.specs.declared.event.Refusal.TheVariants as refusal
 use Rattle.h3_connection.specs.declared.place.SendPlace.{SendPlace}
 use Rattle.h3_session.specs.Refused.{broken_behind, refused_behind}
-use Rattle.h3_session.specs.declared.endpoint.lists.FieldsError.{FieldsError}
-use Rattle.h3_session.specs.declared.endpoint.lists.FieldsError.TheVariants as error
 
 -- A head that is sent as this list: as `send_head`, which sends `head_fields`. What was read of a list has a protocol that is taken.
 abbrev pub listed_head_refusal : EndpointHistory → ℕ → Head → List Field → Option Refusal
@@ -73,52 +71,40 @@ pub record IsJudgedOr (s : EndpointState) (place : SendPlace) (fields : List Fie
 
 -- Why a stream takes no head now, whatever is in it.
 abbrev pub place_refusal : EndpointHistory → ℕ → Option Refusal
-place_refusal e id = unless_closed e (first_of (not_next (seen_at e id) (seen_at e id).takes_head []))
+place_refusal e id = unless_closed e (first_of (not_next (seen_at e id) (seen_at e id).takes_head (unless_going (sender_at e id).going [])))
 
 -- Why it takes no trailer.
 abbrev pub order_refusal : EndpointHistory → ℕ → Option Refusal
 order_refusal e id = unless_closed e (first_of (not_next (seen_at e id) (seen_at e id).takes_body []))
 
 -- That comes before what is malformed.
-abbrev pub error_after : Option Refusal → FieldsError → FieldsError
-error_after (Some r) later = error.Refused r
-error_after None later = later
+abbrev pub refusal_after : Option Refusal → Refusal → Refusal
+refusal_after (Some r) later = r
+refusal_after None later = later
 
-abbrev pub malformed : HeadRefusal → FieldsError
-malformed why = error.Malformed (malformation_of why)
+abbrev pub malformed : HeadRefusal → Refusal
+malformed why = refusal.Malformed (malformation_of why)
 
--- a malformed list is told in one way, whatever finds it
-abbrev pub error_of : Refusal → FieldsError
-error_of (refusal.Malformed why) = error.Malformed why
-error_of r = error.Refused r
+abbrev pub send_read_head : EndpointHistory → ℕ → List Field → HeadRead → Option Refusal × EndpointHistory
+send_read_head e id fields (IsHead head) = send_listed_head e id head fields
+send_read_head e id fields (IsNone why) = (Some (refusal_after (place_refusal e id) (malformed why)), e)
 
--- a call that is refused as this one is
-abbrev pub as_error : Option Refusal × EndpointHistory → Option FieldsError × EndpointHistory
-as_error p = (option_map error_of p.0, p.1)
-
-abbrev pub send_read_head : EndpointHistory → ℕ → List Field → HeadRead → Option FieldsError × EndpointHistory
-send_read_head e id fields (IsHead head) = as_error (send_listed_head e id head fields)
-send_read_head e id fields (IsNone why) = (Some (error_after (place_refusal e id) (malformed why)), e)
-
-abbrev pub send_read_trailer : EndpointHistory → ℕ → List Field → HeadRead → Option FieldsError × EndpointHistory
-send_read_trailer e id fields (IsHead trailer) = as_error (send_listed_trailer e id trailer fields)
-send_read_trailer e id fields (IsNone why) = (Some (error_after (order_refusal e id) (malformed why)), e)
+abbrev pub send_read_trailer : EndpointHistory → ℕ → List Field → HeadRead → Option Refusal × EndpointHistory
+send_read_trailer e id fields (IsHead trailer) = send_listed_trailer e id trailer fields
+send_read_trailer e id fields (IsNone why) = (Some (refusal_after (order_refusal e id) (malformed why)), e)
 
 -- A list goes out as a head, or as a trailer, where it reads as one.
-abbrev pub send_fields : EndpointHistory → ℕ → List Field → Option FieldsError × EndpointHistory
+abbrev pub send_fields : EndpointHistory → ℕ → List Field → Option Refusal × EndpointHistory
 send_fields e id fields = send_read_head e id fields (head_by e.announced.choices.extensions.any_protocol fields)
 
-abbrev pub send_trailer_fields : EndpointHistory → ℕ → List Field → Option FieldsError × EndpointHistory
+abbrev pub send_trailer_fields : EndpointHistory → ℕ → List Field → Option Refusal × EndpointHistory
 send_trailer_fields e id fields = send_read_trailer e id fields (head_by e.announced.choices.extensions.any_protocol fields)
 
-abbrev pub no_memory : FieldsError
-no_memory = error.Refused refusal.OutOfMemory
-
 -- Want of memory comes last: it may be told of a list that is too large, and of none that breaks a rule of strict messages,
-abbrev pub MayLackSize : Option FieldsError → Type 0
+abbrev pub MayLackSize : Option Refusal → Type 0
 MayLackSize None = Unit {0}
-MayLackSize (Some (error.Refused r)) = MayLackMemory (Some r)
-MayLackSize (Some (error.Malformed why)) = ⊥
+MayLackSize (Some (refusal.TooLarge size)) = Unit {0}
+MayLackSize (Some r) = ⊥
 
 -- or is no list of a header
 abbrev pub IsReadable : HeadRead → Type 0
@@ -126,31 +112,26 @@ IsReadable (IsHead head) = Unit {0}
 IsReadable (IsNone why) = ⊥
 
 -- Where a map has to be made for the list, also of one that is malformed, or none of this place.
-abbrev pub MayLackMap : Option FieldsError → Type 0
+abbrev pub MayLackMap : Option Refusal → Type 0
 MayLackMap None = Unit {0}
-MayLackMap (Some (error.Refused refusal.WrongSide)) = Unit {0}
-MayLackMap (Some (error.Refused refusal.PseudoInTrailer)) = Unit {0}
-MayLackMap (Some (error.Refused r)) = MayLackMemory (Some r)
-MayLackMap (Some (error.Malformed why)) = Unit {0}
+MayLackMap (Some refusal.WrongSide) = Unit {0}
+MayLackMap (Some refusal.PseudoInTrailer) = Unit {0}
+MayLackMap (Some r) = MayLackMemory (Some r)
 
 -- The list is sent, or refused with nothing changed; or memory was refused, and it was cut off.
-pub record SendsList (act : EndpointHistory → Option FieldsError × EndpointHistory) (old new : EndpointState) (id : ℕ) (fields : List Field) (told : Option FieldsError) : Type 0 where
-  pub done : (e : EndpointHistory) → StandsFor old e → told ≢ Some no_memory → (told ≡ (act e).0) × StandsFor new (act e).1
-  pub same : told ≢ None → told ≢ Some no_memory → IsSame old new
-  pub memory : (e : EndpointHistory) → StandsFor old e → told ≡ Some no_memory → MayLackMap (act e).0 × CutsOff e id fields new
+pub record SendsList (act : EndpointHistory → Option Refusal × EndpointHistory) (old new : EndpointState) (id : ℕ) (fields : List Field) (told : Option Refusal) : Type 0 where
+  pub done : (e : EndpointHistory) → StandsFor old e → told ≢ Some refusal.OutOfMemory → (told ≡ (act e).0) × StandsFor new (act e).1
+  pub same : told ≢ None → told ≢ Some refusal.OutOfMemory → IsSame old new
+  pub memory : (e : EndpointHistory) → StandsFor old e → told ≡ Some refusal.OutOfMemory → MayLackMap (act e).0 × CutsOff e id fields new
   -- no map is made of so few fields
-  pub short : (e : EndpointHistory) → StandsFor old e → told ≡ Some no_memory → length fields ≤ 24576 → MayLackSize (act e).0
-  pub readable : told ≡ Some no_memory → length fields ≤ 24576 → IsReadable (head_by old.announced.choices.extensions.any_protocol fields)
+  pub short : (e : EndpointHistory) → StandsFor old e → told ≡ Some refusal.OutOfMemory → length fields ≤ 24576 → MayLackSize (act e).0
+  pub readable : told ≡ Some refusal.OutOfMemory → length fields ≤ 24576 → IsReadable (head_by old.announced.choices.extensions.any_protocol fields)
   -- of a list that is refused nothing was inserted
-  pub refused : (e : EndpointHistory) → StandsFor old e → told ≡ Some no_memory → (act e).0 ≢ None → IsSame old new
-
-abbrev pub list_told : Result Unit FieldsError → Option FieldsError
-list_told (Ok done) = None
-list_told (Err e) = Some e
+  pub refused : (e : EndpointHistory) → StandsFor old e → told ≡ Some refusal.OutOfMemory → (act e).0 ≢ None → IsSame old new
 
 -- `send_fields` and `send_trailer_fields`
-abbrev pub SendsFieldList : EndpointState → EndpointState → ℕ → List Field → Result Unit FieldsError → Type 0
-SendsFieldList old new id fields result = SendsList (λ e. send_fields e id fields) old new id fields (list_told result)
+abbrev pub SendsFieldList : EndpointState → EndpointState → ℕ → List Field → Result Unit Refusal → Type 0
+SendsFieldList old new id fields result = SendsList (λ e. send_fields e id fields) old new id fields (call_refused result)
 
-abbrev pub SendsTrailerList : EndpointState → EndpointState → ℕ → List Field → Result Unit FieldsError → Type 0
-SendsTrailerList old new id fields result = SendsList (λ e. send_trailer_fields e id fields) old new id fields (list_told result)
+abbrev pub SendsTrailerList : EndpointState → EndpointState → ℕ → List Field → Result Unit Refusal → Type 0
+SendsTrailerList old new id fields result = SendsList (λ e. send_trailer_fields e id fields) old new id fields (call_refused result)

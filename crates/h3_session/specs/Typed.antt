@@ -20,6 +20,8 @@ pub record IsHeader (head : Fields) : Type 0 where
 -- so is what an event sends, and a number has 62 bits
 abbrev pub IsTyped : Event → Type 0
 IsTyped (event.Head acting id head) = IsHeader head
+IsTyped (event.Fields acting id fields) = AllByRecursion IsFieldOfBytes fields
 IsTyped (event.Trailer acting id trailer) = IsHeader trailer
+IsTyped (event.TrailerFields acting id fields) = AllByRecursion IsFieldOfBytes fields
 IsTyped (event.Goaway acting id) = id < 2 ^ 62
 IsTyped _ = Unit {0}

@@ -43,7 +43,6 @@ mod unread;
 pub use closing::ClosedStream;
 pub use datagrams::{DatagramError, DatagramRead};
 pub use events::{ConnectionEvent, EventsSeen};
-pub use lists::FieldsError;
 
 /// One endpoint of a connection: what was sent and what came on all its streams. It reads no socket: the caller delivers what
 /// comes, and takes what waits to be sent. A contract sees it as the definitions' `EndpointState`.

@@ -34,7 +34,8 @@
 //! - Limits on what is unfinished: if each takes what is sent to it they change nothing (`limits_that_take_what_is_sent_change_nothing`). A
 //!   limit takes it if it is at least four times what its side announces (`limits_above_what_is_announced_take_what_is_sent`). So two such
 //!   sides run in a world (`two_limited_endpoints_run_in_a_world`, `two_strict_limited_endpoints_run_in_a_world`). A side without a limit
-//!   takes every list (`sides_without_limits_take_all`).
+//!   takes every list (`sides_without_limits_take_all`). Sides that are not strict and have none refuse nothing more than the world of a
+//!   connection (`plain_sides_refuse_nothing_more`).
 //! - What `Setup::new` answers may be given to `run` (`setups_are_made`).
 //! - Lists: a header section and a trailer are sent as the lists of their fields are (`heads_are_sent_as_their_lists`).
 //! - Datagrams: what is written in front of a payload reads back as the id of its stream (`datagrams_read_back`).
@@ -51,7 +52,8 @@ ghost use Rattle.h3_world.specs.declared.event.Answer.{Answer};
 ghost use Rattle.h3_world.specs.declared.event.Event.{Event};
 ghost use Rattle.h3_memory.specs.Refused.{EndsRun};
 ghost use Rattle.h3_session.specs.Acting.{RunsByCalls};
-ghost use Rattle.h3_session.specs.SendingLists.{as_error, send_fields, send_trailer_fields};
+ghost use Rattle.h3_connection.specs.declared.event.Refusal.{Refusal};
+ghost use Rattle.h3_session.specs.SendingLists.{send_fields, send_trailer_fields};
 
 pub use h3_connection::laws::{
     a_connection_fault_stays, a_response_to_head_has_no_content, content_is_as_long_as_was_said,
@@ -88,8 +90,8 @@ pub use h3_world::laws::setups_are_made;
 
 /// A header section is sent as the list of its fields is, and so is a trailer: `send_head` is `send_fields` of that list, in every history.
 pub fn heads_are_sent_as_their_lists(header: &Header)
-    ensures head { (e : EndpointHistory) (id : ℕ) → send_fields e id (head_fields header.now) ≡ as_error (send_head e id header.now) }
-    ensures trailer { (e : EndpointHistory) (id : ℕ) → send_trailer_fields e id (head_fields header.now) ≡ as_error (send_trailer e id header.now) }
+    ensures head { (e : EndpointHistory) (id : ℕ) → send_fields e id (head_fields header.now) ≡ send_head e id header.now }
+    ensures trailer { (e : EndpointHistory) (id : ℕ) → send_trailer_fields e id (head_fields header.now) ≡ send_trailer e id header.now }
 {
     h3_header::laws::every_header_reads_back(header);
     h3_header::laws::lists_are_their_value();
@@ -117,13 +119,12 @@ ghost use Rattle.h3_field.specs.Field.{Field};
 ghost use Rattle.h3_connection.specs.Bounds.{StandsBounded};
 ghost use Rattle.h3_connection.specs.Calls.{IsSame};
 ghost use Rattle.h3_session.specs.SendingLists.{SendsFieldList, SendsTrailerList};
-ghost use Rattle.h3_session.specs.declared.endpoint.lists.FieldsError.{FieldsError};
 
 /// A list that is sent, as a header section or as a trailer, leaves an endpoint with its bounds, and so does a call that changes nothing.
 /// So each call of an endpoint does, by its contract alone, whether it was answered, refused, or out of memory (`endpoints_stay_bounded`).
 pub fn lists_leave_endpoints_bounded()
-    ensures fields { (old new : EndpointState) (id : ℕ) (fields : List Field) (result : Result Unit FieldsError) → SendsFieldList old new id fields result → StandsBounded old → StandsBounded new }
-    ensures trailer { (old new : EndpointState) (id : ℕ) (fields : List Field) (result : Result Unit FieldsError) → SendsTrailerList old new id fields result → StandsBounded old → StandsBounded new }
+    ensures fields { (old new : EndpointState) (id : ℕ) (fields : List Field) (result : Result Unit Refusal) → SendsFieldList old new id fields result → StandsBounded old → StandsBounded new }
+    ensures trailer { (old new : EndpointState) (id : ℕ) (fields : List Field) (result : Result Unit Refusal) → SendsTrailerList old new id fields result → StandsBounded old → StandsBounded new }
     ensures same { (old new : EndpointState) → IsSame old new → StandsBounded old → StandsBounded new }
 {
     h3_connection::laws::tries_and_waiting_streams_are_bounded();
@@ -159,6 +160,18 @@ ghost use Rattle.h3_strict.specs.Tallies.{JudgesStrictly};
 /// what is sent before the settings came.
 pub fn sides_without_limits_take_all()
     ensures { (setup : Setup) (ends : Ends) (events : List Event) → JudgesStrictly setup → EarlyAreTaken setup ends events }
+{}
+
+ghost use Rattle.h3_world.specs.Headline.{Happens};
+ghost use Rattle.h3_world.specs.Run.{Run};
+ghost use Rattle.h3_world.specs.Setup.{JudgesPlainly};
+ghost use Rattle.h3_world.specs.World.{World, empty_world};
+ghost use Rattle.h3_session.specs.Strict.{RunsBetween};
+
+/// Between two sides that are not strict and limit nothing, each step of a run that `run` promises (`front`) happens in the world of a
+/// connection: no send is refused as malformed beside it.
+pub fn plain_sides_refuse_nothing_more()
+    ensures { (setup : Setup) (events : List Event) (answers : List Answer) → JudgesPlainly setup → RunsBetween setup events answers → (w : World) × Run (Happens setup) (empty_world setup) events answers w }
 {}
 
 ghost use Rattle.std.specs.Prelude.{is_some, true, Some, None};

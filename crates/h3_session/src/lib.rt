@@ -18,9 +18,7 @@ pub mod endpoint;
 pub mod laws;
 pub mod run;
 
-pub use crate::endpoint::{
-    ClosedStream, ConnectionEvent, DatagramError, DatagramRead, EventsSeen, FieldsError,
-};
+pub use crate::endpoint::{ClosedStream, ConnectionEvent, DatagramError, DatagramRead, EventsSeen};
 pub use bytes::Bytes;
 pub use h3_capsule::head_bytes::HeadBytes;
 pub use h3_coding::varint::VarInt;

@@ -1,21 +1,21 @@
 -- An empty arrival on the control stream, after all that is held of it was read.
-use Rattle.std.proofs.Common.{◌≡◌, ◌==◌, ℕ, false, not, [], ◌++◌, append-nil, Option, Some, None, refl, ap, subst, ◌∙◌, arith}
+use Rattle.std.proofs.Common.{◌≡◌, ◌==◌, ℕ, false, not, [], Option, Some, None, refl, ap, subst, ◌∙◌, arith}
 use Rattle.std.specs.Prelude.{unwrap_or}
 use Rattle.std.proofs.lemmas.Grind.{common_steps}
 use Rattle.h3_connection.specs.declared.arrival.Arrival.TheVariants.{BytesCame}
 use Rattle.h3_connection.specs.Calls.{Sets}
-use Rattle.h3_connection.specs.Control.{read_control, after_peer}
+use Rattle.h3_connection.specs.Control.{lacks_settings, read_control}
+use Rattle.h3_connection.specs.StrictConnectionLaws.{held_again}
 use Rattle.h3_connection.specs.Delivering.{bytes_at, heard_as, read_unidirectional, unless_second, unidirectional_at, with_unidirectional}
 use Rattle.h3_connection.specs.Endpoint.{EndpointHistory, limit_of, is_second, kind_of}
 use Rattle.h3_connection.specs.Endpoint.Kind.{PeerUnidirectional}
 use Rattle.h3_connection.specs.Keeping.{read_arrival}
-use Rattle.h3_connection.specs.PeerReading.{with_unread, read_peer}
+use Rattle.h3_connection.specs.PeerReading.{read_peer}
 use Rattle.h3_connection.specs.StandsLaws.{stands_unidirectional}
 use Rattle.h3_connection.specs.State.{EndpointState, StandsFor, kept_at}
 use Rattle.h3_connection.specs.Unidirectional.{Unidirectional, Role, untold, role_after}
 use Rattle.h3_connection.specs.Unidirectional.Role.{Untold, Control}
 use Rattle.h3_streams.specs.Placed.{StreamsState, placed}
-use Rattle.h3_streams.proofs.Beginnings.{then_same}
 
 -- a stream whose role was told is there
 pub is_there : (o : Option Unidirectional) (r : Role) → (unwrap_or o untold).role ≡ r → (Untold [] ≡ r → ⊥) → o ≡ Some (unwrap_or o untold)
@@ -35,15 +35,14 @@ own_id id = grind (arith, common_steps)
 as_control : (e : EndpointHistory) (id : ℕ) → (unidirectional_at e id).role ≡ Control → bytes_at e id [] PeerUnidirectional ≡ heard_as (with_unidirectional e id (record (unidirectional_at e id) { role = Control })) id Control []
 as_control e id role = ap (λ r. read_unidirectional e id (unidirectional_at e id) (role_after r [])) role
 
-pub nothing_more : (e : EndpointHistory) (id : ℕ) → kind_of e.side id ≡ PeerUnidirectional → (unidirectional_at e id).role ≡ Control → e.control_on ≡ Some id → read_peer (limit_of e) e.side e.peer ≡ (e.peer, None)
+pub nothing_more : (e : EndpointHistory) (id : ℕ) → kind_of e.side id ≡ PeerUnidirectional → (unidirectional_at e id).role ≡ Control → e.control_on ≡ Some id → lacks_settings e ≡ false → read_peer (limit_of e) e.side e.peer ≡ (e.peer, None)
     → read_arrival e (BytesCame id []) ≡ (touched e id, None)
-nothing_more e id kind role on done =
+nothing_more e id kind role on due done =
     let first : is_second e.control_on id ≡ false = ap (λ o. is_second o id) on ∙ own_id id in
     let f = touched e id in
-    let read : read_peer (limit_of e) e.side (with_unread e.peer (e.peer.unread ++ [])) ≡ (e.peer, None) = ap (λ l. read_peer (limit_of e) e.side (with_unread e.peer l)) (append-nil e.peer.unread) ∙ done in
     ap (λ k. bytes_at e id [] k) kind ∙ as_control e id role
     ∙ ap (λ b. unless_second b (with_unidirectional e id (record (unidirectional_at e id) { role = Control })) (read_control f [])) first
-    ∙ ap (after_peer f) read ∙ then_same e.peer.settings f None
+    ∙ held_again f due done
 
 pub touched_stands : (s : EndpointState) (x : StreamsState) (e : EndpointHistory) (id : ℕ) → StandsFor (placed s x) e → (unidirectional_at e id).role ≡ Control → e.control_on ≡ Some id
     → StandsFor (placed s x) (touched e id)

@@ -1,7 +1,7 @@
 -- Bytes come on a unidirectional stream of the peer.
 use Rattle.std.proofs.Common.{◌≡◌, ℕ, true, false, List, [], ◌∷◌, ◌++◌, Option, Some, None, refl, ap, sym, subst, ◌∙◌}
 use Rattle.std.specs.Prelude.{All}
-use Rattle.h3_proto.specs.declared.config.Choices.{Choices}
+use Rattle.h3_connection.specs.declared.setup.Announced.{Announced}
 use Rattle.h3_proto.specs.declared.stream.Side.{Side}
 use Rattle.h3_connection.specs.declared.arrival.Arrival.{Arrival}
 use Rattle.h3_connection.specs.declared.arrival.Arrival.TheVariants.{BytesCame}
@@ -24,11 +24,12 @@ use Rattle.h3_streams.specs.declared.left.Left.{Left}
 use Rattle.h3_streams.proofs.Closing.{there}
 use Rattle.h3_streams.proofs.Peers.{one_peer}
 use Rattle.h3_streams.proofs.Told.{IsTold, told_kept, told_read, told_found, told_stopped}
+use Rattle.h3_connection.specs.StrictConnection.{session_fault}
 
 -- nothing of them was taken
-pub untaken : (x : StreamsState) (new : Streams Unidirectional) (side : Side) (choices : Choices) (id : ℕ) (bytes back : List ℕ) (left : Left) → AllSame x.unidirectional new → back ≡ bytes → left ≡ record { id = id; bytes = back; early = None }
-    → (s : EndpointState) (e : EndpointHistory) → IsDue s x e side choices id → StopsAt s (record x { unidirectional = new }) e (BytesCame id bytes ∷ []) (left_arrivals left)
-untaken x new side choices id bytes back left same kept is s e due =
+pub untaken : (x : StreamsState) (new : Streams Unidirectional) (side : Side) (own : Announced) (id : ℕ) (bytes back : List ℕ) (left : Left) → AllSame x.unidirectional new → back ≡ bytes → left ≡ record { id = id; bytes = back; early = None }
+    → (s : EndpointState) (e : EndpointHistory) → IsDue s x e side own id → StopsAt s (record x { unidirectional = new }) e (BytesCame id bytes ∷ []) (left_arrivals left)
+untaken x new side own id bytes back left same kept is s e due =
     let arrivals : BytesCame id bytes ∷ [] ≡ left_arrivals left = sym (ap left_arrivals is ∙ ap (λ l. BytesCame id l ∷ []) kept) in
     record {
       after = e;
@@ -52,13 +53,13 @@ quiet (Untold front, bytes) e id o h = refl
 quiet (Control, bytes) e id o h = absurd (cc)
 quiet (Encoder, bytes) e id o h = absurd (cc)
 quiet (Decoder, bytes) e id o h = absurd (cc)
-quiet (Session n, bytes) e id o h = refl
+quiet (Session n, bytes) e id o h = absurd (cc)
 quiet (Push n, bytes) e id o h = absurd (cc)
 quiet (Ignored, bytes) e id o h = refl
 
-pub nothing_read : (x : StreamsState) (new : Streams Unidirectional) (side : Side) (choices : Choices) (id : ℕ) (bytes : List ℕ) → Receives x.unidirectional new id bytes received.Nothing
-    → (s : EndpointState) (e : EndpointHistory) → IsDue s x e side choices id → Reads s None (record x { unidirectional = new }) (bytes_at e id bytes PeerUnidirectional)
-nothing_read x new side choices id bytes receives s e due =
+pub nothing_read : (x : StreamsState) (new : Streams Unidirectional) (side : Side) (own : Announced) (id : ℕ) (bytes : List ℕ) → Receives x.unidirectional new id bytes received.Nothing
+    → (s : EndpointState) (e : EndpointHistory) → IsDue s x e side own id → Reads s None (record x { unidirectional = new }) (bytes_at e id bytes PeerUnidirectional)
+nothing_read x new side own id bytes receives s e due =
     let o = unidirectional_at e id in
     let given = given_there s x new e id bytes received.Nothing due.stands receives in
     subst (Reads s None (record x { unidirectional = new })) (sym (quiet (role_after o.role bytes) e id o given))
@@ -74,13 +75,37 @@ pushed (Session n, bytes) e id o h = absurd (cc)
 pushed (Push n, bytes) e id o h = refl
 pushed (Ignored, bytes) e id o h = absurd (cc)
 
-pub push_read : (x : StreamsState) (new : Streams Unidirectional) (side : Side) (choices : Choices) (id : ℕ) (bytes : List ℕ) (code : ℕ) → code ≡ push_code side → Receives x.unidirectional new id bytes received.Push
-    → (s : EndpointState) (e : EndpointHistory) → IsDue s x e side choices id → Reads s (Some code) (record x { unidirectional = new }) (bytes_at e id bytes PeerUnidirectional)
-push_read x new side choices id bytes code is receives s e due =
+pub push_read : (x : StreamsState) (new : Streams Unidirectional) (side : Side) (own : Announced) (id : ℕ) (bytes : List ℕ) (code : ℕ) → code ≡ push_code side → Receives x.unidirectional new id bytes received.Push
+    → (s : EndpointState) (e : EndpointHistory) → IsDue s x e side own id → Reads s (Some code) (record x { unidirectional = new }) (bytes_at e id bytes PeerUnidirectional)
+push_read x new side own id bytes code is receives s e due =
     let o = unidirectional_at e id in
     let given = given_there s x new e id bytes received.Push due.stands receives in
     subst (Reads s (Some code) (record x { unidirectional = new })) (sym (pushed (role_after o.role bytes) e id o given))
     (ap Some (is ∙ ap push_code (sym due.side_is)), stands_unidirectional (placed s x) e new id (with_bytes o (role_after o.role bytes)) due.stands (told_kept o bytes) (sets_there s x new e id bytes received.Push due.stands receives))
+
+-- a stream of a session
+sessioned : (read_as : Role × List ℕ) (e : EndpointHistory) (id : ℕ) (o : Unidirectional) (session : ℕ) → received.Session session ≡ received_by read_as
+    → read_unidirectional e id o read_as ≡ (with_unidirectional e id (with_bytes o read_as), session_fault e.announced session)
+sessioned (Untold front, bytes) e id o session h = absurd (cc)
+sessioned (Control, bytes) e id o session h = absurd (cc)
+sessioned (Encoder, bytes) e id o session h = absurd (cc)
+sessioned (Decoder, bytes) e id o session h = absurd (cc)
+sessioned (Session n, bytes) e id o session h =
+    let same : n ≡ session = cc in
+    ap (λ k. (with_unidirectional e id (with_bytes o (Session n, bytes)), session_fault e.announced k)) same
+sessioned (Push n, bytes) e id o session h = absurd (cc)
+sessioned (Ignored, bytes) e id o session h = absurd (cc)
+
+pub session_read : (x : StreamsState) (new : Streams Unidirectional) (side : Side) (own : Announced) (id : ℕ) (bytes : List ℕ) (session : ℕ) (fault : Option ℕ) → fault ≡ session_fault own session
+    → Receives x.unidirectional new id bytes (received.Session session)
+    → (s : EndpointState) (e : EndpointHistory) → IsDue s x e side own id → Reads s fault (record x { unidirectional = new }) (bytes_at e id bytes PeerUnidirectional)
+session_read x new side own id bytes session fault is receives s e due =
+    let o = unidirectional_at e id in
+    let given = given_there s x new e id bytes (received.Session session) due.stands receives in
+    subst (Reads s fault (record x { unidirectional = new })) (sym (sessioned (role_after o.role bytes) e id o session given)) (
+      is ∙ ap (λ (a : Announced). session_fault a session) (sym due.own_is),
+      stands_unidirectional (placed s x) e new id (with_bytes o (role_after o.role bytes)) due.stands (told_kept o bytes) (sets_there s x new e id bytes (received.Session session) due.stands receives),
+    )
 
 -- For which reader they are.
 abbrev pub for_reader : Role → List ℕ → Received
@@ -132,18 +157,18 @@ is_told r s x new e id bytes rest critical h receives =
     let front = subst (λ (o : Unidirectional). (t : Role) (l : List ℕ) → is_untold t ≡ false → role_after o.role bytes ≡ (t, l) → TellsFirst o.role bytes t l) (there s x e id h) receives.front in
     record { critical = critical; after = after; sets = sets_there s x new e id bytes (for_reader r rest) h receives; front = front r rest (critical_told r critical) after }
 
-pub role_read : (r : Role) (x y : StreamsState) (new : Streams Unidirectional) (side : Side) (choices : Choices) (id : ℕ) (bytes rest : List ℕ) (fault : Option ℕ) → is_critical r ≡ true
+pub role_read : (r : Role) (x y : StreamsState) (new : Streams Unidirectional) (side : Side) (own : Announced) (id : ℕ) (bytes rest : List ℕ) (fault : Option ℕ) → is_critical r ≡ true
     → Receives x.unidirectional new id bytes (for_reader r rest)
-    → ((s : EndpointState) (e : EndpointHistory) → IsRead s (record x { unidirectional = new }) e side choices id r → Reads s fault y (heard_as e id r rest))
-    → (s : EndpointState) (e : EndpointHistory) → IsDue s x e side choices id → Reads s fault y (bytes_at e id bytes PeerUnidirectional)
-role_read r x y new side choices id bytes rest fault critical receives reads s e due =
+    → ((s : EndpointState) (e : EndpointHistory) → IsRead s (record x { unidirectional = new }) e side own id r → Reads s fault y (heard_as e id r rest))
+    → (s : EndpointState) (e : EndpointHistory) → IsDue s x e side own id → Reads s fault y (bytes_at e id bytes PeerUnidirectional)
+role_read r x y new side own id bytes rest fault critical receives reads s e due =
     let t = is_told r s x new e id bytes rest critical due.stands receives in
-    told_found s x y new e side id bytes r rest fault t (reads s _ (told_read s x new e side choices id bytes r rest due.stands due.side_is due.choices_are due.kind t))
+    told_found s x y new e side id bytes r rest fault t (reads s _ (told_read s x new e side own id bytes r rest due.stands due.side_is due.own_is due.kind t))
 
-pub role_stopped : (r : Role) (x y : StreamsState) (new : Streams Unidirectional) (side : Side) (choices : Choices) (id : ℕ) (bytes rest : List ℕ) (left : List Arrival) → is_critical r ≡ true
+pub role_stopped : (r : Role) (x y : StreamsState) (new : Streams Unidirectional) (side : Side) (own : Announced) (id : ℕ) (bytes rest : List ℕ) (left : List Arrival) → is_critical r ≡ true
     → Receives x.unidirectional new id bytes (for_reader r rest)
-    → ((s : EndpointState) (e : EndpointHistory) → IsRead s (record x { unidirectional = new }) e side choices id r → Stops r s (record x { unidirectional = new }) y e id rest left)
-    → (s : EndpointState) (e : EndpointHistory) → IsDue s x e side choices id → StopsAt s y e (BytesCame id bytes ∷ []) left
-role_stopped r x y new side choices id bytes rest left critical receives stops s e due =
+    → ((s : EndpointState) (e : EndpointHistory) → IsRead s (record x { unidirectional = new }) e side own id r → Stops r s (record x { unidirectional = new }) y e id rest left)
+    → (s : EndpointState) (e : EndpointHistory) → IsDue s x e side own id → StopsAt s y e (BytesCame id bytes ∷ []) left
+role_stopped r x y new side own id bytes rest left critical receives stops s e due =
     let t = is_told r s x new e id bytes rest critical due.stands receives in
-    told_stopped s x y new e id bytes r rest left due.stands due.kind t (stops s _ (told_read s x new e side choices id bytes r rest due.stands due.side_is due.choices_are due.kind t))
+    told_stopped s x y new e id bytes r rest left due.stands due.kind t (stops s _ (told_read s x new e side own id bytes r rest due.stands due.side_is due.own_is due.kind t))

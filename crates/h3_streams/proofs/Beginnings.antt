@@ -3,7 +3,7 @@ use Rattle.std.proofs.Common.{◌≡◌, ℕ, ◌-◌, Bool, true, false, if◌t
 use Rattle.std.specs.Prelude.{is_some}
 use Rattle.h3_qpack.specs.Hearing.{Heard, heard}
 use Rattle.h3_field.specs.Instruction.{decoder_bytes}
-use Rattle.h3_connection.specs.Control.{Found, read_control, read_encoder, read_decoder, listened_to, kept_unread, after_peer, if_learned, then_decoder, increment}
+use Rattle.h3_connection.specs.Control.{Found, read_control, read_encoder, read_decoder, listened_to, kept_unread, taken_peer, if_learned, then_decoder, increment}
 use Rattle.h3_connection.specs.Endpoint.{EndpointHistory, limit_of, replied}
 use Rattle.h3_connection.specs.ExcessiveInstructions.{hear_up_to, listen_up_to}
 use Rattle.h3_connection.specs.KeptGoaways.{keeps_last, kept_peer}
@@ -15,6 +15,9 @@ use Rattle.h3_connection.specs.State.{EndpointState, StandsFor, IsToldPeer}
 use Rattle.h3_streams.proofs.PlacedLaws.{stands_control, stands_encoder, stands_decoder}
 use Rattle.h3_streams.specs.Placed.{StreamsState, placed}
 use Rattle.h3_connection.specs.PeerReadingLaws.{nothing_read_on}
+use Rattle.h3_connection.specs.StrictConnection.{is_strict, stream_fault}
+use Rattle.h3_connection.specs.StrictConnectionLaws.{nothing_told, nothing_held}
+use Rattle.h3_connection.specs.Codes.{encoder_stream_error, decoder_stream_error}
 
 -- A reading of no bytes finds no fault, and what is stored stands for the endpoint after it.
 pub record Begins (s : EndpointState) (x : StreamsState) (found : Found) : Type 0 where
@@ -43,7 +46,7 @@ control_begins s x e id h told none =
     let new = record e { control_on = Some id; peer = p } in
     record {
       new = new;
-      is = ap (after_peer f) read ∙ then_same e.peer.settings new None;
+      is = nothing_held f nothing ∙ ap (taken_peer f) read ∙ then_same e.peer.settings new None;
       stands = subst (λ q. StandsFor (placed s (record x { control_on = Some id; peer = q })) new) (sym same) (stands_control s x e id p h told (λ unknown. unknown));
     }
 
@@ -63,13 +66,16 @@ encoder_begins s x e id h told none =
     let there = stands_encoder s x e id d (increment (n - n)) h told in
     record {
       new = new;
-      is = ap (λ (k : Heard). (replied (record f { decoding = after_hearing k }) (increment (insertions_heard f.decoding k)), hearing_fault (limit_of e) k)) read;
+      is = ap (λ (k : Heard). (replied (record f { decoding = after_hearing k }) (increment (insertions_heard f.decoding k)), stream_fault (is_strict e.announced) encoder_stream_error (hearing_fault (limit_of e) k))) read
+          ∙ ap (λ fault. (new, fault)) (nothing_told (is_strict e.announced) encoder_stream_error);
       stands = subst (λ q. StandsFor (placed s (record x { encoder_on = Some id; decoding = q })) new) (sym same)
           (subst (λ l. StandsFor (placed s (record x { encoder_on = Some id; decoding = d; own = record x.own { decoder = l } })) new) (no_increment n x.own.decoder) there);
     }
 
 listened_nothing : (e : EndpointHistory) (b : Bool) (l : List ℕ) → l ≡ [] → (if b then listened_to e (listen_up_to (limit_of e) e.encoder l) else kept_unread e l) ≡ (record e { decoder_unread = [] }, None)
-listened_nothing e true l is = ap (λ k. listened_to e (listen_up_to (limit_of e) e.encoder k)) is ∙ ap (λ k. listened_to e k) (listens_nothing (limit_of e) e.encoder)
+listened_nothing e true l is =
+    ap (λ k. listened_to e (listen_up_to (limit_of e) e.encoder k)) is ∙ ap (λ k. listened_to e k) (listens_nothing (limit_of e) e.encoder)
+    ∙ ap (λ fault. (record e { decoder_unread = [] }, fault)) (nothing_told (is_strict e.announced) decoder_stream_error)
 listened_nothing e false l is = ap (kept_unread e) is
 
 pub decoder_begins : (s : EndpointState) (x : StreamsState) (e : EndpointHistory) (id : ℕ) → StandsFor (placed s x) e → IsToldPeer e.side e.unidirectional id → e.decoder_on ≡ None

@@ -3,7 +3,7 @@ use Rattle.std.proofs.Common.{◌≡◌, ℕ, true, false, List, [], ◌∷◌, 
 use Rattle.std.specs.Prelude.{All, IfSome}
 use Rattle.std.proofs.lemmas.List.Elements.{All-cons}
 use Rattle.std.proofs.lemmas.Grind.{common_steps}
-use Rattle.h3_proto.specs.declared.config.Choices.{Choices}
+use Rattle.h3_connection.specs.declared.setup.Announced.{Announced}
 use Rattle.h3_proto.specs.declared.stream.Side.{Side}
 use Rattle.h3_connection.specs.declared.arrival.Arrival.TheVariants.{BytesCame}
 use Rattle.h3_connection.specs.Endpoint.{EndpointHistory, is_second, kind_of}
@@ -34,8 +34,8 @@ peer_on side streams (Some d) h = h.0
 pub told_by : (side : Side) (streams : Streams Unidirectional) (on : Option ℕ) (id : ℕ) → on ≡ Some id → IfSome on (IsToldPeer side streams) → IsToldPeer side streams id
 told_by side streams on id is h = subst (λ o. IfSome o (IsToldPeer side streams)) is h
 
-pub told_peer : (s : EndpointState) (x : StreamsState) (e : EndpointHistory) (side : Side) (choices : Choices) (id : ℕ) (r : Role) → is_critical r ≡ true → IsRead s x e side choices id r → IsToldPeer e.side e.unidirectional id
-told_peer s x e side choices id r critical read = (read.kind, ap is_critical read.role_is ∙ critical)
+pub told_peer : (s : EndpointState) (x : StreamsState) (e : EndpointHistory) (side : Side) (own : Announced) (id : ℕ) (r : Role) → is_critical r ≡ true → IsRead s x e side own id r → IsToldPeer e.side e.unidirectional id
+told_peer s x e side own id r critical read = (read.kind, ap is_critical read.role_is ∙ critical)
 
 -- a stream that is read, and no second one, is this
 pub same_reader : (other id : ℕ) → is_second (Some other) id ≡ false → other ≡ id

@@ -2,14 +2,14 @@
 use Rattle.std.proofs.Common.{◌≡◌, ℕ, true, false, not, List, [], ◌∷◌, ◌++◌, Option, Some, None, refl, ap, sym, subst, ◌∙◌, inl, inr}
 use Rattle.std.specs.Prelude.{unwrap_or, IfSome, All}
 use Rattle.std.proofs.lemmas.Bool.{cases_eq}
-use Rattle.h3_proto.specs.declared.config.Choices.{Choices}
+use Rattle.h3_connection.specs.declared.setup.Announced.{Announced}
 use Rattle.h3_proto.specs.declared.stream.Side.{Side}
 use Rattle.h3_connection.specs.declared.arrival.Arrival.{Arrival}
 use Rattle.h3_connection.specs.declared.arrival.Arrival.TheVariants.{BytesCame}
 use Rattle.h3_connection.specs.Calls.{Sets}
 use Rattle.h3_connection.specs.Control.{Found, read_control, read_encoder, read_decoder}
 use Rattle.h3_connection.specs.Delivering.{bytes_at, heard_as, only_one, read_unidirectional, unidirectional_at, with_unidirectional}
-use Rattle.h3_connection.specs.Endpoint.{EndpointHistory, limit_of, is_second, kind_of}
+use Rattle.h3_connection.specs.Endpoint.{EndpointHistory, is_second, kind_of}
 use Rattle.h3_connection.specs.Endpoint.Kind.{PeerUnidirectional}
 use Rattle.h3_connection.specs.Keeping.{read_arrival}
 use Rattle.h3_connection.specs.PartReading.{ReadsOn, held, held_as, is_reader}
@@ -99,15 +99,15 @@ told_stands s x new e id bytes r rest h t =
     let o = unidirectional_at e id in
     stands_unidirectional (placed s x) e new id (record o { role = r }) h (λ told. t.critical) (subst (λ p. Sets x.unidirectional new id p) (ap (λ p. with_bytes o p) t.after ∙ told_bytes r o rest t.critical) t.sets)
 
-pub told_read : (s : EndpointState) (x : StreamsState) (new : Streams Unidirectional) (e : EndpointHistory) (side : Side) (choices : Choices) (id : ℕ) (bytes : List ℕ) (r : Role) (rest : List ℕ) → StandsFor (placed s x) e → e.side ≡ side → e.announced.choices ≡ choices
+pub told_read : (s : EndpointState) (x : StreamsState) (new : Streams Unidirectional) (e : EndpointHistory) (side : Side) (own : Announced) (id : ℕ) (bytes : List ℕ) (r : Role) (rest : List ℕ) → StandsFor (placed s x) e → e.side ≡ side → e.announced ≡ own
     → kind_of e.side id ≡ PeerUnidirectional → IsTold x new e id bytes r rest
-    → IsRead s (record x { unidirectional = new }) (told_as e id r) side choices id r
-told_read s x new e side choices id bytes r rest h same are kind t =
+    → IsRead s (record x { unidirectional = new }) (told_as e id r) side own id r
+told_read s x new e side own id bytes r rest h same are kind t =
     let o = unidirectional_at e id in
     record {
       stands = told_stands s x new e id bytes r rest h t;
       side_is = same;
-      choices_are = are;
+      own_is = are;
       kind = kind;
       role_is = ap (λ p. (unwrap_or p untold).role) (set-here e.unidirectional id (record o { role = r }));
       early = subst (λ u. IfSome x.decoder_on (λ d. kind_of u d ≡ PeerUnidirectional)) same

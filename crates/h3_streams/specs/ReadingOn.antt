@@ -1,9 +1,9 @@
 -- What a reading leaves that was refused memory: what came was read up to some point, and the rest is still to be read.
 use Rattle.std.specs.Prelude.{List, Some, ◌≡◌, ◌∷◌, ◌++◌, All, ℕ, IfSome, Option, None, false, [], ◌<◌, ◌^◌, length}
 use Rattle.h3_connection.specs.declared.arrival.Arrival.{Arrival}
-use Rattle.h3_connection.specs.Endpoint.{EndpointHistory, limit_of, kind_of, is_second}
+use Rattle.h3_connection.specs.Endpoint.{EndpointHistory, kind_of, is_second}
 use Rattle.h3_connection.specs.PartReading.{ReadsOn, early_arrival, held_as}
-use Rattle.h3_proto.specs.declared.config.Choices.{Choices}
+use Rattle.h3_connection.specs.declared.setup.Announced.{Announced}
 use Rattle.h3_proto.specs.declared.stream.Side.{Side}
 use Rattle.h3_connection.specs.Arrivals.{stream_of}
 use Rattle.h3_connection.specs.Endpoint.Kind.{PeerUnidirectional}
@@ -13,8 +13,7 @@ use Rattle.h3_connection.specs.State.{EndpointState, StandsFor}
 use Rattle.h3_connection.specs.Delivering.{unidirectional_at}
 use Rattle.h3_connection.specs.Unidirectional.{Role}
 use Rattle.h3_connection.specs.Unidirectional.Role.{Control, Encoder, Decoder}
-use Rattle.h3_connection.specs.Control.{after_peer}
-use Rattle.h3_connection.specs.PeerReading.{read_peer}
+use Rattle.h3_connection.specs.Control.{read_held}
 use Rattle.std.specs.List.{concat}
 use Rattle.h3_streams.specs.Placed.{Reads, StreamsState, placed, stream_of_peer}
 
@@ -38,11 +37,11 @@ pub record StopsAt (s : EndpointState) (x : StreamsState) (e : EndpointHistory) 
   pub stands : StandsFor (placed s x) after
   pub kinds : All (IsPeers e.side) left
 
--- A stream was told to be of this role, and the bytes behind that are read by these choices.
-pub record IsRead (s : EndpointState) (x : StreamsState) (e : EndpointHistory) (side : Side) (choices : Choices) (id : ℕ) (role : Role) : Type 0 where
+-- A stream was told to be of this role, and the bytes behind that are read by what this endpoint chose.
+pub record IsRead (s : EndpointState) (x : StreamsState) (e : EndpointHistory) (side : Side) (own : Announced) (id : ℕ) (role : Role) : Type 0 where
   pub stands : StandsFor (placed s x) e
   pub side_is : e.side ≡ side
-  pub choices_are : e.announced.choices ≡ choices
+  pub own_is : e.announced ≡ own
   pub kind : kind_of e.side id ≡ PeerUnidirectional
   pub role_is : (unidirectional_at e id).role ≡ role
   pub early : IfSome x.decoder_on (λ d. kind_of side d ≡ PeerUnidirectional)
@@ -67,17 +66,17 @@ pub data Stops (role : Role) (s : EndpointState) (old new : StreamsState) (e : E
   Held : is_second (reader_on role e) id ≡ false → StopsAt s new (held_as e id (role, bytes)) (BytesCame id [] ∷ []) left → Stops role s old new e id bytes left
 
 -- What a reading of all that is held of the control stream finds, and what it leaves that was refused memory.
-abbrev pub ReadsHeld : StreamsState → StreamsState → Side → Choices → ℕ → Option ℕ → Type 0
-ReadsHeld x new side choices id fault = (s : EndpointState) (e : EndpointHistory) → IsRead s x e side choices id Control → e.control_on ≡ Some id → Reads s fault new (after_peer e (read_peer (limit_of e) e.side e.peer))
+abbrev pub ReadsHeld : StreamsState → StreamsState → Side → Announced → ℕ → Option ℕ → Type 0
+ReadsHeld x new side own id fault = (s : EndpointState) (e : EndpointHistory) → IsRead s x e side own id Control → e.control_on ≡ Some id → Reads s fault new (read_held e)
 
-abbrev pub StopsHeld : StreamsState → StreamsState → Side → Choices → ℕ → List Arrival → Type 0
-StopsHeld x new side choices id left = (s : EndpointState) (e : EndpointHistory) → IsRead s x e side choices id Control → e.control_on ≡ Some id → StopsAt s new e (BytesCame id [] ∷ []) left
+abbrev pub StopsHeld : StreamsState → StreamsState → Side → Announced → ℕ → List Arrival → Type 0
+StopsHeld x new side own id left = (s : EndpointState) (e : EndpointHistory) → IsRead s x e side own id Control → e.control_on ≡ Some id → StopsAt s new e (BytesCame id [] ∷ []) left
 
 -- What came is due to be read here: on a unidirectional stream of the peer.
-pub record IsDue (s : EndpointState) (x : StreamsState) (e : EndpointHistory) (side : Side) (choices : Choices) (id : ℕ) : Type 0 where
+pub record IsDue (s : EndpointState) (x : StreamsState) (e : EndpointHistory) (side : Side) (own : Announced) (id : ℕ) : Type 0 where
   pub stands : StandsFor (placed s x) e
   pub side_is : e.side ≡ side
-  pub choices_are : e.announced.choices ≡ choices
+  pub own_is : e.announced ≡ own
   pub kind : kind_of e.side id ≡ PeerUnidirectional
 
 -- Its bytes have room.

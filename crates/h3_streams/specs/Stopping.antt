@@ -1,16 +1,18 @@
 -- What one reader makes of further bytes, and what it leaves where memory is refused.
-use Rattle.std.specs.Prelude.{◌≡◌, ℕ, ◌-◌, Bool, true, false, List, [], ◌++◌, Option, Some, None, IfSome}
+use Rattle.std.specs.Prelude.{◌≡◌, ℕ, ◌-◌, Bool, true, false, List, [], ◌++◌, if◌then◌else◌, Option, Some, None, IfSome}
 use Rattle.h3_proto.specs.declared.stream.Side.{Side}
 use Rattle.h3_qpack.specs.EncoderHistory.{EncoderHistory}
 use Rattle.h3_qpack.specs.EncoderState.{encoder_state}
 use Rattle.h3_qpack.specs.Increments.{increment_for}
 use Rattle.h3_connection.specs.declared.arrival.Arrival.{Arrival}
 use Rattle.h3_connection.specs.Control.{then_decoder}
-use Rattle.h3_connection.specs.Endpoint.{EndpointHistory, limit_of, kind_of}
+use Rattle.h3_connection.specs.Endpoint.{EndpointHistory, kind_of}
 use Rattle.h3_connection.specs.Endpoint.Kind.{PeerUnidirectional}
 use Rattle.h3_connection.specs.Listeners.{Decoding, Encoding, Listens}
 use Rattle.h3_connection.specs.PartReading.{HearsPart, early_if}
 use Rattle.h3_connection.specs.State.{EndpointState, StandsFor}
+use Rattle.h3_connection.specs.StrictConnection.{settings_refused}
+use Rattle.h3_connection.specs.declared.setup.Announced.{Announced}
 use Rattle.h3_unidirectional.specs.Fronts.{StopsListening}
 use Rattle.h3_unidirectional.specs.Learned.{having_learned, usable_capacity, capacity_bytes}
 use Rattle.h3_streams.specs.Placed.{StreamsState, placed, Reads}
@@ -33,6 +35,10 @@ ListensIf most false bytes old new fault = (new ≡ record old { unread = old.un
 abbrev pub ListenedPart : ℕ → Stop → Bool → List ℕ → Encoding → Encoding → Type 0
 ListenedPart most (Unheld back) known bytes old new = (back ≡ bytes) × (new ≡ old)
 ListenedPart most Held known bytes old new = (known ≡ true) × ((s : EncoderHistory) → old.encoder ≡ encoder_state s → StopsListening most s (record old { unread = old.unread ++ bytes }) new)
+
+-- the settings that are used
+abbrev pub settings_taken : Side → Announced → Option (List (ℕ × ℕ)) → Option (List (ℕ × ℕ))
+settings_taken side own settings = if settings_refused side own settings then None else settings
 
 -- what the settings make of the own encoder, where they came
 abbrev pub learned_by : EncoderHistory → Option (List (ℕ × ℕ)) → EncoderHistory
@@ -60,10 +66,10 @@ abbrev pub early_of : Option (List (ℕ × ℕ)) → Option ℕ → Option ℕ
 early_of None on = None
 early_of (Some pairs) on = on
 
--- it is read once they came, of instructions up to this limit
-abbrev pub ReadsEarly : ℕ → StreamsState → StreamsState → Option ℕ → Type 0
-ReadsEarly limit x new fault = (s : EndpointState) (e : EndpointHistory) → StandsFor (placed s x) e → limit_of e ≡ limit → Reads s fault new (then_decoder None e.peer.settings e None)
+-- it is read once they came, by what the endpoint chose
+abbrev pub ReadsEarly : Announced → StreamsState → StreamsState → Option ℕ → Type 0
+ReadsEarly own x new fault = (s : EndpointState) (e : EndpointHistory) → StandsFor (placed s x) e → e.announced ≡ own → Reads s fault new (then_decoder None e.peer.settings e None)
 
-abbrev pub StopsEarly : ℕ → StreamsState → StreamsState → Side → List Arrival → Type 0
-StopsEarly limit x new side left = (s : EndpointState) (e : EndpointHistory) → StandsFor (placed s x) e → limit_of e ≡ limit → e.side ≡ side → IfSome x.decoder_on (λ d. kind_of side d ≡ PeerUnidirectional)
+abbrev pub StopsEarly : Announced → StreamsState → StreamsState → Side → List Arrival → Type 0
+StopsEarly own x new side left = (s : EndpointState) (e : EndpointHistory) → StandsFor (placed s x) e → e.announced ≡ own → e.side ≡ side → IfSome x.decoder_on (λ d. kind_of side d ≡ PeerUnidirectional)
     → StopsAt s new e (early_if None e.peer.settings e.decoder_on) left

@@ -6,6 +6,7 @@ ghost use Rattle.h3_connection.specs.Delivering.{bytes_at, end_at, reset_at, pus
 ghost use Rattle.h3_connection.specs.Endpoint.{EndpointHistory};
 ghost use Rattle.h3_connection.specs.Endpoint.Kind.{PeerUnidirectional};
 ghost use Rattle.h3_connection.specs.State.{EndpointState, StandsFor};
+ghost use Rattle.h3_connection.specs.StrictConnection.{session_fault};
 ghost use Rattle.h3_streams.specs.Placed.{placed, stream_of_peer, Reads, KeepsAll, closing_code};
 ghost use Rattle.h3_streams.specs.ReadingOn.{HasRoom, IsDue, StopsAt, left_arrivals};
 
@@ -13,12 +14,13 @@ use crate::left::Left;
 use crate::streams::ConnectionStreams;
 use bytes::Bytes;
 use h3_connection::arrival::MOST_HELD;
-use h3_proto::config::Choices;
+use h3_connection::setup::Announced;
 use h3_proto::error::Code;
 use h3_proto::stream::{Side, StreamId};
 use h3_unidirectional::stream::Received;
 use std::alloc::{AllocError, Global};
 
+// RFC 9114 6.2.1: a critical stream closed by the peer
 /// The fault of an end or a reset.
 fn closing_fault(is_critical: bool) -> Option<Code>
     ensures { result ≡ closing_code is_critical }
@@ -37,6 +39,16 @@ fn push_fault(side: Side) -> Code
         Side::Client => Code::H3_ID_ERROR,
         Side::Server => Code::H3_STREAM_CREATION_ERROR,
     }
+}
+
+/// The fault of a stream of this session: if the endpoint asks for a strict connection, its id is that of a request stream.
+fn session_fault(own: &Announced, session: u64) -> Option<Code>
+    ensures { result ≡ session_fault own.now session }
+{
+    if own.is_no_session(session) {
+        return Some(Code::H3_ID_ERROR);
+    }
+    None
 }
 
 impl ConnectionStreams {
@@ -63,12 +75,12 @@ impl ConnectionStreams {
         &mut self,
         alloc: Global,
         side: Side,
-        choices: Choices,
+        own: &Announced,
         id: StreamId,
         bytes: Bytes,
     ) -> Result<Option<Code>, Left>
-        ensures ok { IfOk result (λ fault. (s : EndpointState) (e : EndpointHistory) → IsDue s self.old e side choices id → Reads s fault self.new (bytes_at e id bytes PeerUnidirectional)) }
-        ensures err { IfErr result (λ left. (s : EndpointState) (e : EndpointHistory) → IsDue s self.old e side choices id → StopsAt s self.new e (BytesCame id bytes ∷ []) (left_arrivals left)) }
+        ensures ok { IfOk result (λ fault. (s : EndpointState) (e : EndpointHistory) → IsDue s self.old e side own.now id → Reads s fault self.new (bytes_at e id bytes PeerUnidirectional)) }
+        ensures err { IfErr result (λ left. (s : EndpointState) (e : EndpointHistory) → IsDue s self.old e side own.now id → StopsAt s self.new e (BytesCame id bytes ∷ []) (left_arrivals left)) }
     {
         if !self.has_room(id, bytes.len()) {
             return Err(Left::of(id, bytes));
@@ -76,9 +88,10 @@ impl ConnectionStreams {
         match self.unidirectional.receive(alloc, id, bytes) {
             Ok(Received::Nothing) => Ok(None),
             Ok(Received::Push) => Ok(Some(push_fault(side))),
-            Ok(Received::Control(rest)) => self.control_bytes(alloc, side, choices, id, rest),
-            Ok(Received::Encoder(rest)) => self.encoder_bytes(choices, id, rest),
-            Ok(Received::Decoder(rest)) => self.decoder_bytes(choices, id, rest),
+            Ok(Received::Session(session)) => Ok(session_fault(own, session)),
+            Ok(Received::Control(rest)) => self.control_bytes(alloc, side, own, id, rest),
+            Ok(Received::Encoder(rest)) => self.encoder_bytes(own, id, rest),
+            Ok(Received::Decoder(rest)) => self.decoder_bytes(own, id, rest),
             Err(back) => Err(Left::of(id, back)),
         }
     }

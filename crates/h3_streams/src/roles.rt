@@ -1,5 +1,7 @@
 //! Bytes for the streams of the peer that the connection itself reads: its control, encoder and decoder stream.
-ghost use Rattle.std.specs.Prelude.{◌≡◌, Some, IfOk, IfErr};
+ghost use Rattle.std.specs.Prelude.{◌≡◌, ◌&&◌, Some, IfOk, IfErr};
+ghost use Rattle.h3_wire.specs.FirstFrames.{begins_other};
+ghost use Rattle.h3_connection.specs.StrictConnection.{is_strict, stream_fault};
 ghost use Rattle.h3_proto.specs.declared.stream.Side.{Side};
 ghost use Rattle.h3_connection.specs.Delivering.{heard_as};
 ghost use Rattle.h3_connection.specs.Endpoint.{EndpointHistory};
@@ -14,11 +16,12 @@ use crate::left::Left;
 use crate::readers::{hear, hold, listen};
 use crate::streams::ConnectionStreams;
 use bytes::Bytes;
-use h3_proto::config::Choices;
+use h3_connection::setup::Announced;
 use h3_proto::error::Code;
 use h3_proto::stream::{Side, StreamId};
 use std::alloc::Global;
 
+// RFC 9114 6.2.1: a second control stream
 /// Whether some other stream is read as such already.
 fn is_second(first: Option<StreamId>, id: StreamId) -> bool
     ensures { result ≡ Rattle.h3_connection.specs.Endpoint.is_second first id }
@@ -29,17 +32,31 @@ fn is_second(first: Option<StreamId>, id: StreamId) -> bool
     }
 }
 
+/// The fault of an instruction, on a stream whose error has this code. If the endpoint asks for a strict connection, one that is too long
+/// is an error of that stream too (RFC 9204, section 7.4).
+fn of_stream(own: &Announced, code: Code, fault: Option<Code>) -> Option<Code>
+    ensures { result ≡ stream_fault (is_strict own.now) code fault }
+{
+    if !own.choices.extensions.strict_connection {
+        return fault;
+    }
+    match fault {
+        Some(_found) => Some(code),
+        None => None,
+    }
+}
+
 impl ConnectionStreams {
     /// Bytes for the encoder stream: of the first such stream, whose role was known before or is known now. A second one is a fault, and so
     /// is an instruction that is longer than the limit of the endpoint's choices.
     pub(crate) fn encoder_bytes(
         &mut self,
-        choices: Choices,
+        own: &Announced,
         id: StreamId,
         bytes: Bytes,
     ) -> Result<Option<Code>, Left>
-        ensures ok { IfOk result (λ fault. (s : EndpointState) (e : EndpointHistory) (side : Side) → IsRead s self.old e side choices id Encoder → Reads s fault self.new (heard_as e id Encoder bytes)) }
-        ensures err { IfErr result (λ left. (s : EndpointState) (e : EndpointHistory) (side : Side) → IsRead s self.old e side choices id Encoder → Stops Encoder s self.old self.new e id bytes (left_arrivals left)) }
+        ensures ok { IfOk result (λ fault. (s : EndpointState) (e : EndpointHistory) (side : Side) → IsRead s self.old e side own.now id Encoder → Reads s fault self.new (heard_as e id Encoder bytes)) }
+        ensures err { IfErr result (λ left. (s : EndpointState) (e : EndpointHistory) (side : Side) → IsRead s self.old e side own.now id Encoder → Stops Encoder s self.old self.new e id bytes (left_arrivals left)) }
     {
         if is_second(self.encoder_on, id) {
             return Ok(Some(Code::H3_STREAM_CREATION_ERROR));
@@ -47,11 +64,11 @@ impl ConnectionStreams {
         self.encoder_on = Some(id);
         let stop = match hear(
             &mut self.decoding,
-            choices.unfinished_limit,
+            own.choices.unfinished_limit,
             &mut self.own.decoder,
             bytes,
         ) {
-            Ok(fault) => return Ok(fault),
+            Ok(fault) => return Ok(of_stream(own, Code::QPACK_ENCODER_STREAM_ERROR, fault)),
             Err(stop) => stop,
         };
         Err(stop.left(id))
@@ -60,12 +77,12 @@ impl ConnectionStreams {
     /// Bytes for the decoder stream, likewise. Before the settings they are held, up to that limit.
     pub(crate) fn decoder_bytes(
         &mut self,
-        choices: Choices,
+        own: &Announced,
         id: StreamId,
         bytes: Bytes,
     ) -> Result<Option<Code>, Left>
-        ensures ok { IfOk result (λ fault. (s : EndpointState) (e : EndpointHistory) (side : Side) → IsRead s self.old e side choices id Decoder → Reads s fault self.new (heard_as e id Decoder bytes)) }
-        ensures err { IfErr result (λ left. (s : EndpointState) (e : EndpointHistory) (side : Side) → IsRead s self.old e side choices id Decoder → Stops Decoder s self.old self.new e id bytes (left_arrivals left)) }
+        ensures ok { IfOk result (λ fault. (s : EndpointState) (e : EndpointHistory) (side : Side) → IsRead s self.old e side own.now id Decoder → Reads s fault self.new (heard_as e id Decoder bytes)) }
+        ensures err { IfErr result (λ left. (s : EndpointState) (e : EndpointHistory) (side : Side) → IsRead s self.old e side own.now id Decoder → Stops Decoder s self.old self.new e id bytes (left_arrivals left)) }
     {
         if is_second(self.decoder_on, id) {
             return Ok(Some(Code::H3_STREAM_CREATION_ERROR));
@@ -73,11 +90,11 @@ impl ConnectionStreams {
         self.decoder_on = Some(id);
         let stop = match listen(
             &mut self.encoding,
-            choices.unfinished_limit,
+            own.choices.unfinished_limit,
             self.peer.has_settings(),
             bytes,
         ) {
-            Ok(fault) => return Ok(fault),
+            Ok(fault) => return Ok(of_stream(own, Code::QPACK_DECODER_STREAM_ERROR, fault)),
             Err(stop) => stop,
         };
         Err(stop.left(id))
@@ -89,12 +106,12 @@ impl ConnectionStreams {
         &mut self,
         alloc: Global,
         side: Side,
-        choices: Choices,
+        own: &Announced,
         id: StreamId,
         bytes: Bytes,
     ) -> Result<Option<Code>, Left>
-        ensures ok { IfOk result (λ fault. (s : EndpointState) (e : EndpointHistory) → IsRead s self.old e side choices id Control → Reads s fault self.new (heard_as e id Control bytes)) }
-        ensures err { IfErr result (λ left. (s : EndpointState) (e : EndpointHistory) → IsRead s self.old e side choices id Control → Stops Control s self.old self.new e id bytes (left_arrivals left)) }
+        ensures ok { IfOk result (λ fault. (s : EndpointState) (e : EndpointHistory) → IsRead s self.old e side own.now id Control → Reads s fault self.new (heard_as e id Control bytes)) }
+        ensures err { IfErr result (λ left. (s : EndpointState) (e : EndpointHistory) → IsRead s self.old e side own.now id Control → Stops Control s self.old self.new e id bytes (left_arrivals left)) }
     {
         if is_second(self.control_on, id) {
             return Ok(Some(Code::H3_STREAM_CREATION_ERROR));
@@ -104,7 +121,7 @@ impl ConnectionStreams {
             Ok(()) => {}
             Err(back) => return Err(Left::of(id, back)),
         }
-        self.frames(alloc, side, choices, id)
+        self.frames(alloc, side, own, id)
     }
 
     /// Reads what is held of the control stream.
@@ -112,16 +129,16 @@ impl ConnectionStreams {
         &mut self,
         alloc: Global,
         side: Side,
-        choices: Choices,
+        own: &Announced,
         id: StreamId,
     ) -> Result<Option<Code>, Left>
-        ensures ok { IfOk result (λ fault. ReadsHeld self.old self.new side choices id fault) }
-        ensures err { IfErr result (λ left. StopsHeld self.old self.new side choices id (left_arrivals left)) }
+        ensures ok { IfOk result (λ fault. ReadsHeld self.old self.new side own.now id fault) }
+        ensures err { IfErr result (λ left. StopsHeld self.old self.new side own.now id (left_arrivals left)) }
     {
         if !self.peer.has_settings() {
-            return self.first_frames(alloc, side, choices, id);
+            return self.first_frames(alloc, side, own, id);
         }
-        let Ok(fault) = self.peer.read(alloc, side, choices) else {
+        let Ok(fault) = self.peer.read(alloc, side, own.choices) else {
             return Err(Left::held(id));
         };
         Ok(fault)
@@ -133,24 +150,20 @@ impl ConnectionStreams {
         &mut self,
         alloc: Global,
         side: Side,
-        choices: Choices,
+        own: &Announced,
         id: StreamId,
     ) -> Result<Option<Code>, Left>
         requires { self.old.peer.settings ≡ None }
-        ensures ok { IfOk result (λ fault. ReadsHeld self.old self.new side choices id fault) }
-        ensures err { IfErr result (λ left. StopsHeld self.old self.new side choices id (left_arrivals left)) }
+        ensures ok { IfOk result (λ fault. ReadsHeld self.old self.new side own.now id fault) }
+        ensures err { IfErr result (λ left. StopsHeld self.old self.new side own.now id (left_arrivals left)) }
     {
+        if self.lacks_settings(own) {
+            return Ok(Some(Code::H3_MISSING_SETTINGS));
+        }
         let out = self.own.encoder.bytes_mut();
-        match read_first(
-            &mut self.peer,
-            &mut self.encoding,
-            out,
-            alloc,
-            side,
-            choices,
-        ) {
+        match read_first(&mut self.peer, &mut self.encoding, out, alloc, side, own) {
             Ok(Some(code)) => Ok(Some(code)),
-            Ok(None) => self.early_replies(choices.unfinished_limit),
+            Ok(None) => self.early_replies(own),
             Err(_) => Err(Left {
                 id,
                 bytes: Bytes::new(),
@@ -170,16 +183,23 @@ impl ConnectionStreams {
     }
 
     /// Reads what the peer's decoder said before the settings came, if they came now.
-    fn early_replies(&mut self, most: u64) -> Result<Option<Code>, Left>
-        ensures ok { IfOk result (λ fault. ReadsEarly most self.old self.new fault) }
-        ensures err { IfErr result (λ left. (side : Side) → StopsEarly most self.old self.new side (left_arrivals left)) }
+    fn early_replies(&mut self, own: &Announced) -> Result<Option<Code>, Left>
+        ensures ok { IfOk result (λ fault. ReadsEarly own.now self.old self.new fault) }
+        ensures err { IfErr result (λ left. (side : Side) → StopsEarly own.now self.old self.new side (left_arrivals left)) }
     {
         let Some(decoder) = self.early_stream() else {
             return Ok(None);
         };
-        let Ok(fault) = self.encoding.read(most) else {
+        let Ok(fault) = self.encoding.read(own.choices.unfinished_limit) else {
             return Err(Left::held(decoder));
         };
-        Ok(fault)
+        Ok(of_stream(own, Code::QPACK_DECODER_STREAM_ERROR, fault))
+    }
+
+    // Whether another frame than SETTINGS begins the control stream, which an endpoint that asks for a strict connection does not take.
+    fn lacks_settings(&self, own: &Announced) -> bool
+        ensures { result ≡ (is_strict own.now && begins_other self.now.peer.unread) }
+    {
+        own.choices.extensions.strict_connection && self.peer.begins_other()
     }
 }

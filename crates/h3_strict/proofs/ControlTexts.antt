@@ -31,7 +31,7 @@ use Rattle.h3_strict.specs.Plainly.{is_excess}
 
 -- it is no fault of what is too long
 abbrev pub Fits : PeerFound → Type 0
-Fits x = is_excess x.1 ≡ false
+Fits x = is_excess false x.1 ≡ false
 
 behind_fits : (x : PeerFound) (go : Peer → PeerFound) → Fits x → (x.1 ≡ None → Fits (go x.0)) → Fits (unless_fault x go)
 behind_fits (q, Some code) go h goes = h
@@ -43,9 +43,9 @@ module _ (limit : ℕ) where
       → Fits (at_front (read_within most limit side) side p p.unread x) → Fits (read_within (suc most) limit side p)
   front_fits most side p x at here small h =
       let go = read_within most limit side in
-      ap (λ l. is_excess (unless_excessive limit l p (at_front go side p l (frame_at l))).1) (known-other p.unread (subst IsKnown (sym at) here))
-      ∙ ap (λ b. is_excess (if b then (let y : PeerFound = (with_unread p [], Some excessive_load) in y) else at_front go side p p.unread (frame_at p.unread)).1) small
-      ∙ ap (λ y. is_excess (at_front go side p p.unread y).1) at ∙ h
+      ap (λ l. is_excess false (unless_excessive limit l p (at_front go side p l (frame_at l))).1) (known-other p.unread (subst IsKnown (sym at) here))
+      ∙ ap (λ b. is_excess false (if b then (let y : PeerFound = (with_unread p [], Some excessive_load) in y) else at_front go side p p.unread (frame_at p.unread)).1) small
+      ∙ ap (λ y. is_excess false (at_front go side p p.unread y).1) at ∙ h
 
   waits_fit : (most : ℕ) (side : Side) (p : Peer) → IsUnfinishedFront p.unread → is_excessive limit p.unread ≡ false → Fits (read_within (suc most) limit side p)
   waits_fit most side p u small = front_fits most side p (Unfinished u.0) u.1 tt small refl
@@ -67,7 +67,7 @@ module _ (limit : ℕ) where
   goaway_fits side p None id = refl
   goaway_fits side p (Some pairs) id = by_rule (is_no_goaway side id || is_above id (last_id p.goaways))
     where
-      by_rule : (b : Bool) → is_excess (if b then (let y : PeerFound = (p, Some id_error) in y) else (let y : PeerFound = (record p { goaways = p.goaways ++ id ∷ [] }, None) in y)).1 ≡ false
+      by_rule : (b : Bool) → is_excess false (if b then (let y : PeerFound = (p, Some id_error) in y) else (let y : PeerFound = (record p { goaways = p.goaways ++ id ∷ [] }, None) in y)).1 ≡ false
       by_rule true = refl
       by_rule false = refl
 

@@ -93,24 +93,24 @@ behind_first i bytes more behind form rest w e is =
     (whole_same form read.form (rest ++ more) behind (sym longer ∙ ap instruction e ∙ read.whole)).1
 
 abbrev HearingFits : ℕ → DecoderState → List ℕ → Type 0
-HearingFits most r bytes = is_excess (hearing_fault most (hear_up_to most r bytes)) ≡ false
+HearingFits most r bytes = is_excess false (hearing_fault most (hear_up_to most r bytes)) ≡ false
 
 module _ (most : ℕ) (r : DecoderState) (bytes : List ℕ) (within : exceeds most encoder_wait bytes ≡ false) where
-  next_fits : (rest : List ℕ) (o : Option DecoderState) → ((new : DecoderState) → HearingFits most new rest) → is_excess (hearing_fault most (hear_next (hear_up_to most) r bytes rest o)) ≡ false
+  next_fits : (rest : List ℕ) (o : Option DecoderState) → ((new : DecoderState) → HearingFits most new rest) → is_excess false (hearing_fault most (hear_next (hear_up_to most) r bytes rest o)) ≡ false
   next_fits rest None later = refl
   next_fits rest (Some new) later = later new
 
   form_fits : (x : Reading InstructionForm) → instruction bytes ≡ x → ((form : InstructionForm) (rest : List ℕ) (new : DecoderState) → instruction bytes ≡ Whole form rest → HearingFits most new rest)
-      → is_excess (hearing_fault most (hear_form (hear_up_to most) r bytes x)) ≡ false
-  form_fits Unfinished is later = ap (λ b. is_excess (fault_if b excessive_load)) within
+      → is_excess false (hearing_fault most (hear_form (hear_up_to most) r bytes x)) ≡ false
+  form_fits Unfinished is later = ap (λ b. is_excess false (fault_if b excessive_load)) within
   form_fits Bad is later = refl
   form_fits (Whole form rest) is later = next_fits rest (decoder_after_form r (instruction_of form)) (λ new. later form rest new is)
 
   hears_first : ((form : InstructionForm) (rest : List ℕ) (new : DecoderState) → instruction bytes ≡ Whole form rest → HearingFits most new rest) → HearingFits most r bytes
-  hears_first later = ap (λ h. is_excess (hearing_fault most h)) (hears_within most r bytes within) ∙ form_fits (instruction bytes) refl later
+  hears_first later = ap (λ h. is_excess false (hearing_fault most h)) (hears_within most r bytes within) ∙ form_fits (instruction bytes) refl later
 
 pub hearing_fits : (most : ℕ) (is : List EncoderInstruction) (r : DecoderState) (bytes more : List ℕ) → AllByRecursion IsWrittenInstruction is → AreShort most is → bytes ++ more ≡ flat_map encoder_bytes is
-    → is_excess (hearing_fault most (hear_up_to most r bytes)) ≡ false
+    → is_excess false (hearing_fault most (hear_up_to most r bytes)) ≡ false
 hearing_fits most [] r bytes more w short e = hears_first most r bytes (encoder_within most [] bytes more w short e) (λ form rest new is. absurd (none_read bytes more form rest e is))
 hearing_fits most (i ∷ is) r bytes more w short e =
     hears_first most r bytes (encoder_within most (i ∷ is) bytes more w short e)
@@ -145,24 +145,24 @@ told_behind i bytes more behind j rest w e is =
     (whole_same j i (rest ++ more) behind (sym longer ∙ ap decoder_instruction e ∙ reply_reads_back i behind w)).1
 
 abbrev ListeningFits : ℕ → EncoderHistory → List ℕ → Type 0
-ListeningFits most s bytes = is_excess (listening_fault most (listen_up_to most s bytes)) ≡ false
+ListeningFits most s bytes = is_excess false (listening_fault most (listen_up_to most s bytes)) ≡ false
 
 module _ (most : ℕ) (s : EncoderHistory) (bytes : List ℕ) (within : exceeds most decoder_wait bytes ≡ false) where
-  told_fits : (j : DecoderInstruction) (rest : List ℕ) (b : Bool) → ListeningFits most (encoder_after s j) rest → is_excess (listening_fault most (listen_next (listen_up_to most) s bytes j rest b)) ≡ false
+  told_fits : (j : DecoderInstruction) (rest : List ℕ) (b : Bool) → ListeningFits most (encoder_after s j) rest → is_excess false (listening_fault most (listen_next (listen_up_to most) s bytes j rest b)) ≡ false
   told_fits j rest true later = refl
   told_fits j rest false later = later
 
   reading_fits : (x : Reading DecoderInstruction) → decoder_instruction bytes ≡ x → ((j : DecoderInstruction) (rest : List ℕ) → decoder_instruction bytes ≡ Whole j rest → ListeningFits most (encoder_after s j) rest)
-      → is_excess (listening_fault most (listen_form (listen_up_to most) s bytes x)) ≡ false
-  reading_fits Unfinished is later = ap (λ b. is_excess (fault_if b excessive_load)) within
+      → is_excess false (listening_fault most (listen_form (listen_up_to most) s bytes x)) ≡ false
+  reading_fits Unfinished is later = ap (λ b. is_excess false (fault_if b excessive_load)) within
   reading_fits Bad is later = refl
   reading_fits (Whole j rest) is later = told_fits j rest (is_refused s j) (later j rest is)
 
   listens_first : ((j : DecoderInstruction) (rest : List ℕ) → decoder_instruction bytes ≡ Whole j rest → ListeningFits most (encoder_after s j) rest) → ListeningFits most s bytes
-  listens_first later = ap (λ l. is_excess (listening_fault most l)) (listens_within most s bytes within) ∙ reading_fits (decoder_instruction bytes) refl later
+  listens_first later = ap (λ l. is_excess false (listening_fault most l)) (listens_within most s bytes within) ∙ reading_fits (decoder_instruction bytes) refl later
 
 pub listening_fits : (most : ℕ) (is : List DecoderInstruction) (s : EncoderHistory) (bytes more : List ℕ) → AllByRecursion IsReply is → AreShortReplies most is → bytes ++ more ≡ flat_map decoder_bytes is
-    → is_excess (listening_fault most (listen_up_to most s bytes)) ≡ false
+    → is_excess false (listening_fault most (listen_up_to most s bytes)) ≡ false
 listening_fits most [] s bytes more w short e = listens_first most s bytes (decoder_within most [] bytes more w short e) (λ j rest is. absurd (none_told bytes more j rest e is))
 listening_fits most (i ∷ is) s bytes more w short e =
     listens_first most s bytes (decoder_within most (i ∷ is) bytes more w short e)

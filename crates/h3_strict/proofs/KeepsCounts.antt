@@ -6,7 +6,8 @@ use Rattle.h3_proto.specs.Settings.{value_of}
 use Rattle.h3_connection.specs.Arrivals.{stream_of}
 use Rattle.h3_connection.specs.declared.arrival.Arrival.TheVariants.{BytesCame, EndCame, ResetCame}
 use Rattle.h3_connection.specs.declared.arrival.Arrival.{Arrival}
-use Rattle.h3_connection.specs.Control.{Found, after_peer, if_learned, is_table_usable, kept_unread, listened_to, read_control, read_decoder, then_decoder, with_table}
+use Rattle.h3_connection.specs.Codes.{missing_settings, settings_error}
+use Rattle.h3_connection.specs.Control.{Found, after_peer, are_refused, holding, if_learned, is_table_usable, kept_unread, lacks_settings, listened_to, read_control, read_decoder, read_held, settings_alone, taken_peer, then_decoder, with_table}
 use Rattle.h3_connection.specs.Delivering.{bytes_at, closed_by, delivery_refusal, end_at, given_up_by, given_up_once, heard_as, incoming_at, kept, opened, opened_at, read_unidirectional, reset_at, taken, unidirectional_at, unless_second, with_end}
 use Rattle.h3_connection.specs.Endpoint.{EndpointHistory, limit_of, Kind, is_second, kind_of}
 use Rattle.h3_connection.specs.Endpoint.Kind.{OwnUnidirectional, PeerUnidirectional, Request, ServerOpened}
@@ -14,7 +15,7 @@ use Rattle.h3_connection.specs.ExcessiveInstructions.{listen_up_to}
 use Rattle.h3_connection.specs.Incoming.{Incoming, nothing_came}
 use Rattle.h3_connection.specs.Keeping.{arrives, arrives_behind, read_arrival}
 use Rattle.h3_connection.specs.Outgoing.{Outgoing, nothing_sent, takes_end}
-use Rattle.h3_connection.specs.PeerReading.{PeerFound, read_peer, with_unread}
+use Rattle.h3_connection.specs.PeerReading.{PeerFound, read_peer}
 use Rattle.h3_connection.specs.Sending.{advance, advance_at, outgoing_at}
 use Rattle.h3_connection.specs.StreamSets.{Streams, set_stream, stream_at}
 use Rattle.h3_connection.specs.Unidirectional.{Role, Unidirectional, role_after}
@@ -114,14 +115,25 @@ then_decoder_same None (Some pairs) e None = decoder_same e []
 then_decoder_same None None e None = same_streams e
 then_decoder_same (Some pairs) after e None = same_streams e
 
-after_peer_same : (e : EndpointHistory) (p : PeerFound) → SameStreams e (after_peer e p).0
-after_peer_same e (p, fault) =
+taken_same : (e : EndpointHistory) (p : PeerFound) → SameStreams e (taken_peer e p).0
+taken_same e (p, fault) =
     let f = if_learned e.peer.settings p.settings (record e { peer = p }) in
     let first : SameStreams e (record e { peer = p }) = record { incoming = refl; outgoing = refl; announced = refl } in
     then_same e f _ (then_same e (record e { peer = p }) f first (if_learned_same e.peer.settings p.settings (record e { peer = p }))) (then_decoder_same e.peer.settings p.settings f fault)
 
+either_same : (b : Bool) (e : EndpointHistory) (x y : Found) → SameStreams e x.0 → SameStreams e y.0 → SameStreams e (if◌then◌else◌ {A = Found} b x y).0
+either_same true e x y h k = h
+either_same false e x y h k = k
+
+held_same : (e : EndpointHistory) → SameStreams e (read_held e).0
+held_same e =
+    let x = read_peer (limit_of e) e.side e.peer in
+    either_same (lacks_settings e) e (e, Some missing_settings) (after_peer e x) (same_streams e)
+    (either_same (are_refused e e.peer.settings x.0.settings) e (record e { peer = settings_alone e.peer x.0.settings }, Some settings_error) (taken_peer e x)
+    (record { incoming = refl; outgoing = refl; announced = refl }) (taken_same e x))
+
 control_same : (e : EndpointHistory) (bytes : List ℕ) → SameStreams e (read_control e bytes).0
-control_same e bytes = after_peer_same e (read_peer (limit_of e) e.side (with_unread e.peer (e.peer.unread ++ bytes)))
+control_same e bytes = then_same e (holding e bytes) _ (record { incoming = refl; outgoing = refl; announced = refl }) (held_same (holding e bytes))
 
 second_same : (b : Bool) (e : EndpointHistory) (x : Found) → SameStreams e x.0 → SameStreams e (unless_second b e x).0
 second_same true e x h = same_streams e

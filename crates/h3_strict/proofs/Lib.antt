@@ -13,8 +13,11 @@ mod UnbrokenLaws
 mod SameWorlds
 mod KeepsCounts
 mod SentLaws
+mod StrictCodes
+mod AnnouncedEnds
 mod PlainRuns
 mod BoundedEnds
+mod PlainLists
 mod PlainMessages
 mod PlainSetups
 mod PlainHeadlines

@@ -47,7 +47,6 @@ use Rattle.h3_strict.specs.Plainly.{plainly}
 record SameStreams (e f : EndpointHistory) : Type 0 where
   side : f.side ≡ e.side
   kept : f.kept ≡ e.kept
-  closed : f.closed ≡ e.closed
   unidirectional : f.unidirectional ≡ e.unidirectional
   peer : f.peer ≡ e.peer
   decoding : f.decoding ≡ e.decoding
@@ -56,12 +55,12 @@ record SameStreams (e f : EndpointHistory) : Type 0 where
   has : (id : ℕ) → has_outgoing f id ≡ has_outgoing e id
 
 unlimited_same : (e : EndpointHistory) → SameStreams e (limited_end (2 ^ 62 - 1) e)
-unlimited_same e = record { side = refl; kept = refl; closed = refl; unidirectional = refl; peer = refl; decoding = refl; decoder_unread = refl; waits_for = λ id. refl; has = λ id. refl }
+unlimited_same e = record { side = refl; kept = refl; unidirectional = refl; peer = refl; decoding = refl; decoder_unread = refl; waits_for = λ id. refl; has = λ id. refl }
 
 plain_same : (e : EndpointHistory) → SameStreams e (plainly (limited_end (2 ^ 62 - 1) e))
 plain_same e =
     let f : EndpointHistory = limited_end (2 ^ 62 - 1) e in
-    record { side = refl; kept = refl; closed = refl; unidirectional = refl; peer = refl; decoding = refl; decoder_unread = refl; waits_for = λ id. waits f id; has = λ id. has_one f id }
+    record { side = refl; kept = refl; unidirectional = refl; peer = refl; decoding = refl; decoder_unread = refl; waits_for = λ id. waits f id; has = λ id. has_one f id }
 
 own_control : (s : Side) → is_own s (control_id s) ≡ true
 own_control Client = refl
@@ -117,7 +116,6 @@ module _ (streams : StreamLaws) (setup X : Setup) (made : IsMadeSetup setup) (st
   carries = record {
     side_is = sym reads.side ∙ hr.side_is ∙ sym (other-other s);
     nothing_kept = sym reads.kept ∙ hr.nothing_kept;
-    no_fault = sym reads.closed ∙ hr.no_fault;
     limit_is = limit;
     control_is = subst (λ l. IsPeerStream own.control_taken Control (stream_at l (control_id (other s)))) reads.unidirectional hr.control.stream_is;
     encoder_is = subst (λ l. IsPeerStream own.encoder_taken Encoder (stream_at l (encoder_id (other s)))) reads.unidirectional hr.encoder_stream.stream_is;

@@ -196,7 +196,7 @@ module _ (most : ℕ) (e : EndpointHistory) (id : ℕ) where
   -- and whether it judges a message
   judged_same : (o : Option Incoming) → ((i : Incoming) → o ≡ Some i → LooksAlike most e.announced.choices.unfinished_limit i) → judged_at (unkept (limited_end most e)) id o ≡ judged_at (unkept e) id o
   judged_same None within = refl
-  judged_same (Some i) within = ap (λ (p : Pulled). tells_malformed p.answer) (pull_same most e.side e.announced id e.decoding.decoder i (within i refl))
+  judged_same (Some i) within = ap (λ (p : Pulled). tells_malformed false p.answer) (pull_same most e.side e.announced id e.decoding.decoder i (within i refl))
 
   kind_judged : (k : Kind) → ((i : Incoming) → stream_at e.incoming id ≡ Some i → LooksAlike most e.announced.choices.unfinished_limit i) → judged_as (unkept (limited_end most e)) id k ≡ judged_as (unkept e) id k
   kind_judged Request within = judged_same (stream_at e.incoming id) within

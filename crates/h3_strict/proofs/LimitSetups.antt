@@ -1,12 +1,8 @@
 -- Setups without limits.
-use Rattle.std.proofs.Common.{◌≡◌, refl, sym, ap, ◌∙◌}
-use Rattle.std.specs.Prelude.{◌^◌, ◌-◌, Ok}
-use Rattle.h3_proto.specs.Config.{announced}
-use Rattle.h3_proto.specs.declared.config.Choices.{Choices}
+use Rattle.std.proofs.Common.{◌≡◌, refl}
 use Rattle.h3_proto.specs.declared.stream.Side.{Side}
 use Rattle.h3_proto.specs.declared.stream.Side.TheVariants.{Client, Server}
 use Rattle.h3_connection.specs.Announcing.{section_of}
-use Rattle.h3_connection.specs.AnnouncingLaws.{announced_as, announces}
 use Rattle.h3_connection.specs.declared.setup.Announced.{Announced}
 use Rattle.h3_world.specs.Setup.{IsMade, IsMadeSetup, JudgesPlainly, announced_at}
 use Rattle.h3_world.specs.declared.setup.Setup.{Setup}
@@ -14,21 +10,23 @@ use Rattle.h3_strict.specs.Limits.{AsksForNone, AsksForStrict, unlimited, unlimi
 use Rattle.h3_strict.specs.Tallies.{JudgesStrictly}
 
 -- some configuration announces it
-abbrev without : Choices → Choices
-without choices = record choices { unfinished_limit = 2 ^ 62 - 1 }
-
 made_unlimited : (a : Announced) → IsMade a → IsMade (unlimited a)
 made_unlimited a h =
-    let is = announced_as (announced h.config h.grease) a.limits h.config.choices a h.made in
     record {
-      config = record h.config { choices = without h.config.choices };
+      settings = h.settings;
+      sends_grease = h.sends_grease;
       grease = h.grease;
       small = h.small;
-      made = announces (announced h.config h.grease) a.limits (without h.config.choices) is.pairs is.is is.table is.blocked refl ∙ ap (λ x. Ok (unlimited x)) (sym is.announced);
+      section = h.section;
+      sessions = h.sessions;
+      are = h.are;
+      table = h.table;
+      blocked = h.blocked;
+      within = refl;
     }
 
 pub setup_unlimited : (setup : Setup) → IsMadeSetup setup → IsMadeSetup (unlimited_setup setup)
-setup_unlimited setup h = record { client = made_unlimited setup.client h.client; server = made_unlimited setup.server h.server }
+setup_unlimited setup h = record { client = made_unlimited setup.client h.client; server = made_unlimited setup.server h.server; takes = h.takes }
 
 pub unlimited_plainly : (setup : Setup) → AsksForNone setup → JudgesPlainly (unlimited_setup setup)
 unlimited_plainly setup none Client = (none Client, refl)

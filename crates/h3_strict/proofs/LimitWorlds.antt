@@ -14,7 +14,7 @@ use Rattle.h3_world.specs.declared.event.Answer.{Answer}
 use Rattle.h3_world.specs.declared.event.Event.{Event}
 use Rattle.h3_world.specs.declared.setup.Setup.{Setup}
 use Rattle.h3_headline.specs.Standing.{Stands}
-use Rattle.h3_strict.proofs.LimitRuns.{EndWithin, FindNone, limits_kept, limits_of, looks_within, runs_unlimited}
+use Rattle.h3_strict.proofs.LimitRuns.{EndWithin, FindNone, looks_within, runs_unlimited}
 use Rattle.h3_strict.proofs.LimitSetups.{setup_unlimited, unlimited_plainly, unlimited_strictly}
 use Rattle.h3_strict.proofs.PlainHeadlines.{RunInWorlds}
 use Rattle.h3_strict.proofs.PlainStreams.{at_each}
@@ -84,9 +84,6 @@ module _ (short : SectionsAreShort) (setup : Setup) (events : List Event) (made 
   pub loose_unlimited : RunInWorlds → AsksForNone setup → RunsUnlimited (new_ends setup) events
   loose_unlimited headline none = runs_unlimited setup events (loose_find_none headline none) taken
 
-  pub loose_limits : RunInWorlds → AsksForNone setup → (side : Side) → limits_of (ends_after (new_ends setup) events) side ≡ limit_at setup side
-  loose_limits headline none = limits_kept setup events (loose_find_none headline none) taken
-
   -- both do
   strict_find_none : RunStrictly → AsksForStrict setup → ServerKnows events (answers_of_ends (new_ends setup) events) → FindNone setup events
   strict_find_none headline strict knows past rest is same side =
@@ -98,6 +95,3 @@ module _ (short : SectionsAreShort) (setup : Setup) (events : List Event) (made 
 
   pub strict_unlimited : RunStrictly → AsksForStrict setup → ServerKnows events (answers_of_ends (new_ends setup) events) → RunsUnlimited (new_ends setup) events
   strict_unlimited headline strict knows = runs_unlimited setup events (strict_find_none headline strict knows) taken
-
-  pub strict_limits : RunStrictly → AsksForStrict setup → ServerKnows events (answers_of_ends (new_ends setup) events) → (side : Side) → limits_of (ends_after (new_ends setup) events) side ≡ limit_at setup side
-  strict_limits headline strict knows = limits_kept setup events (strict_find_none headline strict knows) taken

@@ -2,12 +2,12 @@
 use Rattle.std.proofs.Common.{◌≡◌, ℕ, ◌-◌, ◌^◌, ◌*◌, ◌≤◌, Bool, true, false, arith, refl, inl, inr, sym, ◌∙◌, length}
 use Rattle.std.specs.Prelude.{max}
 use Rattle.std.proofs.lemmas.Bool.{cases_lt, lt-ltb}
-use Rattle.h3_proto.specs.Config.{announced, is_limit}
+use Rattle.h3_proto.specs.Config.{is_limit}
 use Rattle.h3_proto.specs.Pairs.{payload_of}
 use Rattle.h3_proto.specs.declared.stream.Side.TheVariants.{Client, Server}
 use Rattle.h3_qpack.specs.InstructionSizes.{most_instruction}
 use Rattle.h3_connection.specs.Announcing.{section_of}
-use Rattle.h3_connection.specs.AnnouncingLaws.{announced_as, limit_takes_announced}
+use Rattle.h3_connection.specs.AnnouncingLaws.{limit_takes_announced}
 use Rattle.h3_connection.specs.declared.setup.Announced.{Announced}
 use Rattle.h3_world.specs.Setup.{IsMade, IsMadeSetup}
 use Rattle.h3_world.specs.declared.setup.Setup.{Setup}
@@ -40,7 +40,7 @@ module _ (own peer : Announced) (made : IsMade own) (peer_made : IsMade peer) wh
 
       by_limit : (b : Bool) → is_limit most ≡ b → Takes
       by_limit true limited =
-          let h = limit_takes_announced own limited (announced_as (announced made.config made.grease) own.limits made.config.choices own made.made).within in
+          let h = limit_takes_announced own limited made.within in
           (omega (arith, h.1, h.2, there.few), λ limited. h.0)
       by_limit false none = (omega (arith, at_least most none, here.low, there.few), λ limited. absurd (let never : false ≡ true = sym none ∙ limited in cc))
 

@@ -9,14 +9,21 @@ use Rattle.h3_proto.specs.declared.stream.Side.{Side}
 use Rattle.h3_proto.specs.declared.stream.Side.TheVariants.{Client, Server}
 use Rattle.h3_proto.specs.Config.{is_limit}
 use Rattle.h3_connection.specs.Delivering.{incoming_at}
-use Rattle.h3_connection.specs.Endpoint.{limit_of}
+use Rattle.h3_connection.specs.Endpoint.{EndpointHistory, limit_of}
 use Rattle.h3_connection.specs.Incoming.{nothing_came}
 use Rattle.h3_connection.specs.Keeping.{pulls}
 use Rattle.h3_connection.specs.Outgoing.{nothing_sent}
 use Rattle.h3_connection.specs.OwnIds.{other}
 use Rattle.h3_connection.specs.Sending.{outgoing_at}
+use Rattle.h3_connection.specs.StrictConnection.{is_strict}
 use Rattle.h3_connection.specs.declared.setup.Announced.{Announced}
 use Rattle.h3_proto.specs.StreamIds.{is_request_stream}
+use Rattle.h3_connection.specs.declared.event.Pull.{Pull}
+use Rattle.h3_connection.specs.Coming.{fields_behind}
+use Rattle.h3_world.specs.ListLaws.{pulls_listed}
+use Rattle.h3_world.specs.Lists.{listed_pull, pull_of}
+use Rattle.h3_world.specs.Pulling.{Pulls, list_next}
+use Rattle.h3_world.specs.Step.{IsExact, Step}
 use Rattle.h3_world.specs.Ends.{Ends, answered, answers_of_ends, delivery, end_at, end_delivery, ends_after, new_ends, reset_delivery}
 use Rattle.h3_world.specs.Flow.{Flow, unused}
 use Rattle.h3_world.specs.Headline.{Happens}
@@ -33,8 +40,14 @@ use Rattle.h3_world.specs.declared.event.Event.TheVariants as event
 use Rattle.h3_world.specs.declared.setup.Setup.{Setup}
 use Rattle.h3_headline.specs.Cited.{Laws}
 use Rattle.h3_headline.specs.FlowLaws.{same_both}
+use Rattle.h3_headline.specs.ListEventLaws.{same_lists}
+use Rattle.h3_headline.specs.PullEventLaws.{pull_on}
 use Rattle.h3_headline.specs.Standing.{Stands}
-use Rattle.h3_strict.proofs.CallEvents.{body_event, finish_event, head_event, trailer_event}
+use Rattle.h3_strict.proofs.CallEvents.{body_event, fields_event, finish_event, head_event, trailer_event, trailer_fields_event}
+use Rattle.h3_strict.proofs.PlainLists.{faults_same, heads_same}
+use Rattle.h3_strict.proofs.PlainPulled.{lists_plain}
+use Rattle.h3_strict.proofs.PlainSetups.{judges_plainly}
+use Rattle.h3_strict.proofs.SentTallies.{stands_at}
 use Rattle.h3_strict.proofs.PlainSteps.{every_step}
 use Rattle.h3_strict.proofs.PullEvents.{not_judged}
 use Rattle.h3_strict.proofs.PullTally.{pull_tally}
@@ -42,7 +55,7 @@ use Rattle.h3_strict.proofs.QuietEvents.{cancel_event, deliver_event, end_event,
 use Rattle.h3_strict.proofs.SameWorlds.{answers_more, ends_more, run_last, run_same}
 use Rattle.h3_strict.specs.PlainEnds.{Alike, Judges, NoneJudges, RefusesMalformed, StepsPlainly, is_malformed_refusal, judges, plain_ends, plain_setup, refused_by, was_too_long}
 use Rattle.h3_headline.specs.Messages.{is_done}
-use Rattle.h3_strict.specs.Plainly.{is_excess}
+use Rattle.h3_strict.specs.Plainly.{is_excess, plainly}
 use Rattle.h3_strict.specs.ServerKnows.{AnswersKnowing, ServerKnows, ServerKnowsFrom, hands_head, is_server, knows_behind, tells_head}
 use Rattle.h3_strict.specs.Tallies.{Tallies, TalliesFlow, JudgesStrictly, awaited_of, has_head}
 
@@ -56,14 +69,42 @@ known_less : (setup : Setup) (w : World) (ends : Ends) (known later : ℕ → Bo
 known_less setup w ends known later less t = record { flows = t.flows; announced = t.announced; asked = t.asked; knows = λ id is. t.knows id (less id is) }
 
 module _ (laws : Laws) (setup : Setup) (made : IsMadeSetup (plain_setup setup)) (strict : JudgesStrictly setup) where
+  -- The list that comes next reads as the header that is pulled.
+  reads_as : (s : Side) (i : ℕ) (w : World) (ends : Ends) (known : ℕ → Bool) → Stands (plain_setup setup) w (plain_ends ends) → Tallies setup w ends known
+      → pull_of (listed_pull (fields_behind (end_at ends s).kept (end_at ends s) i) (pulls (end_at ends s) i).0) ≡ (pulls (end_at ends s) i).0
+  reads_as s i w ends known h t = by_step (every_step ends (event.Pull s i))
+    where
+      e : EndpointHistory
+      e = end_at ends s
+
+      p : Pull
+      p = (pulls e i).0
+
+      by_step : StepsPlainly ends (event.Pull s i) → pull_of (listed_pull (fields_behind e.kept e i) p) ≡ p
+      by_step (RefusesMalformed told same) = absurd (cc)
+      by_step (Judges judged told) = absurd (let never : false ≡ true = sym (not_judged laws setup made w ends known h t strict s i) ∙ judged in cc)
+      by_step (Alike told same) =
+          let plain = plain_setup setup in
+          let on = pull_on laws plain w (plain_ends ends) s i made (judges_plainly setup) h in
+          let given : (answered (plain_ends ends) (event.Pull s i)).0 ≡ answer.Pulled p = ap (λ (x : Answer × Ends). x.0) same in
+          let step : Step plain w (event.Pull s i) (answer.Pulled p) on.new = subst (λ a. Step plain w (event.Pull s i) a on.new) given on.happens.step in
+          let exact : IsExact w (event.Pull s i) (answer.Pulled p) = subst (IsExact w (event.Pull s i)) given on.happens.exact in
+          let lists : listed_pull (fields_behind e.kept e i) p ≡ listed_pull (list_next plain w s i) p =
+          sym (lists_plain e.kept e i) ∙ same_lists laws plain w on.new s i (plainly e) p made (stands_at setup w ends s h) h.sound step exact in
+          ap pull_of lists ∙ (pulls_listed plain w on.new s i p step).stands
+
   -- What an event leaves.
   event_tally : (e : Event) (w v : World) (ends : Ends) (known : ℕ → Bool) → Stands (plain_setup setup) w (plain_ends ends) → Stands (plain_setup setup) v (plain_ends (answered ends e).1) → Happens (plain_setup setup) w e (answered ends e).0 v
       → AnswersKnowing known e (answered ends e).0 → Tallies setup w ends known → Tallies setup v (answered ends e).1 (λ id. knows_behind id (known id) e (answered ends e).0)
   event_tally (event.OpenRequest s) w v ends known h g step knows t = open_event setup w ends known h t s v (answered ends (event.OpenRequest s)).0 (answered ends (event.OpenRequest s)).1 refl (answer.Opened (next_id w)) step.step
   event_tally (event.Head s i head) w v ends known h g step knows t =
       head_event setup w ends known h t (λ side. (strict side).0) s i head v (answered ends (event.Head s i head)).0 (answered ends (event.Head s i head)).1 refl step.step (λ side done final. knows (ap is_server side) (ap is_done done) final)
+  event_tally (event.Fields s i fields) w v ends known h g step knows t =
+      fields_event setup w ends known h t (λ side. (strict side).0) s i fields v (answered ends (event.Fields s i fields)).0 (answered ends (event.Fields s i fields)).1 refl step.step (λ side done final. knows (ap is_server side) (ap is_done done) final)
   event_tally (event.Body s i bytes) w v ends known h g step knows t = body_event setup w ends known h t (λ side. (strict side).0) s i bytes v (answered ends (event.Body s i bytes)).0 (answered ends (event.Body s i bytes)).1 refl step.step
   event_tally (event.Trailer s i trailer) w v ends known h g step knows t = trailer_event setup w ends known h t (λ side. (strict side).0) s i trailer v (answered ends (event.Trailer s i trailer)).0 (answered ends (event.Trailer s i trailer)).1 refl step.step
+  event_tally (event.TrailerFields s i fields) w v ends known h g step knows t =
+      trailer_fields_event setup w ends known h t (λ side. (strict side).0) s i fields v (answered ends (event.TrailerFields s i fields)).0 (answered ends (event.TrailerFields s i fields)).1 refl step.step
   event_tally (event.Finish s i) w v ends known h g step knows t = finish_event setup w ends known h t (λ side. (strict side).0) s i v (answered ends (event.Finish s i)).0 (answered ends (event.Finish s i)).1 refl step.step
   event_tally (event.Reset s i) w v ends known h g step knows t = reset_event setup w ends known h t s i v (answered ends (event.Reset s i)).0 (answered ends (event.Reset s i)).1 refl step.step
   event_tally (event.Cancel s i) w v ends known h g step knows t = cancel_event setup w ends known h t s i v (answered ends (event.Cancel s i)).0 (answered ends (event.Cancel s i)).1 refl step.step
@@ -74,14 +115,24 @@ module _ (laws : Laws) (setup : Setup) (made : IsMadeSetup (plain_setup setup)) 
   event_tally (event.Pull s i) w v ends known h g step knows t =
       known_less setup v (answered ends (event.Pull s i)).1 (λ j. if is_server s && (i == j) && hands_head (pulls (end_at ends s) i).0 then true else known j) _ (λ j is. is)
       (pull_tally laws setup made w ends known h t strict s i v step.step step.no_connection_fault g)
+  event_tally (event.PullFields s i) w v ends known h g step knows t =
+      let e = end_at ends s in
+      let p = (pulls e i).0 in
+      let o = fields_behind e.kept e i in
+      known_less setup v (answered ends (event.PullFields s i)).1 (λ j. if is_server s && (i == j) && hands_head p then true else known j) _
+      (λ j is. subst (λ b. (if is_server s && (i == j) && b then true else known j) ≡ true) (heads_same o p) is)
+      (pull_tally laws setup made w ends known h t strict s i v (subst (λ q. Pulls (plain_setup setup) w s i q v) (reads_as s i w ends known h t) step.step.0) (sym (faults_same o p) ∙ step.no_connection_fault) g)
   event_tally (event.Show s) w v ends known h g step knows t = subst (λ u. Tallies setup u ends known) (sym step.step.1) t
 
   -- what comes is never too long
   none_too_long : (s : Side) (ends : Ends) → (end_at ends s).announced ≡ announced_at setup s → TakesAnyLength (announced_at setup s) → (a : Answer) → was_too_long ends s a ≡ false
-  none_too_long s ends same any a = and_right (is_excess (refused_by a)) (is_limit (limit_of (end_at ends s))) (subst TakesAnyLength (sym same) any)
+  none_too_long s ends same any a = and_right (is_excess (is_strict (end_at ends s).announced) (refused_by a)) (is_limit (limit_of (end_at ends s))) (subst TakesAnyLength (sym same) any)
 
   none_here : (e : Event) (w : World) (ends : Ends) (known : ℕ → Bool) → Stands (plain_setup setup) w (plain_ends ends) → Tallies setup w ends known → judges ends e ≡ false
   none_here (event.Pull s i) w ends known h t = not_judged laws setup made w ends known h t strict s i
+  none_here (event.PullFields s i) w ends known h t = not_judged laws setup made w ends known h t strict s i
+  none_here (event.Fields s i fields) w ends known h t = refl
+  none_here (event.TrailerFields s i fields) w ends known h t = refl
   none_here (event.OpenRequest s) w ends known h t = refl
   none_here (event.Head s i head) w ends known h t = refl
   none_here (event.Body s i bytes) w ends known h t = refl
@@ -105,6 +156,7 @@ module _ (laws : Laws) (setup : Setup) (made : IsMadeSetup (plain_setup setup)) 
   tells_nothing answer.NoStream is = absurd (cc)
   tells_nothing answer.Early is = absurd (cc)
   tells_nothing (answer.Pulled q) is = absurd (cc)
+  tells_nothing (answer.Listed l) is = absurd (cc)
   tells_nothing (answer.Shown a b c) is = absurd (cc)
 
   less_by : (b c d k : Bool) → d ≡ false → (if b && c && d then true else k) ≡ true → k ≡ true
@@ -114,6 +166,9 @@ module _ (laws : Laws) (setup : Setup) (made : IsMadeSetup (plain_setup setup)) 
 
   known_before : (e : Event) (a : Answer) (id : ℕ) (k : Bool) → is_malformed_refusal a ≡ true → knows_behind id k e a ≡ true → k ≡ true
   known_before (event.Pull s i) a id k told is = less_by (is_server s) (i == id) (tells_head a) k (tells_nothing a told).0 is
+  known_before (event.PullFields s i) a id k told is = less_by (is_server s) (i == id) (tells_head a) k (tells_nothing a told).0 is
+  known_before (event.Fields s i fields) a id k told is = is
+  known_before (event.TrailerFields s i fields) a id k told is = is
   known_before (event.Cancel s i) a id k told is = is
   known_before (event.DeliverReset s i) a id k told is = is
   known_before (event.OpenRequest s) a id k told is = is

@@ -35,6 +35,8 @@ module _ (why : Malformation) where
   sends_none side id (event.Head acting i head) = refl
   sends_none side id (event.Body acting i bytes) = refl
   sends_none side id (event.Trailer acting i trailer) = refl
+  sends_none side id (event.Fields acting i fields) = refl
+  sends_none side id (event.TrailerFields acting i fields) = refl
   sends_none side id _ = refl
 
   finishes_none : (side : Side) (id : ℕ) (e : Event) → finished_in side id e refused ≡ false
@@ -47,6 +49,7 @@ module _ (why : Malformation) where
 
   pulls_none : (side : Side) (id : ℕ) (e : Event) → pulled_in side id e refused ≡ []
   pulls_none side id (event.Pull acting i) = none_if _
+  pulls_none side id (event.PullFields acting i) = none_if _
   pulls_none side id _ = refl
 
   not_both : (b : Bool) → (b && false) ≡ false
@@ -55,6 +58,7 @@ module _ (why : Malformation) where
 
   ends_none : (side : Side) (id : ℕ) (e : Event) → ended_in side id e refused ≡ false
   ends_none side id (event.Pull acting i) = not_both _
+  ends_none side id (event.PullFields acting i) = not_both _
   ends_none side id _ = refl
 
 -- over all events

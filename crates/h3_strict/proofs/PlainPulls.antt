@@ -31,6 +31,7 @@ use Rattle.h3_connection.specs.declared.event.Malformation.TheVariants as malfor
 use Rattle.h3_connection.specs.declared.event.Pull.TheVariants as pull
 use Rattle.h3_connection.specs.declared.event.StreamFault.{StreamFault}
 use Rattle.h3_connection.specs.declared.place.Place.{Place}
+use Rattle.h3_connection.specs.StrictConnection.{is_no_session}
 use Rattle.h3_connection.specs.declared.place.Place.TheVariants.{BeforeHead, InBody, AfterTrailer, InSession}
 use Rattle.h3_connection.specs.declared.setup.Announced.{Announced}
 use Rattle.h3_strict.specs.Plainly.{plain, plain_incoming, tells_malformed}
@@ -41,7 +42,7 @@ plain_pulled p = record p { incoming = plain_incoming p.incoming }
 
 -- It judges, and then the stream waits for no more than this count of insertions.
 pub data PullsPlainly (n : ℕ) (p q : Pulled) : Type 0 where
-  Judged : tells_malformed p.answer ≡ true → p.incoming.waits_for ≤ n → PullsPlainly n p q
+  Judged : tells_malformed false p.answer ≡ true → p.incoming.waits_for ≤ n → PullsPlainly n p q
   Same : q ≡ plain_pulled p → PullsPlainly n p q
 
 least : (n : ℕ) → 0 ≤ n
@@ -52,11 +53,11 @@ either n true x y v w h k = h
 either n false x y v w h k = k
 
 -- the rule in front is broken, or the answer is that behind it
-unless : (n : ℕ) (b : Bool) (x y v : Pulled) → tells_malformed x.answer ≡ true → x.incoming.waits_for ≤ n → PullsPlainly n y v → PullsPlainly n (if b then x else y) v
+unless : (n : ℕ) (b : Bool) (x y v : Pulled) → tells_malformed false x.answer ≡ true → x.incoming.waits_for ≤ n → PullsPlainly n y v → PullsPlainly n (if b then x else y) v
 unless n true x y v h few k = Judged h few
 unless n false x y v h few k = k
 
-where_not : (n : ℕ) (b : Bool) (x y v : Pulled) → PullsPlainly n x v → tells_malformed y.answer ≡ true → y.incoming.waits_for ≤ n → PullsPlainly n (if b then x else y) v
+where_not : (n : ℕ) (b : Bool) (x y v : Pulled) → PullsPlainly n x v → tells_malformed false y.answer ≡ true → y.incoming.waits_for ≤ n → PullsPlainly n (if b then x else y) v
 where_not n true x y v h k few = h
 where_not n false x y v h k few = Judged k few
 
@@ -129,7 +130,7 @@ module _ (side : Side) (own : Announced) (id : ℕ) (r : DecoderState) where
   frame_plain n Server i InBody (frame.Headers bytes) few = trailer_at_plain n i bytes few
   frame_plain n Client i InBody (frame.Data len) few = payload_plain n id (begun_payload i len.0)
   frame_plain n Server i InBody (frame.Data len) few = payload_plain n id (begun_payload i len.0)
-  frame_plain n Server i BeforeHead (frame.WebTransportStream session) few = Same refl
+  frame_plain n Server i BeforeHead (frame.WebTransportStream session) few = either n (is_no_session own session) _ _ _ _ (Same refl) (Same refl)
   frame_plain n Client i place (frame.PushPromise promise) few = Same refl
   frame_plain n _ i place _ few = Same refl
 
@@ -143,10 +144,10 @@ module _ (side : Side) (own : Announced) (id : ℕ) (r : DecoderState) where
   next_plain n i [] few = either n i.ended _ _ _ _ (end_plain n i i.place) (Same refl)
   next_plain n i (byte ∷ bytes) few = framed_plain n i (frame_at (byte ∷ bytes)) few
 
-  excess_told : (i : Incoming) (bytes : List ℕ) → tells_malformed (excess id i bytes).answer ≡ true
+  excess_told : (i : Incoming) (bytes : List ℕ) → tells_malformed false (excess id i bytes).answer ≡ true
   excess_told i bytes = by_type (begins_section bytes)
     where
-      by_type : (b : Bool) → tells_malformed (if b then malformed id malformation.TooLong i [] else connection_fault excessive_load (record i { unread = [] })).answer ≡ true
+      by_type : (b : Bool) → tells_malformed false (if b then malformed id malformation.TooLong i [] else connection_fault excessive_load (record i { unread = [] })).answer ≡ true
       by_type true = refl
       by_type false = refl
 

@@ -13,9 +13,9 @@ use Rattle.h3_wire.specs.Known.{known}
 use Rattle.h3_connection.specs.Arrivals.{stream_of, is_closed_in}
 use Rattle.h3_connection.specs.declared.arrival.Arrival.{Arrival}
 use Rattle.h3_connection.specs.declared.arrival.Arrival.TheVariants.{BytesCame, EndCame, ResetCame}
-use Rattle.h3_connection.specs.Codes.{excessive_load}
-use Rattle.h3_connection.specs.Control.{Found, increment, kept_unread, listened_to, read_encoder, read_decoder, with_table, if_learned, then_decoder, after_peer, read_control}
-use Rattle.h3_connection.specs.Delivering.{request_refusal, refusal_at, delivery_refusal, closed_by, opened_at, opened, incoming_at, with_incoming, unidirectional_at, with_unidirectional, unless_second, heard_as, read_unidirectional, kept, with_end, bytes_at, end_at, give_up, reset_at, taken}
+use Rattle.h3_connection.specs.Codes.{decoder_stream_error, encoder_stream_error, excessive_load, missing_settings, settings_error}
+use Rattle.h3_connection.specs.Control.{Found, after_peer, are_refused, holding, if_learned, increment, kept_unread, lacks_settings, listened_to, read_control, read_decoder, read_encoder, read_held, settings_alone, taken_peer, then_decoder, with_table}
+use Rattle.h3_connection.specs.Delivering.{request_refusal, refusal_at, delivery_refusal, opened_at, opened, incoming_at, with_incoming, unidirectional_at, with_unidirectional, unless_second, heard_as, read_unidirectional, kept, with_end, bytes_at, end_at, give_up, reset_at, taken}
 use Rattle.h3_connection.specs.Endpoint.{EndpointHistory, limit_of, Kind, is_second, kind_of, replied}
 use Rattle.h3_connection.specs.Endpoint.Kind.{Request, ServerOpened, OwnUnidirectional, PeerUnidirectional}
 use Rattle.h3_connection.specs.ExcessiveInstructions.{listen_up_to}
@@ -23,7 +23,10 @@ use Rattle.h3_connection.specs.Incoming.{Incoming}
 use Rattle.h3_connection.specs.Keeping.{read_arrival, unless_faulty, read_all, unkept, refused_behind, arrival_refusal, arrives_behind, arrives}
 use Rattle.h3_connection.specs.Listeners.{after_hearing, heard_more, hearing_fault, insertions_heard, listening_fault}
 use Rattle.h3_connection.specs.PeerReading.{Peer, PeerFound, with_unread, read_frame, unless_fault, at_front, read_within, read_peer}
+use Rattle.h3_connection.specs.PeerReadingLaws.{stay_within}
 use Rattle.h3_connection.specs.StreamSets.{Streams, stream_at}
+use Rattle.h3_connection.specs.StrictConnection.{is_strict}
+use Rattle.h3_connection.specs.StrictConnection.{stream_fault as stream_error}
 use Rattle.h3_connection.specs.Unidirectional.{Unidirectional, Role, role_after, with_bytes}
 use Rattle.h3_connection.specs.Unidirectional.Role.{Untold, Control, Encoder, Decoder, Session, Push, Ignored}
 use Rattle.h3_connection.specs.declared.event.Refusal.{Refusal}
@@ -31,7 +34,7 @@ use Rattle.h3_connection.specs.declared.event.Refusal.TheVariants as refusal
 use Rattle.h3_connection.specs.declared.event.StreamFault.TheVariants as stream_fault
 use Rattle.h3_connection.specs.declared.setup.Announced.{Announced}
 use Rattle.h3_headline.specs.PeerStreams.{no_limit}
-use Rattle.h3_strict.specs.Plainly.{plain_incoming, plainly}
+use Rattle.h3_strict.specs.Plainly.{is_excess, plain_incoming, plainly}
 use Rattle.h3_strict.proofs.InstructionReading.{HearsAlike, HearsLong, HearsSame, ListensAlike, ListensLong, ListensSame, hears_alike, listens_alike}
 use Rattle.h3_strict.proofs.KeepsCounts.{arrival_announced, if_learned_same}
 use Rattle.h3_strict.proofs.PlainCalls.{CallsPlainly, taken_plainly}
@@ -42,28 +45,42 @@ use Rattle.h3_strict.proofs.PlainStreams.{at_each, set_each, in_at}
 abbrev pub plain_found : Found → Found
 plain_found x = (plainly x.0, x.1)
 
--- what is found is the same at the endpoint without a limit, or what came is too long
+-- what is found is the same at the endpoint without a limit, or what came is too long; and then settings that came stay
 pub data PeerPlainly (limit : ℕ) (x y : PeerFound) : Type 0 where
-  IsLong : is_limit limit ≡ true → x.1 ≡ Some excessive_load → PeerPlainly limit x y
+  IsLong : is_limit limit ≡ true → x.1 ≡ Some excessive_load → ((pairs : List (ℕ × ℕ)) → x.0.settings ≡ Some pairs → y.0.settings ≡ Some pairs) → PeerPlainly limit x y
   ReadsSame : y ≡ x → PeerPlainly limit x y
 
-pub data ReadsPlainly (limit : ℕ) (x y : Found) : Type 0 where
-  IsTooLong : is_limit limit ≡ true → x.1 ≡ Some excessive_load → ReadsPlainly limit x y
-  ReadsAlike : y ≡ plain_found x → ReadsPlainly limit x y
+pub data ReadsPlainly (own : Announced) (x y : Found) : Type 0 where
+  IsTooLong : is_limit own.choices.unfinished_limit ≡ true → is_excess (is_strict own) x.1 ≡ true → ReadsPlainly own x y
+  ReadsAlike : y ≡ plain_found x → ReadsPlainly own x y
+
+-- the codes of instructions that are too long
+pub encoder_told : (strict : Bool) → is_excess strict (stream_error strict encoder_stream_error (Some excessive_load)) ≡ true
+encoder_told true = refl
+encoder_told false = refl
+
+pub decoder_told : (strict : Bool) → is_excess strict (stream_error strict decoder_stream_error (Some excessive_load)) ≡ true
+decoder_told true = refl
+decoder_told false = refl
 
 -- the encoder stream
 abbrev pub heard_as_found : EndpointHistory → Heard → Option ℕ → Found
 heard_as_found e h fault = (replied (record e { decoding = after_hearing h }) (increment (insertions_heard e.decoding h)), fault)
 
-encoder_plain : (e : EndpointHistory) (bytes : List ℕ) → ReadsPlainly (limit_of e) (read_encoder e bytes) (read_encoder (plainly e) bytes)
+encoder_plain : (e : EndpointHistory) (bytes : List ℕ) → ReadsPlainly e.announced (read_encoder e bytes) (read_encoder (plainly e) bytes)
 encoder_plain e bytes = by_limit (hears_alike (limit_of e) e.decoding.decoder (e.decoding.unread ++ bytes))
   where
     h : Heard
     h = heard_more (limit_of e) e.decoding bytes
 
-    by_limit : HearsAlike (limit_of e) e.decoding.decoder (e.decoding.unread ++ bytes) → ReadsPlainly (limit_of e) (read_encoder e bytes) (read_encoder (plainly e) bytes)
-    by_limit (HearsLong limit is) = IsTooLong limit is
-    by_limit (HearsSame same fault) = ReadsAlike (ap (λ x. heard_as_found (plainly e) x (hearing_fault no_limit x)) same ∙ ap (heard_as_found (plainly e) h) fault)
+    strict : Bool
+    strict = is_strict e.announced
+
+    by_limit : HearsAlike (limit_of e) e.decoding.decoder (e.decoding.unread ++ bytes) → ReadsPlainly e.announced (read_encoder e bytes) (read_encoder (plainly e) bytes)
+    by_limit (HearsLong limit is) = IsTooLong limit (ap (λ o. is_excess strict (stream_error strict encoder_stream_error o)) is ∙ encoder_told strict)
+    by_limit (HearsSame same fault) =
+        ReadsAlike (ap (λ x. heard_as_found (plainly e) x (stream_error strict encoder_stream_error (hearing_fault no_limit x))) same
+        ∙ ap (λ o. heard_as_found (plainly e) h (stream_error strict encoder_stream_error o)) fault)
 
 -- the decoder stream, once the settings came and before
 abbrev pub read_if : Bool → EndpointHistory → List ℕ → Found
@@ -72,19 +89,24 @@ read_if came e bytes = if came then listened_to e (listen_up_to (limit_of e) e.e
 abbrev pub listened_as_found : EndpointHistory → Listened → Option ℕ → Found
 listened_as_found e l fault = (record e { encoder = l.encoder; decoder_unread = l.left }, fault)
 
-decoder_plain : (came : Bool) (e : EndpointHistory) (bytes : List ℕ) → ReadsPlainly (limit_of e) (read_if came e bytes) (read_if came (plainly e) bytes)
+decoder_plain : (came : Bool) (e : EndpointHistory) (bytes : List ℕ) → ReadsPlainly e.announced (read_if came e bytes) (read_if came (plainly e) bytes)
 decoder_plain true e bytes = by_limit (listens_alike (limit_of e) e.encoder (e.decoder_unread ++ bytes))
   where
     l : Listened
     l = listen_up_to (limit_of e) e.encoder (e.decoder_unread ++ bytes)
 
-    by_limit : ListensAlike (limit_of e) e.encoder (e.decoder_unread ++ bytes) → ReadsPlainly (limit_of e) (read_if true e bytes) (read_if true (plainly e) bytes)
-    by_limit (ListensLong limit is) = IsTooLong limit is
-    by_limit (ListensSame same fault) = ReadsAlike (ap (λ x. listened_as_found (plainly e) x (listening_fault no_limit x)) same ∙ ap (listened_as_found (plainly e) l) fault)
+    strict : Bool
+    strict = is_strict e.announced
+
+    by_limit : ListensAlike (limit_of e) e.encoder (e.decoder_unread ++ bytes) → ReadsPlainly e.announced (read_if true e bytes) (read_if true (plainly e) bytes)
+    by_limit (ListensLong limit is) = IsTooLong limit (ap (λ o. is_excess strict (stream_error strict decoder_stream_error o)) is ∙ decoder_told strict)
+    by_limit (ListensSame same fault) =
+        ReadsAlike (ap (λ x. listened_as_found (plainly e) x (stream_error strict decoder_stream_error (listening_fault no_limit x))) same
+        ∙ ap (λ o. listened_as_found (plainly e) l (stream_error strict decoder_stream_error o)) fault)
 decoder_plain false e bytes = ReadsAlike refl
 
 -- the control stream
-then_plain : (before after : Option (List (ℕ × ℕ))) (e : EndpointHistory) (fault : Option ℕ) → ReadsPlainly (limit_of e) (then_decoder before after e fault) (then_decoder before after (plainly e) fault)
+then_plain : (before after : Option (List (ℕ × ℕ))) (e : EndpointHistory) (fault : Option ℕ) → ReadsPlainly e.announced (then_decoder before after e fault) (then_decoder before after (plainly e) fault)
 then_plain before after e (Some code) = ReadsAlike refl
 then_plain None (Some pairs) e None = decoder_plain (is_some e.peer.settings) e []
 then_plain None None e None = ReadsAlike refl
@@ -102,13 +124,38 @@ learned_plain (Some known) after e = refl
 pub learned_limit : (before after : Option (List (ℕ × ℕ))) (e : EndpointHistory) → limit_of (if_learned before after e) ≡ limit_of e
 learned_limit before after e = ap (λ (own : Announced). own.choices.unfinished_limit) (if_learned_same before after e).announced
 
-after_plain : (e : EndpointHistory) (x : PeerFound) → ReadsPlainly (limit_of e) (after_peer e x) (after_peer (plainly e) x)
-after_plain e (p, fault) =
+taken_plain : (e : EndpointHistory) (x : PeerFound) → ReadsPlainly e.announced (taken_peer e x) (taken_peer (plainly e) x)
+taken_plain e (p, fault) =
     let before = e.peer.settings in
     let f : EndpointHistory = record e { peer = p } in
     let g : EndpointHistory = if_learned before p.settings f in
-    subst (λ z. ReadsPlainly (limit_of e) (then_decoder before p.settings g fault) (then_decoder before p.settings z fault)) (sym (learned_plain before p.settings f))
-    (subst (λ n. ReadsPlainly n (then_decoder before p.settings g fault) (then_decoder before p.settings (plainly g) fault)) (learned_limit before p.settings f) (then_plain before p.settings g fault))
+    subst (λ z. ReadsPlainly e.announced (then_decoder before p.settings g fault) (then_decoder before p.settings z fault)) (sym (learned_plain before p.settings f))
+    (subst (λ own. ReadsPlainly own (then_decoder before p.settings g fault) (then_decoder before p.settings (plainly g) fault)) (if_learned_same before p.settings f).announced (then_plain before p.settings g fault))
+
+-- the same settings are refused
+bad_plain : (e : EndpointHistory) (before after : Option (List (ℕ × ℕ))) → are_refused (plainly e) before after ≡ are_refused e before after
+bad_plain e None None = refl
+bad_plain e None (Some pairs) = refl
+bad_plain e (Some known) after = refl
+
+pub refused_some : (e : EndpointHistory) (before after : Option (List (ℕ × ℕ))) → are_refused e before after ≡ true → (pairs : List (ℕ × ℕ)) × (after ≡ Some pairs)
+refused_some e None None is = absurd (cc)
+refused_some e None (Some pairs) is = (pairs, refl)
+refused_some e (Some known) after is = absurd (cc)
+
+either_plain : (own : Announced) (b : Bool) (x y v w : Found) → ReadsPlainly own x v → ReadsPlainly own y w → ReadsPlainly own (if◌then◌else◌ {A = Found} b x y) (if◌then◌else◌ {A = Found} b v w)
+either_plain own true x y v w h k = h
+either_plain own false x y v w h k = k
+
+abbrev pub alone : EndpointHistory → Option (List (ℕ × ℕ)) → Found
+alone e settings = (record e { peer = settings_alone e.peer settings }, Some settings_error)
+
+after_plain : (e : EndpointHistory) (x : PeerFound) → ReadsPlainly e.announced (after_peer e x) (after_peer (plainly e) x)
+after_plain e x =
+    let before = e.peer.settings in
+    let o = x.0.settings in
+    subst (λ b. ReadsPlainly e.announced (after_peer e x) (if◌then◌else◌ {A = Found} b (alone (plainly e) o) (taken_peer (plainly e) x))) (sym (bad_plain e before o))
+    (either_plain e.announced (are_refused e before o) (alone e o) (taken_peer e x) (alone (plainly e) o) (taken_peer (plainly e) x) (ReadsAlike refl) (taken_plain e x))
 
 behind_fault : (limit : ℕ) (x : PeerFound) (go both : Peer → PeerFound) → ((q : Peer) → PeerPlainly limit (go q) (both q)) → PeerPlainly limit (unless_fault x go) (unless_fault x both)
 behind_fault limit (q, Some code) go both h = ReadsSame refl
@@ -120,48 +167,77 @@ front_plain limit go both side p bytes (Unknown kind rest) h = ReadsSame refl
 front_plain limit go both side p bytes (Refused e) h = ReadsSame refl
 front_plain limit go both side p bytes (Unfinished least) h = ReadsSame refl
 
-long_or : (limit : ℕ) (large : Bool) (bytes : List ℕ) (p : Peer) (x y : PeerFound) → is_excessive limit bytes ≡ large → PeerPlainly limit x y → PeerPlainly limit (if large then (with_unread p [], Some excessive_load) else x) y
-long_or limit true bytes p x y e h = IsLong (and_parts (is_limit limit) (says_too_much limit (varint_at bytes)) e).0 refl
-long_or limit false bytes p x y e h = h
+long_or : (limit : ℕ) (large : Bool) (bytes : List ℕ) (p : Peer) (x y : PeerFound) → is_excessive limit bytes ≡ large → ((pairs : List (ℕ × ℕ)) → p.settings ≡ Some pairs → y.0.settings ≡ Some pairs)
+    → PeerPlainly limit x y → PeerPlainly limit (if large then (with_unread p [], Some excessive_load) else x) y
+long_or limit true bytes p x y e keeps h = IsLong (and_parts (is_limit limit) (says_too_much limit (varint_at bytes)) e).0 refl keeps
+long_or limit false bytes p x y e keeps h = h
 
 within_plain : (most limit : ℕ) (side : Side) (p : Peer) → PeerPlainly limit (read_within most limit side p) (read_within most no_limit side p)
 within_plain zero limit side p = ReadsSame refl
 within_plain (suc most) limit side p =
-    long_or limit (is_excessive limit (known p.unread)) (known p.unread) p _ _ refl
+    long_or limit (is_excessive limit (known p.unread)) (known p.unread) p _ _ refl (λ pairs is. stay_within (suc most) no_limit side p pairs is)
     (front_plain limit (read_within most limit side) (read_within most no_limit side) side p (known p.unread) (frame_at (known p.unread)) (λ q. within_plain most limit side q))
 
 pub peer_plain : (limit : ℕ) (side : Side) (p : Peer) → PeerPlainly limit (read_peer limit side p) (read_peer no_limit side p)
 unfolding read_peer
 peer_plain limit side p = within_plain (length p.unread) limit side p
 
-control_found : (e : EndpointHistory) (x y : PeerFound) → PeerPlainly (limit_of e) x y → ReadsPlainly (limit_of e) (after_peer e x) (after_peer (plainly e) y)
-control_found e (p, fault) y (IsLong limit is) =
-    IsTooLong limit (ap (λ o. (then_decoder e.peer.settings p.settings (if_learned e.peer.settings p.settings (record e { peer = p })) o).1) is)
-control_found e x y (ReadsSame same) = subst (λ z. ReadsPlainly (limit_of e) (after_peer e x) (after_peer (plainly e) z)) (sym same) (after_plain e x)
+control_found : (e : EndpointHistory) (x y : PeerFound) → PeerPlainly (limit_of e) x y → ReadsPlainly e.announced (after_peer e x) (after_peer (plainly e) y)
+control_found e (p, fault) y (IsLong limit is keeps) = by_refused (are_refused e before p.settings) refl
+  where
+    before : Option (List (ℕ × ℕ))
+    before = e.peer.settings
 
-control_plain : (e : EndpointHistory) (bytes : List ℕ) → ReadsPlainly (limit_of e) (read_control e bytes) (read_control (plainly e) bytes)
-control_plain e bytes = control_found e _ _ (peer_plain (limit_of e) e.side (with_unread e.peer (e.peer.unread ++ bytes)))
+    x : PeerFound
+    x = (p, fault)
 
-second_plain : (limit : ℕ) (b : Bool) (e : EndpointHistory) (x y : Found) → ReadsPlainly limit x y → ReadsPlainly limit (unless_second b e x) (unless_second b (plainly e) y)
-second_plain limit true e x y h = ReadsAlike refl
-second_plain limit false e x y h = h
+    -- settings that are refused come before what is too long
+    by_refused : (b : Bool) → are_refused e before p.settings ≡ b → ReadsPlainly e.announced (after_peer e x) (after_peer (plainly e) y)
+    by_refused true bad =
+        let came = refused_some e before p.settings bad in
+        let same : y.0.settings ≡ p.settings = keeps came.0 came.1 ∙ sym came.1 in
+        let there : after_peer (plainly e) y ≡ alone (plainly e) p.settings =
+        ap (λ b. if◌then◌else◌ {A = Found} b (alone (plainly e) y.0.settings) (taken_peer (plainly e) y)) (ap (are_refused (plainly e) before) same ∙ bad_plain e before p.settings ∙ bad)
+        ∙ ap (alone (plainly e)) same in
+        let here : after_peer e x ≡ alone e p.settings = ap (λ b. if◌then◌else◌ {A = Found} b (alone e p.settings) (taken_peer e x)) bad in
+        ReadsAlike (there ∙ sym (ap plain_found here))
+    by_refused false good =
+        let here : after_peer e x ≡ taken_peer e x = ap (λ b. if◌then◌else◌ {A = Found} b (alone e p.settings) (taken_peer e x)) good in
+        IsTooLong limit
+        (ap (λ (f : Found). is_excess (is_strict e.announced) f.1) here
+        ∙ ap (λ o. is_excess (is_strict e.announced) (then_decoder before p.settings (if_learned before p.settings (record e { peer = p })) o).1) is)
+control_found e x y (ReadsSame same) = subst (λ z. ReadsPlainly e.announced (after_peer e x) (after_peer (plainly e) z)) (sym same) (after_plain e x)
 
-heard_plain : (e : EndpointHistory) (id : ℕ) (role : Role) (bytes : List ℕ) → ReadsPlainly (limit_of e) (heard_as e id role bytes) (heard_as (plainly e) id role bytes)
+held_plain : (e : EndpointHistory) → ReadsPlainly e.announced (read_held e) (read_held (plainly e))
+held_plain e =
+    let x = read_peer (limit_of e) e.side e.peer in
+    let y = read_peer no_limit e.side e.peer in
+    either_plain e.announced (lacks_settings e) (e, Some missing_settings) (after_peer e x) (plainly e, Some missing_settings) (after_peer (plainly e) y)
+    (ReadsAlike refl) (control_found e x y (peer_plain (limit_of e) e.side e.peer))
+
+control_plain : (e : EndpointHistory) (bytes : List ℕ) → ReadsPlainly e.announced (read_control e bytes) (read_control (plainly e) bytes)
+control_plain e bytes = held_plain (holding e bytes)
+
+second_plain : (own : Announced) (b : Bool) (e : EndpointHistory) (x y : Found) → ReadsPlainly own x y → ReadsPlainly own (unless_second b e x) (unless_second b (plainly e) y)
+second_plain own true e x y h = ReadsAlike refl
+second_plain own false e x y h = h
+
+heard_plain : (e : EndpointHistory) (id : ℕ) (role : Role) (bytes : List ℕ) → ReadsPlainly e.announced (heard_as e id role bytes) (heard_as (plainly e) id role bytes)
 heard_plain e id (Untold front) bytes = ReadsAlike refl
 heard_plain e id Control bytes =
     let g : EndpointHistory = record e { control_on = Some id } in
-    second_plain (limit_of e) (is_second e.control_on id) e (read_control g bytes) (read_control (plainly g) bytes) (control_plain g bytes)
+    second_plain e.announced (is_second e.control_on id) e (read_control g bytes) (read_control (plainly g) bytes) (control_plain g bytes)
 heard_plain e id Encoder bytes =
     let g : EndpointHistory = record e { encoder_on = Some id } in
-    second_plain (limit_of e) (is_second e.encoder_on id) e (read_encoder g bytes) (read_encoder (plainly g) bytes) (encoder_plain g bytes)
+    second_plain e.announced (is_second e.encoder_on id) e (read_encoder g bytes) (read_encoder (plainly g) bytes) (encoder_plain g bytes)
 heard_plain e id Decoder bytes =
     let g : EndpointHistory = record e { decoder_on = Some id } in
-    second_plain (limit_of e) (is_second e.decoder_on id) e (read_decoder g bytes) (read_decoder (plainly g) bytes) (decoder_plain (is_some e.peer.settings) g bytes)
+    second_plain e.announced (is_second e.decoder_on id) e (read_decoder g bytes) (read_decoder (plainly g) bytes) (decoder_plain (is_some e.peer.settings) g bytes)
 heard_plain e id (Session n) bytes = ReadsAlike refl
 heard_plain e id (Push n) bytes = ReadsAlike refl
 heard_plain e id Ignored bytes = ReadsAlike refl
 
-unidirectional_plain : (e : EndpointHistory) (id : ℕ) (o : Unidirectional) (x : Role × List ℕ) → ReadsPlainly (limit_of e) (read_unidirectional e id o x) (read_unidirectional (plainly e) id o x)
+unidirectional_plain : (e : EndpointHistory) (id : ℕ) (o : Unidirectional) (x : Role × List ℕ) → ReadsPlainly e.announced (read_unidirectional e id o x) (read_unidirectional (plainly e) id o x)
 unidirectional_plain e id o (role, bytes) = heard_plain (with_unidirectional e id (with_bytes o (role, bytes))) id role bytes
 
 -- a receiver changes
@@ -180,7 +256,7 @@ module _ (e : EndpointHistory) (id : ℕ) where
       ∙ ap (λ i. with_incoming (plainly (opened e id)) id (g i)) (in_at e id) ∙ ap (λ i. with_incoming (plainly (opened e id)) id i) (same (incoming_at e id))
       ∙ with_in (opened e id) (g (incoming_at e id))
 
-  bytes_plain : (bytes : List ℕ) (k : Kind) → ReadsPlainly (limit_of e) (bytes_at e id bytes k) (bytes_at (plainly e) id bytes k)
+  bytes_plain : (bytes : List ℕ) (k : Kind) → ReadsPlainly e.announced (bytes_at e id bytes k) (bytes_at (plainly e) id bytes k)
   bytes_plain bytes Request = ReadsAlike (ap (λ f. let x : Found = (f, None) in x) (changes (λ i. kept i bytes) (λ i. refl)))
   bytes_plain bytes ServerOpened = ReadsAlike refl
   bytes_plain bytes OwnUnidirectional = ReadsAlike refl
@@ -218,44 +294,43 @@ module _ (e : EndpointHistory) (id : ℕ) where
   refused_plain : delivery_refusal (plainly e) id ≡ delivery_refusal e id
   refused_plain = refused_at (kind_of e.side id)
 
-arrival_plain : (e : EndpointHistory) (a : Arrival) → ReadsPlainly (limit_of e) (read_arrival e a) (read_arrival (plainly e) a)
+arrival_plain : (e : EndpointHistory) (a : Arrival) → ReadsPlainly e.announced (read_arrival e a) (read_arrival (plainly e) a)
 arrival_plain e (BytesCame id bytes) = bytes_plain e id bytes (kind_of e.side id)
 arrival_plain e (EndCame id) = ReadsAlike (end_plain e id (kind_of e.side id))
 arrival_plain e (ResetCame id code) = ReadsAlike (reset_plain e id code (kind_of e.side id))
 
--- what is read behind it, at the same limit
-then_plain_all : (limit : ℕ) (go : EndpointHistory → Found) (x : Found) → limit_of x.0 ≡ limit → ((f : EndpointHistory) → limit_of f ≡ limit → ReadsPlainly limit (go f) (go (plainly f)))
-    → ReadsPlainly limit (unless_faulty go x) (unless_faulty go (plain_found x))
-then_plain_all limit go (f, Some code) same goes = ReadsAlike refl
-then_plain_all limit go (f, None) same goes = goes f same
+-- what is read behind it, of the same endpoint
+then_plain_all : (own : Announced) (go : EndpointHistory → Found) (x : Found) → x.0.announced ≡ own → ((f : EndpointHistory) → f.announced ≡ own → ReadsPlainly own (go f) (go (plainly f)))
+    → ReadsPlainly own (unless_faulty go x) (unless_faulty go (plain_found x))
+then_plain_all own go (f, Some code) same goes = ReadsAlike refl
+then_plain_all own go (f, None) same goes = goes f same
 
-unless_plain : (limit : ℕ) (go : EndpointHistory → Found) (x y : Found) → limit_of x.0 ≡ limit → ((f : EndpointHistory) → limit_of f ≡ limit → ReadsPlainly limit (go f) (go (plainly f)))
-    → ReadsPlainly limit x y → ReadsPlainly limit (unless_faulty go x) (unless_faulty go y)
-unless_plain limit go (f, fault) y same goes (IsTooLong limited is) = IsTooLong limited (ap (λ o. (unless_faulty go (let x : Found = (f, o) in x)).1) is)
-unless_plain limit go x y same goes (ReadsAlike is) = subst (λ z. ReadsPlainly limit (unless_faulty go x) (unless_faulty go z)) (sym is) (then_plain_all limit go x same goes)
+unless_plain : (own : Announced) (go : EndpointHistory → Found) (x y : Found) → x.0.announced ≡ own → ((f : EndpointHistory) → f.announced ≡ own → ReadsPlainly own (go f) (go (plainly f)))
+    → ReadsPlainly own x y → ReadsPlainly own (unless_faulty go x) (unless_faulty go y)
+unless_plain own go (f, Some code) y same goes (IsTooLong limited is) = IsTooLong limited is
+unless_plain own go (f, None) y same goes (IsTooLong limited is) = absurd (cc)
+unless_plain own go x y same goes (ReadsAlike is) = subst (λ z. ReadsPlainly own (unless_faulty go x) (unless_faulty go z)) (sym is) (then_plain_all own go x same goes)
 
-all_within : (limit : ℕ) (arrivals : List Arrival) (e : EndpointHistory) → limit_of e ≡ limit → ReadsPlainly limit (read_all arrivals e) (read_all arrivals (plainly e))
-all_within limit [] e same = ReadsAlike refl
-all_within limit (a ∷ arrivals) e same =
-    unless_plain limit (read_all arrivals) (read_arrival e a) (read_arrival (plainly e) a) (ap (λ (own : Announced). own.choices.unfinished_limit) (arrival_announced e a) ∙ same)
-    (λ f at. all_within limit arrivals f at) (subst (λ n. ReadsPlainly n (read_arrival e a) (read_arrival (plainly e) a)) same (arrival_plain e a))
+all_within : (own : Announced) (arrivals : List Arrival) (e : EndpointHistory) → e.announced ≡ own → ReadsPlainly own (read_all arrivals e) (read_all arrivals (plainly e))
+all_within own [] e same = ReadsAlike refl
+all_within own (a ∷ arrivals) e same =
+    unless_plain own (read_all arrivals) (read_arrival e a) (read_arrival (plainly e) a) (arrival_announced e a ∙ same)
+    (λ f at. all_within own arrivals f at) (subst (λ x. ReadsPlainly x (read_arrival e a) (read_arrival (plainly e) a)) same (arrival_plain e a))
 
 -- all that is kept is read
-pub all_plain : (arrivals : List Arrival) (e : EndpointHistory) → ReadsPlainly (limit_of e) (read_all arrivals e) (read_all arrivals (plainly e))
-all_plain arrivals e = all_within (limit_of e) arrivals e refl
+pub all_plain : (arrivals : List Arrival) (e : EndpointHistory) → ReadsPlainly e.announced (read_all arrivals e) (read_all arrivals (plainly e))
+all_plain arrivals e = all_within e.announced arrivals e refl
 
 -- What came is answered as without strict messages, or it is too long.
 pub data ArrivesPlainly (e : EndpointHistory) (x y : Option Refusal × EndpointHistory) : Type 0 where
-  Exceeds : is_limit (limit_of e) ≡ true → x.0 ≡ Some (refusal.Connection excessive_load) → ArrivesPlainly e x y
+  Exceeds : is_limit (limit_of e) ≡ true → (code : ℕ) → is_excess (is_strict e.announced) (Some code) ≡ true → x.0 ≡ Some (refusal.Connection code) → ArrivesPlainly e x y
   Otherwise : CallsPlainly e x y → ArrivesPlainly e x y
 
-pub closed_too_long : (x : Found) → x.1 ≡ Some excessive_load → (closed_by x).0 ≡ Some (refusal.Connection excessive_load)
-closed_too_long (f, fault) is = ap (λ o. (closed_by (let x : Found = (f, o) in x)).0) is
-
-takes_plainly : (closed : Option ℕ) (r : Option Refusal) (e : EndpointHistory) (x y : Found) → ReadsPlainly (limit_of e) x y → ArrivesPlainly e (taken closed r e x) (taken closed r (plainly e) y)
+takes_plainly : (closed : Option ℕ) (r : Option Refusal) (e : EndpointHistory) (x y : Found) → ReadsPlainly e.announced x y → ArrivesPlainly e (taken closed r e x) (taken closed r (plainly e) y)
 takes_plainly (Some code) r e x y h = Otherwise (taken_plainly (Some code) r e x (plain_found x) refl)
 takes_plainly None (Some r) e x y h = Otherwise (taken_plainly None (Some r) e x (plain_found x) refl)
-takes_plainly None None e x y (IsTooLong limit is) = Exceeds limit (closed_too_long x is)
+takes_plainly None None e (f, Some code) y (IsTooLong limit is) = Exceeds limit code is refl
+takes_plainly None None e (f, None) y (IsTooLong limit is) = absurd (cc)
 takes_plainly None None e x y (ReadsAlike is) = Otherwise (taken_plainly None None e x y is)
 
 behind_plain : (kept : List Arrival) (e : EndpointHistory) (a : Arrival) → ArrivesPlainly e (arrives_behind kept e a) (arrives_behind kept (plainly e) a)

@@ -1,11 +1,12 @@
 -- Whole schedules at two ends, beside the same ends without strict messages.
-use Rattle.std.proofs.Common.{◌≡◌, Bool, true, false, if◌then◌else◌, List, [], ◌∷◌, ◌++◌, refl, ap, sym, ◌∙◌}
+use Rattle.std.proofs.Common.{◌≡◌, Bool, true, false, if◌then◌else◌, List, [], ◌∷◌, ◌++◌, refl, ap, sym, subst, ◌∙◌}
 use Rattle.std.specs.Prelude.{◌||◌}
 use Rattle.std.specs.List.{list_any}
 use Rattle.h3_world.specs.Ends.{Ends, answered, answers_of_ends, ends_after}
 use Rattle.h3_world.specs.declared.event.Answer.{Answer}
 use Rattle.h3_world.specs.declared.event.Event.{Event}
-use Rattle.h3_strict.specs.PlainEnds.{AreBounded, FewWaitAt, IsFront, NoneJudges, RunsPlainly, StepsPlainly, Alike, Judges, RefusesMalformed, answers_without_malformed, before_judged, finds_fault, is_malformed_refusal, judges, plain_ends, without_malformed}
+use Rattle.h3_strict.specs.PlainEnds.{AreBounded, FewWaitAt, IsFront, NoneJudges, RunsPlainly, StepsPlainly, Alike, Judges, RefusesMalformed, answers_without_malformed, asks_strictly, before_judged, finds_fault, is_malformed_refusal, judges, plain_ends, without_malformed}
+use Rattle.h3_strict.proofs.AnnouncedEnds.{asks_stay}
 use Rattle.h3_strict.proofs.PlainSteps.{every_step}
 
 -- an event of a schedule, before others
@@ -47,7 +48,7 @@ alike_on ends e events told same h = record {
     events_are : without_malformed (e ∷ events) (a ∷ later) ≡ e ∷ others
     events_are = ap (λ b. if b then others else e ∷ others) told
 
-step_on : (ends : Ends) (e : Event) (events : List Event) → (judges ends e ≡ true → (FewWaitAt ends → finds_fault (answered ends e).0 ≡ true) → ⊥) → StepsPlainly ends e → RunsPlainly (answered ends e).1 events → RunsPlainly ends (e ∷ events)
+step_on : (ends : Ends) (e : Event) (events : List Event) → (judges ends e ≡ true → (FewWaitAt ends → finds_fault (asks_strictly ends) (answered ends e).0 ≡ true) → ⊥) → StepsPlainly ends e → RunsPlainly (answered ends e).1 events → RunsPlainly ends (e ∷ events)
 step_on ends e events none (RefusesMalformed told same) h = refused_on ends e events told same h
 step_on ends e events none (Judges judged told) h = absurd (none judged told)
 step_on ends e events none (Alike told same) h = alike_on ends e events told same h
@@ -64,12 +65,16 @@ neither false rest h = (refl, h)
 
 -- a schedule in which no pull finds a fault
 module _ (few : (ends : Ends) → AreBounded ends → FewWaitAt ends) (keeps : (ends : Ends) (e : Event) → AreBounded ends → AreBounded (answered ends e).1) where
-  pub runs_faultless : (ends : Ends) (events : List Event) → AreBounded ends → list_any finds_fault (answers_of_ends ends events) ≡ false → RunsPlainly ends events
-  runs_faultless ends [] bounded h = record { answers = refl; leads = refl }
-  runs_faultless ends (e ∷ events) bounded h =
-      let parts = neither (finds_fault (answered ends e).0) (list_any finds_fault (answers_of_ends (answered ends e).1 events)) h in
-      step_on ends e events (λ judged told. not_both (finds_fault (answered ends e).0) parts.0 (told (few ends bounded))) (every_step ends e)
-      (runs_faultless (answered ends e).1 events (keeps ends e bounded) parts.1)
+  runs_with : (strict : Bool) (ends : Ends) (events : List Event) → asks_strictly ends ≡ strict → AreBounded ends → list_any (finds_fault strict) (answers_of_ends ends events) ≡ false → RunsPlainly ends events
+  runs_with strict ends [] asks bounded h = record { answers = refl; leads = refl }
+  runs_with strict ends (e ∷ events) asks bounded h =
+      let a = (answered ends e).0 in
+      let parts = neither (finds_fault strict a) (list_any (finds_fault strict) (answers_of_ends (answered ends e).1 events)) h in
+      step_on ends e events (λ judged told. not_both (finds_fault strict a) parts.0 (subst (λ s. finds_fault s a ≡ true) asks (told (few ends bounded)))) (every_step ends e)
+      (runs_with strict (answered ends e).1 events (asks_stay ends e ∙ asks) (keeps ends e bounded) parts.1)
+
+  pub runs_faultless : (ends : Ends) (events : List Event) → AreBounded ends → list_any (finds_fault (asks_strictly ends)) (answers_of_ends ends events) ≡ false → RunsPlainly ends events
+  runs_faultless ends events bounded h = runs_with (asks_strictly ends) ends events refl bounded h
 
 -- a schedule in which no event judges
 pub runs_plainly : (ends : Ends) (events : List Event) → NoneJudges ends events → RunsPlainly ends events

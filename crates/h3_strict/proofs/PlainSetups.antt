@@ -1,11 +1,7 @@
 -- New endpoints, and setups, without strict messages.
-use Rattle.std.proofs.Common.{◌≡◌, false, refl, sym, ap, ◌∙◌}
-use Rattle.std.specs.Prelude.{◌^◌, ◌-◌, Ok}
-use Rattle.h3_proto.specs.Config.{announced}
-use Rattle.h3_proto.specs.declared.config.Choices.{Choices}
+use Rattle.std.proofs.Common.{◌≡◌, refl}
 use Rattle.h3_proto.specs.declared.stream.Side.{Side}
 use Rattle.h3_proto.specs.declared.stream.Side.TheVariants.{Client, Server}
-use Rattle.h3_connection.specs.AnnouncingLaws.{announced_as, announces}
 use Rattle.h3_connection.specs.Endpoint.{new_endpoint}
 use Rattle.h3_connection.specs.declared.setup.Announced.{Announced}
 use Rattle.h3_world.specs.Ends.{new_ends}
@@ -21,21 +17,23 @@ pub new_ends_plainly : (setup : Setup) → plain_ends (new_ends setup) ≡ new_e
 new_ends_plainly setup = refl
 
 -- some configuration announces it
-abbrev without : Choices → Choices
-without choices = record choices { strict_messages = false; unfinished_limit = 2 ^ 62 - 1 }
-
 made_plainly : (a : Announced) → IsMade a → IsMade (plain a)
 made_plainly a h =
-    let is = announced_as (announced h.config h.grease) a.limits h.config.choices a h.made in
     record {
-      config = record h.config { choices = without h.config.choices };
+      settings = h.settings;
+      sends_grease = h.sends_grease;
       grease = h.grease;
       small = h.small;
-      made = announces (announced h.config h.grease) a.limits (without h.config.choices) is.pairs is.is is.table is.blocked refl ∙ ap (λ x. Ok (plain x)) (sym is.announced);
+      section = h.section;
+      sessions = h.sessions;
+      are = h.are;
+      table = h.table;
+      blocked = h.blocked;
+      within = refl;
     }
 
 pub setup_plainly : (setup : Setup) → IsMadeSetup setup → IsMadeSetup (plain_setup setup)
-setup_plainly setup h = record { client = made_plainly setup.client h.client; server = made_plainly setup.server h.server }
+setup_plainly setup h = record { client = made_plainly setup.client h.client; server = made_plainly setup.server h.server; takes = h.takes }
 
 -- the same protocols are taken
 pub same_protocols : (setup : Setup) (side : Side) → takes_any (announced_at (plain_setup setup) side) ≡ takes_any (announced_at setup side)

@@ -5,7 +5,6 @@ use Rattle.h3_proto.specs.declared.stream.Side.{Side}
 use Rattle.h3_proto.specs.declared.stream.Side.TheVariants.{Client, Server}
 use Rattle.std.proofs.lemmas.Bool.{and_parts}
 use Rattle.h3_proto.specs.Config.{is_limit}
-use Rattle.h3_connection.specs.Codes.{excessive_load}
 use Rattle.h3_connection.specs.Endpoint.{EndpointHistory, limit_of, bytes_waiting, own_waiting}
 use Rattle.h3_connection.specs.Keeping.{arrives, pulls}
 use Rattle.h3_connection.specs.Outgoing.{Outgoing, part_bytes_waiting}
@@ -18,18 +17,24 @@ use Rattle.h3_connection.specs.declared.arrival.Arrival.TheVariants.{BytesCame, 
 use Rattle.h3_connection.specs.declared.event.Pull.{Pull}
 use Rattle.h3_connection.specs.declared.event.Refusal.{Refusal}
 use Rattle.h3_connection.specs.declared.event.Refusal.TheVariants as refusal
+use Rattle.h3_connection.specs.Coming.{fields_behind}
+use Rattle.h3_world.specs.EndLists.{send_fields, send_trailer_fields}
+use Rattle.h3_world.specs.Lists.{listed_pull}
 use Rattle.h3_world.specs.Delivering.{reset_code}
-use Rattle.h3_world.specs.Ends.{Ends, answered, delivery, done, end_at, end_delivery, reset_delivery, was_offered, was_pulled, with_end}
+use Rattle.h3_world.specs.Ends.{Ends, answered, delivery, done, end_at, end_delivery, reset_delivery, was_listed, was_offered, was_pulled, with_end}
 use Rattle.h3_world.specs.declared.event.Answer.{Answer}
 use Rattle.h3_world.specs.declared.event.Answer.TheVariants as answer
 use Rattle.h3_world.specs.declared.event.Event.{Event}
 use Rattle.h3_world.specs.declared.event.Event.TheVariants as event
-use Rattle.h3_strict.specs.PlainEnds.{FewWaitBehind, StepsPlainly, Alike, Judges, RefusesMalformed, finds_fault, is_malformed_refusal, judges, plain_ends, refused_by, was_too_long}
+use Rattle.h3_strict.specs.PlainEnds.{FewWaitBehind, StepsPlainly, Alike, Judges, RefusesMalformed, asks_strictly, finds_fault, is_malformed_refusal, judges, plain_ends, refused_by, was_too_long}
+use Rattle.h3_connection.specs.StrictConnection.{is_strict}
 use Rattle.h3_strict.specs.Plainly.{exceeds, is_excess, is_judged, plain_outgoing, plainly}
 use Rattle.h3_strict.proofs.PlainCalls.{CallsPlainly, Malforms, Does, tells}
-use Rattle.h3_strict.proofs.PlainPulled.{IsAlike, IsJudged, PulledPlainly, pulls_plainly}
+use Rattle.h3_strict.proofs.PlainLists.{tells_same}
+use Rattle.h3_strict.proofs.StrictCodes.{asks_at, more_excess, more_told}
+use Rattle.h3_strict.proofs.PlainPulled.{IsAlike, IsJudged, PulledPlainly, lists_plain, pulls_plainly}
 use Rattle.h3_strict.proofs.PlainReading.{ArrivesPlainly, Exceeds, Otherwise, arrives_plainly}
-use Rattle.h3_strict.proofs.PlainSends.{advances_plainly, bodies_plainly, cancels_plainly, ends_plainly, goaways_plainly, heads_plainly, opens_plainly, resets_plainly, trailers_plainly}
+use Rattle.h3_strict.proofs.PlainSends.{advances_plainly, bodies_plainly, cancels_plainly, ends_plainly, goaways_plainly, heads_plainly, opens_plainly, resets_plainly, trailers_plainly, fields_plainly, trailer_fields_plainly}
 use Rattle.h3_strict.proofs.PlainStreams.{at_each, count_each}
 
 -- an answer and the ends after it, beside these without strict messages
@@ -80,8 +85,8 @@ module _ (ends : Ends) (side : Side) where
       (done_beside (success (end_at ends side)) _ _ plain (h (end_at ends side))))
 
   pulled_steps : (id : ℕ) (x y : Pull × EndpointHistory) → answered ends (event.Pull side id) ≡ was_pulled ends side x → answered (plain_ends ends) (event.Pull side id) ≡ was_pulled (plain_ends ends) side y
-      → PulledPlainly (FewWaitBehind (end_at ends side)) (is_judged (end_at ends side) id) x y → StepsPlainly ends (event.Pull side id)
-  pulled_steps id x y is plain_is (IsJudged judged told) = Judges judged (λ few. ap (λ z. finds_fault z.0) is ∙ told (few side))
+      → PulledPlainly (is_strict (end_at ends side).announced) (FewWaitBehind (end_at ends side)) (is_judged (end_at ends side) id) x y → StepsPlainly ends (event.Pull side id)
+  pulled_steps id x y is plain_is (IsJudged judged told) = Judges judged (λ few. ap (λ z. finds_fault (asks_strictly ends) z.0) is ∙ more_told (is_strict (end_at ends side).announced) (asks_strictly ends) x.0 (asks_at ends side) (told (few side)))
   pulled_steps id (a, e) y is plain_is (IsAlike same) =
       Alike (ap (λ z. is_malformed_refusal z.0) is)
       (plain_is ∙ ap (was_pulled (plain_ends ends) side) same ∙ ap (λ v. let z : Answer × Ends = (answer.Pulled a, v) in z) (sets_end ends side e) ∙ sym (ap (λ z. let w : Answer × Ends = (z.0, plain_ends z.1) in w) is))
@@ -90,6 +95,26 @@ module _ (ends : Ends) (side : Side) where
   pull_steps id =
       pulled_steps id (pulls (end_at ends side) id) (pulls (plainly (end_at ends side)) id) refl (ap (λ f. was_pulled (plain_ends ends) side (pulls f id)) (at_end ends side))
       (pulls_plainly (end_at ends side) id)
+
+  -- with lists
+  listed_steps : (id : ℕ) (x y : Pull × EndpointHistory) → answered ends (event.PullFields side id) ≡ was_listed ends side id x → answered (plain_ends ends) (event.PullFields side id) ≡ was_listed (plain_ends ends) side id y
+      → listed_pull (fields_behind (end_at ends side).kept (plainly (end_at ends side)) id) x.0 ≡ listed_pull (fields_behind (end_at ends side).kept (end_at ends side) id) x.0
+      → PulledPlainly (is_strict (end_at ends side).announced) (FewWaitBehind (end_at ends side)) (is_judged (end_at ends side) id) x y → StepsPlainly ends (event.PullFields side id)
+  listed_steps id (a, e) y is plain_is same_list (IsJudged judged told) =
+      Judges judged (λ few. ap (λ z. finds_fault (asks_strictly ends) z.0) is ∙ tells_same (asks_strictly ends) (fields_behind (end_at ends side).kept (end_at ends side) id) a
+      ∙ more_told (is_strict (end_at ends side).announced) (asks_strictly ends) a (asks_at ends side) (told (few side)))
+  listed_steps id (a, e) y is plain_is same_list (IsAlike same) =
+      Alike (ap (λ z. is_malformed_refusal z.0) is)
+      (plain_is ∙ ap (was_listed (plain_ends ends) side id) same
+      ∙ ap (λ (f : EndpointHistory). let z : Answer × Ends = (answer.Listed (listed_pull (fields_behind f.kept f id) a), with_end (plain_ends ends) side (plainly e)) in z) (at_end ends side)
+      ∙ ap (λ l. let z : Answer × Ends = (answer.Listed l, with_end (plain_ends ends) side (plainly e)) in z) same_list
+      ∙ ap (λ v. let z : Answer × Ends = (answer.Listed (listed_pull (fields_behind (end_at ends side).kept (end_at ends side) id) a), v) in z) (sets_end ends side e)
+      ∙ sym (ap (λ z. let w : Answer × Ends = (z.0, plain_ends z.1) in w) is))
+
+  list_steps : (id : ℕ) → StepsPlainly ends (event.PullFields side id)
+  list_steps id =
+      listed_steps id (pulls (end_at ends side) id) (pulls (plainly (end_at ends side)) id) refl (ap (λ f. was_listed (plain_ends ends) side id (pulls f id)) (at_end ends side))
+      (lists_plain (end_at ends side).kept (end_at ends side) id) (pulls_plainly (end_at ends side) id)
 
 -- what is shown of an end
 module _ (e : EndpointHistory) (id : ℕ) where
@@ -129,17 +154,21 @@ data Delivers (ends : Ends) (reader : Side) (x y : Answer × Ends) : Type 0 wher
   IsExcess : was_too_long ends reader x.0 ≡ true → Delivers ends reader x y
   IsBeside : Beside ends x y → Delivers ends reader x y
 
-excess_told : (a : Answer) → is_excess (refused_by a) ≡ true → finds_fault a ≡ true
-excess_told (answer.Pulled p) is = absurd (cc)
-excess_told a is = is
+excess_told : (strict : Bool) (a : Answer) → is_excess strict (refused_by a) ≡ true → finds_fault strict a ≡ true
+excess_told strict (answer.Pulled p) is = absurd (cc)
+excess_told strict (answer.Listed l) is = absurd (cc)
+excess_told strict a is = is
 
 delivers_steps : (ends : Ends) (reader : Side) (e : Event) → judges ends e ≡ was_too_long ends reader (answered ends e).0 → Delivers ends reader (answered ends e) (answered (plain_ends ends) e) → StepsPlainly ends e
-delivers_steps ends reader e judged (IsExcess long) = Judges (judged ∙ long) (λ few. excess_told (answered ends e).0 (and_parts (is_excess (refused_by (answered ends e).0)) (is_limit (limit_of (end_at ends reader))) long).0)
+delivers_steps ends reader e judged (IsExcess long) =
+    let fault = refused_by (answered ends e).0 in
+    let strict = is_strict (end_at ends reader).announced in
+    Judges (judged ∙ long) (λ few. excess_told (asks_strictly ends) (answered ends e).0 (more_excess strict (asks_strictly ends) fault (asks_at ends reader) (and_parts (is_excess strict fault) (is_limit (limit_of (end_at ends reader))) long).0))
 delivers_steps ends reader e judged (IsBeside h) = steps ends e h
 
 -- the fault of an end that limits it
-too_long : (ends : Ends) (reader : Side) (a : Answer) → refused_by a ≡ Some excessive_load → is_limit (limit_of (end_at ends reader)) ≡ true → was_too_long ends reader a ≡ true
-too_long ends reader a is limit = ap (exceeds (end_at ends reader)) is ∙ limit
+too_long : (ends : Ends) (reader : Side) (a : Answer) (code : ℕ) → is_excess (is_strict (end_at ends reader).announced) (Some code) ≡ true → refused_by a ≡ Some code → is_limit (limit_of (end_at ends reader)) ≡ true → was_too_long ends reader a ≡ true
+too_long ends reader a code long is limit = ap (exceeds (end_at ends reader)) is ∙ ap (λ b. b && is_limit (limit_of (end_at ends reader))) long ∙ limit
 
 -- a test that comes out alike
 by_test : (ends : Ends) (reader : Side) (b c : Bool) (x v y w : Answer × Ends) → c ≡ b → Delivers ends reader x v → Delivers ends reader y w → Delivers ends reader (if b then x else y) (if c then v else w)
@@ -170,16 +199,16 @@ module _ (ends : Ends) (id : ℕ) where
           ∙ ap (λ v. with_end v (other writer) (plainly e)) (sets_end ends writer new)
           ∙ sets_end (with_end ends writer new) (other writer) e))
 
-  offered_long : (writer : Side) (count : ℕ) (x : Option Refusal × EndpointHistory) → x.0 ≡ Some (refusal.Connection excessive_load) → refused_by (was_offered ends writer id count x).0 ≡ Some excessive_load
-  offered_long writer count (r, e) is = ap (λ o. refused_by (was_offered ends writer id count (let x : Option Refusal × EndpointHistory = (o, e) in x)).0) is
+  offered_long : (writer : Side) (count : ℕ) (x : Option Refusal × EndpointHistory) (code : ℕ) → x.0 ≡ Some (refusal.Connection code) → refused_by (was_offered ends writer id count x).0 ≡ Some code
+  offered_long writer count (r, e) code is = ap (λ o. refused_by (was_offered ends writer id count (let x : Option Refusal × EndpointHistory = (o, e) in x)).0) is
 
   offers : (writer : Side) (count : ℕ) (x y : Option Refusal × EndpointHistory) → ArrivesPlainly (end_at ends (other writer)) x y
       → Delivers ends (other writer) (was_offered ends writer id count x) (was_offered (plain_ends ends) writer id count y)
-  offers writer count x y (Exceeds limit is) = IsExcess (too_long ends (other writer) (was_offered ends writer id count x).0 (offered_long writer count x is) limit)
+  offers writer count x y (Exceeds limit code long is) = IsExcess (too_long ends (other writer) (was_offered ends writer id count x).0 code long (offered_long writer count x code is) limit)
   offers writer count x y (Otherwise h) = IsBeside (offered writer count x y h)
 
-  done_long : (reader : Side) (x : Option Refusal × EndpointHistory) → x.0 ≡ Some (refusal.Connection excessive_load) → refused_by (done ends reader answer.Done x).0 ≡ Some excessive_load
-  done_long reader (r, e) is = ap (λ o. refused_by (done ends reader answer.Done (let x : Option Refusal × EndpointHistory = (o, e) in x)).0) is
+  done_long : (reader : Side) (x : Option Refusal × EndpointHistory) (code : ℕ) → x.0 ≡ Some (refusal.Connection code) → refused_by (done ends reader answer.Done x).0 ≡ Some code
+  done_long reader (r, e) code is = ap (λ o. refused_by (done ends reader answer.Done (let x : Option Refusal × EndpointHistory = (o, e) in x)).0) is
 
   -- an end or a reset
   closes : (reader : Side) (a : Arrival) → Delivers ends reader (done ends reader answer.Done (arrives (end_at ends reader) a)) (done (plain_ends ends) reader answer.Done (arrives (end_at (plain_ends ends) reader) a))
@@ -189,7 +218,7 @@ module _ (ends : Ends) (id : ℕ) where
     where
       by_arrival : {y : Option Refusal × EndpointHistory} → ArrivesPlainly (end_at ends reader) (arrives (end_at ends reader) a) y
           → Delivers ends reader (done ends reader answer.Done (arrives (end_at ends reader) a)) (done (plain_ends ends) reader answer.Done y)
-      by_arrival (Exceeds limit is) = IsExcess (too_long ends reader (done ends reader answer.Done (arrives (end_at ends reader) a)).0 (done_long reader (arrives (end_at ends reader) a) is) limit)
+      by_arrival (Exceeds limit code long is) = IsExcess (too_long ends reader (done ends reader answer.Done (arrives (end_at ends reader) a)).0 code long (done_long reader (arrives (end_at ends reader) a) code is) limit)
       by_arrival (Otherwise h) = IsBeside (done_beside ends reader answer.Done _ _ refl h)
 
   as_is : (reader : Side) (a : Answer) → is_malformed_refusal a ≡ false → Delivers ends reader (a, ends) (a, plain_ends ends)
@@ -250,8 +279,10 @@ shows ends side = Goes refl (ap (λ a. let z : Answer × Ends = (a, plain_ends e
 pub every_step : (ends : Ends) (e : Event) → StepsPlainly ends e
 every_step ends (event.OpenRequest side) = steps ends _ (calls ends side (λ e. answer.Opened e.next_id) sender.open_request refl refl opens_plainly)
 every_step ends (event.Head side id head) = steps ends _ (calls ends side (λ e. answer.Done) (λ e. sender.send_head e id head) refl refl (λ e. heads_plainly e id head))
+every_step ends (event.Fields side id fields) = steps ends _ (calls ends side (λ e. answer.Done) (λ e. send_fields e id fields) refl refl (λ e. fields_plainly e id fields))
 every_step ends (event.Body side id bytes) = steps ends _ (calls ends side (λ e. answer.Done) (λ e. sender.send_body e id bytes) refl refl (λ e. bodies_plainly e id bytes))
 every_step ends (event.Trailer side id trailer) = steps ends _ (calls ends side (λ e. answer.Done) (λ e. sender.send_trailer e id trailer) refl refl (λ e. trailers_plainly e id trailer))
+every_step ends (event.TrailerFields side id fields) = steps ends _ (calls ends side (λ e. answer.Done) (λ e. send_trailer_fields e id fields) refl refl (λ e. trailer_fields_plainly e id fields))
 every_step ends (event.Finish side id) = steps ends _ (calls ends side (λ e. answer.Done) (λ e. sender.finish e id) refl refl (λ e. ends_plainly e id))
 every_step ends (event.Reset side id) = steps ends _ (calls ends side (λ e. answer.Done) (λ e. sender.reset e id) refl refl (λ e. resets_plainly e id))
 every_step ends (event.Cancel side id) = steps ends _ (calls ends side (λ e. answer.Done) (λ e. sender.cancel e id) refl refl (λ e. cancels_plainly e id))
@@ -260,4 +291,5 @@ every_step ends (event.Deliver side id count) = delivers_steps ends (other side)
 every_step ends (event.DeliverEnd side id) = delivers_steps ends (other side) (event.DeliverEnd side id) refl (delivers_end ends id side)
 every_step ends (event.DeliverReset side id) = delivers_steps ends (other side) (event.DeliverReset side id) refl (delivers_reset ends id side)
 every_step ends (event.Pull side id) = pull_steps ends side id
+every_step ends (event.PullFields side id) = list_steps ends side id
 every_step ends (event.Show side) = steps ends _ (shows ends side)

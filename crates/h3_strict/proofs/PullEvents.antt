@@ -121,11 +121,11 @@ module _ (laws : Laws) (setup : Setup) (made : IsMadeSetup (plain_setup setup)) 
       r : Receiving w puller side id i
       r = receiving i is
 
-      by_fault : (o : Option StreamFault) → (flow w (other side) id).fault ≡ o → (b : Bool) → is_over (flow w (other side) id) ≡ b → tells_malformed (pull_stream puller.side puller.announced id puller.decoding.decoder i).answer ≡ false
+      by_fault : (o : Option StreamFault) → (flow w (other side) id).fault ≡ o → (b : Bool) → is_over (flow w (other side) id) ≡ b → tells_malformed false (pull_stream puller.side puller.announced id puller.decoding.decoder i).answer ≡ false
       by_fault (Some fault) e b k =
-          ap (λ (p : Pulled). tells_malformed p.answer) (given_up_again puller.side puller.announced id puller i fault (r.same.fault ∙ e))
+          ap (λ (p : Pulled). tells_malformed false p.answer) (given_up_again puller.side puller.announced id puller i fault (r.same.fault ∙ e))
           ∙ subst IsFine (ap (λ (x : Incoming). x.fault) r.here ∙ r.same.fault ∙ e) tallied.fine
-      by_fault None e true k = ap (λ (p : Pulled). tells_malformed p.answer) (over_again puller.side puller.announced id puller i (r.same.fault ∙ e) (r.same.is_over ∙ k))
+      by_fault None e true k = ap (λ (p : Pulled). tells_malformed false p.answer) (over_again puller.side puller.announced id puller i (r.same.fault ∙ e) (r.same.is_over ∙ k))
       by_fault None e false k = (counts_on i r e k).judges_not
 
   kind_not_judged : (k : Kind) → judged_as (unkept puller) id k ≡ false

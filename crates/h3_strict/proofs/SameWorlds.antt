@@ -7,6 +7,7 @@ use Rattle.h3_connection.specs.declared.event.Pull.TheVariants as pull
 use Rattle.h3_connection.specs.declared.event.Refusal.{Refusal}
 use Rattle.h3_world.specs.Ends.{Ends, answered, answers_of_ends, ends_after}
 use Rattle.h3_world.specs.Headline.{Happens}
+use Rattle.h3_world.specs.Lists.{pull_of}
 use Rattle.h3_world.specs.Pulling.{PullsNext, settled}
 use Rattle.h3_world.specs.Run.{Run}
 use Rattle.h3_world.specs.Step.{Does, Step}
@@ -39,11 +40,18 @@ pull_same : (setup : Setup) (u : World) (side : Side) (id : ℕ) (a : Answer) (v
 pull_same setup u side id (answer.Pulled q) v w h k = pulls_same setup u side id q v w (settled u side id) h k
 pull_same setup u side id _ v w h k = absurd h
 
+-- with lists
+listed_same : (setup : Setup) (u : World) (side : Side) (id : ℕ) (a : Answer) (v w : World) → Step setup u (event.PullFields side id) a v → Step setup u (event.PullFields side id) a w → v ≡ w
+listed_same setup u side id (answer.Listed l) v w h k = pulls_same setup u side id (pull_of l) v w (settled u side id) h.0 k.0
+listed_same setup u side id _ v w h k = absurd h
+
 pub step_same : (setup : Setup) (u : World) (e : Event) (a : Answer) (v w : World) → Step setup u e a v → Step setup u e a w → v ≡ w
 step_same setup u (event.OpenRequest side) a v w h k = does_same _ _ _ _ a v w h k
 step_same setup u (event.Head side id head) a v w h k = does_same _ _ _ _ a v w h k
 step_same setup u (event.Body side id bytes) a v w h k = does_same _ _ _ _ a v w h k
 step_same setup u (event.Trailer side id trailer) a v w h k = does_same _ _ _ _ a v w h k
+step_same setup u (event.Fields side id fields) a v w h k = does_same _ _ _ _ a v w h k
+step_same setup u (event.TrailerFields side id fields) a v w h k = does_same _ _ _ _ a v w h k
 step_same setup u (event.Finish side id) a v w h k = does_same _ _ _ _ a v w h k
 step_same setup u (event.Reset side id) a v w h k = does_same _ _ _ _ a v w h k
 step_same setup u (event.Cancel side id) a v w h k = does_same _ _ _ _ a v w h k
@@ -52,6 +60,7 @@ step_same setup u (event.Deliver side id count) a v w h k = given_same a v w _ h
 step_same setup u (event.DeliverEnd side id) a v w h k = given_same a v w _ h k
 step_same setup u (event.DeliverReset side id) a v w h k = given_same a v w _ h k
 step_same setup u (event.Pull side id) a v w h k = pull_same setup u side id a v w h k
+step_same setup u (event.PullFields side id) a v w h k = listed_same setup u side id a v w h k
 step_same setup u (event.Show side) a v w h k = h.1 ∙ sym k.1
 
 -- one world behind a run

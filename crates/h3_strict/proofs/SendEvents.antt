@@ -1,7 +1,8 @@
 -- Events by which a strict end sends.
 use Rattle.std.proofs.Common.{◌≡◌, inl, inr, ℕ, zero, suc, ◌≤◌, Bool, true, false, List, [], ◌∷◌, ◌++◌, length, take, refl, sym, ap, ◌∙◌, subst, Option, Some, None, if◌then◌else◌}
 use Rattle.std.specs.Prelude.{◌==◌, ◌&&◌, ◌||◌, not, flat_map, unwrap_or, is_some, option_map}
-use Rattle.h3_header.specs.Head.{Head, head_fields}
+use Rattle.h3_field.specs.Field.{Field}
+use Rattle.h3_header.specs.Head.{Head}
 use Rattle.h3_messages.specs.Content.{awaited_by, content_of_request, may_end}
 use Rattle.h3_messages.specs.OwnMessageLaws.{own_request_content, own_response_content}
 use Rattle.h3_messages.specs.OwnMessages.{IsSentOf, content_of_own_response}
@@ -112,67 +113,67 @@ no_end_yet o unsent takes = by_tests (sent.is_unended o) (is_unsent o.parts) uns
 parts_of : (o p : Outgoing) (l : List OwnPart) → o.parts ≡ l → is_unsent l ≡ true → is_unsent o.parts ≡ true
 parts_of o p l is h = ap is_unsent is ∙ h
 
-module _ (setup : Setup) (w : World) (ends : Ends) (known : ℕ → Bool) (i : ℕ) (head : Head) (h : Stands (plain_setup setup) w (plain_ends ends)) (t : Tallies setup w ends known)
+module _ (setup : Setup) (w : World) (ends : Ends) (known : ℕ → Bool) (i : ℕ) (head : Head) (fields : List Field) (h : Stands (plain_setup setup) w (plain_ends ends)) (t : Tallies setup w ends known)
     (strict : (side : Side) → (announced_at setup side).choices.strict_messages ≡ true) where
   pub strict_end : (s : Side) → (end_at ends s).announced.choices.strict_messages ≡ true
   strict_end s = ap (λ (a : Announced). a.choices.strict_messages) (t.announced s) ∙ strict s
 
   -- An interim head, which a server sends.
-  pub interim_tally : (s : Side) → s ≡ Server → is_open w s i ≡ true → TakesHead (end_at ends s) i head → is_interim head.status ≡ true
-      → Tallies setup (with_section Interim w s i (head_fields head)) (with_end ends s (after_head (end_at ends s) i head (strict_end s))) known
+  pub interim_tally : (s : Side) → s ≡ Server → is_open w s i ≡ true → TakesHead (end_at ends s) i head fields → is_interim head.status ≡ true
+      → Tallies setup (with_section Interim w s i fields) (with_end ends s (after_head (end_at ends s) i head fields (strict_end s))) known
   interim_tally Client off opened takes interim = absurd (cc)
   interim_tally Server on opened takes interim =
       let e = ends.server in
       let there = open_there w Server i opened in
-      let q = having_encoded (party w Server) i (head_fields head) in
-      let part = Interim (section_sent (party w Server) i (head_fields head) (flow w Server i)) in
-      let p = said_head e i head (strict_end Server) in
+      let q = having_encoded (party w Server) i fields in
+      let part = Interim (section_sent (party w Server) i fields (flow w Server i)) in
+      let p = said_head e i head fields (strict_end Server) in
       let sound = sound_flow (plain_setup setup) w Server i h.sound there in
-      let along = head_along setup w ends Server i head Client (asked_in (flow w Client i).sent) h opened takes in
-      part_tally setup w (with_section Interim w Server i (head_fields head)) ends known Server i part p (after_head e i head (strict_end Server))
-      (sends_part w (with_section Interim w Server i (head_fields head)) ends Server i part p (after_head e i head (strict_end Server)) (flows_with_party w Server q i part there) (head_out e i head (strict_end Server))
-      (λ id. subst (λ (l : Streams Incoming). SameCounts (incoming_at e id) (unwrap_or (stream_at l id) nothing_came)) (sym (server_incoming e i head (strict_end Server) (side_of setup w ends Server h))) (same_counts (incoming_at e id))) refl)
+      let along = head_along setup w ends Server i head fields Client (asked_in (flow w Client i).sent) h opened takes in
+      part_tally setup w (with_section Interim w Server i fields) ends known Server i part p (after_head e i head fields (strict_end Server))
+      (sends_part w (with_section Interim w Server i fields) ends Server i part p (after_head e i head fields (strict_end Server)) (flows_with_party w Server q i part there) (head_out e i head fields (strict_end Server))
+      (λ id. subst (λ (l : Streams Incoming). SameCounts (incoming_at e id) (unwrap_or (stream_at l id) nothing_came)) (sym (server_incoming e i head fields (strict_end Server) (side_of setup w ends Server h))) (same_counts (incoming_at e id))) refl)
       sound.out refl
-      (head_unbroken setup w ends known Server i head h t (strict Server) takes, subst (IsAwaited Client) (sym along) (asked_awaited (flow w Client i).sent))
+      (head_unbroken setup w ends known Server i head fields h t (strict Server) takes, subst (IsAwaited Client) (sym along) (asked_awaited (flow w Client i).sent))
       (λ ends_now. absurd (no_end_yet p (by_kind (is_interim head.status) interim) ends_now)) t
     where
-      by_kind : (b : Bool) → b ≡ true → is_unsent ((outgoing_at ends.server i).parts ++ (if b then OwnInterim (written_section ends.server.encoder i (head_fields head)) else OwnHead (written_section ends.server.encoder i (head_fields head))) ∷ []) ≡ true
-      by_kind true e = still_unsent (outgoing_at ends.server i).parts (written_section ends.server.encoder i (head_fields head)) (head_is_open (outgoing_at ends.server i) takes.takes).1
+      by_kind : (b : Bool) → b ≡ true → is_unsent ((outgoing_at ends.server i).parts ++ (if b then OwnInterim (written_section ends.server.encoder i fields) else OwnHead (written_section ends.server.encoder i fields)) ∷ []) ≡ true
+      by_kind true e = still_unsent (outgoing_at ends.server i).parts (written_section ends.server.encoder i fields) (head_is_open (outgoing_at ends.server i) takes.takes).1
       by_kind false e = absurd (cc)
 
   -- A final head, which a server sends where it knows what was asked.
-  pub response_tally : is_open w Server i ≡ true → TakesHead ends.server i head → is_interim head.status ≡ false → known i ≡ true
-      → Tallies setup (with_section HeadPart w Server i (head_fields head)) (with_end ends Server (after_head ends.server i head (strict_end Server))) known
+  pub response_tally : is_open w Server i ≡ true → TakesHead ends.server i head fields → is_interim head.status ≡ false → known i ≡ true
+      → Tallies setup (with_section HeadPart w Server i fields) (with_end ends Server (after_head ends.server i head fields (strict_end Server))) known
   response_tally opened takes final knows =
       let e = ends.server in
       let there = open_there w Server i opened in
-      let q = having_encoded (party w Server) i (head_fields head) in
+      let q = having_encoded (party w Server) i fields in
       let f = flow w Server i in
       let request = (flow w Client i).sent in
-      let part = HeadPart (section_sent (party w Server) i (head_fields head) f) in
-      let p = said_head e i head (strict_end Server) in
-      let v = with_section HeadPart w Server i (head_fields head) in
-      let next = with_end ends Server (after_head e i head (strict_end Server)) in
+      let part = HeadPart (section_sent (party w Server) i fields f) in
+      let p = said_head e i head fields (strict_end Server) in
+      let v = with_section HeadPart w Server i fields in
+      let next = with_end ends Server (after_head e i head fields (strict_end Server)) in
       let sound = sound_flow (plain_setup setup) w Server i h.sound there in
-      let along = head_along setup w ends Server i head Client (asked_in request) h opened takes in
+      let along = head_along setup w ends Server i head fields Client (asked_in request) h opened takes in
       let k = t.knows i knows in
-      let content = content_of_own e.side (known_of (stream_at e.incoming i)) (head_fields head) in
-      let told : content ≡ content_of_own_response (asked_in request) (head_fields head) =
-      ap (λ d. content_of_own d (known_of (stream_at e.incoming i)) (head_fields head)) (side_of setup w ends Server h)
-      ∙ ap (λ o. content_of_response_to o (head_fields head)) (known_is (stream_at e.incoming i) ∙ k.response) in
+      let content = content_of_own e.side (known_of (stream_at e.incoming i)) fields in
+      let told : content ≡ content_of_own_response (asked_in request) fields =
+      ap (λ d. content_of_own d (known_of (stream_at e.incoming i)) fields) (side_of setup w ends Server h)
+      ∙ ap (λ o. content_of_response_to o fields) (known_is (stream_at e.incoming i) ∙ k.response) in
       let flows = flows_with_party w Server q i part there in
       sends_tally setup w v ends next known Server i part p
-      (sends_part w v ends Server i part p (after_head e i head (strict_end Server)) flows (head_out e i head (strict_end Server))
-      (λ id. subst (λ (l : Streams Incoming). SameCounts (incoming_at e id) (unwrap_or (stream_at l id) nothing_came)) (sym (server_incoming e i head (strict_end Server) (side_of setup w ends Server h))) (same_counts (incoming_at e id))) refl)
+      (sends_part w v ends Server i part p (after_head e i head fields (strict_end Server)) flows (head_out e i head fields (strict_end Server))
+      (λ id. subst (λ (l : Streams Incoming). SameCounts (incoming_at e id) (unwrap_or (stream_at l id) nothing_came)) (sym (server_incoming e i head fields (strict_end Server) (side_of setup w ends Server h))) (same_counts (incoming_at e id))) refl)
       sound.out (λ id. ap (λ (x : Flow). asked_in x.sent) (flows Client id)) (λ id. ap (λ (x : Flow). has_head x.sent) (flows Client id))
       (λ id has. ap (λ (x : Flow). has_head x.sent) (flows Client id) ∙ asks k.has id (i == id) refl (sym (ap (λ (x : Flow). has_head x.sent) (flows Server id)) ∙ has))
-      (head_unbroken setup w ends known Server i head h t (strict Server) takes, subst (IsAwaited Client) (sym along) (asked_awaited request))
+      (head_unbroken setup w ends known Server i head fields h t (strict Server) takes, subst (IsAwaited Client) (sym along) (asked_awaited request))
       (λ ends_now.
-      subst (λ c. IsSentOf p.content (content_of_head Client c (head_fields head))) (sym along)
-      (subst (λ c. IsSentOf c (content_of_head Client (asked_in request) (head_fields head)))
-      (sym (ap (λ b. if b then content else (outgoing_at e i).content) (head_is_open (outgoing_at e i) takes.takes).0 ∙ told)) (own_response_content (asked_in request) (head_fields head)))) t
+      subst (λ c. IsSentOf p.content (content_of_head Client c fields)) (sym along)
+      (subst (λ c. IsSentOf c (content_of_head Client (asked_in request) fields))
+      (sym (ap (λ b. if b then content else (outgoing_at e i).content) (head_is_open (outgoing_at e i) takes.takes).0 ∙ told)) (own_response_content (asked_in request) fields))) t
     where
-      asks : has_head (flow w Client i).sent ≡ true → (id : ℕ) (b : Bool) → (i == id) ≡ b → has_head (if b then appended (flow w Server i) (HeadPart (section_sent (party w Server) i (head_fields head) (flow w Server i))) else flow w Server id).sent ≡ true
+      asks : has_head (flow w Client i).sent ≡ true → (id : ℕ) (b : Bool) → (i == id) ≡ b → has_head (if b then appended (flow w Server i) (HeadPart (section_sent (party w Server) i fields (flow w Server i))) else flow w Server id).sent ≡ true
           → has_head (flow w Client id).sent ≡ true
       asks has id true e k = subst (λ n. has_head (flow w Client n).sent ≡ true) (same_number i id e) has
       asks has id false e k = t.asked id k
@@ -233,22 +234,22 @@ false_true : false ≡ true → ⊥
 false_true e = cc
 
 -- **The final head of a request.** Its response is awaited by what it asks.
-module _ (setup : Setup) (w : World) (ends : Ends) (known : ℕ → Bool) (i : ℕ) (head : Head) (h : Stands (plain_setup setup) w (plain_ends ends)) (t : Tallies setup w ends known)
-    (strict : (side : Side) → (announced_at setup side).choices.strict_messages ≡ true) (opened : is_open w Client i ≡ true) (takes : TakesHead ends.client i head) where
+module _ (setup : Setup) (w : World) (ends : Ends) (known : ℕ → Bool) (i : ℕ) (head : Head) (fields : List Field) (h : Stands (plain_setup setup) w (plain_ends ends)) (t : Tallies setup w ends known)
+    (strict : (side : Side) → (announced_at setup side).choices.strict_messages ≡ true) (opened : is_open w Client i ≡ true) (takes : TakesHead ends.client i head fields) where
   pub asking : ends.client.announced.choices.strict_messages ≡ true
   asking = ap (λ (a : Announced). a.choices.strict_messages) (t.announced Client) ∙ strict Client
 
   abbrev pub request_part : Part
-  request_part = HeadPart (section_sent (party w Client) i (head_fields head) (flow w Client i))
+  request_part = HeadPart (section_sent (party w Client) i fields (flow w Client i))
 
   abbrev pub asks_for : Content
-  asks_for = awaited_by (head_fields head)
+  asks_for = awaited_by fields
 
   is_there : IsThere w i
   is_there = open_there w Client i opened
 
-  flows_are : (writer : Side) (id : ℕ) → flow (with_section HeadPart w Client i (head_fields head)) writer id ≡ (if is_on writer id Client i then appended (flow w Client i) request_part else flow w writer id)
-  flows_are writer id = flows_with_party w Client (having_encoded (party w Client) i (head_fields head)) i request_part is_there writer id
+  flows_are : (writer : Side) (id : ℕ) → flow (with_section HeadPart w Client i fields) writer id ≡ (if is_on writer id Client i then appended (flow w Client i) request_part else flow w writer id)
+  flows_are writer id = flows_with_party w Client (having_encoded (party w Client) i fields) i request_part is_there writer id
 
   -- before it no head was sent, neither of the request nor of its response
   no_request : has_head (flow w Client i).sent ≡ false
@@ -261,7 +262,7 @@ module _ (setup : Setup) (w : World) (ends : Ends) (known : ℕ → Bool) (i : �
   response_unsent = none_sent (party w Server) None 0 (flow w Server i).sent (sound_flow (plain_setup setup) w Server i h.sound is_there).sent refl no_response
 
   asked_now : (asked_in (appended (flow w Client i) request_part).sent ≡ asks_for) × (has_head (appended (flow w Client i) request_part).sent ≡ true)
-  asked_now = asked_first (flow w Client i).sent (section_sent (party w Client) i (head_fields head) (flow w Client i)) no_request
+  asked_now = asked_first (flow w Client i).sent (section_sent (party w Client) i fields (flow w Client i)) no_request
 
   -- its receiver awaits that, unless the stream was given up
   awaits : (CountsAlong Client (asked_in (flow w Client i).sent) (flow w Server i).sent (flow w Server i).parts_out (incoming_at ends.client i).body_left (incoming_at ends.client i).content)
@@ -310,7 +311,7 @@ module _ (setup : Setup) (w : World) (ends : Ends) (known : ℕ → Bool) (i : �
       may_now = ap may_end (sym asked_now.0) ∙ asked_awaited (appended (flow w Client i) request_part).sent
 
   abbrev pub after : EndpointHistory
-  after = after_head ends.client i head asking
+  after = after_head ends.client i head fields asking
 
   -- what the client receives
   client_in : (id : ℕ) → incoming_at after id ≡ (if i == id then awaiting (incoming_at ends.client i) asks_for else incoming_at ends.client id)
@@ -322,26 +323,26 @@ module _ (setup : Setup) (w : World) (ends : Ends) (known : ℕ → Bool) (i : �
           → incoming_at after id ≡ (if i == id then awaiting (incoming_at ends.client i) asks_for else incoming_at ends.client id)
       by_stream None is some = absurd (let never : None ≡ _ = sym (ap (option_map plain_incoming) is) ∙ some in cc)
       by_stream (Some x) is some =
-          ap (λ (l : Streams Incoming). unwrap_or (stream_at l id) nothing_came) (client_incoming ends.client i head asking (side_of setup w ends Client h) ∙ ap (awaiting_at ends.client.incoming i asks_for) is)
+          ap (λ (l : Streams Incoming). unwrap_or (stream_at l id) nothing_came) (client_incoming ends.client i head fields asking (side_of setup w ends Client h) ∙ ap (awaiting_at ends.client.incoming i asks_for) is)
           ∙ in_set ends.client.incoming i (awaiting x asks_for) id
           ∙ ap (λ y. if i == id then awaiting y asks_for else incoming_at ends.client id) (sym (ap (λ o. unwrap_or o nothing_came) is))
 
-  request_flow : TalliesFlow Server (announced_at setup Server) Unsaid (appended (flow w Client i) request_part) (said_head ends.client i head asking) (incoming_at ends.server i)
+  request_flow : TalliesFlow Server (announced_at setup Server) Unsaid (appended (flow w Client i) request_part) (said_head ends.client i head fields asking) (incoming_at ends.server i)
   request_flow =
       let f = flow w Client i in
       let e = ends.client in
       let sound = sound_flow (plain_setup setup) w Client i h.sound is_there in
-      let along = head_along setup w ends Client i head Server Unsaid h opened takes in
-      flow_grows Server (announced_at setup Server) Unsaid f request_part (outgoing_at e i) (said_head e i head asking) (incoming_at ends.server i) sound.out
-      (head_unbroken setup w ends known Client i head h t (strict Client) takes, along)
+      let along = head_along setup w ends Client i head fields Server Unsaid h opened takes in
+      flow_grows Server (announced_at setup Server) Unsaid f request_part (outgoing_at e i) (said_head e i head fields asking) (incoming_at ends.server i) sound.out
+      (head_unbroken setup w ends known Client i head fields h t (strict Client) takes, along)
       (λ ends_now.
-      subst (λ c. IsSentOf c (content_of_request (head_fields head)))
-      (sym (ap (λ b. if b then content_of_own e.side (known_of (stream_at e.incoming i)) (head_fields head) else (outgoing_at e i).content) (head_is_open (outgoing_at e i) takes.takes).0
-      ∙ ap (λ d. content_of_own d (known_of (stream_at e.incoming i)) (head_fields head)) (side_of setup w ends Client h)))
-      (own_request_content (head_fields head)))
+      subst (λ c. IsSentOf c (content_of_request fields))
+      (sym (ap (λ b. if b then content_of_own e.side (known_of (stream_at e.incoming i)) fields else (outgoing_at e i).content) (head_is_open (outgoing_at e i) takes.takes).0
+      ∙ ap (λ d. content_of_own d (known_of (stream_at e.incoming i)) fields) (side_of setup w ends Client h)))
+      (own_request_content fields))
       (t.flows Client i)
 
-  pub request_tally : Tallies setup (with_section HeadPart w Client i (head_fields head)) (with_end ends Client after) known
+  pub request_tally : Tallies setup (with_section HeadPart w Client i fields) (with_end ends Client after) known
   request_tally = record {
     flows = flows;
     announced = announced;
@@ -350,7 +351,7 @@ module _ (setup : Setup) (w : World) (ends : Ends) (known : ℕ → Bool) (i : �
   }
     where
       v : World
-      v = with_section HeadPart w Client i (head_fields head)
+      v = with_section HeadPart w Client i fields
 
       announced : (side : Side) → (end_at (with_end ends Client after) side).announced ≡ announced_at setup side
       announced Client = t.announced Client
@@ -365,8 +366,8 @@ module _ (setup : Setup) (w : World) (ends : Ends) (known : ℕ → Bool) (i : �
       knows_at id false e k = k
 
       request_at : (id : ℕ) (b : Bool) → (i == id) ≡ b
-          → TalliesFlow Server (announced_at setup Server) Unsaid (if b then appended (flow w Client i) request_part else flow w Client id) (if b then said_head ends.client i head asking else outgoing_at ends.client id) (incoming_at ends.server id)
-      request_at id true e = subst (λ n. TalliesFlow Server (announced_at setup Server) Unsaid (appended (flow w Client i) request_part) (said_head ends.client i head asking) (incoming_at ends.server n)) (same_number i id e) request_flow
+          → TalliesFlow Server (announced_at setup Server) Unsaid (if b then appended (flow w Client i) request_part else flow w Client id) (if b then said_head ends.client i head fields asking else outgoing_at ends.client id) (incoming_at ends.server id)
+      request_at id true e = subst (λ n. TalliesFlow Server (announced_at setup Server) Unsaid (appended (flow w Client i) request_part) (said_head ends.client i head fields asking) (incoming_at ends.server n)) (same_number i id e) request_flow
       request_at id false e = t.flows Client id
 
       response_at : (id : ℕ) (b : Bool) → (i == id) ≡ b
@@ -380,8 +381,8 @@ module _ (setup : Setup) (w : World) (ends : Ends) (known : ℕ → Bool) (i : �
       flows : (writer : Side) (id : ℕ) → TalliesFlow (other writer) (announced_at setup (other writer)) (awaited_of writer (flow v Client id).sent) (flow v writer id)
           (outgoing_at (end_at (with_end ends Client after) writer) id) (incoming_at (end_at (with_end ends Client after) (other writer)) id)
       flows Client id =
-          subst (λ o. TalliesFlow Server (announced_at setup Server) Unsaid (flow v Client id) o (incoming_at ends.server id)) (sym (head_out ends.client i head asking id))
-          (subst (λ g. TalliesFlow Server (announced_at setup Server) Unsaid g (if i == id then said_head ends.client i head asking else outgoing_at ends.client id) (incoming_at ends.server id)) (sym (flows_are Client id))
+          subst (λ o. TalliesFlow Server (announced_at setup Server) Unsaid (flow v Client id) o (incoming_at ends.server id)) (sym (head_out ends.client i head fields asking id))
+          (subst (λ g. TalliesFlow Server (announced_at setup Server) Unsaid g (if i == id then said_head ends.client i head fields asking else outgoing_at ends.client id) (incoming_at ends.server id)) (sym (flows_are Client id))
           (request_at id (i == id) refl))
       flows Server id =
           subst (λ k. TalliesFlow Client (announced_at setup Client) (asked_in (flow v Client id).sent) (flow v Server id) (outgoing_at ends.server id) k) (sym (client_in id))

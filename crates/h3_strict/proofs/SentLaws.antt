@@ -1,8 +1,8 @@
 -- A send that a strict endpoint takes adds a part that breaks no rule, and counts on.
 use Rattle.std.proofs.Common.{◌≡◌, ℕ, Bool, true, false, List, [], ◌∷◌, ◌++◌, refl, Option, Some, None, if◌then◌else◌}
 use Rattle.std.specs.Prelude.{not, ◌&&◌, flat_map, codes}
-use Rattle.h3_field.specs.Field.{section_size}
-use Rattle.h3_header.specs.Head.{Head, head_fields, has_pseudo}
+use Rattle.h3_field.specs.Field.{Field, section_size}
+use Rattle.h3_header.specs.Head.{Head, has_pseudo}
 use Rattle.h3_messages.specs.Content.{asked_by, awaited as awaited_as, awaited_by, is_exceeded, left_behind, may_end, takes_trailer}
 use Rattle.h3_messages.specs.Messages.{value_of}
 use Rattle.h3_messages.specs.declared.content.Asked.{Asked}
@@ -15,10 +15,10 @@ use Rattle.h3_connection.specs.Outgoing.{Outgoing, is_unsent, takes_body, takes_
 use Rattle.h3_connection.specs.Outgoing as sent
 use Rattle.h3_connection.specs.OwnIds.{other}
 use Rattle.h3_connection.specs.Pulling.{is_for}
-use Rattle.h3_connection.specs.Refusals.{first_of, is_too_large}
-use Rattle.h3_connection.specs.Sending.{body_refusal, finish_refusal, head_refusal, is_open, outgoing_at, trailer_refusal}
-use Rattle.h3_connection.specs.StrictSending.{broken_head, broken_protocol, broken_trailer, early_trailer, passes_content, unless_malformed}
-use Rattle.h3_connection.specs.StrictSendingLaws.{not_closed, not_early, not_malformed, passed}
+use Rattle.h3_connection.specs.Refusals.{first_of, is_too_large, refusal_of_head, refusal_of_trailer, unless_going}
+use Rattle.h3_connection.specs.Sending.{body_refusal, finish_refusal, is_open, outgoing_at, sender_at, unless_closed}
+use Rattle.h3_connection.specs.StrictSending.{broken_head, broken_trailer, early_trailer, passes_content, unless_malformed}
+use Rattle.h3_connection.specs.StrictSendingLaws.{not_closed, not_early, not_going, not_malformed, passed}
 use Rattle.h3_connection.specs.declared.event.Malformation.{Malformation}
 use Rattle.h3_connection.specs.declared.event.Malformation.TheVariants as malformation
 use Rattle.h3_connection.specs.declared.event.Refusal.{Refusal}
@@ -38,24 +38,27 @@ is_true : (b : Bool) → not b ≡ false → b ≡ true
 is_true true h = refl
 is_true false h = absurd (cc)
 
--- a head
-pub record TakesHead (e : EndpointHistory) (id : ℕ) (head : Head) : Type 0 where
+-- a head that goes out as these fields
+abbrev pub head_judged : EndpointHistory → ℕ → Option Malformation → Head → List Field → Option Refusal
+head_judged e id told head fields = unless_closed e (refusal_of_head (sender_at e id) told (broken_head e.side e.announced e.peer.settings fields) head fields)
+
+pub record TakesHead (e : EndpointHistory) (id : ℕ) (head : Head) (fields : List Field) : Type 0 where
   pub takes : takes_head (outgoing_at e id) ≡ true
   pub fits : is_for (other e.side) head ≡ true
-  pub rule : broken_head e.side e.announced e.peer.settings (head_fields head) ≡ None
-  pub small : is_too_large e.peer.settings (head_fields head) ≡ false
+  pub rule : broken_head e.side e.announced e.peer.settings fields ≡ None
+  pub small : is_too_large e.peer.settings fields ≡ false
 
-pub head_rules : (e : EndpointHistory) (id : ℕ) (head : Head) → head_refusal e id head ≡ None → TakesHead e id head
-head_rules e id head done =
-    let fields = head_fields head in
+pub head_rules : (e : EndpointHistory) (id : ℕ) (told : Option Malformation) (head : Head) (fields : List Field) → head_judged e id told head fields ≡ None → TakesHead e id head fields
+head_rules e id protocol head fields done =
     let large = (is_too_large e.peer.settings fields, refusal.TooLarge (section_size fields)) ∷ [] in
     let broken = broken_head e.side e.announced e.peer.settings fields in
     let wrong = (not (is_for (other e.side) head), refusal.WrongSide) ∷ unless_malformed broken large in
-    let protocol = broken_protocol e.announced head in
-    let there = passed (not (is_open e id)) refusal.NotOpen ((not (takes_head (outgoing_at e id)), refusal.OutOfOrder) ∷ unless_malformed protocol wrong) (not_closed e.closed _ done) in
-    let placed = not_early protocol wrong (passed (not (takes_head (outgoing_at e id))) refusal.OutOfOrder (unless_malformed protocol wrong) there) in
+    let going = (sender_at e id).going in
+    let judged = unless_going going (unless_malformed protocol wrong) in
+    let there = passed (not (is_open e id)) refusal.NotOpen ((not (takes_head (outgoing_at e id)), refusal.OutOfOrder) ∷ judged) (not_closed e.closed _ done) in
+    let placed = not_early protocol wrong (not_going going (unless_malformed protocol wrong) (passed (not (takes_head (outgoing_at e id))) refusal.OutOfOrder judged there)) in
     record {
-      takes = is_true (takes_head (outgoing_at e id)) (held (not (takes_head (outgoing_at e id))) refusal.OutOfOrder (unless_malformed protocol wrong) there);
+      takes = is_true (takes_head (outgoing_at e id)) (held (not (takes_head (outgoing_at e id))) refusal.OutOfOrder judged there);
       fits = is_true (is_for (other e.side) head) (held (not (is_for (other e.side) head)) refusal.WrongSide (unless_malformed broken large) placed);
       rule = not_malformed broken large (passed (not (is_for (other e.side) head)) refusal.WrongSide (unless_malformed broken large) placed);
       small = held (is_too_large e.peer.settings fields) (refusal.TooLarge (section_size fields)) [] (not_early broken large (passed (not (is_for (other e.side) head)) refusal.WrongSide (unless_malformed broken large) placed));
@@ -76,20 +79,21 @@ body_rules e id size done =
     }
 
 -- a trailer
-pub record TakesTrailer (e : EndpointHistory) (id : ℕ) (trailer : Head) : Type 0 where
+abbrev pub trailer_judged : EndpointHistory → ℕ → Option Malformation → Head → List Field → Option Refusal
+trailer_judged e id told trailer fields = unless_closed e (refusal_of_trailer (sender_at e id) told (early_trailer (outgoing_at e id).content) (broken_trailer e.announced fields) trailer fields)
+
+pub record TakesTrailer (e : EndpointHistory) (id : ℕ) (fields : List Field) : Type 0 where
   pub takes : takes_body (outgoing_at e id) ≡ true
   pub early : early_trailer (outgoing_at e id).content ≡ None
-  pub rule : broken_trailer e.announced (head_fields trailer) ≡ None
-  pub small : is_too_large e.peer.settings (head_fields trailer) ≡ false
+  pub rule : broken_trailer e.announced fields ≡ None
+  pub small : is_too_large e.peer.settings fields ≡ false
 
-pub trailer_rules : (e : EndpointHistory) (id : ℕ) (trailer : Head) → trailer_refusal e id trailer ≡ None → TakesTrailer e id trailer
-trailer_rules e id trailer done =
-    let fields = head_fields trailer in
+pub trailer_rules : (e : EndpointHistory) (id : ℕ) (told : Option Malformation) (trailer : Head) (fields : List Field) → trailer_judged e id told trailer fields ≡ None → TakesTrailer e id fields
+trailer_rules e id protocol trailer fields done =
     let large = (is_too_large e.peer.settings fields, refusal.TooLarge (section_size fields)) ∷ [] in
     let broken = broken_trailer e.announced fields in
     let early = early_trailer (outgoing_at e id).content in
     let pseudo = (has_pseudo trailer, refusal.PseudoInTrailer) ∷ unless_malformed early (unless_malformed broken large) in
-    let protocol = broken_protocol e.announced trailer in
     let there = passed (not (is_open e id)) refusal.NotOpen ((not (takes_body (outgoing_at e id)), refusal.OutOfOrder) ∷ unless_malformed protocol pseudo) (not_closed e.closed _ done) in
     let placed = not_early protocol pseudo (passed (not (takes_body (outgoing_at e id))) refusal.OutOfOrder (unless_malformed protocol pseudo) there) in
     let behind = passed (has_pseudo trailer) refusal.PseudoInTrailer (unless_malformed early (unless_malformed broken large)) placed in

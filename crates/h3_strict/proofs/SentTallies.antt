@@ -1,7 +1,8 @@
 -- A send at two strict ends that is taken: the part breaks no rule of its reader, and both count on.
 use Rattle.std.proofs.Common.{◌≡◌, ℕ, Bool, true, false, List, [], ◌∷◌, ◌++◌, refl, sym, ap, ◌∙◌, subst, Option, Some, None, if◌then◌else◌}
 use Rattle.std.specs.Prelude.{◌==◌, ◌&&◌, not, flat_map, unwrap_or}
-use Rattle.h3_header.specs.Head.{Head, head_fields}
+use Rattle.h3_field.specs.Field.{Field}
+use Rattle.h3_header.specs.Head.{Head}
 use Rattle.h3_messages.specs.Content.{awaited_by}
 use Rattle.h3_messages.specs.declared.content.Content.{Content}
 use Rattle.h3_proto.specs.declared.stream.Side.{Side}
@@ -76,39 +77,39 @@ pub side_of : (setup : Setup) (w : World) (ends : Ends) (s : Side) → Stands (p
 side_of setup w ends s h = (stands_at setup w ends s h).side_is
 
 -- The parts that a strict end may send.
-pub head_unbroken : (setup : Setup) (w : World) (ends : Ends) (known : ℕ → Bool) (s : Side) (i : ℕ) (head : Head) → Stands (plain_setup setup) w (plain_ends ends) → Tallies setup w ends known → (announced_at setup s).choices.strict_messages ≡ true
-    → TakesHead (end_at ends s) i head → broken_rule (other s) (announced_at setup (other s)) BeforeHead (head_fields head) ≡ None
-head_unbroken setup w ends known s i head h t strict takes =
+pub head_unbroken : (setup : Setup) (w : World) (ends : Ends) (known : ℕ → Bool) (s : Side) (i : ℕ) (head : Head) (fields : List Field) → Stands (plain_setup setup) w (plain_ends ends) → Tallies setup w ends known → (announced_at setup s).choices.strict_messages ≡ true
+    → TakesHead (end_at ends s) i head fields → broken_rule (other s) (announced_at setup (other s)) BeforeHead fields ≡ None
+head_unbroken setup w ends known s i head fields h t strict takes =
     let e = end_at ends s in
-    subst (λ d. broken_rule (other d) (announced_at setup (other s)) BeforeHead (head_fields head) ≡ None) (side_of setup w ends s h)
-    (head_taken e.side e.announced (announced_at setup (other s)) e.peer.settings (head_fields head) (ap (λ (a : Announced). a.choices.strict_messages) (t.announced s) ∙ strict) (knows_peer setup w ends s h) takes.rule)
+    subst (λ d. broken_rule (other d) (announced_at setup (other s)) BeforeHead fields ≡ None) (side_of setup w ends s h)
+    (head_taken e.side e.announced (announced_at setup (other s)) e.peer.settings fields (ap (λ (a : Announced). a.choices.strict_messages) (t.announced s) ∙ strict) (knows_peer setup w ends s h) takes.rule)
 
 -- in front of a final head the parts are interim ones
-pub head_along : (setup : Setup) (w : World) (ends : Ends) (s : Side) (i : ℕ) (head : Head) (reader : Side) (awaited : Content) → Stands (plain_setup setup) w (plain_ends ends) → is_open w s i ≡ true → TakesHead (end_at ends s) i head
+pub head_along : (setup : Setup) (w : World) (ends : Ends) (s : Side) (i : ℕ) (head : Head) (fields : List Field) (reader : Side) (awaited : Content) → Stands (plain_setup setup) w (plain_ends ends) → is_open w s i ≡ true → TakesHead (end_at ends s) i head fields
     → content_along reader awaited (flow w s i).sent ≡ awaited
-head_along setup w ends s i head reader awaited h opened takes =
+head_along setup w ends s i head fields reader awaited h opened takes =
     unsent_along reader awaited (flow w s i).sent (ap is_unsent (sym (parts_are setup w ends s i h opened)) ∙ (head_is_open (outgoing_at (end_at ends s) i) takes.takes).1)
 
 -- What a strict endpoint is after a head.
-module _ (e : EndpointHistory) (i : ℕ) (head : Head) (strict : e.announced.choices.strict_messages ≡ true) where
+module _ (e : EndpointHistory) (i : ℕ) (head : Head) (fields : List Field) (strict : e.announced.choices.strict_messages ≡ true) where
   head_wrote : OwnPart
-  head_wrote = head_part head (written_section e.encoder i (head_fields head))
+  head_wrote = head_part head (written_section e.encoder i fields)
 
   head_content : Content
-  head_content = content_of_own e.side (known_of (stream_at e.incoming i)) (head_fields head)
+  head_content = content_of_own e.side (known_of (stream_at e.incoming i)) fields
 
   abbrev pub wrote_head : Outgoing
-  wrote_head = record (outgoing_at e i) { parts = (outgoing_at e i).parts ++ head_part head (written_section e.encoder i (head_fields head)) ∷ [] }
+  wrote_head = record (outgoing_at e i) { parts = (outgoing_at e i).parts ++ head_part head (written_section e.encoder i fields) ∷ [] }
 
   abbrev pub said_head : Outgoing
-  said_head = with_said wrote_head (content_of_own e.side (known_of (stream_at e.incoming i)) (head_fields head))
+  said_head = with_said wrote_head (content_of_own e.side (known_of (stream_at e.incoming i)) fields)
 
   abbrev pub after_head : EndpointHistory
-  after_head = asked (counted (appended (encoded e i (head_fields head)) i (head_part head (written_section e.encoder i (head_fields head)))) (fields_cost (head_fields head))) i (head_fields head)
+  after_head = asked (counted (appended (encoded e i fields) i (head_part head (written_section e.encoder i fields))) (fields_cost fields)) i fields
 
   pub head_outgoing : after_head.outgoing ≡ set_stream e.outgoing i said_head
   head_outgoing =
-      let content = content_of_own e.side (known_of (stream_at e.incoming i)) (head_fields head) in
+      let content = content_of_own e.side (known_of (stream_at e.incoming i)) fields in
       let streams = set_stream e.outgoing i wrote_head in
       ap (λ b. if b then saying_at streams i content (stream_at streams i) else streams) strict
       ∙ ap (saying_at streams i content) (set-here e.outgoing i wrote_head)
@@ -119,10 +120,10 @@ module _ (e : EndpointHistory) (i : ℕ) (head : Head) (strict : e.announced.cho
 
   pub server_incoming : e.side ≡ Server → after_head.incoming ≡ e.incoming
   server_incoming is =
-      ap (λ b. if b && is_client e.side then awaiting_at e.incoming i (awaited_by (head_fields head)) (stream_at e.incoming i) else e.incoming) strict
-      ∙ ap (λ d. if is_client d then awaiting_at e.incoming i (awaited_by (head_fields head)) (stream_at e.incoming i) else e.incoming) is
+      ap (λ b. if b && is_client e.side then awaiting_at e.incoming i (awaited_by fields) (stream_at e.incoming i) else e.incoming) strict
+      ∙ ap (λ d. if is_client d then awaiting_at e.incoming i (awaited_by fields) (stream_at e.incoming i) else e.incoming) is
 
-  pub client_incoming : e.side ≡ Client → after_head.incoming ≡ awaiting_at e.incoming i (awaited_by (head_fields head)) (stream_at e.incoming i)
+  pub client_incoming : e.side ≡ Client → after_head.incoming ≡ awaiting_at e.incoming i (awaited_by fields) (stream_at e.incoming i)
   client_incoming is =
-      ap (λ b. if b && is_client e.side then awaiting_at e.incoming i (awaited_by (head_fields head)) (stream_at e.incoming i) else e.incoming) strict
-      ∙ ap (λ d. if is_client d then awaiting_at e.incoming i (awaited_by (head_fields head)) (stream_at e.incoming i) else e.incoming) is
+      ap (λ b. if b && is_client e.side then awaiting_at e.incoming i (awaited_by fields) (stream_at e.incoming i) else e.incoming) strict
+      ∙ ap (λ d. if is_client d then awaiting_at e.incoming i (awaited_by fields) (stream_at e.incoming i) else e.incoming) is

@@ -5,8 +5,7 @@ use Rattle.h3_field.specs.Field.{Field}
 use Rattle.h3_field.specs.Instruction.{DecoderInstruction}
 use Rattle.h3_header.specs.Head as header
 use Rattle.h3_header.specs.HeadRead.{head_by}
-use Rattle.h3_header.specs.Reads.{head_of_fields}
-use Rattle.h3_header.specs.ReadsBack.{ReadsBackBy}
+use Rattle.h3_header.specs.Reads.{AcceptsAll, head_of_fields}
 use Rattle.h3_messages.specs.Content.{asked_for, content_behind_status, content_expected, content_of_status, is_interim_status, is_without_content, may_end, said}
 use Rattle.h3_messages.specs.Messages.{value_of, violation_of_response}
 use Rattle.h3_messages.specs.declared.content.Asked.{Asked}
@@ -120,7 +119,7 @@ module _ (lists : ListsAreTheirValue) (side : Side) (own : Announced) (id : ℕ)
     known_is : x.response ≡ known
     out : (y : Incoming) → y.body_left ≡ 0 → CountsAlong side awaited f.sent (f.parts_out + 1) 0 y.content → y.response ≡ response_behind side x.place x.response s.fields → PullsOn side awaited known f (head_or_trailer side id y replies None x.place (head_of_fields s.fields))
 
-  pub read_good : (f : Flow) (kind : header.Head → Item) (s : Section) (part : Part) (x : Incoming) (replies : List DecoderInstruction) → IsSectionPart kind s part → next_part f ≡ Some part → ReadsBackBy (takes_any own) s.fields → x.body_left ≡ 0
+  pub read_good : (f : Flow) (kind : header.Head → Item) (s : Section) (part : Part) (x : Incoming) (replies : List DecoderInstruction) → IsSectionPart kind s part → next_part f ≡ Some part → AcceptsAll (takes_any own) (header.trailer_head []) s.fields → x.body_left ≡ 0
       → Reads f s x replies → PullsOn side awaited known f (read_section side own id r x replies s.fields)
   read_good f kind s part x replies is next back none h =
       let status = last_value (codes ":status") s.fields in
@@ -129,7 +128,7 @@ module _ (lists : ListsAreTheirValue) (side : Side) (own : Announced) (id : ℕ)
       (item_good f kind s part is next (item.TooLarge (told_size s.fields)) (past_large side own x s.fields) replies none
       (subst (λ b. CountsAlong side awaited f.sent (f.parts_out + 1) 0 (if b then content_behind_large side x.place x.content status else x.content)) (sym strict) h.large) h.known_is)
       (subst (PullsOn side awaited known f)
-      (sym (ap (λ b. judged side id y replies b (head_by own.choices.extensions.any_protocol s.fields)) h.rule ∙ ap (judged side id y replies None) (lists own.choices.extensions.any_protocol s.fields (head_of_fields s.fields) (back.0, refl))))
+      (sym (ap (λ b. judged side id y replies b (head_by own.choices.extensions.any_protocol s.fields)) h.rule ∙ ap (judged side id y replies None) (lists own.choices.extensions.any_protocol s.fields (head_of_fields s.fields) (back, refl))))
       (h.out y none (subst (λ b. CountsAlong side awaited f.sent (f.parts_out + 1) 0 (if b then content_behind side x.place x.content s.fields else x.content)) (sym strict) h.whole) (ap (λ b. if b then response_behind side x.place x.response s.fields else x.response) strict)))
 
   client_is : (d : Side) → is_client d ≡ true → d ≡ Client
@@ -192,7 +191,7 @@ module _ (lists : ListsAreTheirValue) (side : Side) (own : Announced) (id : ℕ)
       let stays = same ∙ sym more in
       let is : side ≡ Client = client_is side readable.0 in
       let last = one_status s.fields (response_rules own s.fields strict (subst (λ d. broken_rule d own BeforeHead s.fields ≡ None) is unbroken.0)) in
-      let text : is_interim_text (last_value (codes ":status") s.fields) ≡ true = interim_by_last (takes_any own) s.fields readable.3.0 ∙ readable.2 in
+      let text : is_interim_text (last_value (codes ":status") s.fields) ≡ true = interim_by_last (takes_any own) s.fields readable.3 ∙ readable.2 in
       let status : is_interim_status (value_of (codes ":status") s.fields) ≡ true = sym (ap is_interim_text last) ∙ text in
       let whole_is : content_behind side x.place x.content s.fields ≡ x.content =
       ap (λ p. content_behind side p x.content s.fields) at ∙ ap (λ d. content_of_head d x.content s.fields) is ∙ interim_stays x.content (value_of (codes ":status") s.fields) (value_of (codes "content-length") s.fields) status in

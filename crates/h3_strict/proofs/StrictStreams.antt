@@ -31,7 +31,7 @@ use Rattle.h3_connection.specs.declared.setup.Announced.{Announced}
 use Rattle.h3_world.specs.Flow.{Flow, Part, Section, flow_bytes, part_bytes}
 use Rattle.h3_world.specs.Flow.Part.{Body, End, Head, Interim, Trailer}
 use Rattle.h3_world.specs.Items.{after_item, after_piece}
-use Rattle.h3_world.specs.Order.{is_end, is_over, last_part, next_part}
+use Rattle.h3_world.specs.Order.{is_end, is_over, last_part, next_part, section_of_part}
 use Rattle.h3_world.specs.Setup.{TakesAnyLength}
 use Rattle.h3_world.specs.Sound.{IsSentSection, IsSoundFlow}
 use Rattle.h3_world.specs.World.{Party}
@@ -43,7 +43,7 @@ use Rattle.h3_headline.specs.PulledFlowLaws.{came_is, not_ended, nothing_there, 
 use Rattle.h3_headline.specs.PulledSectionLaws.{head_part, interim_part, trailer_part, tried_plainly}
 use Rattle.h3_headline.specs.Pulling.{DecodesNext, GoesOn, IsBefore, IsInMessage, IsReadableNext, IsTriedAs, before_bytes}
 use Rattle.h3_headline.specs.ReceivingLaws.{encoding_some}
-use Rattle.h3_headline.specs.Standing.{ReadsFlow, ReceivesFlow, StandsBefore, WaitsIn, place_after, place_behind, section_frame, section_of_part}
+use Rattle.h3_headline.specs.Standing.{ReadsFlow, ReceivesFlow, StandsBefore, WaitsIn, place_after, place_behind, section_frame}
 use Rattle.h3_strict.proofs.StrictSections.{either, head_reads, interim_reads, read_good, trailer_reads}
 use Rattle.h3_strict.proofs.UnbrokenLaws.{along_next, ends_too, left_no_more, next_within, not_exceeded, trails_too, unbroken_next}
 use Rattle.h3_strict.specs.Plainly.{plain_incoming, tells_malformed}
@@ -84,7 +84,7 @@ same_section s t e = ap (λ o. unwrap_or o s) e
 
 module _ (lists : ListsAreTheirValue) (side : Side) (own : Announced) (id : ℕ) (r : DecoderState) (strict : own.choices.strict_messages ≡ true) (any : TakesAnyLength own) (awaited : Content) (known : Option Content) where
   -- an answer that hands out nothing and tells nothing of the message
-  stays : (f : Flow) (q : Pull) (j : Incoming) → tells_malformed q ≡ false → flow_after f q ≡ f → response_after q side (next_part f) known ≡ known → Counting side awaited known f j
+  stays : (f : Flow) (q : Pull) (j : Incoming) → tells_malformed false q ≡ false → flow_after f q ≡ f → response_after q side (next_part f) known ≡ known → Counting side awaited known f j
       → PullsOn side awaited known f (just q j)
   stays f q j quiet same knows h = record { judges_not = quiet; counts = subst (λ g. CountsFlow side awaited g j) (sym same) h.counts; responds = h.response ∙ sym knows }
 

@@ -3,6 +3,7 @@ use Rattle.std.proofs.Common.{◌≡◌, ℕ, ◌+◌, ◌≤◌, Bool, true, fa
 use Rattle.std.specs.Prelude.{not, ◌||◌, is_some}
 use Rattle.h3_field.specs.Field.{Field, section_size}
 use Rattle.h3_header.specs.Head.{Head as Fields, has_pseudo, head_fields}
+use Rattle.h3_header.specs.Reads.{head_of_fields}
 use Rattle.h3_proto.specs.Config.{is_limit}
 use Rattle.h3_proto.specs.StreamIds.{is_request_stream}
 use Rattle.h3_proto.specs.declared.stream.Side.{Side}
@@ -13,7 +14,8 @@ use Rattle.h3_wire.specs.Encoded.{frame_encoding}
 use Rattle.h3_connection.specs.Outgoing.{takes_body, takes_end, takes_head}
 use Rattle.h3_connection.specs.OwnIds.{other}
 use Rattle.h3_connection.specs.Pulling.{is_for, is_interim}
-use Rattle.h3_connection.specs.Refusals.{first_of, is_too_large}
+use Rattle.h3_connection.specs.Refusals.{first_of, is_too_large, of_list, unless_going, with_pseudo, wrong_side}
+use Rattle.h3_connection.specs.StrictSending.{unless_malformed}
 use Rattle.h3_connection.specs.declared.event.Pull.{Pull}
 use Rattle.h3_connection.specs.declared.event.Pull.TheVariants as pull
 use Rattle.h3_connection.specs.declared.event.Refusal.{Refusal}
@@ -28,9 +30,11 @@ use Rattle.h3_world.specs.Items.{after_item, acknowledgment_of, handed_out}
 use Rattle.h3_world.specs.Order.{is_over, is_sent_off, next_part, outgoing_of}
 use Rattle.h3_world.specs.Pauses.{paused}
 use Rattle.h3_world.specs.Pulling.{Pulls, PullsNext, settled}
-use Rattle.h3_world.specs.Refusals.{body_refusal, cancel_refusal, finish_refusal, goaway_refusal, head_refusal, is_critical, next_id, open_refusal, reset_refusal, trailer_refusal}
+use Rattle.h3_world.specs.Refusals.{body_refusal, cancel_refusal, finish_refusal, goaway_refusal, head_refusal, is_critical, none_after, next_id, open_refusal, reset_refusal, trailer_refusal, fields_refusal, trailer_fields_refusal}
 use Rattle.h3_world.specs.Run.{Run}
-use Rattle.h3_world.specs.Sending.{appended, cut_off, finished, given_up, having_encoded, opened, section_sent, sent_body, sent_head, sent_trailer, with_goaway}
+use Rattle.h3_world.specs.Sending.{appended, cut_off, finished, given_up, having_encoded, opened, section_sent, sent_body, sent_head, sent_trailer, with_goaway, sent_fields, sent_trailer_fields}
+use Rattle.h3_world.specs.Lists.{pull_of, unreadable}
+use Rattle.h3_world.specs.Setup.{announced_at, takes_any}
 use Rattle.h3_world.specs.Step.{Does, Step}
 use Rattle.h3_world.specs.Streams.{flow, is_open, with_flow}
 use Rattle.h3_world.specs.World.{Party, World, empty_world, no_exchange, party, with_party}
@@ -113,8 +117,8 @@ module _ (setup : Setup) where
     head_step w v s i head a step within t =
         does (head_refusal world w s i head) w (sent_head w s i head) v answer.Done a step t (λ none done.
         let there = open_there w s i (not_refused (is_open w s i) (
-        (not (takes_head (outgoing_of (flow w s i))), refusal.OutOfOrder) ∷ (not (is_for (other s) head), refusal.WrongSide) ∷
-        (is_too_large (settings_known world w s) (head_fields head), refusal.TooLarge (section_size (head_fields head))) ∷ []) none) in
+        (not (takes_head (outgoing_of (flow w s i))), refusal.OutOfOrder) ∷ unless_going (none_after world w s) ((not (is_for (other s) head), refusal.WrongSide) ∷
+        (is_too_large (settings_known world w s) (head_fields head), refusal.TooLarge (section_size (head_fields head))) ∷ [])) none) in
         section_goes w s i (head_fields head) ((if is_interim head.status then Interim else Head) (section_sent (party w s) i (head_fields head) (flow w s i))) there
         (head_taken (is_interim head.status) (limit_at setup (other s)) (section_sent (party w s) i (head_fields head) (flow w s i)) (section_taken (limit_at setup (other s)) (party w s) i (head_fields head) (flow w s i) (within (ap is_done done)))) t)
 
@@ -126,6 +130,26 @@ module _ (setup : Setup) where
         (is_too_large (settings_known world w s) (head_fields trailer), refusal.TooLarge (section_size (head_fields trailer))) ∷ []) none) in
         section_goes w s i (head_fields trailer) (Trailer (section_sent (party w s) i (head_fields trailer) (flow w s i))) there
         (section_taken (limit_at setup (other s)) (party w s) i (head_fields trailer) (flow w s i) (within (ap is_done done))) t)
+
+    -- of lists
+    fields_step : (w v : World) (s : Side) (i : ℕ) (fields : List Field) (a : Answer) → Step world w (event.Fields s i fields) a v → IsTaken setup (event.Fields s i fields) a → IsTakenWorld setup w → IsTakenWorld setup v
+    fields_step w v s i fields a step within t =
+        does (fields_refusal world w s i fields) w (sent_fields w s i fields) v answer.Done a step t (λ none done.
+        let head = head_of_fields fields in
+        let there = open_there w s i (not_refused (is_open w s i) (
+        (not (takes_head (outgoing_of (flow w s i))), refusal.OutOfOrder) ∷ unless_going (none_after world w s) (
+        unless_malformed (unreadable (takes_any (announced_at world s)) fields) (wrong_side s head ∷ of_list None (settings_known world w s) fields))) none) in
+        section_goes w s i fields ((if is_interim head.status then Interim else Head) (section_sent (party w s) i fields (flow w s i))) there
+        (head_taken (is_interim head.status) (limit_at setup (other s)) (section_sent (party w s) i fields (flow w s i)) (section_taken (limit_at setup (other s)) (party w s) i fields (flow w s i) (within (ap is_done done)))) t)
+
+    trailer_fields_step : (w v : World) (s : Side) (i : ℕ) (fields : List Field) (a : Answer) → Step world w (event.TrailerFields s i fields) a v → IsTaken setup (event.TrailerFields s i fields) a → IsTakenWorld setup w → IsTakenWorld setup v
+    trailer_fields_step w v s i fields a step within t =
+        does (trailer_fields_refusal world w s i fields) w (sent_trailer_fields w s i fields) v answer.Done a step t (λ none done.
+        let there = open_there w s i (not_refused (is_open w s i) (
+        (not (takes_body (outgoing_of (flow w s i))), refusal.OutOfOrder) ∷
+        unless_malformed (unreadable (takes_any (announced_at world s)) fields) (with_pseudo (head_of_fields fields) ∷ of_list None (settings_known world w s) fields)) none) in
+        section_goes w s i fields (Trailer (section_sent (party w s) i fields (flow w s i))) there
+        (section_taken (limit_at setup (other s)) (party w s) i fields (flow w s i) (within (ap is_done done))) t)
 
     body_step : (w v : World) (s : Side) (i : ℕ) (bytes : List ℕ) (a : Answer) → Step world w (event.Body s i bytes) a v → IsTakenWorld setup w → IsTakenWorld setup v
     body_step w v s i bytes a step t =
@@ -176,6 +200,10 @@ module _ (setup : Setup) where
     pulled_step w v s i (answer.Pulled q) step t = pull_step w v s i q step t
     pulled_step w v s i _ step t = absurd step
 
+    listed_step : (w v : World) (s : Side) (i : ℕ) (a : Answer) → Step world w (event.PullFields s i) a v → IsTakenWorld setup w → IsTakenWorld setup v
+    listed_step w v s i (answer.Listed l) step t = pull_step w v s i (pull_of l) step.0 t
+    listed_step w v s i _ step t = absurd step
+
     -- the world after a delivery
     comes : (w v : World) (a : Answer) (next : Answer × World) → ◌≡◌ {A = Answer × World} (a, v) next → KeepsParts w next.1 → IsTakenWorld setup w → IsTakenWorld setup v
     comes w v a next step keeps t = kept w v (subst (KeepsParts w) (sym (ap (λ (x : Answer × World). x.1) step)) keeps) t
@@ -183,6 +211,9 @@ module _ (setup : Setup) where
     pub step_taken : (w v : World) (e : Event) (a : Answer) → Step world w e a v → IsTaken setup e a → IsTakenWorld setup w → IsTakenWorld setup v
     step_taken w v (event.Head s i head) a step within t = head_step w v s i head a step within t
     step_taken w v (event.Trailer s i trailer) a step within t = trailer_step w v s i trailer a step within t
+    step_taken w v (event.Fields s i fields) a step within t = fields_step w v s i fields a step within t
+    step_taken w v (event.TrailerFields s i fields) a step within t = trailer_fields_step w v s i fields a step within t
+    step_taken w v (event.PullFields s i) a step within t = listed_step w v s i a step t
     step_taken w v (event.Body s i bytes) a step within t = body_step w v s i bytes a step t
     step_taken w v (event.Finish s i) a step within t = finish_step w v s i a step t
     step_taken w v (event.Pull s i) a step within t = pulled_step w v s i a step t

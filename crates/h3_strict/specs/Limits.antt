@@ -9,6 +9,7 @@ use Rattle.h3_proto.specs.declared.stream.Side.TheVariants.{Client, Server}
 use Rattle.h3_connection.specs.Announcing.{section_of}
 use Rattle.h3_connection.specs.Endpoint.{EndpointHistory}
 use Rattle.h3_connection.specs.OwnIds.{other}
+use Rattle.h3_connection.specs.StrictConnection.{is_strict}
 use Rattle.h3_connection.specs.declared.setup.Announced.{Announced}
 use Rattle.h3_world.specs.Ends.{Ends, answered, answers_of_ends, end_at, ends_after}
 use Rattle.h3_world.specs.Setup.{announced_at}
@@ -50,13 +51,19 @@ limit_at setup side = (announced_at setup side).choices.unfinished_limit
 abbrev pub TakesSection : Setup → Side → List Field → Type 0
 TakesSection setup side fields = is_limit (limit_at setup side) ≡ true → most_encoded fields ≤ limit_at setup side
 
+-- a delivery to the side was not answered by the fault of what is too long
+abbrev pub IsNotExcess : Setup → Side → Answer → Type 0
+IsNotExcess setup side a = is_excess (is_strict (announced_at setup side)) (refused_by a) ≡ false
+
 -- A head or a trailer that was accepted is one whose encoding its reader takes. No delivery is answered by the fault of what is too long.
 abbrev pub IsTaken : Setup → Event → Answer → Type 0
 IsTaken setup (event.Head side id head) a = is_done a ≡ true → TakesSection setup (other side) (head_fields head)
 IsTaken setup (event.Trailer side id trailer) a = is_done a ≡ true → TakesSection setup (other side) (head_fields trailer)
-IsTaken setup (event.Deliver side id count) a = is_excess (refused_by a) ≡ false
-IsTaken setup (event.DeliverEnd side id) a = is_excess (refused_by a) ≡ false
-IsTaken setup (event.DeliverReset side id) a = is_excess (refused_by a) ≡ false
+IsTaken setup (event.Fields side id fields) a = is_done a ≡ true → TakesSection setup (other side) fields
+IsTaken setup (event.TrailerFields side id fields) a = is_done a ≡ true → TakesSection setup (other side) fields
+IsTaken setup (event.Deliver side id count) a = IsNotExcess setup (other side) a
+IsTaken setup (event.DeliverEnd side id) a = IsNotExcess setup (other side) a
+IsTaken setup (event.DeliverReset side id) a = IsNotExcess setup (other side) a
 IsTaken setup _ a = Unit {0}
 
 -- over a whole schedule, by its events and answers
@@ -91,6 +98,8 @@ LimitsTakeWhatIsSent setup = (side : Side) →
 abbrev pub is_early : Ends → Event → Bool
 is_early ends (event.Head side id head) = is_none (end_at ends side).peer.settings
 is_early ends (event.Trailer side id trailer) = is_none (end_at ends side).peer.settings
+is_early ends (event.Fields side id fields) = is_none (end_at ends side).peer.settings
+is_early ends (event.TrailerFields side id fields) = is_none (end_at ends side).peer.settings
 is_early ends _ = false
 
 -- what is sent so early is taken too

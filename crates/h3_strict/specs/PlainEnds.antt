@@ -1,13 +1,15 @@
 -- Two endpoints without strict messages, and what is left of a schedule without the sends that were refused as malformed.
-use Rattle.std.specs.Prelude.{◌≡◌, ◌≤◌, ℕ, Bool, true, false, List, [], ◌∷◌, ◌++◌, if◌then◌else◌, Option, Some, None}
+use Rattle.std.specs.Prelude.{◌≡◌, ◌≤◌, ℕ, Bool, true, false, List, [], ◌∷◌, ◌++◌, if◌then◌else◌, Option, Some, None, ◌||◌}
 use Rattle.h3_proto.specs.declared.stream.Side.{Side}
 use Rattle.h3_connection.specs.Bounds.{IsBounded}
 use Rattle.h3_connection.specs.Control.{Found}
 use Rattle.h3_connection.specs.Endpoint.{EndpointHistory, heads_waiting}
 use Rattle.h3_connection.specs.Keeping.{read_all, unkept}
 use Rattle.h3_connection.specs.OwnIds.{other}
+use Rattle.h3_connection.specs.StrictConnection.{is_strict}
 use Rattle.h3_connection.specs.declared.event.Refusal.TheVariants as refusal
 use Rattle.h3_world.specs.Ends.{Ends, answered, answers_of_ends, delivery, end_at, end_delivery, ends_after, reset_delivery}
+use Rattle.h3_world.specs.Lists.{pull_of}
 use Rattle.h3_world.specs.declared.event.Answer.{Answer}
 use Rattle.h3_world.specs.declared.event.Answer.TheVariants as answer
 use Rattle.h3_world.specs.declared.event.Event.{Event}
@@ -48,6 +50,7 @@ was_too_long ends reader a = exceeds (end_at ends reader) (refused_by a)
 -- is answered so, at an end that limits what is unfinished.
 abbrev pub judges : Ends → Event → Bool
 judges ends (event.Pull side id) = is_judged (end_at ends side) id
+judges ends (event.PullFields side id) = is_judged (end_at ends side) id
 judges ends (event.Deliver writer id count) = was_too_long ends (other writer) (delivery ends writer id count).0
 judges ends (event.DeliverEnd writer id) = was_too_long ends (other writer) (end_delivery ends writer id).0
 judges ends (event.DeliverReset writer id) = was_too_long ends (other writer) (reset_delivery ends writer id).0
@@ -58,11 +61,16 @@ abbrev pub NoneJudges : Ends → List Event → Type 0
 NoneJudges ends [] = Unit {0}
 NoneJudges ends (e ∷ events) = (judges ends e ≡ false) × NoneJudges (answered ends e).1 events
 
--- a pull was answered by a malformed message, a frame at the wrong place or one that is too long; or what came, by the fault of what is too
--- long. No other fault of the connection is one
-abbrev pub finds_fault : Answer → Bool
-finds_fault (answer.Pulled p) = tells_malformed p
-finds_fault a = is_excess (refused_by a)
+-- An end asks for a strict connection
+abbrev pub asks_strictly : Ends → Bool
+asks_strictly ends = is_strict ends.client.announced || is_strict ends.server.announced
+
+-- A pull was answered by a malformed message, a frame at the wrong place or one that is too long; or what came, by the fault of what is too
+-- long. No other fault of the connection is one. If an end asks for a strict connection, an error of a stream of instructions is
+abbrev pub finds_fault : Bool → Answer → Bool
+finds_fault strict (answer.Pulled p) = tells_malformed strict p
+finds_fault strict (answer.Listed l) = tells_malformed strict (pull_of l)
+finds_fault strict a = is_excess strict (refused_by a)
 
 -- no more streams of it wait for insertions than it announced (RFC 9204, section 2.1.2)
 abbrev pub FewWait : EndpointHistory → Type 0
@@ -89,7 +97,7 @@ pub record AreBounded (ends : Ends) : Type 0 where
 -- leads to the same ends without strict messages.
 pub data StepsPlainly (ends : Ends) (e : Event) : Type 0 where
   RefusesMalformed : is_malformed_refusal (answered ends e).0 ≡ true → (answered ends e).1 ≡ ends → StepsPlainly ends e
-  Judges : judges ends e ≡ true → (FewWaitAt ends → finds_fault (answered ends e).0 ≡ true) → StepsPlainly ends e
+  Judges : judges ends e ≡ true → (FewWaitAt ends → finds_fault (asks_strictly ends) (answered ends e).0 ≡ true) → StepsPlainly ends e
   Alike : is_malformed_refusal (answered ends e).0 ≡ false → answered (plain_ends ends) e ≡ ((answered ends e).0, plain_ends (answered ends e).1) → StepsPlainly ends e
 
 -- So it is over a whole schedule in which none judges a message: the answers, without the sends that were refused as malformed, are those of

@@ -3,7 +3,7 @@
 use Rattle.std.specs.Prelude.{ℕ, Bool, true, false, [], ◌∷◌, Option, Some, None, ◌==◌, ◌||◌, ◌&&◌, ◌^◌, ◌-◌}
 use Rattle.h3_proto.specs.Config.{is_limit}
 use Rattle.h3_messages.specs.declared.content.Content.TheVariants.{Unsaid}
-use Rattle.h3_connection.specs.Codes.{excessive_load, frame_unexpected}
+use Rattle.h3_connection.specs.Codes.{decoder_stream_error, encoder_stream_error, excessive_load, frame_unexpected}
 use Rattle.h3_connection.specs.Endpoint.{EndpointHistory, limit_of, Kind, kind_of}
 use Rattle.h3_connection.specs.Endpoint.Kind.{Request}
 use Rattle.h3_connection.specs.Incoming.{Incoming}
@@ -11,6 +11,7 @@ use Rattle.h3_connection.specs.Keeping.{read_all, unkept}
 use Rattle.h3_connection.specs.Outgoing.{Outgoing}
 use Rattle.h3_connection.specs.Pulling.{pull_stream}
 use Rattle.h3_connection.specs.StreamSets.{Streams, stream_at}
+use Rattle.h3_connection.specs.StrictConnection.{is_strict}
 use Rattle.h3_connection.specs.declared.event.Fault.{Fault}
 use Rattle.h3_connection.specs.declared.event.Fault.TheVariants as fault
 use Rattle.h3_connection.specs.declared.event.Pull.{Pull}
@@ -50,19 +51,29 @@ abbrev pub is_malformation : StreamFault → Bool
 is_malformation (stream_fault.Malformed why) = true
 is_malformation _ = false
 
-abbrev pub faults_message : Fault → Bool
-faults_message (fault.Stream f) = is_malformation f
-faults_message (fault.Connection code) = (code == frame_unexpected) || (code == excessive_load)
-faults_message fault.Memory = false
+-- the errors of the peer's encoder and decoder streams (RFC 9204, section 6)
+abbrev pub is_stream_error : ℕ → Bool
+is_stream_error code = (code == encoder_stream_error) || (code == decoder_stream_error)
 
-abbrev pub tells_malformed : Pull → Bool
-tells_malformed (pull.Fault f) = faults_message f
-tells_malformed _ = false
+-- What is read is too long for an endpoint that limits what is unfinished. An instruction that is too long is an error of its stream if the
+-- endpoint asks for a strict connection (RFC 9204, section 7.4)
+abbrev pub is_excess : Bool → Option ℕ → Bool
+is_excess strict None = false
+is_excess strict (Some code) = (code == excessive_load) || (strict && is_stream_error code)
 
--- a pull of this receiver would
+abbrev pub faults_message : Bool → Fault → Bool
+faults_message strict (fault.Stream f) = is_malformation f
+faults_message strict (fault.Connection code) = (code == frame_unexpected) || is_excess strict (Some code)
+faults_message strict fault.Memory = false
+
+abbrev pub tells_malformed : Bool → Pull → Bool
+tells_malformed strict (pull.Fault f) = faults_message strict f
+tells_malformed strict _ = false
+
+-- a pull of this receiver would, which reads no instruction
 abbrev pub judged_at : EndpointHistory → ℕ → Option Incoming → Bool
 judged_at e id None = false
-judged_at e id (Some i) = tells_malformed (pull_stream e.side e.announced id e.decoding.decoder i).answer
+judged_at e id (Some i) = tells_malformed false (pull_stream e.side e.announced id e.decoding.decoder i).answer
 
 abbrev pub judged_as : EndpointHistory → ℕ → Kind → Bool
 judged_as e id Request = judged_at e id (stream_at e.incoming id)
@@ -72,13 +83,9 @@ abbrev pub judged_open : Option ℕ → EndpointHistory → ℕ → Bool
 judged_open (Some code) e id = false
 judged_open None e id = judged_as e id (kind_of e.side id)
 
--- what is read is too long for an endpoint that limits what is unfinished
-abbrev pub is_excess : Option ℕ → Bool
-is_excess None = false
-is_excess (Some code) = code == excessive_load
-
+-- it is too long for this endpoint
 abbrev pub exceeds : EndpointHistory → Option ℕ → Bool
-exceeds e fault = is_excess fault && is_limit (limit_of e)
+exceeds e fault = is_excess (is_strict e.announced) fault && is_limit (limit_of e)
 
 -- A pull of the stream judges the message on it, once all that is kept was read; or what is kept is too long.
 abbrev pub is_judged : EndpointHistory → ℕ → Bool

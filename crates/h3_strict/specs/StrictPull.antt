@@ -46,6 +46,6 @@ pub record Counting (reader : Side) (awaited : Content) (known : Option Content)
 
 -- The pull finds no message malformed, and the receiver counts on.
 pub record PullsOn (reader : Side) (awaited : Content) (known : Option Content) (f : Flow) (p : Pulled) : Type 0 where
-  pub judges_not : tells_malformed p.answer ≡ false
+  pub judges_not : tells_malformed false p.answer ≡ false
   pub counts : CountsFlow reader awaited (flow_after f p.answer) p.incoming
   pub responds : p.incoming.response ≡ response_after p.answer reader (next_part f) known

@@ -8,7 +8,7 @@ ghost use Rattle.h3_world.specs.Ends.{Ends, answered, answers_of_ends, new_ends}
 ghost use Rattle.h3_world.specs.Setup.{IsMadeSetup, JudgesPlainly};
 ghost use Rattle.h3_world.specs.declared.event.Event.{Event};
 ghost use Rattle.h3_world.specs.declared.setup.Setup.{Setup};
-ghost use Rattle.h3_strict.specs.PlainEnds.{AreBounded, FewWaitAt, IsFront, NoneJudges, RunsPlainly, StepsPlainly, before_judged, finds_fault, plain_ends, plain_setup};
+ghost use Rattle.h3_strict.specs.PlainEnds.{AreBounded, FewWaitAt, IsFront, NoneJudges, RunsPlainly, StepsPlainly, asks_strictly, before_judged, finds_fault, plain_ends, plain_setup};
 ghost use Rattle.h3_strict.specs.Plainly.{plain, plainly};
 
 /// Without strict messages a new endpoint, and two new ends, are those of the setup that asks for none. That setup is made if the other one
@@ -43,7 +43,7 @@ pub fn ends_stay_bounded()
 /// schedule up to the first event that judges answered (`front`): these events are a front of it, and their answers one of its answers.
 pub fn whole_runs_are_plain()
     ensures all { (ends : Ends) (events : List Event) → NoneJudges ends events → RunsPlainly ends events }
-    ensures faultless { (ends : Ends) (events : List Event) → AreBounded ends → list_any finds_fault (answers_of_ends ends events) ≡ false → RunsPlainly ends events }
+    ensures faultless { (ends : Ends) (events : List Event) → AreBounded ends → list_any (finds_fault (asks_strictly ends)) (answers_of_ends ends events) ≡ false → RunsPlainly ends events }
     ensures front { (ends : Ends) (events : List Event) → IsFront ends events (before_judged ends events) × RunsPlainly ends (before_judged ends events) }
     ensures none { (ends : Ends) (events : List Event) → NoneJudges ends (before_judged ends events) }
     ensures whole { (ends : Ends) (events : List Event) → NoneJudges ends events → before_judged ends events ≡ events }
@@ -71,22 +71,21 @@ pub fn strict_endpoints_run_in_a_world()
     h3_headline::laws::two_endpoints_run_in_a_world();
 }
 
-ghost use Rattle.std.specs.Prelude.{ℕ, map, true};
-ghost use Rattle.h3_connection.specs.Announcing.{section_of};
+ghost use Rattle.std.specs.Prelude.{ℕ, Bool, true};
 ghost use Rattle.h3_connection.specs.OwnIds.{other};
 ghost use Rattle.h3_world.specs.Headline.{is_connection_fault};
-ghost use Rattle.h3_world.specs.Setup.{announced_at};
-ghost use Rattle.h3_headline.specs.Messages.{IsFrontOf, at_reader, has_finished, has_pulled_end, pulled, sent};
+ghost use Rattle.h3_headline.specs.Exactly.{IsAllOf, IsExactly, reader_at};
+ghost use Rattle.h3_headline.specs.Messages.{IsFrontOf, has_finished, has_pulled_end, pulled, sent};
 
 /// By their own answers, with no world in view: in such a schedule no answer tells of a connection fault. What a side pulled from a stream
 /// is a front of what the other side sent on it, and all of that with the end.
 pub fn strict_endpoints_hand_out_what_was_sent()
     ensures fault { (setup : Setup) (events : List Event) → IsMadeSetup setup → AllByRecursion (IsSendable setup) events → RunsPlainly (new_ends setup) events → list_any is_connection_fault (answers_of_ends (new_ends setup) events) ≡ false }
     ensures front { (setup : Setup) (events : List Event) (side : Side) (id : ℕ) → IsMadeSetup setup → AllByRecursion (IsSendable setup) events → RunsPlainly (new_ends setup) events →
-        IsFrontOf (pulled side id events (answers_of_ends (new_ends setup) events)) (map (at_reader (section_of (announced_at setup side))) (sent (other side) id events (answers_of_ends (new_ends setup) events))) }
+        IsFrontOf (IsExactly (reader_at setup side)) (pulled side id events (answers_of_ends (new_ends setup) events)) (sent (other side) id events (answers_of_ends (new_ends setup) events)) }
     ensures end { (setup : Setup) (events : List Event) (side : Side) (id : ℕ) → IsMadeSetup setup → AllByRecursion (IsSendable setup) events → RunsPlainly (new_ends setup) events →
         has_pulled_end side id events (answers_of_ends (new_ends setup) events) ≡ true →
-        (pulled side id events (answers_of_ends (new_ends setup) events) ≡ map (at_reader (section_of (announced_at setup side))) (sent (other side) id events (answers_of_ends (new_ends setup) events)))
+        IsAllOf (IsExactly (reader_at setup side)) (pulled side id events (answers_of_ends (new_ends setup) events)) (sent (other side) id events (answers_of_ends (new_ends setup) events))
         × (has_finished (other side) id events (answers_of_ends (new_ends setup) events) ≡ true) }
 {
     h3_headline::parts::endpoints_hand_out_what_was_sent();
@@ -95,7 +94,7 @@ pub fn strict_endpoints_hand_out_what_was_sent()
 /// If no event judges in such a schedule of new ends, no answer finds a message malformed, a frame at the wrong place or one too long. So
 /// the answers alone tell what is judged.
 pub fn schedules_that_judge_nothing_find_no_fault()
-    ensures { (setup : Setup) (events : List Event) → IsMadeSetup setup → AllByRecursion (IsSendable setup) events → NoneJudges (new_ends setup) events → list_any finds_fault (answers_of_ends (new_ends setup) events) ≡ false }
+    ensures { (setup : Setup) (events : List Event) (strict : Bool) → IsMadeSetup setup → AllByRecursion (IsSendable setup) events → NoneJudges (new_ends setup) events → list_any (finds_fault strict) (answers_of_ends (new_ends setup) events) ≡ false }
 {
     h3_headline::laws::two_endpoints_run_in_a_world();
     strict_endpoints_hand_out_what_was_sent();

@@ -1,18 +1,18 @@
 //! Laws over two endpoints that limit what is unfinished. These functions do nothing: their contracts are the laws.
-ghost use Rattle.std.specs.Prelude.{◌≡◌, ℕ, List, map, true, false};
+ghost use Rattle.std.specs.Prelude.{◌≡◌, ℕ, List, true, false};
 ghost use Rattle.std.specs.List.{AllByRecursion, list_any};
 ghost use Rattle.h3_proto.specs.declared.stream.Side.{Side};
-ghost use Rattle.h3_connection.specs.Announcing.{section_of};
 ghost use Rattle.h3_connection.specs.OwnIds.{other};
 ghost use Rattle.h3_world.specs.Ends.{answers_of_ends, ends_after, new_ends};
 ghost use Rattle.h3_world.specs.Headline.{Happens, is_connection_fault};
 ghost use Rattle.h3_world.specs.Run.{Run};
 ghost use Rattle.h3_world.specs.Sendable.{IsSendable};
-ghost use Rattle.h3_world.specs.Setup.{IsMadeSetup, announced_at};
+ghost use Rattle.h3_world.specs.Setup.{IsMadeSetup};
 ghost use Rattle.h3_world.specs.World.{World, empty_world};
 ghost use Rattle.h3_world.specs.declared.event.Event.{Event};
 ghost use Rattle.h3_world.specs.declared.setup.Setup.{Setup};
-ghost use Rattle.h3_headline.specs.Messages.{IsFrontOf, at_reader, has_finished, has_pulled_end, pulled, sent};
+ghost use Rattle.h3_headline.specs.Exactly.{IsAllOf, IsExactly, reader_at};
+ghost use Rattle.h3_headline.specs.Messages.{IsFrontOf, has_finished, has_pulled_end, pulled, sent};
 ghost use Rattle.h3_headline.specs.Standing.{Stands};
 ghost use Rattle.h3_strict.specs.Limits.{AreTaken, AsksForNone, AsksForStrict, EarlyAreTaken, LimitsTakeWhatIsSent, RunsUnlimited, unlimited_ends, unlimited_setup};
 ghost use Rattle.h3_strict.specs.PlainEnds.{NoneJudges, answers_without_malformed, plain_ends, plain_setup, without_malformed};
@@ -61,10 +61,10 @@ pub fn two_limited_endpoints_run_in_a_world()
     ensures fault { (setup : Setup) (events : List Event) → IsMadeSetup setup → AsksForNone setup → AllByRecursion (IsSendable setup) events → EarlyAreTaken setup (new_ends setup) events →
         list_any is_connection_fault (answers_of_ends (new_ends setup) events) ≡ false }
     ensures front { (setup : Setup) (events : List Event) (side : Side) (id : ℕ) → IsMadeSetup setup → AsksForNone setup → AllByRecursion (IsSendable setup) events → EarlyAreTaken setup (new_ends setup) events →
-        IsFrontOf (pulled side id events (answers_of_ends (new_ends setup) events)) (map (at_reader (section_of (announced_at setup side))) (sent (other side) id events (answers_of_ends (new_ends setup) events))) }
+        IsFrontOf (IsExactly (reader_at setup side)) (pulled side id events (answers_of_ends (new_ends setup) events)) (sent (other side) id events (answers_of_ends (new_ends setup) events)) }
     ensures end { (setup : Setup) (events : List Event) (side : Side) (id : ℕ) → IsMadeSetup setup → AsksForNone setup → AllByRecursion (IsSendable setup) events → EarlyAreTaken setup (new_ends setup) events →
         has_pulled_end side id events (answers_of_ends (new_ends setup) events) ≡ true →
-        (pulled side id events (answers_of_ends (new_ends setup) events) ≡ map (at_reader (section_of (announced_at setup side))) (sent (other side) id events (answers_of_ends (new_ends setup) events)))
+        IsAllOf (IsExactly (reader_at setup side)) (pulled side id events (answers_of_ends (new_ends setup) events)) (sent (other side) id events (answers_of_ends (new_ends setup) events))
         × (has_finished (other side) id events (answers_of_ends (new_ends setup) events) ≡ true) }
 {
     limits_that_take_what_is_sent_change_nothing();
@@ -86,10 +86,10 @@ pub fn two_strict_limited_endpoints_run_in_a_world()
         ServerKnows events (answers_of_ends (new_ends setup) events) → EarlyAreTaken setup (new_ends setup) events → list_any is_connection_fault (answers_of_ends (new_ends setup) events) ≡ false }
     ensures front { (setup : Setup) (events : List Event) (side : Side) (id : ℕ) → IsMadeSetup setup → AsksForStrict setup → AllByRecursion (IsSendable setup) events →
         ServerKnows events (answers_of_ends (new_ends setup) events) → EarlyAreTaken setup (new_ends setup) events →
-        IsFrontOf (pulled side id events (answers_of_ends (new_ends setup) events)) (map (at_reader (section_of (announced_at setup side))) (sent (other side) id events (answers_of_ends (new_ends setup) events))) }
+        IsFrontOf (IsExactly (reader_at setup side)) (pulled side id events (answers_of_ends (new_ends setup) events)) (sent (other side) id events (answers_of_ends (new_ends setup) events)) }
     ensures end { (setup : Setup) (events : List Event) (side : Side) (id : ℕ) → IsMadeSetup setup → AsksForStrict setup → AllByRecursion (IsSendable setup) events →
         ServerKnows events (answers_of_ends (new_ends setup) events) → EarlyAreTaken setup (new_ends setup) events → has_pulled_end side id events (answers_of_ends (new_ends setup) events) ≡ true →
-        (pulled side id events (answers_of_ends (new_ends setup) events) ≡ map (at_reader (section_of (announced_at setup side))) (sent (other side) id events (answers_of_ends (new_ends setup) events)))
+        IsAllOf (IsExactly (reader_at setup side)) (pulled side id events (answers_of_ends (new_ends setup) events)) (sent (other side) id events (answers_of_ends (new_ends setup) events))
         × (has_finished (other side) id events (answers_of_ends (new_ends setup) events) ≡ true) }
 {
     limits_that_take_what_is_sent_change_nothing();

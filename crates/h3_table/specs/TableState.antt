@@ -25,6 +25,7 @@ entry_at h number = if nat_lt (evicted h) number then slice_get h.entries (numbe
 abbrev pub has_room : TableState → Field → Bool
 has_room h f = nat_lt (h.inserted + 1) (2 ^ 62) && nat_le (field_size f) h.capacity
 
+-- RFC 9204 3.2.2: eviction
 -- with a further entry: the oldest ones are evicted
 abbrev pub with_entry : TableState → Field → TableState
 with_entry h f = record h { entries = table h.capacity (h.entries ++ f ∷ []); inserted = h.inserted + 1 }

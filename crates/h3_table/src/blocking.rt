@@ -83,6 +83,7 @@ impl BlockingCounts {
         self.total
     }
 
+    // RFC 9204 2.1.4: known received count
     /// The sum of increments grows, and stops at the greatest number. Sections whose insertions are known to be received
     /// wait no more; only these are gone over.
     pub fn raise(&mut self, increment: usize)

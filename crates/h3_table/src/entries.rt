@@ -68,6 +68,7 @@ impl Match {
     }
 }
 
+// RFC 9204 3.2.2: eviction
 /// Drops the oldest fields until the sizes of the others sum to at most that, and answers this sum.
 fn evict_oldest(fields: &mut FieldQueue, size: usize, most: usize) -> usize
     requires { size ≡ section_size fields.old.fields }

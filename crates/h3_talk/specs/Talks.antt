@@ -1,12 +1,12 @@
 -- What the program reads and writes.
-use Rattle.std.specs.Prelude.{◌≡◌, ◌⊎◌, ℕ, ◌^◌, false, List, Option}
+use Rattle.std.specs.Prelude.{◌≡◌, ◌⊎◌, ℕ, ◌^◌, false, List, Option, take}
 use Rattle.std.specs.List.{list_any}
 use Rattle.std.specs.Io.KnownBytes.{Appends}
 use Rattle.h3_script.specs.Inputs.{HasRead, ReadsScript, LosesInput}
 use Rattle.h3_script.specs.Lines.{printed}
 use Rattle.h3_script.specs.Script.{IsScript}
 use Rattle.h3_world.specs.Ends.{new_ends, answers_of_ends}
-use Rattle.h3_world.specs.Headline.{Happens, is_memory}
+use Rattle.h3_world.specs.Headline.{Happens, is_out_of_memory}
 use Rattle.h3_world.specs.Run.{Run}
 use Rattle.h3_world.specs.World.{World, empty_world}
 use Rattle.h3_world.specs.declared.setup.Setup.{Setup}
@@ -14,7 +14,6 @@ use Rattle.h3_world.specs.declared.event.Event.{Event}
 use Rattle.h3_world.specs.declared.event.Answer.{Answer}
 use Rattle.h3_memory.specs.Kept.{KeepingWorld, nothing_kept}
 use Rattle.h3_memory.specs.MemoryStep.{HappensWithMemory}
-use Rattle.h3_session.specs.Headlines.{RunsUntilMemory}
 use Rattle.h3_session.specs.Messages.{HandsOutAlways}
 use Rattle.h3_session.specs.Running.{AnswersEach}
 
@@ -31,9 +30,9 @@ pub record AreAnswers (setup : Setup) (events : List Event) (answers : List Answ
 -- stream is a front of what the other side sent, and with the end it is all of that.
 pub record AnswersTo (setup : Setup) (events : List Event) (answers : List Answer) : Type 0 where
   pub each : AnswersEach (new_ends setup) events answers
-  pub front : RunsUntilMemory setup events answers
+  pub front : (n : ℕ) → list_any is_out_of_memory (take n answers) ≡ false → (w : World) × Run (Happens setup) (empty_world setup) (take n events) (take n answers) w
   pub messages : HandsOutAlways setup events answers
-  pub whole : list_any is_memory answers ≡ false → AreAnswers setup events answers
+  pub whole : list_any is_out_of_memory answers ≡ false → AreAnswers setup events answers
   pub world : KeepingWorld
   pub run : Run (HappensWithMemory setup) (nothing_kept (empty_world setup)) events answers world
 

@@ -7,7 +7,7 @@ use Rattle.h3_connection.specs.KeptGoawayLaws.{peer_twice, reads_alike}
 use Rattle.h3_connection.specs.Lasts.{last_id}
 use Rattle.h3_connection.specs.PeerReading.{Peer, PeerFound, with_unread, read_peer}
 use Rattle.h3_connection.specs.PeerReadingLaws.{nothing_read_on}
-use Rattle.h3_unidirectional.specs.Fronts.{ReadsFront, KeepsFront, IsPart, StopsReading}
+use Rattle.h3_unidirectional.specs.Fronts.{ReadsFront, KeepsFront, KeepsOn, IsPart, StopsReading}
 
 -- nothing is read
 pub none_kept : (last : Bool) (limit : ℕ) (side : Side) (p : Peer) → KeepsFront last limit side p p
@@ -69,6 +69,20 @@ stopped last limit side old next h =
 -- where memory is refused, what was read stands
 pub stops_kept : (last : Bool) (limit : ℕ) (side : Side) (old mid next new : Peer) → KeepsFront last limit side old mid → ReadsFront limit side mid next → new ≡ kept_peer last next → StopsReading last limit side old new
 stops_kept last limit side old mid next new a b is = subst (StopsReading last limit side old) (sym is) (stopped last limit side old next (behind last limit side old mid next a b))
+
+pub keeps_on : (last : Bool) (limit : ℕ) (side : Side) (old mid next new : Peer) → KeepsFront last limit side old mid → ReadsFront limit side mid next → new ≡ kept_peer last next → KeepsOn last limit side old new
+keeps_on last limit side old mid next new a b is = subst (KeepsOn last limit side old) (sym is) (record { front = behind last limit side old mid next a b; kept = sym (peer_twice last next) })
+
+-- what is read on from there
+pub kept_behind : (last : Bool) (limit : ℕ) (side : Side) (old mid new : Peer) → KeepsFront last limit side old mid → KeepsOn last limit side mid new → StopsReading last limit side old new
+kept_behind last limit side old mid new a b =
+    subst (StopsReading last limit side old) (sym b.kept)
+    (stopped last limit side old new
+    (subst (KeepsFront last limit side old) b.kept (record {
+      front = a.front ++ b.front.front;
+      split = a.split ∙ ap (λ l. a.front ++ l) b.front.split ∙ sym (append_assoc a.front b.front.front new.unread);
+      goes_on = λ more. ap (λ l. kept_found last (read_peer limit side (with_unread old l))) (append_assoc a.front b.front.front more) ∙ a.goes_on (b.front.front ++ more) ∙ b.front.goes_on more;
+    })))
 
 -- ids with no last one are none, and stay so
 at_end : (first : ℕ) (ids : List ℕ) → slice_get (first ∷ ids) (length ids) ≡ None → first ∷ ids ≡ []

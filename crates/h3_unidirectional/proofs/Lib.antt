@@ -1,6 +1,7 @@
 pub mod FrameFronts
 pub mod ControlFronts
 pub mod KeptFronts
+mod FirstReads
 mod InstructionFronts
 mod Excess
 mod WindowLaws

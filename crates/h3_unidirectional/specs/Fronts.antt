@@ -1,14 +1,18 @@
 -- What a reading leaves that was refused memory: whole frames or instructions at the front were read, and the rest is as it was.
-use Rattle.std.specs.Prelude.{◌≡◌, ℕ, Bool, false, List, [], ◌++◌, None}
+use Rattle.std.specs.Prelude.{◌≡◌, ℕ, Bool, false, List, [], ◌++◌, Some, if◌then◌else◌}
 use Rattle.h3_proto.specs.declared.stream.Side.{Side}
 use Rattle.h3_qpack.specs.EncoderHistory.{EncoderHistory}
 use Rattle.h3_qpack.specs.EncoderState.{encoder_state}
 use Rattle.h3_qpack.specs.Hearing.{heard, listened}
+use Rattle.h3_connection.specs.Codes.{settings_error}
+use Rattle.h3_connection.specs.Control.{settings_alone}
 use Rattle.h3_connection.specs.ExcessiveInstructions.{hear_up_to, listen_up_to}
 use Rattle.h3_connection.specs.KeptGoaways.{kept_found, kept_peer}
 use Rattle.h3_connection.specs.Listeners.{Decoding, Encoding, heard_more}
 use Rattle.h3_connection.specs.PartReading.{PeerReadsPart, HearsPart, ListensPart}
-use Rattle.h3_connection.specs.PeerReading.{Peer, with_unread, read_peer}
+use Rattle.h3_connection.specs.PeerReading.{Peer, PeerFound, with_unread, read_peer}
+use Rattle.h3_connection.specs.StrictConnection.{settings_refused}
+use Rattle.h3_connection.specs.declared.setup.Announced.{Announced}
 
 -- The peer's control stream, where frames are taken up to this limit: whatever follows the front, it is read on from there.
 pub record ReadsFront (limit : ℕ) (side : Side) (old new : Peer) : Type 0 where
@@ -21,6 +25,15 @@ pub record KeepsFront (last : Bool) (limit : ℕ) (side : Side) (old new : Peer)
   pub front : List ℕ
   pub split : old.unread ≡ front ++ new.unread
   pub goes_on : (more : List ℕ) → kept_found last (read_peer limit side (with_unread old (front ++ more))) ≡ kept_found last (read_peer limit side (with_unread new more))
+
+-- And what is stored is what is kept.
+pub record KeepsOn (last : Bool) (limit : ℕ) (side : Side) (old new : Peer) : Type 0 where
+  pub front : KeepsFront last limit side old new
+  pub kept : new ≡ kept_peer last new
+
+-- What is found where the settings are due: of settings that are refused nothing else is kept.
+abbrev pub found_first : Side → Announced → Peer → PeerFound → PeerFound
+found_first side own old found = if settings_refused side own found.0.settings then (settings_alone old found.0.settings, Some settings_error) else found
 
 -- A front of this peer's stream was read, without a fault, and this is kept.
 pub record IsPart (last : Bool) (limit : ℕ) (side : Side) (p new : Peer) : Type 0 where

@@ -1,5 +1,5 @@
 -- What a frame of the peer's control stream does.
-use Rattle.std.specs.Prelude.{◌≡◌, ℕ, ◌<◌, [], ◌∷◌, ◌++◌, length, Some, None}
+use Rattle.std.specs.Prelude.{◌≡◌, ℕ, ◌<◌, true, [], ◌∷◌, ◌++◌, length, Some, None, is_some}
 use Rattle.h3_proto.specs.declared.stream.Side.{Side}
 use Rattle.h3_connection.specs.PeerReading.{Peer, PeerFound, read_peer}
 use Rattle.h3_unidirectional.specs.Fronts.{ReadsFront}
@@ -7,6 +7,11 @@ use Rattle.h3_unidirectional.specs.declared.control.Judged.{Judged}
 use Rattle.h3_unidirectional.specs.declared.control.Judged.TheVariants.{Settings, Goaway, MaxPushId, Fault}
 use Rattle.h3_unidirectional.specs.declared.control.Progress.{Progress}
 use Rattle.h3_unidirectional.specs.declared.control.Progress.TheVariants.{GoesOn, Ends}
+
+-- a frame of a stream whose settings are due: they came, and nothing else changes; or they did not
+abbrev pub KeepsEarlier : Peer → Peer → Progress → Type 0
+KeepsEarlier old new GoesOn = (new ≡ record old { unread = new.unread; settings = new.settings }) × (is_some new.settings ≡ true)
+KeepsEarlier old new (Ends fault) = new.settings ≡ None
 
 abbrev pub done : Peer → Judged → PeerFound
 done p (Settings pairs) = (record p { settings = Some pairs }, None)

@@ -52,6 +52,7 @@ received_by (Control, bytes) = received.Control bytes
 received_by (Encoder, bytes) = received.Encoder bytes
 received_by (Decoder, bytes) = received.Decoder bytes
 received_by (Push id, bytes) = received.Push
+received_by (Session id, bytes) = received.Session id
 received_by (_, bytes) = received.Nothing
 
 abbrev pub is_told_kind : Kind → Bool

@@ -1,19 +1,22 @@
 //! The peer's control stream (RFC 9114, section 6.2.1).
-ghost use Rattle.std.specs.Prelude.{◌≡◌, ◌+◌, ◌^◌, ◌<◌, ◌≤◌, ◌++◌, ℕ, List, [], length, Some, is_some, IfOk, IfErr, OnOk, OnErr, option_copied};
+ghost use Rattle.std.specs.Prelude.{◌≡◌, ◌+◌, ◌^◌, ◌<◌, ◌≤◌, ◌++◌, ℕ, List, [], length, false, Some, None, is_some, IfOk, IfErr, OnOk, OnErr, option_copied};
 ghost use Rattle.std.specs.List.{concat};
 ghost use Rattle.h3_proto.specs.declared.stream.Side.{Side};
+ghost use Rattle.h3_wire.specs.FirstFrames.{begins_other};
 ghost use Rattle.h3_wire.specs.Known.{refusal};
 ghost use Rattle.h3_wire.specs.UnknownSize.{held_length};
 ghost use Rattle.h3_connection.specs.Codes.{settings_code, refusal_code};
 ghost use Rattle.h3_connection.specs.KeptGoaways.{keeps_last, kept_found, kept_peer};
 ghost use Rattle.h3_connection.specs.Lasts.{last_id};
 ghost use Rattle.h3_connection.specs.PeerReading.{Peer, nothing_read, with_unread, is_no_goaway, read_goaway, read_max_push, read_frame, refused_code, read_peer};
-ghost use Rattle.h3_unidirectional.specs.Fronts.{ReadsFront, StopsReading};
-ghost use Rattle.h3_unidirectional.specs.Judged.{done, ReadsOne};
+ghost use Rattle.h3_connection.specs.StrictConnection.{settings_refused};
+ghost use Rattle.h3_unidirectional.specs.Fronts.{KeepsOn, KeepsPart, ReadsFront, StopsReading, found_first};
+ghost use Rattle.h3_unidirectional.specs.Judged.{KeepsEarlier, done, ReadsOne};
 
 use crate::limits::keeps_last;
 use bytes::Bytes;
 use h3_coding::varint::VarInt;
+use h3_connection::setup::Announced;
 use h3_proto::config::Choices;
 use h3_proto::error::Code;
 use h3_proto::frame::{Settings, SettingsError};
@@ -91,6 +94,7 @@ fn is_no_goaway(side: Side, id: u64) -> bool
     }
 }
 
+// RFC 9114 6.2.1: SETTINGS first
 /// The first frame has to be the settings.
 fn judge_first(frame: Frame<PayloadLen>) -> Judged
     ensures { (side : Side) (p : Peer) → read_frame side p None frame ≡ done p result }
@@ -165,6 +169,13 @@ impl PeerControl {
         &self.unread
     }
 
+    /// Whether those bytes begin with the type and the length of a frame that is not SETTINGS (RFC 9114, section 6.2.1).
+    pub fn begins_other(&self) -> bool
+        ensures { result ≡ begins_other self.now.unread }
+    {
+        self.unread.begins_other()
+    }
+
     /// More of the stream, which is kept until it is read. An `Err` changes nothing, and returns the bytes.
     pub fn push(&mut self, bytes: Bytes) -> Result<(), Bytes>
         requires { length self.old.unread + length bytes < 2 ^ 64 }
@@ -175,6 +186,7 @@ impl PeerControl {
         self.unread.push(bytes)
     }
 
+    // RFC 9114 5.2: GOAWAY raised, received
     fn judge_goaway(&self, side: Side, id: VarInt) -> Judged
         ensures { read_goaway side self.now id ≡ done self.now result }
     {
@@ -190,6 +202,7 @@ impl PeerControl {
         Judged::Goaway(id)
     }
 
+    // RFC 9114 7.2.7: MAX_PUSH_ID lowered
     fn judge_max_push(&self, side: Side, id: PushId) -> Judged
         ensures { read_max_push side self.now id ≡ done self.now result }
     {
@@ -206,6 +219,7 @@ impl PeerControl {
         }
     }
 
+    // RFC 9114 7.2: frames out of place on a control stream
     fn judge_later(&self, side: Side, frame: Frame<PayloadLen>) -> Judged
         ensures { (pairs : List (ℕ × ℕ)) → read_frame side self.now (Some pairs) frame ≡ done self.now result }
     {
@@ -245,6 +259,8 @@ impl PeerControl {
     fn read_one(&mut self, alloc: Global, side: Side, most: u64) -> Result<Progress, AllocError>
         ensures ok { IfOk result (λ progress. ReadsOne most side self.old self.new progress) }
         ensures refused { OnErr result (ReadsFront most side self.old self.new) }
+        ensures first { self.old.settings ≡ None → IfOk result (λ progress. KeepsEarlier self.old self.new progress) }
+        ensures unknown { OnErr result (self.new.settings ≡ self.old.settings) }
     {
         if self.unread.is_excessive(most) {
             self.unread = FrameBuffer::new(alloc);
@@ -301,6 +317,7 @@ impl PeerControl {
     ) -> Result<Option<Code>, AllocError>
         ensures ok { IfOk result (λ fault. kept_found (keeps_last choices) (read_peer choices.unfinished_limit side self.old) ≡ (self.new, fault)) }
         ensures refused { OnErr result (StopsReading (keeps_last choices) choices.unfinished_limit side self.old self.new) }
+        ensures front { OnErr result (KeepsOn (keeps_last choices) choices.unfinished_limit side self.old self.new) }
     {
         // (the label names the loop in its proof)
         'frames: loop {
@@ -312,5 +329,42 @@ impl PeerControl {
                 Err(e) => return Err(e),
             }
         }
+    }
+
+    /// Whether the settings came, and the endpoint does not take them.
+    fn are_refused(&self, side: Side, own: &Announced) -> bool
+        ensures { result ≡ settings_refused side own.now self.now.settings }
+    {
+        match &self.settings {
+            Some(settings) => own.refuses_settings(side, settings),
+            None => false,
+        }
+    }
+
+    /// The same while the settings have not come. If the endpoint does not take those that come, that is the fault, whatever follows them:
+    /// what came after them is freed.
+    pub fn read_first(
+        &mut self,
+        alloc: Global,
+        side: Side,
+        own: &Announced,
+    ) -> Result<Option<Code>, AllocError>
+        requires { self.old.settings ≡ None }
+        ensures ok { IfOk result (λ fault. kept_found (keeps_last own.now.choices) (found_first side own.now self.old (read_peer own.now.choices.unfinished_limit side self.old)) ≡ (self.new, fault)) }
+        ensures refused { OnErr result (KeepsPart (keeps_last own.now.choices) own.now.choices.unfinished_limit side self.old self.new) }
+        ensures taken { OnErr result (settings_refused side own.now self.new.settings ≡ false) }
+    {
+        let progress = self.read_one(alloc, side, own.choices.unfinished_limit);
+        self.keep_goaways(keeps_last(own.choices));
+        match progress {
+            Ok(Progress::Ends(fault)) => return Ok(fault),
+            Ok(Progress::GoesOn) => {}
+            Err(e) => return Err(e),
+        }
+        if self.are_refused(side, own) {
+            self.unread = FrameBuffer::new(alloc);
+            return Ok(Some(Code::H3_SETTINGS_ERROR));
+        }
+        self.read(alloc, side, own.choices)
     }
 }

@@ -106,6 +106,7 @@ impl Decoding {
         outcome
     }
 
+    // RFC 9204 4.4.3: insert count increment, written
     // The same with the increment. The instruction at the front is not unfinished.
     fn read_front(&mut self, most: u64, replies: &mut Vec<u8>) -> Result<(), DecoderError>
         requires { goes_on (encoder_wait self.old.unread) ≡ false }

@@ -96,6 +96,7 @@ impl Encoding {
         &self.encoder
     }
 
+    // RFC 9204 3.2.3: capacity of the local encoder's table
     /// The peer's settings came. If they allow a table of 1 to 2^30 - 1 bytes and at most 65535 blocked streams, they can be used (RFC
     /// 9204, section 5). If they can, and the local table may have more than 0 bytes, it is used from now on; else nothing changes. The
     /// answer is the capacity of a table that is used, in bytes, which the caller writes on the encoder stream. It is the lesser of what

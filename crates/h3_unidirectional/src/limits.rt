@@ -60,6 +60,7 @@ pub(crate) fn window(most: u64, len: usize) -> usize
     }
 }
 
+// RFC 9114 10.5: unfinished_limit of instructions
 /// Whether an instruction is longer than the limit, of which `len` bytes came and which is not whole within the limit. It is longer if
 /// some came, and with what is missing they are more.
 pub(crate) fn is_longer(most: u64, len: usize, wait: Wait) -> bool

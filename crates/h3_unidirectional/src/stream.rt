@@ -49,7 +49,9 @@ pub enum Received {
     Decoder(Bytes),
     /// The stream is a push stream.
     Push,
-    /// For none: the bytes are of a session, which is pulled, or are thrown away, or tell no role yet.
+    /// The stream is one of the WebTransport session with this id, and its bytes are pulled.
+    Session(u64),
+    /// For none: the bytes are thrown away, or tell no role yet.
     Nothing,
 }
 
@@ -80,6 +82,7 @@ impl Model for UnidirectionalStream {
     ghost invariant = { λ s. IsUnfinished s.kind s.front.items };
 }
 
+// RFC 9114 6.2: type of a unidirectional stream
 /// Reads what a stream begins with: its type, and the id after it if it is a push stream (RFC 9114, section 4.6) or one of a
 /// WebTransport session. `None` if that is not whole.
 pub(crate) fn read_kind<B: Buf>(buf: &mut B) -> Option<Kind>
@@ -233,7 +236,7 @@ impl UnidirectionalStream {
     {
         match kind {
             Kind::Session(session) => match self.keep(session, bytes, passed) {
-                Ok(()) => Ok(Received::Nothing),
+                Ok(()) => Ok(Received::Session(session.into_inner())),
                 Err(back) => Err(back),
             },
             Kind::Control => {

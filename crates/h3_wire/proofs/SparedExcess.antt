@@ -1,16 +1,28 @@
 -- A limit on frames, where the frame at the front is an unknown one of which bytes were let go.
-use Rattle.std.proofs.Common.{◌≡◌, ℕ, ◌<◌, ◌≤◌, ◌+◌, ◌-◌, Bool, true, false, ◌||◌, ◌==◌, List, ◌++◌, length, drop, arith, inl, inr, refl, sym, ap, ◌∙◌, Some}
+use Rattle.std.proofs.Common.{◌≡◌, ℕ, ◌<◌, ◌≤◌, ◌+◌, ◌-◌, Bool, true, false, ◌&&◌, ◌||◌, ◌==◌, List, [], ◌∷◌, ◌++◌, length, drop, arith, inl, inr, refl, sym, ap, ◌∙◌, Some}
 use Rattle.std.proofs.lemmas.Bool.{cases_lt}
 use Rattle.std.specs.List.{concat}
 use Rattle.std.proofs.lemmas.List.Folds.{concat-append}
 use Rattle.std.proofs.Math.Seq.{drop-append-add}
-use Rattle.h3_wire.specs.ExcessiveFrames.{begins_section, is_excessive, is_kept_whole}
+use Rattle.h3_coding.specs.VarintLaws.{none_at_end}
+use Rattle.h3_proto.specs.Config.{is_limit}
+use Rattle.h3_wire.specs.ExcessiveFrames.{begins_section, is_excessive, is_kept_whole, says_too_much}
 use Rattle.h3_wire.specs.ExcessiveLaws.{none_left, unknown_begins, unknown_says}
 use Rattle.h3_wire.specs.Known.{known}
 use Rattle.h3_wire.specs.KnownLaws.{known-unknown}
 use Rattle.h3_wire.specs.UnknownSize.{AreLetGo, is_known_type, unknown_size}
 use Rattle.h3_wire.proofs.SparedPieces.{none_in_front, size_with_more}
 use Rattle.h3_wire.proofs.LettingGo.{inside, tests, unknown_head, unknown_whole}
+
+none_of : (b : Bool) → false ≡ (b && false)
+none_of true = refl
+none_of false = refl
+
+-- With nothing there, nothing is too long.
+pub nothing_is_long : (most : ℕ) (bytes : List ℕ) → length bytes ≡ 0 → false ≡ is_excessive most (known bytes)
+unfolding known
+nothing_is_long most [] e = none_of (is_limit most) ∙ ap (λ o. is_limit most && says_too_much most o) (sym none_at_end)
+nothing_is_long most (byte ∷ bytes) e = absurd (omega (arith, e))
 
 none_kept : (kind : ℕ) → is_known_type kind ≡ false → is_kept_whole kind ≡ false
 none_kept kind unknown = by_test (is_kept_whole kind) refl

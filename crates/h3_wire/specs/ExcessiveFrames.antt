@@ -44,6 +44,7 @@ tells_type kind (Some h) = h.0 == kind
 abbrev pub begins_section : List ℕ → Bool
 begins_section bytes = is_of_type 1 (varint_at bytes)
 
+-- RFC 9114 10.5: unfinished_limit of frames
 -- There is a limit, and the bytes begin with the head of a frame whose payload is kept, and that is longer. The payload need not be there.
 abbrev pub is_excessive : ℕ → List ℕ → Bool
 is_excessive most bytes = is_limit most && says_too_much most (varint_at bytes)

@@ -24,6 +24,7 @@ abbrev pub alone : List ℕ → Frame PayloadLen → List ℕ → Front
 alone [] f rest = Whole f rest
 alone (byte ∷ bytes) f rest = Refused error.Malformed
 
+-- RFC 9114 7.1: a payload that is one number
 abbrev pub one_number : Option (ℕ × List ℕ) → (ℕ → Frame PayloadLen) → List ℕ → Front
 one_number None make rest = Refused error.Malformed
 one_number (Some p) make rest = alone p.1 (make p.0) rest
@@ -41,6 +42,7 @@ abbrev pub promise_frame : Option (ℕ × List ℕ) → List ℕ → Front
 promise_frame None rest = Refused error.Malformed
 promise_frame (Some p) rest = Whole (frame.PushPromise (record { id = p.0; section = p.1 })) rest
 
+-- RFC 9114 7.2.8: frame types of HTTP/2
 -- the types of HTTP/2, which HTTP/3 refuses
 abbrev pub is_http2 : ℕ → Bool
 is_http2 kind = list_any (λ k. k == kind) (2 ∷ 6 ∷ 8 ∷ 9 ∷ [])

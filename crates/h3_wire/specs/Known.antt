@@ -21,6 +21,7 @@ abbrev pub skipped : ℕ → List ℕ → List ℕ
 skipped zero bytes = bytes
 skipped (suc n) bytes = past_unknown (frame_at bytes) bytes (skipped n)
 
+-- RFC 9114 9: unknown frames skipped
 -- the bytes from the first frame on that is not unknown
 unfoldable pub known : List ℕ → List ℕ
 known bytes = skipped (length bytes) bytes

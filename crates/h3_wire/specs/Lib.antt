@@ -13,6 +13,7 @@ pub mod ReadsOn
 pub mod Elements
 pub mod Encoded
 pub mod StreamHeaders
+pub mod MessageFrames
 pub mod Outgoing
 pub mod Lent
 pub mod ReadBack
@@ -35,4 +36,5 @@ pub mod OneAnswer
 pub mod Starting
 pub mod Codes
 pub mod ExcessiveFrames
+pub mod FirstFrames
 pub mod ExcessiveLaws

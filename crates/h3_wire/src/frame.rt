@@ -25,12 +25,13 @@ mod buffer;
 mod decoder;
 mod errors;
 mod excess;
+mod first;
 mod let_go;
 mod payload_left;
 mod sparing;
 
 pub use buffer::FrameBuffer;
-pub use decoder::FrameDecoder;
+pub use decoder::{FrameDecoder, MessageFrame};
 pub use errors::{FrameProtocolError, FrameStreamError};
 pub use payload_left::PayloadLeft;
 

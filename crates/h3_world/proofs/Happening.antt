@@ -7,11 +7,14 @@ use Rattle.h3_proto.specs.declared.stream.Side.{Side}
 use Rattle.h3_proto.specs.declared.stream.Side.TheVariants.{Client, Server}
 use Rattle.h3_connection.specs.OwnIds.{other, control_id, encoder_id, is_own}
 use Rattle.h3_connection.specs.Pulling.{is_client, is_for}
-use Rattle.h3_connection.specs.Refusals.{first_of, going_away, is_too_large, raised}
+use Rattle.h3_connection.specs.Refusals.{first_of, going_away, is_too_large, raised, unless_going}
+use Rattle.h3_connection.specs.StrictSending.{unless_malformed}
+use Rattle.h3_connection.specs.declared.event.Malformation.{Malformation}
 use Rattle.h3_connection.specs.Lasts.{last_id}
 use Rattle.h3_connection.specs.Outgoing.{takes_head, takes_body, takes_end}
 use Rattle.h3_field.specs.Field.{section_size}
 use Rattle.h3_header.specs.Head.{head_fields, has_pseudo}
+use Rattle.h3_header.specs.Reads.{head_of_fields}
 use Rattle.h3_world.specs.Came.{settings_known, goaways_came}
 use Rattle.h3_connection.specs.declared.event.StreamFault.{StreamFault}
 use Rattle.h3_connection.specs.declared.event.Item.TheVariants as item
@@ -24,11 +27,14 @@ use Rattle.h3_world.specs.declared.event.Event.{Event}
 use Rattle.h3_world.specs.declared.event.Event.TheVariants as event
 use Rattle.h3_world.specs.declared.event.Answer.{Answer}
 use Rattle.h3_world.specs.declared.event.Answer.TheVariants as answer
+use Rattle.h3_world.specs.Setup.{announced_at, takes_any}
+use Rattle.h3_world.specs.ListLaws.{fault_listed}
+use Rattle.h3_world.specs.Lists.{pull_of, unreadable}
 use Rattle.h3_world.specs.Flow.{Flow, Part, flow_bytes, bytes_waiting}
 use Rattle.h3_world.specs.World.{World, Party, party}
 use Rattle.h3_world.specs.OwnStreams.{encoder_stream}
 use Rattle.h3_world.specs.Streams.{flow, waiting, is_open, has_outgoing}
-use Rattle.h3_world.specs.Refusals.{next_id, is_critical, open_refusal, head_refusal, body_refusal, trailer_refusal, finish_refusal, reset_refusal, cancel_refusal, goaway_refusal}
+use Rattle.h3_world.specs.Refusals.{next_id, none_after, is_critical, open_refusal, head_refusal, fields_refusal, body_refusal, trailer_refusal, trailer_fields_refusal, finish_refusal, reset_refusal, cancel_refusal, goaway_refusal}
 use Rattle.h3_world.specs.Delivering.{delivered, delivered_end, delivered_reset, is_closed, may_end, delivery, end_delivery, reset_delivery}
 use Rattle.h3_world.specs.Order.{last_part, is_end, is_finished, is_over, is_sent_off, next_part, outgoing_of}
 use Rattle.h3_world.specs.Pauses.{PauseAllowed, pause_of}
@@ -118,10 +124,23 @@ comes_out setup w (event.Pull side id) answer.NoStream h exact = tt
 comes_out setup w (event.Pull side id) answer.Early h exact = tt
 comes_out setup w (event.Pull side id) (answer.Shown l t n) h exact = tt
 comes_out setup w (event.Pull side id) (answer.Refused r) h exact = tt
+comes_out setup w (event.Pull side id) (answer.Listed l) h exact = tt
+comes_out setup w (event.PullFields side id) (answer.Listed l) h exact = λ given settled_is pauses. pull_comes_out setup w side id (pull_of l) h exact given settled_is pauses
+comes_out setup w (event.PullFields side id) (answer.Pulled p) h exact = tt
+comes_out setup w (event.PullFields side id) (answer.Opened n) h exact = tt
+comes_out setup w (event.PullFields side id) answer.Done h exact = tt
+comes_out setup w (event.PullFields side id) (answer.Delivered n) h exact = tt
+comes_out setup w (event.PullFields side id) (answer.Short n) h exact = tt
+comes_out setup w (event.PullFields side id) answer.NoStream h exact = tt
+comes_out setup w (event.PullFields side id) answer.Early h exact = tt
+comes_out setup w (event.PullFields side id) (answer.Shown l t n) h exact = tt
+comes_out setup w (event.PullFields side id) (answer.Refused r) h exact = tt
 comes_out setup w (event.OpenRequest side) a h exact = tt
 comes_out setup w (event.Head side id head) a h exact = tt
+comes_out setup w (event.Fields side id fields) a h exact = tt
 comes_out setup w (event.Body side id bytes) a h exact = tt
 comes_out setup w (event.Trailer side id trailer) a h exact = tt
+comes_out setup w (event.TrailerFields side id fields) a h exact = tt
 comes_out setup w (event.Finish side id) a h exact = tt
 comes_out setup w (event.Reset side id) a h exact = tt
 comes_out setup w (event.Cancel side id) a h exact = tt
@@ -226,6 +245,23 @@ trailer_well false false true d n = refl
 trailer_well false false false true n = refl
 trailer_well false false false false n = tt
 
+-- the same behind a GOAWAY, and behind what is malformed of a list
+fields_well : (a b : Bool) (going : Option ℕ) (o : Option Malformation) (c d : Bool) (n : ℕ)
+    → RefusesWell (first_of ((a, refusal.NotOpen) ∷ (b, refusal.OutOfOrder) ∷ unless_going going (unless_malformed o ((c, refusal.WrongSide) ∷ (d, refusal.TooLarge n) ∷ []))))
+fields_well a b None None c d n = head_well a b c d n
+fields_well true b None (Some why) c d n = refl
+fields_well false true None (Some why) c d n = refl
+fields_well false false None (Some why) c d n = refl
+fields_well true b (Some last) o c d n = refl
+fields_well false true (Some last) o c d n = refl
+fields_well false false (Some last) o c d n = refl
+
+trailer_fields_well : (a b : Bool) (o : Option Malformation) (c d : Bool) (n : ℕ) → RefusesWell (first_of ((a, refusal.NotOpen) ∷ (b, refusal.OutOfOrder) ∷ unless_malformed o ((c, refusal.PseudoInTrailer) ∷ (d, refusal.TooLarge n) ∷ [])))
+trailer_fields_well a b None c d n = trailer_well a b c d n
+trailer_fields_well true b (Some why) c d n = refl
+trailer_fields_well false true (Some why) c d n = refl
+trailer_fields_well false false (Some why) c d n = refl
+
 order_well : (a b : Bool) → RefusesWell (first_of ((a, refusal.NotOpen) ∷ (b, refusal.OutOfOrder) ∷ []))
 order_well true b = refl
 order_well false true = refl
@@ -246,11 +282,17 @@ step_well setup w new (event.OpenRequest side) a step =
     does_well (open_refusal setup w side) w _ _ a new (open_well (not (is_client side)) (nat_le (2 ^ 62) (next_id w)) (last_id (goaways_came setup w (other side)))) refl step
 step_well setup w new (event.Head side id head) a step =
     does_well (head_refusal setup w side id head) w _ _ a new
-    (head_well (not (is_open w side id)) (not (takes_head (outgoing_of (flow w side id)))) (not (is_for (other side) head)) (is_too_large (settings_known setup w side) (head_fields head)) (section_size (head_fields head))) refl step
+    (fields_well (not (is_open w side id)) (not (takes_head (outgoing_of (flow w side id)))) (none_after setup w side) None (not (is_for (other side) head)) (is_too_large (settings_known setup w side) (head_fields head)) (section_size (head_fields head))) refl step
+step_well setup w new (event.Fields side id fields) a step =
+    does_well (fields_refusal setup w side id fields) w _ _ a new
+    (fields_well (not (is_open w side id)) (not (takes_head (outgoing_of (flow w side id)))) (none_after setup w side) (unreadable (takes_any (announced_at setup side)) fields) (not (is_for (other side) (head_of_fields fields))) (is_too_large (settings_known setup w side) fields) (section_size fields)) refl step
 step_well setup w new (event.Body side id bytes) a step = does_well (body_refusal w side id) w _ _ a new (order_well (not (is_open w side id)) (not (takes_body (outgoing_of (flow w side id))))) refl step
 step_well setup w new (event.Trailer side id trailer) a step =
     does_well (trailer_refusal setup w side id trailer) w _ _ a new
     (trailer_well (not (is_open w side id)) (not (takes_body (outgoing_of (flow w side id)))) (has_pseudo trailer) (is_too_large (settings_known setup w side) (head_fields trailer)) (section_size (head_fields trailer))) refl step
+step_well setup w new (event.TrailerFields side id fields) a step =
+    does_well (trailer_fields_refusal setup w side id fields) w _ _ a new
+    (trailer_fields_well (not (is_open w side id)) (not (takes_body (outgoing_of (flow w side id)))) (unreadable (takes_any (announced_at setup side)) fields) (has_pseudo (head_of_fields fields)) (is_too_large (settings_known setup w side) fields) (section_size fields)) refl step
 step_well setup w new (event.Finish side id) a step = does_well (finish_refusal w side id) w _ _ a new (order_well (not (is_open w side id)) (not (takes_end (outgoing_of (flow w side id))))) refl step
 step_well setup w new (event.Reset side id) a step = does_well (reset_refusal w side id) w _ _ a new (ended_well (is_critical id) (not (is_open w side id)) (is_sent_off (flow w side id))) refl step
 step_well setup w new (event.Cancel side id) a step =
@@ -268,6 +310,17 @@ step_well setup w new (event.Pull side id) answer.NoStream step = absurd step
 step_well setup w new (event.Pull side id) answer.Early step = absurd step
 step_well setup w new (event.Pull side id) (answer.Shown l t n) step = absurd step
 step_well setup w new (event.Pull side id) (answer.Refused r) step = absurd step
+step_well setup w new (event.Pull side id) (answer.Listed l) step = absurd step
+step_well setup w new (event.PullFields side id) (answer.Listed l) step = fault_listed l ∙ pull_well setup w side id (pull_of l) new step.0
+step_well setup w new (event.PullFields side id) (answer.Pulled p) step = absurd step
+step_well setup w new (event.PullFields side id) (answer.Opened n) step = absurd step
+step_well setup w new (event.PullFields side id) answer.Done step = absurd step
+step_well setup w new (event.PullFields side id) (answer.Delivered n) step = absurd step
+step_well setup w new (event.PullFields side id) (answer.Short n) step = absurd step
+step_well setup w new (event.PullFields side id) answer.NoStream step = absurd step
+step_well setup w new (event.PullFields side id) answer.Early step = absurd step
+step_well setup w new (event.PullFields side id) (answer.Shown l t n) step = absurd step
+step_well setup w new (event.PullFields side id) (answer.Refused r) step = absurd step
 step_well setup w new (event.Show side) a step = ap is_connection_fault step.0
 
 -- All that is said of a step holds of one that is exact, between sound worlds.

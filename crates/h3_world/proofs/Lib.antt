@@ -26,6 +26,7 @@ pub mod Capacity
 pub mod WithinLimits
 pub mod Inserted
 pub mod SoundFlows
+pub mod ListedPulls
 pub mod Served
 pub mod Writers
 pub mod Exchanges

@@ -133,7 +133,6 @@ section_sound laws setup w side id fields kind h sends =
     sent =
         record {
           of_bytes = sends.sendable.of_bytes;
-          reads_back = sends.sendable.reads_back;
           small = sends.sendable.small;
           has_length = sends.short;
           encoder = omega arith;

@@ -49,7 +49,6 @@ section_stays : (p q : Party) (s : Section) → HasWritten p q → IsSentSection
 section_stays p q s h sent =
     record {
       of_bytes = sent.of_bytes;
-      reads_back = sent.reads_back;
       small = sent.small;
       has_length = sent.has_length;
       encoder = omega (arith, sent.encoder, stream_longer p q h);

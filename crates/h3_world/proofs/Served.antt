@@ -5,7 +5,6 @@ use Rattle.std.proofs.lemmas.Grind.{common_steps}
 use Rattle.h3_field.specs.Field.{Field, section_size}
 use Rattle.h3_header.specs.Head.{Head as Fields}
 use Rattle.h3_header.specs.Reads.{head_of_fields}
-use Rattle.h3_header.specs.ReadsBack.{ReadsBackBy}
 use Rattle.h3_proto.specs.declared.stream.Side.{Side}
 use Rattle.h3_connection.specs.Announcing.{section_of}
 use Rattle.h3_connection.specs.OwnIds.{other}
@@ -33,6 +32,7 @@ use Rattle.h3_world.specs.Step.{Does, Step, IsExact}
 use Rattle.h3_world.specs.Machine.{section_item, item_there, count_waited_for, pull_next, pull_settled, pulled, done, served}
 use Rattle.h3_world.specs.Sound.{IsSoundFlow, IsSoundWorld}
 use Rattle.h3_world.proofs.ExactPauses.{IsSentNext, sent_next}
+use Rattle.h3_world.proofs.ListedPulls.{listed_is_exact}
 use Rattle.h3_world.proofs.SoundFlows.{flow_sound}
 
 does_done : (r : Option Refusal) (old : World) (success : Answer) (after : World) → Does r old success after (done r old success after).0 (done r old success after).1
@@ -52,9 +52,9 @@ own_came f came s e = by_test (nat_lt f.delivered s.own_length) refl e
     by_test false t h = at_most f.delivered s.own_length t
 
 -- what is handed out of a section is its item
-section_is : (kind : Fields → Item) (most : ℕ) (fields : List Field) → ReadsBackBy true fields
+section_is : (kind : Fields → Item) (most : ℕ) (fields : List Field)
     → ((section_size fields ≤ most) → IsSectionItem kind most fields (kind (head_of_fields fields))) → IsSectionItem kind most fields (section_item kind most fields)
-section_is kind most fields back made = by_test (nat_lt most (section_size fields)) refl
+section_is kind most fields made = by_test (nat_lt most (section_size fields)) refl
   where
     above : (a b : ℕ) → nat_lt a b ≡ true → a < b
     above a b h = grind (arith, common_steps, h)
@@ -70,11 +70,11 @@ section_is kind most fields back made = by_test (nat_lt most (section_size field
 has_come : (most : ℕ) (p : Party) (f : Flow) (came : ℕ) (part : Option Part) → IsSentNext p part → pause_before f came part ≡ None → HasCome most f part (item_there most f part)
 has_come most p f came None sent e = cc
 has_come most p f came (Some (Interim s)) sent e =
-    (own_came f came s e, section_is item.Interim most s.fields sent.1.0.reads_back (λ h. (head_of_fields s.fields, refl, sent.1.0.reads_back.1, h, refl)))
+    (own_came f came s e, section_is item.Interim most s.fields (λ h. (refl, h)))
 has_come most p f came (Some (Head s)) sent e =
-    (own_came f came s e, section_is item.Head most s.fields sent.1.0.reads_back (λ h. (head_of_fields s.fields, refl, sent.1.0.reads_back.1, h, refl)))
+    (own_came f came s e, section_is item.Head most s.fields (λ h. (refl, h)))
 has_come most p f came (Some (Trailer s)) sent e =
-    (own_came f came s e, section_is item.Trailer most s.fields sent.1.0.reads_back (λ h. (head_of_fields s.fields, refl, sent.1.0.reads_back.1, h, refl)))
+    (own_came f came s e, section_is item.Trailer most s.fields (λ h. (refl, h)))
 has_come most p f came (Some (Body bytes own)) sent e = (body_there f bytes own, some (body_there f bytes own) e, omega arith, refl)
   where
     positive : (n : ℕ) (b : Bool) → (n == 0) ≡ b → ◌≡◌ {A = Option Pull} (if b then Some pull.Pending else None) None → 0 < n
@@ -192,8 +192,10 @@ pulled_is_exact setup w side id sound = by_settled (settled w side id) refl
 pub served_is_step : (setup : Setup) (w : World) (e : Event) → IsSoundWorld setup w → Step setup w e (served setup w e).0 (served setup w e).1 × IsExact w e (served setup w e).0
 served_is_step setup w (event.OpenRequest side) sound = (does_done _ w _ _, tt)
 served_is_step setup w (event.Head side id head) sound = (does_done _ w _ _, tt)
+served_is_step setup w (event.Fields side id fields) sound = (does_done _ w _ _, tt)
 served_is_step setup w (event.Body side id bytes) sound = (does_done _ w _ _, tt)
 served_is_step setup w (event.Trailer side id trailer) sound = (does_done _ w _ _, tt)
+served_is_step setup w (event.TrailerFields side id fields) sound = (does_done _ w _ _, tt)
 served_is_step setup w (event.Finish side id) sound = (does_done _ w _ _, tt)
 served_is_step setup w (event.Reset side id) sound = (does_done _ w _ _, tt)
 served_is_step setup w (event.Cancel side id) sound = (does_done _ w _ _, tt)
@@ -202,4 +204,5 @@ served_is_step setup w (event.Deliver side id count) sound = (refl, tt)
 served_is_step setup w (event.DeliverEnd side id) sound = (refl, tt)
 served_is_step setup w (event.DeliverReset side id) sound = (refl, tt)
 served_is_step setup w (event.Pull side id) sound = pulled_is_exact setup w side id (flow_sound w (other side) id sound.exchanges)
+served_is_step setup w (event.PullFields side id) sound = listed_is_exact setup w side id (pulled_is_exact setup w side id (flow_sound w (other side) id sound.exchanges))
 served_is_step setup w (event.Show side) sound = ((refl, refl), tt)

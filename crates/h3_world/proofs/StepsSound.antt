@@ -1,15 +1,18 @@
 -- Every step that is exact keeps a world sound.
-use Rattle.std.proofs.Common.{◌≡◌, inl, inr, ℕ, ◌+◌, ◌-◌, ◌^◌, ◌<◌, ◌≤◌, Bool, true, false, not, ◌&&◌, List, length, refl, sym, ap, ◌∙◌, subst, arith, nat_lt, if◌then◌else◌, Option, Some, None}
+use Rattle.std.proofs.Common.{◌≡◌, inl, inr, ℕ, ◌+◌, ◌-◌, ◌^◌, ◌<◌, ◌≤◌, Bool, true, false, not, ◌&&◌, List, ◌∷◌, length, refl, sym, ap, ◌∙◌, subst, arith, nat_lt, if◌then◌else◌, Option, Some, None}
 use Rattle.std.specs.Prelude.{MatchOption, is_some, ◌==◌, ◌||◌, ◌%◌}
 use Rattle.std.proofs.lemmas.Grind.{common_steps}
 use Rattle.h3_field.specs.Field.{Field}
-use Rattle.h3_header.specs.Head.{Head as Fields, head_fields}
+use Rattle.h3_header.specs.Head.{head_fields}
+use Rattle.h3_header.specs.Reads.{head_of_fields}
 use Rattle.h3_proto.specs.StreamIds.{is_request_stream}
 use Rattle.h3_proto.specs.declared.stream.Side.{Side}
 use Rattle.h3_connection.specs.Announcing.{section_of}
 use Rattle.h3_connection.specs.Outgoing.{takes_head, takes_body, takes_end}
 use Rattle.h3_connection.specs.OwnIds.{other, control_id, encoder_id, decoder_id, is_own}
 use Rattle.h3_connection.specs.Pulling.{is_interim}
+use Rattle.h3_connection.specs.Refusals.{first_of, not_next, of_list, unless_going, with_pseudo, wrong_side}
+use Rattle.h3_connection.specs.StrictSending.{unless_malformed}
 use Rattle.h3_connection.specs.declared.event.Pull.{Pull}
 use Rattle.h3_connection.specs.declared.event.Pull.TheVariants as pull
 use Rattle.h3_connection.specs.declared.event.Refusal.{Refusal}
@@ -21,15 +24,16 @@ use Rattle.h3_world.specs.declared.event.Event.{Event}
 use Rattle.h3_world.specs.declared.event.Event.TheVariants as event
 use Rattle.h3_world.specs.declared.event.Answer.{Answer}
 use Rattle.h3_world.specs.declared.event.Answer.TheVariants as answer
-use Rattle.h3_world.specs.Setup.{announced_at}
+use Rattle.h3_world.specs.Setup.{announced_at, takes_any}
 use Rattle.h3_world.specs.Flow.{Flow, Part, Section, flow_bytes, bytes_waiting}
 use Rattle.h3_world.specs.Flow.Part.{Interim, Head, Trailer}
 use Rattle.h3_world.specs.World.{World, party}
-use Rattle.h3_world.specs.Came.{insertions_came}
+use Rattle.h3_world.specs.Came.{insertions_came, settings_known}
+use Rattle.h3_world.specs.Lists.{pull_of, unreadable}
 use Rattle.h3_world.specs.Streams.{flow, is_open, has_outgoing, waiting}
 use Rattle.h3_world.specs.Order.{last_part, next_part, is_over, is_finished, is_sent_off, outgoing_of}
-use Rattle.h3_world.specs.Refusals.{is_critical, head_refusal, trailer_refusal, body_refusal, finish_refusal, reset_refusal, cancel_refusal}
-use Rattle.h3_world.specs.Sending.{appended, sent_head, with_section, sent_trailer, sent_body, finished, cut_off, given_up}
+use Rattle.h3_world.specs.Refusals.{is_critical, none_after, body_refusal, finish_refusal, reset_refusal, cancel_refusal, seen_at}
+use Rattle.h3_world.specs.Sending.{appended, with_section, sent_body, finished, cut_off, given_up}
 use Rattle.h3_world.specs.Delivering.{delivered, delivered_own, delivered_message, delivered_end, delivered_reset, is_closed, may_end, delivery, end_delivery, reset_delivery}
 use Rattle.h3_world.specs.Pauses.{pause_before, pause_of}
 use Rattle.h3_world.specs.Pulling.{settled, fault_or, PullsNext, Pulls}
@@ -86,26 +90,27 @@ sends_sound laws setup w side id fields kind is_kind h opened follows sendable =
       keeps = λ part. keeps_sending w side id (appended (flow w side id) part) h.exchanges opened refl refl;
     })
 
-head_sound : QpackLaws → (setup : Setup) (w : World) (side : Side) (id : ℕ) (head : Fields) → IsSoundWorld setup w → IsSendableSection (head_fields head) → head_refusal setup w side id head ≡ None
-    → IsSoundWorld setup (sent_head w side id head)
-head_sound laws setup w side id head h sendable e =
+-- a head that no rule refuses, whichever rules come behind that of the stream
+head_sound : QpackLaws → (setup : Setup) (w : World) (side : Side) (id : ℕ) (interim : Bool) (fields : List Field) (rules : List (Bool × Refusal)) → IsSoundWorld setup w → IsSendableSection fields
+    → first_of (not_next (seen_at w side id) (seen_at w side id).takes_head rules) ≡ None → IsSoundWorld setup (with_section (if interim then Interim else Head) w side id fields)
+head_sound laws setup w side id interim fields rules h sendable e =
     let first = first_none (not (is_open w side id)) refusal.NotOpen _ e in
     let second = first_none (not (takes_head (outgoing_of (flow w side id)))) refusal.OutOfOrder _ first.1 in
     let opened = opposite (is_open w side id) first.0 in
     let follows = head_follows (flow w side id) (opposite (takes_head (outgoing_of (flow w side id))) second.0) in
-    by_kind (is_interim head.status) opened follows
+    by_kind interim opened follows
   where
-    by_kind : (b : Bool) → is_open w side id ≡ true → is_before_head (last_part (flow w side id).sent) ≡ true → IsSoundWorld setup (with_section (if b then Interim else Head) w side id (head_fields head))
-    by_kind true opened follows = sends_sound laws setup w side id (head_fields head) Interim interim_kind h opened (λ s. follows) sendable
-    by_kind false opened follows = sends_sound laws setup w side id (head_fields head) Head head_kind h opened (λ s. follows) sendable
+    by_kind : (b : Bool) → is_open w side id ≡ true → is_before_head (last_part (flow w side id).sent) ≡ true → IsSoundWorld setup (with_section (if b then Interim else Head) w side id fields)
+    by_kind true opened follows = sends_sound laws setup w side id fields Interim interim_kind h opened (λ s. follows) sendable
+    by_kind false opened follows = sends_sound laws setup w side id fields Head head_kind h opened (λ s. follows) sendable
 
-trailer_sound : QpackLaws → (setup : Setup) (w : World) (side : Side) (id : ℕ) (trailer : Fields) → IsSoundWorld setup w → IsSendableSection (head_fields trailer) → trailer_refusal setup w side id trailer ≡ None
-    → IsSoundWorld setup (sent_trailer w side id trailer)
-trailer_sound laws setup w side id trailer h sendable e =
+trailer_sound : QpackLaws → (setup : Setup) (w : World) (side : Side) (id : ℕ) (fields : List Field) (rules : List (Bool × Refusal)) → IsSoundWorld setup w → IsSendableSection fields
+    → first_of (not_next (seen_at w side id) (seen_at w side id).takes_body rules) ≡ None → IsSoundWorld setup (with_section Trailer w side id fields)
+trailer_sound laws setup w side id fields rules h sendable e =
     let first = first_none (not (is_open w side id)) refusal.NotOpen _ e in
     let second = first_none (not (takes_body (outgoing_of (flow w side id)))) refusal.OutOfOrder _ first.1 in
     let follows = body_follows (party w side) (flow w side id) (flow_sound w side id h.exchanges).sent (opposite (takes_body (outgoing_of (flow w side id))) second.0) in
-    sends_sound laws setup w side id (head_fields trailer) Trailer trailer_kind h (opposite (is_open w side id) first.0) (λ s. follows) sendable
+    sends_sound laws setup w side id fields Trailer trailer_kind h (opposite (is_open w side id) first.0) (λ s. follows) sendable
 
 body_is_sound : (setup : Setup) (w : World) (side : Side) (id : ℕ) (bytes : List ℕ) → IsSoundWorld setup w → length bytes < 2 ^ 56 → body_refusal w side id ≡ None → IsSoundWorld setup (sent_body w side id bytes)
 body_is_sound setup w side id bytes h small e =
@@ -325,9 +330,19 @@ pull_sound setup w side id p new h pulls exact = by_settled (settled w side id) 
 -- Every step that is exact, of an event that may be sent, keeps the world sound.
 pub step_sound : QpackLaws → (setup : Setup) (w new : World) (e : Event) (a : Answer) → IsSendable setup e → Step setup w e a new → IsExact w e a → IsSoundWorld setup w → IsSoundWorld setup new
 step_sound laws setup w new (event.OpenRequest side) a send step exact h = does_sound setup _ w _ _ a new step h (λ e. opened_sound setup w h)
-step_sound laws setup w new (event.Head side id head) a send step exact h = does_sound setup _ w _ _ a new step h (head_sound laws setup w side id head h send.section)
+step_sound laws setup w new (event.Head side id head) a send step exact h =
+    does_sound setup _ w _ _ a new step h (head_sound laws setup w side id (is_interim head.status) (head_fields head) (unless_going (none_after setup w side) (wrong_side side head ∷ of_list None (settings_known setup w side) (head_fields head))) h send.section)
+step_sound laws setup w new (event.Fields side id fields) a send step exact h =
+    let head = head_of_fields fields in
+    does_sound setup _ w _ _ a new step h
+    (head_sound laws setup w side id (is_interim head.status) fields
+    (unless_going (none_after setup w side) (unless_malformed (unreadable (takes_any (announced_at setup side)) fields) (wrong_side side head ∷ of_list None (settings_known setup w side) fields))) h send.section)
 step_sound laws setup w new (event.Body side id bytes) a send step exact h = does_sound setup _ w _ _ a new step h (body_is_sound setup w side id bytes h send)
-step_sound laws setup w new (event.Trailer side id trailer) a send step exact h = does_sound setup _ w _ _ a new step h (trailer_sound laws setup w side id trailer h send.section)
+step_sound laws setup w new (event.Trailer side id trailer) a send step exact h =
+    does_sound setup _ w _ _ a new step h (trailer_sound laws setup w side id (head_fields trailer) (with_pseudo trailer ∷ of_list None (settings_known setup w side) (head_fields trailer)) h send.section)
+step_sound laws setup w new (event.TrailerFields side id fields) a send step exact h =
+    does_sound setup _ w _ _ a new step h
+    (trailer_sound laws setup w side id fields (unless_malformed (unreadable (takes_any (announced_at setup side)) fields) (with_pseudo (head_of_fields fields) ∷ of_list None (settings_known setup w side) fields)) h send.section)
 step_sound laws setup w new (event.Finish side id) a send step exact h = does_sound setup _ w _ _ a new step h (finish_is_sound setup w side id h)
 step_sound laws setup w new (event.Reset side id) a send step exact h = does_sound setup _ w _ _ a new step h (reset_is_sound setup w side id h)
 step_sound laws setup w new (event.Cancel side id) a send step exact h = does_sound setup _ w _ _ a new step h (cancel_is_sound setup w side id h)
@@ -344,4 +359,15 @@ step_sound laws setup w new (event.Pull side id) answer.NoStream send step exact
 step_sound laws setup w new (event.Pull side id) answer.Early send step exact h = absurd step
 step_sound laws setup w new (event.Pull side id) (answer.Shown l t n) send step exact h = absurd step
 step_sound laws setup w new (event.Pull side id) (answer.Refused r) send step exact h = absurd step
+step_sound laws setup w new (event.Pull side id) (answer.Listed l) send step exact h = absurd step
+step_sound laws setup w new (event.PullFields side id) (answer.Listed l) send step exact h = pull_sound setup w side id (pull_of l) new h step.0 exact
+step_sound laws setup w new (event.PullFields side id) (answer.Pulled p) send step exact h = absurd step
+step_sound laws setup w new (event.PullFields side id) (answer.Opened n) send step exact h = absurd step
+step_sound laws setup w new (event.PullFields side id) answer.Done send step exact h = absurd step
+step_sound laws setup w new (event.PullFields side id) (answer.Delivered n) send step exact h = absurd step
+step_sound laws setup w new (event.PullFields side id) (answer.Short n) send step exact h = absurd step
+step_sound laws setup w new (event.PullFields side id) answer.NoStream send step exact h = absurd step
+step_sound laws setup w new (event.PullFields side id) answer.Early send step exact h = absurd step
+step_sound laws setup w new (event.PullFields side id) (answer.Shown l t n) send step exact h = absurd step
+step_sound laws setup w new (event.PullFields side id) (answer.Refused r) send step exact h = absurd step
 step_sound laws setup w new (event.Show side) a send step exact h = subst (IsSoundWorld setup) (sym step.1) h

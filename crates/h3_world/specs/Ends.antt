@@ -17,6 +17,9 @@ use Rattle.h3_world.specs.declared.event.Event.TheVariants as event
 use Rattle.h3_world.specs.declared.event.Answer.{Answer}
 use Rattle.h3_world.specs.declared.event.Answer.TheVariants as answer
 use Rattle.h3_world.specs.Delivering.{reset_code}
+use Rattle.h3_connection.specs.Coming.{fields_behind}
+use Rattle.h3_world.specs.EndLists.{send_fields, send_trailer_fields}
+use Rattle.h3_world.specs.Lists.{listed_pull}
 
 pub record Ends : Type 0 where
   pub client : EndpointHistory
@@ -40,6 +43,10 @@ done ends side success (Some r, e) = (answer.Refused r, with_end ends side e)
 
 abbrev pub was_pulled : Ends → Side → Pull × EndpointHistory → Answer × Ends
 was_pulled ends side (p, e) = (answer.Pulled p, with_end ends side e)
+
+-- a pull with lists: that pull, with the list that comes next in the place of a header
+abbrev pub was_listed : Ends → Side → ℕ → Pull × EndpointHistory → Answer × Ends
+was_listed ends side id (p, e) = (answer.Listed (listed_pull (fields_behind (end_at ends side).kept (end_at ends side) id) p), with_end ends side e)
 
 -- so many bytes were offered to the other end: they leave the writer where they were taken
 abbrev pub was_offered : Ends → Side → ℕ → ℕ → Option Refusal × EndpointHistory → Answer × Ends
@@ -72,8 +79,10 @@ reset_delivery ends writer id =
 abbrev pub answered : Ends → Event → Answer × Ends
 answered ends (event.OpenRequest side) = done ends side (answer.Opened (end_at ends side).next_id) (sender.open_request (end_at ends side))
 answered ends (event.Head side id head) = done ends side answer.Done (sender.send_head (end_at ends side) id head)
+answered ends (event.Fields side id fields) = done ends side answer.Done (send_fields (end_at ends side) id fields)
 answered ends (event.Body side id bytes) = done ends side answer.Done (sender.send_body (end_at ends side) id bytes)
 answered ends (event.Trailer side id trailer) = done ends side answer.Done (sender.send_trailer (end_at ends side) id trailer)
+answered ends (event.TrailerFields side id fields) = done ends side answer.Done (send_trailer_fields (end_at ends side) id fields)
 answered ends (event.Finish side id) = done ends side answer.Done (sender.finish (end_at ends side) id)
 answered ends (event.Reset side id) = done ends side answer.Done (sender.reset (end_at ends side) id)
 answered ends (event.Cancel side id) = done ends side answer.Done (sender.cancel (end_at ends side) id)
@@ -82,6 +91,7 @@ answered ends (event.Deliver side id count) = delivery ends side id count
 answered ends (event.DeliverEnd side id) = end_delivery ends side id
 answered ends (event.DeliverReset side id) = reset_delivery ends side id
 answered ends (event.Pull side id) = was_pulled ends side (pulls (end_at ends side) id)
+answered ends (event.PullFields side id) = was_listed ends side id (pulls (end_at ends side) id)
 answered ends (event.Show side) =
     let e = end_at ends side in
     (answer.Shown (peer_limits e) (table_sizes e) (waiting_heads e), ends)

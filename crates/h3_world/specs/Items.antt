@@ -2,7 +2,7 @@
 use Rattle.std.specs.Prelude.{◌≡◌, ℕ, ◌+◌, ◌-◌, ◌<◌, ◌≤◌, true, List, [], ◌++◌, length, take, drop, ◌==◌, if◌then◌else◌, Option, Some, None}
 use Rattle.h3_field.specs.Field.{Field, section_size}
 use Rattle.h3_field.specs.Instruction.{DecoderInstruction}
-use Rattle.h3_header.specs.Head.{Head as Fields, head_fields}
+use Rattle.h3_header.specs.Head.{Head as Fields}
 use Rattle.h3_header.specs.Reads.{head_of_fields}
 use Rattle.h3_proto.specs.declared.stream.Side.{Side}
 use Rattle.h3_connection.specs.OwnIds.{other}
@@ -15,12 +15,11 @@ use Rattle.h3_world.specs.World.{World, party, with_party}
 use Rattle.h3_world.specs.Streams.{flow, with_flow}
 use Rattle.h3_world.specs.Order.{next_part}
 
--- The item of a field section at a reader with this section size: the header that these fields are read as, whose field list they are,
--- or their size alone (RFC 9114, section 4.2.2).
+-- The item of a field section at a reader with this section size: the header that these fields are read as, or their size alone (RFC 9114,
+-- section 4.2.2).
 abbrev pub IsSectionItem : (Fields → Item) → ℕ → List Field → Item → Type 0
 IsSectionItem kind most fields (item.TooLarge size) = (size ≡ section_size fields) × (most < section_size fields)
-IsSectionItem kind most fields i =
-    (head : Fields) × (i ≡ kind head) × (head_fields head ≡ fields) × (section_size fields ≤ most) × (head ≡ head_of_fields fields)
+IsSectionItem kind most fields i = (i ≡ kind (head_of_fields fields)) × (section_size fields ≤ most)
 
 -- a section whose own bytes came
 abbrev pub SectionHasCome : (Fields → Item) → ℕ → Flow → Section → Item → Type 0

@@ -1,4 +1,6 @@
 pub mod Setup
+pub mod Lists
+pub mod EndLists
 pub mod Flow
 pub mod World
 pub mod OwnStreams
@@ -21,6 +23,8 @@ pub mod Following
 pub mod Sound
 pub mod Sendable
 pub mod Few
+pub mod ListLaws
+pub mod MadeLaws
 pub mod Ends
 pub mod WorkedHeads
 pub mod WorkedResponses
@@ -29,3 +33,4 @@ pub mod WorkedEnds
 pub mod WorkedTables
 pub mod WorkedInterim
 pub mod WorkedCanceled
+pub mod WorkedLists

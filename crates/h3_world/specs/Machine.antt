@@ -24,12 +24,13 @@ use Rattle.h3_world.specs.World.{World, party}
 use Rattle.h3_world.specs.Came.{insertions_came}
 use Rattle.h3_world.specs.Streams.{flow}
 use Rattle.h3_world.specs.Order.{next_part}
-use Rattle.h3_world.specs.Refusals.{next_id, open_refusal, head_refusal, body_refusal, trailer_refusal, finish_refusal, reset_refusal, cancel_refusal, goaway_refusal}
-use Rattle.h3_world.specs.Sending.{opened, sent_head, sent_body, sent_trailer, finished, cut_off, given_up, with_goaway}
+use Rattle.h3_world.specs.Lists.{listed_pull}
+use Rattle.h3_world.specs.Refusals.{next_id, open_refusal, head_refusal, fields_refusal, body_refusal, trailer_refusal, trailer_fields_refusal, finish_refusal, reset_refusal, cancel_refusal, goaway_refusal}
+use Rattle.h3_world.specs.Sending.{opened, sent_head, sent_fields, sent_body, sent_trailer, sent_trailer_fields, finished, cut_off, given_up, with_goaway}
 use Rattle.h3_world.specs.Delivering.{delivery, end_delivery, reset_delivery}
 use Rattle.h3_world.specs.Items.{body_there, handed_out}
 use Rattle.h3_world.specs.Pauses.{pause_before, paused}
-use Rattle.h3_world.specs.Pulling.{settled}
+use Rattle.h3_world.specs.Pulling.{settled, list_next}
 use Rattle.h3_world.specs.Shown.{limits_shown, sizes_shown, streams_waiting}
 
 -- the item of a field section
@@ -65,6 +66,14 @@ pulled setup w side id =
     (pull_next w side id (pause_before f (insertions_came (party w (other side))) (next_part f))
     (item_there (section_of (announced_at setup side)) f (next_part f)))
 
+-- the answer of a pull with lists, by that of a pull and the list that is next
+abbrev pub listed : Option (List Field) → Answer → Answer
+listed fields (answer.Pulled p) = answer.Listed (listed_pull fields p)
+listed fields given = given
+
+abbrev pub pulled_listed : Setup → World → Side → ℕ → Answer × World
+pulled_listed setup w side id = let p = pulled setup w side id in (listed (list_next setup w side id) p.0, p.1)
+
 abbrev pub done : Option Refusal → World → Answer → World → Answer × World
 done (Some refusal) old success after = (answer.Refused refusal, old)
 done None old success after = (success, after)
@@ -72,8 +81,10 @@ done None old success after = (success, after)
 abbrev pub served : Setup → World → Event → Answer × World
 served setup w (event.OpenRequest side) = done (open_refusal setup w side) w (answer.Opened (next_id w)) (opened w)
 served setup w (event.Head side id head) = done (head_refusal setup w side id head) w answer.Done (sent_head w side id head)
+served setup w (event.Fields side id fields) = done (fields_refusal setup w side id fields) w answer.Done (sent_fields w side id fields)
 served setup w (event.Body side id bytes) = done (body_refusal w side id) w answer.Done (sent_body w side id bytes)
 served setup w (event.Trailer side id trailer) = done (trailer_refusal setup w side id trailer) w answer.Done (sent_trailer w side id trailer)
+served setup w (event.TrailerFields side id fields) = done (trailer_fields_refusal setup w side id fields) w answer.Done (sent_trailer_fields w side id fields)
 served setup w (event.Finish side id) = done (finish_refusal w side id) w answer.Done (finished w side id)
 served setup w (event.Reset side id) = done (reset_refusal w side id) w answer.Done (cut_off w side id)
 served setup w (event.Cancel side id) = done (cancel_refusal w side id) w answer.Done (given_up w side id Canceled)
@@ -82,6 +93,7 @@ served setup w (event.Deliver side id count) = delivery setup w side id count
 served setup w (event.DeliverEnd side id) = end_delivery setup w side id
 served setup w (event.DeliverReset side id) = reset_delivery w side id
 served setup w (event.Pull side id) = pulled setup w side id
+served setup w (event.PullFields side id) = pulled_listed setup w side id
 served setup w (event.Show side) = (answer.Shown (limits_shown setup w side) (sizes_shown w side) (streams_waiting w side), w)
 
 -- the answers to the events, in order

@@ -2,8 +2,8 @@
 use Rattle.std.specs.Prelude.{◌-◌, ◌==◌, Bool, true, false, not, ◌&&◌, ◌||◌, List, [], ◌∷◌, flat_map, nat_lt, slice_get, Option, Some, None}
 use Rattle.h3_messages.specs.declared.content.Content.TheVariants.{Unsaid}
 use Rattle.h3_connection.specs.Outgoing.{Outgoing}
-use Rattle.h3_world.specs.Flow.{Flow, Part, own_part, bytes_waiting}
-use Rattle.h3_world.specs.Flow.Part.{End}
+use Rattle.h3_world.specs.Flow.{Flow, Part, Section, own_part, bytes_waiting}
+use Rattle.h3_world.specs.Flow.Part.{Interim, Head, Trailer, End}
 
 abbrev pub last_part : List Part → Option Part
 last_part [] = None
@@ -29,6 +29,13 @@ is_sent_off f = f.is_reset || (is_finished f && (bytes_waiting f == 0))
 
 abbrev pub next_part : Flow → Option Part
 next_part f = slice_get f.sent f.parts_out
+
+-- the section of a part
+abbrev pub section_of_part : Option Part → Option Section
+section_of_part (Some (Interim s)) = Some s
+section_of_part (Some (Head s)) = Some s
+section_of_part (Some (Trailer s)) = Some s
+section_of_part _ = None
 
 -- its end was handed out
 abbrev pub is_over : Flow → Bool

@@ -1,5 +1,6 @@
 -- What a pull may answer.
-use Rattle.std.specs.Prelude.{◌≡◌, ℕ, ◌%◌, not, ◌==◌, if◌then◌else◌, Option, Some, None, MatchOption}
+use Rattle.std.specs.Prelude.{◌≡◌, ℕ, ◌%◌, not, ◌==◌, if◌then◌else◌, List, Option, Some, None, MatchOption, IfSome, option_map}
+use Rattle.h3_field.specs.Field.{Field}
 use Rattle.h3_proto.specs.StreamIds.{is_request_stream}
 use Rattle.h3_proto.specs.declared.stream.Side.{Side}
 use Rattle.h3_connection.specs.Announcing.{section_of}
@@ -11,11 +12,13 @@ use Rattle.h3_connection.specs.declared.event.Pull.TheVariants as pull
 use Rattle.h3_connection.specs.declared.event.Fault.TheVariants.{Stream}
 use Rattle.h3_connection.specs.declared.event.StreamFault.{StreamFault}
 use Rattle.h3_world.specs.declared.setup.Setup.{Setup}
-use Rattle.h3_world.specs.Setup.{announced_at}
+use Rattle.h3_world.specs.declared.lists.ListPull.{ListPull}
+use Rattle.h3_world.specs.Lists.{as_flagged, list_of, pull_of}
+use Rattle.h3_world.specs.Setup.{announced_at, flags_secrets}
 use Rattle.h3_world.specs.World.{World, party}
 use Rattle.h3_world.specs.Came.{insertions_came}
 use Rattle.h3_world.specs.Streams.{flow, is_open}
-use Rattle.h3_world.specs.Order.{next_part, is_over}
+use Rattle.h3_world.specs.Order.{next_part, section_of_part, is_over}
 use Rattle.h3_world.specs.Items.{HasCome, handed_out}
 use Rattle.h3_world.specs.Pauses.{pause_before, pause_of, paused}
 
@@ -62,6 +65,15 @@ PullsNext setup w side id pull.NoMessages new = ⊥
 abbrev pub Pulls : Setup → World → Side → ℕ → Pull → World → Type 0
 Pulls setup w side id p new =
     MatchOption (settled w side id) (PullsNext setup w side id p new) (λ answer. (p ≡ answer) × (new ≡ w))
+
+-- the list that is next, as its encoder flags it
+abbrev pub list_next : Setup → World → Side → ℕ → Option (List Field)
+list_next setup w side id =
+    option_map (λ s. as_flagged (flags_secrets (announced_at setup (other side))) s.fields) (section_of_part (next_part (flow w (other side) id)))
+
+-- The answer of a pull with lists is that of a pull, with the list that is next in the place of a header.
+abbrev pub PullsListed : Setup → World → Side → ℕ → ListPull → World → Type 0
+PullsListed setup w side id l new = Pulls setup w side id (pull_of l) new × IfSome (list_of l) (λ fields. list_next setup w side id ≡ Some fields)
 
 -- A reader pauses exactly where its next part is not there: for own bytes, or for a required insert count.
 abbrev pub PausesExactly : World → Side → ℕ → Pull → Type 0

@@ -3,6 +3,7 @@ use Rattle.std.specs.Prelude.{ℕ, ◌+◌, true, List, [], ◌∷◌, ◌++◌,
 use Rattle.h3_field.specs.Field.{Field}
 use Rattle.h3_field.specs.Instruction.DecoderInstruction.{CancelStream}
 use Rattle.h3_header.specs.Head.{Head as Fields, head_fields}
+use Rattle.h3_header.specs.Reads.{head_of_fields}
 use Rattle.h3_proto.specs.declared.stream.Side.{Side}
 use Rattle.h3_qpack.specs.EncoderHistory.{EncoderHistory, writing_on}
 use Rattle.h3_qpack.specs.SectionEncoding.{draft_of, required_insert_count}
@@ -61,6 +62,13 @@ sent_head w side id head = with_section (if is_interim head.status then Interim 
 
 abbrev pub sent_trailer : World → Side → ℕ → Fields → World
 sent_trailer w side id trailer = with_section Trailer w side id (head_fields trailer)
+
+-- a list goes out as it is, in its order
+abbrev pub sent_fields : World → Side → ℕ → List Field → World
+sent_fields w side id fields = with_section (if is_interim (head_of_fields fields).status then Interim else Head) w side id fields
+
+abbrev pub sent_trailer_fields : World → Side → ℕ → List Field → World
+sent_trailer_fields w side id fields = with_section Trailer w side id fields
 
 -- nothing is sent of an empty body
 abbrev pub sent_body : World → Side → ℕ → List ℕ → World

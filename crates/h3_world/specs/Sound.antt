@@ -3,7 +3,6 @@ use Rattle.std.specs.Prelude.{count_by, sum_by, nat_lt, ◌≡◌, ◌⊎◌, �
 use Rattle.std.specs.List.{AllByRecursion}
 use Rattle.h3_field.specs.Field.{section_size}
 use Rattle.h3_field.specs.ReadBack.{IsFieldOfBytes}
-use Rattle.h3_header.specs.ReadsBack.{ReadsBackBy}
 use Rattle.h3_qpack.specs.EncoderHistory.{HasNoTable}
 use Rattle.h3_qpack.specs.WholeInstructions.{insertions_in}
 use Rattle.h3_proto.specs.declared.stream.Side.{Side}
@@ -22,7 +21,6 @@ use Rattle.h3_world.specs.Following.{HasSession, HasCapacity, limits_for}
 -- A section as the side sends it. Once so many bytes of the encoder stream came, the insertions that it needs came.
 pub record IsSentSection (p : Party) (s : Section) : Type 0 where
   pub of_bytes : AllByRecursion IsFieldOfBytes s.fields
-  pub reads_back : ReadsBackBy true s.fields
   pub small : section_size s.fields < 2 ^ 56
   pub has_length : length s.encoded < 2 ^ 62
   pub encoder : s.encoder_length ≤ length (encoder_stream p)

@@ -71,7 +71,7 @@ ghost use Rattle.h3_connection.specs.Announcing.{announced_by};
 ghost use Rattle.h3_connection.specs.declared.setup.Limits.{Limits};
 ghost use Rattle.h3_world.specs.Setup.{both, IsMadeSetup};
 
-/// What `Setup::new` answers was made by configurations and limits that are allowed.
+/// What `Setup::new` answers announces some settings on each side, with each number within its bound.
 pub fn setups_are_made()
     ensures { (client server : Config) (client_limits server_limits : Limits) (client_grease server_grease : ℕ) (setup : Setup) → client_grease < 0x210842108421083 → server_grease < 0x210842108421083 →
         both (announced_by (announced client client_grease) client_limits client.choices) (announced_by (announced server server_grease) server_limits server.choices) ≡ Ok setup → IsMadeSetup setup }

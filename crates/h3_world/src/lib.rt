@@ -3,6 +3,7 @@
 
 pub mod event;
 pub mod laws;
+pub mod lists;
 pub mod setup;
 pub mod worked;
 pub mod worked_ends;

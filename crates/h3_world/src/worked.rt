@@ -10,6 +10,7 @@ ghost use Rattle.h3_world.specs.WorkedEnds.{reset_run, reset_answers, goaway_run
 ghost use Rattle.h3_world.specs.WorkedTables.{kept_entry_run, kept_entry_answers, dropped_entry_run, dropped_entry_answers};
 ghost use Rattle.h3_world.specs.WorkedInterim.{interim_run, interim_answers, large_interim_run, large_interim_answers, interim_order_run, interim_order_answers, released_run, released_answers};
 ghost use Rattle.h3_world.specs.WorkedCanceled.{canceled_run, canceled_answers};
+ghost use Rattle.h3_world.specs.WorkedLists.{listed_run, listed_answers, mixed_run, mixed_answers, unlisted_run, unlisted_answers};
 
 /// The control stream of a side with defaults and no table.
 pub fn worked_settings()
@@ -160,4 +161,20 @@ pub fn worked_canceled()
     ensures third { written (of_client 64 10) canceled_run Server 8 ≡ 1 ∷ 4 ∷ 2 ∷ 0 ∷ 217 ∷ 128 ∷ [] }
     ensures encoder { written_by_encoder (of_client 64 10) canceled_run Server ≡ 2 ∷ 63 ∷ 33 ∷ 99 ∷ 242 ∷ 176 ∷ 255 ∷ 129 ∷ 15 ∷ [] }
     ensures decoder { written_by_decoder (of_client 64 10) canceled_run Client ≡ 3 ∷ 64 ∷ 1 ∷ 136 ∷ [] }
+{}
+
+/// A list that is pulled as a list.
+pub fn worked_listed()
+    ensures { answers no_tables listed_run ≡ listed_answers }
+{}
+
+/// A list that is pulled as a header, and a header that is pulled as its list.
+pub fn worked_mixed()
+    ensures answers { answers no_tables mixed_run ≡ mixed_answers }
+    ensures bytes { written no_tables mixed_run Server 0 ≡ 1 ∷ 15 ∷ 0 ∷ 0 ∷ 217 ∷ 41 ∷ 143 ∷ 129 ∷ 15 ∷ 57 ∷ 31 ∷ 129 ∷ 23 ∷ 41 ∷ 143 ∷ 129 ∷ 103 ∷ [] }
+{}
+
+/// Lists that are refused.
+pub fn worked_unlisted()
+    ensures { answers no_tables unlisted_run ≡ unlisted_answers }
 {}

@@ -9,6 +9,7 @@ ghost use Rattle.h3_world.specs.WorkedEnds.{reset_run, reset_answers, goaway_run
 ghost use Rattle.h3_world.specs.WorkedTables.{kept_entry_run, kept_entry_answers, dropped_entry_run, dropped_entry_answers};
 ghost use Rattle.h3_world.specs.WorkedInterim.{interim_run, interim_answers, large_interim_run, large_interim_answers, interim_order_run, interim_order_answers, released_run, released_answers};
 ghost use Rattle.h3_world.specs.WorkedCanceled.{canceled_run, canceled_answers};
+ghost use Rattle.h3_world.specs.WorkedLists.{listed_run, listed_answers, mixed_run, mixed_answers, unlisted_run, unlisted_answers};
 
 /// Two endpoints answer each worked schedule as it was worked out.
 pub fn ends_answer_as_worked()
@@ -36,4 +37,7 @@ pub fn ends_answer_as_worked()
     ensures interim_order { answers_of_ends (new_ends no_tables) interim_order_run ≡ interim_order_answers }
     ensures released { answers_of_ends (new_ends (of_client 64 10)) released_run ≡ released_answers }
     ensures canceled { answers_of_ends (new_ends (of_client 64 10)) canceled_run ≡ canceled_answers }
+    ensures listed { answers_of_ends (new_ends no_tables) listed_run ≡ listed_answers }
+    ensures mixed { answers_of_ends (new_ends no_tables) mixed_run ≡ mixed_answers }
+    ensures unlisted { answers_of_ends (new_ends no_tables) unlisted_run ≡ unlisted_answers }
 {}

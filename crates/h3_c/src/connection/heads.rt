@@ -30,7 +30,8 @@ impl Connection {
         };
         match given_fields(&mut self.spare, sizes, flags, bytes) {
             Ok(()) => {
-                let told = listed(&self.endpoint.send_fields(stream, self.spare.as_slice()));
+                let call = self.endpoint.send_fields(stream, self.spare.as_slice());
+                let told = listed(&call, &self.endpoint, self.spare.as_slice());
                 let_go(alloc, &mut self.spare);
                 told
             }
@@ -72,11 +73,10 @@ impl Connection {
         };
         match given_fields(&mut self.spare, sizes, flags, bytes) {
             Ok(()) => {
-                let told = listed(
-                    &self
-                        .endpoint
-                        .send_trailer_fields(stream, self.spare.as_slice()),
-                );
+                let call = self
+                    .endpoint
+                    .send_trailer_fields(stream, self.spare.as_slice());
+                let told = listed(&call, &self.endpoint, self.spare.as_slice());
                 let_go(alloc, &mut self.spare);
                 told
             }

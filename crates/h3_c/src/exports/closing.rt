@@ -1,7 +1,8 @@
 //! What C calls: a stream is given up both ways.
-ghost use Rattle.std.specs.Prelude.{◌≡◌, ◌≤◌, ◌^◌, IsSome};
-ghost use Rattle.h3_c.specs.Closing.{Closes};
-ghost use Rattle.h3_c.specs.Exported.{OnStream, Steps};
+ghost use Rattle.std.specs.Prelude.{IsSome};
+ghost use Rattle.h3_c.specs.Does.{Does};
+ghost use Rattle.h3_c.specs.Does.CallOfC.{CloseStream};
+ghost use Rattle.h3_c.specs.Exported.{Steps};
 ghost use Rattle.h3_c.specs.Numbers.{number};
 
 use crate::handle::{Handle, kept, opened};
@@ -20,8 +21,7 @@ pub extern "C" fn h3_raw_close_stream(
 ) -> u32
     requires { IsSome handle.value }
     ensures there { IsSome out.new.value }
-    ensures goes { Steps handle.value out.new.value (λ v w. OnStream id (number result detail.new) v w (Closes (number result detail.new) v w id stop_sending.old stop_sending.new reset_stream.old reset_stream.new)) }
-    ensures unwritten { 2 ^ 62 ≤ id → (stop_sending.new ≡ stop_sending.old) × (reset_stream.new ≡ reset_stream.old) }
+    ensures goes { Steps handle.value out.new.value (Does (CloseStream id stop_sending.old stop_sending.new reset_stream.old reset_stream.new (number result detail.new))) }
 {
     let mut connection = opened(alloc, handle);
     let told = connection.close_stream(id, stop_sending, reset_stream);

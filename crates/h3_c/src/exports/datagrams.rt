@@ -1,7 +1,8 @@
 //! What C calls: HTTP Datagrams (RFC 9297, section 2).
-ghost use Rattle.std.specs.Prelude.{◌≡◌, ◌≤◌, ◌^◌, IsSome};
-ghost use Rattle.h3_c.specs.Datagrams.{GivesHead, ReadsOne};
-ghost use Rattle.h3_c.specs.Exported.{OnStream, Steps};
+ghost use Rattle.std.specs.Prelude.{IsSome};
+ghost use Rattle.h3_c.specs.Does.{Does};
+ghost use Rattle.h3_c.specs.Does.CallOfC.{DatagramHead, ReadDatagram};
+ghost use Rattle.h3_c.specs.Exported.{Steps};
 ghost use Rattle.h3_c.specs.Numbers.{number};
 
 use crate::handle::{Handle, kept, opened};
@@ -20,8 +21,7 @@ pub extern "C" fn h3_raw_datagram_head(
 ) -> u32
     requires { IsSome handle.value }
     ensures there { IsSome out.new.value }
-    ensures goes { Steps handle.value out.new.value (λ v w. (w ≡ v) × OnStream id (number result detail.new) v w (GivesHead v id (number result detail.new) buffer.old buffer.new count.old count.new)) }
-    ensures unwritten { 2 ^ 62 ≤ id → (buffer.new ≡ buffer.old) × (count.new ≡ count.old) }
+    ensures goes { Steps handle.value out.new.value (Does (DatagramHead id buffer.old buffer.new count.old count.new (number result detail.new))) }
 {
     let connection = opened(alloc, handle);
     let told = connection.datagram_head(id, buffer, count);
@@ -43,7 +43,7 @@ pub extern "C" fn h3_raw_read_datagram(
 ) -> u32
     requires { IsSome handle.value }
     ensures there { IsSome out.new.value }
-    ensures goes { Steps handle.value out.new.value (λ v w. ReadsOne v w bytes.now (number result detail.new) id.old id.new from.old from.new) }
+    ensures goes { Steps handle.value out.new.value (Does (ReadDatagram bytes.now id.old id.new from.old from.new (number result detail.new))) }
 {
     let mut connection = opened(alloc, handle);
     let told = connection.read_datagram(bytes, id, from);

@@ -1,6 +1,7 @@
 //! What C calls: what happened on the connection, each reported once.
-ghost use Rattle.std.specs.Prelude.{◌≡◌, IsSome};
-ghost use Rattle.h3_c.specs.Events.{ReportsEvent};
+ghost use Rattle.std.specs.Prelude.{IsSome};
+ghost use Rattle.h3_c.specs.Does.{Does};
+ghost use Rattle.h3_c.specs.Does.CallOfC.{NextEvent};
 ghost use Rattle.h3_c.specs.Exported.{Steps};
 ghost use Rattle.h3_c.specs.Numbers.{number};
 
@@ -18,7 +19,7 @@ pub extern "C" fn h3_raw_next_event(
 ) -> u32
     requires { IsSome handle.value }
     ensures there { IsSome out.new.value }
-    ensures goes { Steps handle.value out.new.value (λ v w. ReportsEvent v w (number result 0) kind.old kind.new id.old id.new) }
+    ensures goes { Steps handle.value out.new.value (Does (NextEvent kind.old kind.new id.old id.new (number result 0))) }
 {
     let mut connection = opened(alloc, handle);
     let told = connection.next_event(kind, id);

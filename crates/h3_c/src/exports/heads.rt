@@ -1,8 +1,8 @@
 //! What C calls: header and trailer sections.
 ghost use Rattle.std.specs.Prelude.{IsSome};
-ghost use Rattle.h3_session.specs.SendingLists.{SendsFieldList, SendsTrailerList, order_refusal, place_refusal};
-ghost use Rattle.h3_c.specs.Exported.{OnStream, SendsCut, Steps};
-ghost use Rattle.h3_c.specs.Given.{fields_given};
+ghost use Rattle.h3_c.specs.Does.{Does};
+ghost use Rattle.h3_c.specs.Does.CallOfC.{SendHead, SendTrailer};
+ghost use Rattle.h3_c.specs.Exported.{Steps};
 ghost use Rattle.h3_c.specs.Numbers.{number};
 
 use crate::fields::FieldSize;
@@ -23,7 +23,7 @@ pub extern "C" fn h3_raw_send_head(
 ) -> u32
     requires { IsSome handle.value }
     ensures there { IsSome out.new.value }
-    ensures goes { Steps handle.value out.new.value (λ v w. OnStream id (number result detail.new) v w (SendsCut (fields_given sizes.now flags.now bytes.now) (λ e. place_refusal e id) (number result detail.new) v w (λ fields call. SendsFieldList v.endpoint w.endpoint id fields call))) }
+    ensures goes { Steps handle.value out.new.value (Does (SendHead id sizes.now flags.now bytes.now (number result detail.new))) }
 {
     let mut connection = opened(alloc, handle);
     let told = connection.send_head(alloc, id, sizes, flags, bytes);
@@ -46,7 +46,7 @@ pub extern "C" fn h3_raw_send_trailer(
 ) -> u32
     requires { IsSome handle.value }
     ensures there { IsSome out.new.value }
-    ensures goes { Steps handle.value out.new.value (λ v w. OnStream id (number result detail.new) v w (SendsCut (fields_given sizes.now flags.now bytes.now) (λ e. order_refusal e id) (number result detail.new) v w (λ fields call. SendsTrailerList v.endpoint w.endpoint id fields call))) }
+    ensures goes { Steps handle.value out.new.value (Does (SendTrailer id sizes.now flags.now bytes.now (number result detail.new))) }
 {
     let mut connection = opened(alloc, handle);
     let told = connection.send_trailer(alloc, id, sizes, flags, bytes);

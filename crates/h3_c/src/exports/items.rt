@@ -1,6 +1,8 @@
 //! What C calls: items.
-ghost use Rattle.std.specs.Prelude.{◌≡◌, ◌≤◌, ◌^◌, IsSome};
-ghost use Rattle.h3_c.specs.Exported.{OnStream, Pulls, ReadsBytes, ReadsFields, Steps};
+ghost use Rattle.std.specs.Prelude.{IsSome};
+ghost use Rattle.h3_c.specs.Does.{Does};
+ghost use Rattle.h3_c.specs.Does.CallOfC.{ItemBytes, ItemFields, Pull};
+ghost use Rattle.h3_c.specs.Exported.{Steps};
 ghost use Rattle.h3_c.specs.Numbers.{number};
 
 use crate::fields::FieldSize;
@@ -19,8 +21,7 @@ pub extern "C" fn h3_raw_pull(
 ) -> u32
     requires { IsSome handle.value }
     ensures there { IsSome out.new.value }
-    ensures goes { Steps handle.value out.new.value (λ v w. OnStream id (number result 0) v w (Pulls id (number result 0) v w item.new)) }
-    ensures unwritten { 2 ^ 62 ≤ id → item.new ≡ item.old }
+    ensures goes { Steps handle.value out.new.value (Does (Pull id item.old item.new (number result 0))) }
 {
     let mut connection = opened(alloc, handle);
     let told = connection.pull(alloc, id, item);
@@ -40,7 +41,7 @@ pub extern "C" fn h3_raw_item_fields(
 ) -> u32
     requires { IsSome handle.value }
     ensures there { IsSome out.new.value }
-    ensures goes { Steps handle.value out.new.value (λ v w. (w ≡ v) × ReadsFields v (number result 0) sizes.old sizes.new flags.old flags.new bytes.old bytes.new) }
+    ensures goes { Steps handle.value out.new.value (Does (ItemFields sizes.old sizes.new flags.old flags.new bytes.old bytes.new (number result 0))) }
 {
     let connection = opened(alloc, handle);
     let told = connection.item_fields(sizes, flags, bytes);
@@ -60,7 +61,7 @@ pub extern "C" fn h3_raw_item_bytes(
 ) -> u32
     requires { IsSome handle.value }
     ensures there { IsSome out.new.value }
-    ensures goes { Steps handle.value out.new.value (λ v w. (w ≡ v) × ReadsBytes v from (number result 0) buffer.old buffer.new count.old count.new) }
+    ensures goes { Steps handle.value out.new.value (Does (ItemBytes from buffer.old buffer.new count.old count.new (number result 0))) }
 {
     let connection = opened(alloc, handle);
     let told = connection.item_bytes(from, buffer, count);

@@ -1,7 +1,8 @@
 //! What C calls: what the peer's unidirectional streams are.
-ghost use Rattle.std.specs.Prelude.{◌≡◌, ◌≤◌, ◌^◌, IsSome};
-ghost use Rattle.h3_c.specs.Exported.{OnStream, Steps};
-ghost use Rattle.h3_c.specs.Kinds.{ShowsKind};
+ghost use Rattle.std.specs.Prelude.{IsSome};
+ghost use Rattle.h3_c.specs.Does.{Does};
+ghost use Rattle.h3_c.specs.Does.CallOfC.{StreamKind};
+ghost use Rattle.h3_c.specs.Exported.{Steps};
 ghost use Rattle.h3_c.specs.Numbers.{number};
 
 use crate::handle::{Handle, kept, opened};
@@ -18,8 +19,7 @@ pub extern "C" fn h3_raw_stream_kind(
 ) -> u32
     requires { IsSome handle.value }
     ensures there { IsSome out.new.value }
-    ensures goes { Steps handle.value out.new.value (λ v w. (w ≡ v) × OnStream id (number result 0) v w (ShowsKind v id (number result 0) kind.old kind.new)) }
-    ensures unwritten { 2 ^ 62 ≤ id → kind.new ≡ kind.old }
+    ensures goes { Steps handle.value out.new.value (Does (StreamKind id kind.old kind.new (number result 0))) }
 {
     let connection = opened(alloc, handle);
     let told = connection.stream_kind(id, kind);

@@ -1,6 +1,8 @@
 //! What C calls: what waits to be sent.
-ghost use Rattle.std.specs.Prelude.{◌≡◌, ◌≤◌, ◌^◌, IsSome};
-ghost use Rattle.h3_c.specs.Exported.{CopiesOut, OnStream, Steps, Takes};
+ghost use Rattle.std.specs.Prelude.{IsSome};
+ghost use Rattle.h3_c.specs.Does.{Does};
+ghost use Rattle.h3_c.specs.Does.CallOfC.{Advance, Outgoing};
+ghost use Rattle.h3_c.specs.Exported.{Steps};
 ghost use Rattle.h3_c.specs.Numbers.{number};
 
 use crate::handle::{Handle, kept, opened};
@@ -20,8 +22,7 @@ pub extern "C" fn h3_raw_outgoing(
 ) -> u32
     requires { IsSome handle.value }
     ensures there { IsSome out.new.value }
-    ensures goes { Steps handle.value out.new.value (λ v w. (w ≡ v) × OnStream id (number result 0) v w (CopiesOut v id (number result 0) buffer.old buffer.new count.new past.new fin.new)) }
-    ensures unwritten { 2 ^ 62 ≤ id → (buffer.new ≡ buffer.old) × (count.new ≡ count.old) × (past.new ≡ past.old) × (fin.new ≡ fin.old) }
+    ensures goes { Steps handle.value out.new.value (Does (Outgoing id buffer.old buffer.new count.old count.new past.old past.new fin.old fin.new (number result 0))) }
 {
     let connection = opened(alloc, handle);
     let told = connection.outgoing(id, buffer, count, past, fin);
@@ -40,7 +41,7 @@ pub extern "C" fn h3_raw_advance(
 ) -> u32
     requires { IsSome handle.value }
     ensures there { IsSome out.new.value }
-    ensures goes { Steps handle.value out.new.value (λ v w. OnStream id (number result 0) v w (Takes v w id count (number result 0))) }
+    ensures goes { Steps handle.value out.new.value (Does (Advance id count (number result 0))) }
 {
     let mut connection = opened(alloc, handle);
     let told = connection.advance(id, count);

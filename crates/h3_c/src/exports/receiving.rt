@@ -1,8 +1,9 @@
 //! What C calls: what came.
 ghost use Rattle.std.specs.Prelude.{IsSome};
-ghost use Rattle.h3_connection.specs.ReceivingContracts.{Delivers, DeliversEnd, DeliversReset};
-ghost use Rattle.h3_c.specs.Exported.{DeliversOn, Steps};
-ghost use Rattle.h3_c.specs.Numbers.{number, delivery_told};
+ghost use Rattle.h3_c.specs.Does.{Does};
+ghost use Rattle.h3_c.specs.Does.CallOfC.{Deliver, DeliverEnd, DeliverReset};
+ghost use Rattle.h3_c.specs.Exported.{Steps};
+ghost use Rattle.h3_c.specs.Numbers.{number};
 
 use crate::handle::{Handle, kept, opened};
 use std::alloc::Global;
@@ -19,7 +20,7 @@ pub extern "C" fn h3_raw_deliver(
 ) -> u32
     requires { IsSome handle.value }
     ensures there { IsSome out.new.value }
-    ensures goes { Steps handle.value out.new.value (λ v w. DeliversOn delivery_told id (number result detail.new) v w (λ call. Delivers v.endpoint w.endpoint id bytes.now call)) }
+    ensures goes { Steps handle.value out.new.value (Does (Deliver id bytes.now (number result detail.new))) }
 {
     let mut connection = opened(alloc, handle);
     let told = connection.deliver(alloc, id, bytes);
@@ -39,7 +40,7 @@ pub extern "C" fn h3_raw_deliver_end(
 ) -> u32
     requires { IsSome handle.value }
     ensures there { IsSome out.new.value }
-    ensures goes { Steps handle.value out.new.value (λ v w. DeliversOn delivery_told id (number result detail.new) v w (λ call. DeliversEnd v.endpoint w.endpoint id call)) }
+    ensures goes { Steps handle.value out.new.value (Does (DeliverEnd id (number result detail.new))) }
 {
     let mut connection = opened(alloc, handle);
     let told = connection.deliver_end(id);
@@ -60,7 +61,7 @@ pub extern "C" fn h3_raw_deliver_reset(
 ) -> u32
     requires { IsSome handle.value }
     ensures there { IsSome out.new.value }
-    ensures goes { Steps handle.value out.new.value (λ v w. DeliversOn delivery_told id (number result detail.new) v w (λ call. DeliversReset v.endpoint w.endpoint id code call)) }
+    ensures goes { Steps handle.value out.new.value (Does (DeliverReset id code (number result detail.new))) }
 {
     let mut connection = opened(alloc, handle);
     let told = connection.deliver_reset(id, code);

@@ -1,10 +1,9 @@
 //! What C calls: sending.
-ghost use Rattle.std.specs.Prelude.{◌≡◌, IsSome};
-ghost use Rattle.h3_connection.specs.SendingContracts.{SendsBody, Finishes, Resets, Cancels, GoesAway};
-ghost use Rattle.h3_c.specs.Exported.{Calls, CallsOn, OnStream, OpensRequest, ShowsNextId, Steps};
-ghost use Rattle.h3_c.specs.Numbers.{number, call_told, body_told};
-ghost use Rattle.h3_session.specs.Held.{SendsBodyOf};
-ghost use Rattle.h3_session.specs.OpeningAt.{OpensRequestAt};
+ghost use Rattle.std.specs.Prelude.{IsSome};
+ghost use Rattle.h3_c.specs.Does.{Does};
+ghost use Rattle.h3_c.specs.Does.CallOfC.{Cancel, Finish, Goaway, NextRequestId, OpenRequest, OpenRequestAt, Reset, SendBody, SendBodyOf};
+ghost use Rattle.h3_c.specs.Exported.{Steps};
+ghost use Rattle.h3_c.specs.Numbers.{number};
 
 use crate::handle::{Handle, kept, opened};
 use std::alloc::Global;
@@ -20,7 +19,7 @@ pub extern "C" fn h3_raw_open_request(
 ) -> u32
     requires { IsSome handle.value }
     ensures there { IsSome out.new.value }
-    ensures goes { Steps handle.value out.new.value (λ v w. OpensRequest (number result detail.new) v w id.old id.new) }
+    ensures goes { Steps handle.value out.new.value (Does (OpenRequest id.old id.new (number result detail.new))) }
 {
     let mut connection = opened(alloc, handle);
     let told = connection.open_request(id);
@@ -40,7 +39,7 @@ pub extern "C" fn h3_raw_next_request_id(
 ) -> u32
     requires { IsSome handle.value }
     ensures there { IsSome out.new.value }
-    ensures goes { Steps handle.value out.new.value (λ v w. (w ≡ v) × ShowsNextId v (number result detail.new) id.old id.new) }
+    ensures goes { Steps handle.value out.new.value (Does (NextRequestId id.old id.new (number result detail.new))) }
 {
     let connection = opened(alloc, handle);
     let told = connection.next_request_id(id);
@@ -60,7 +59,7 @@ pub extern "C" fn h3_raw_open_request_at(
 ) -> u32
     requires { IsSome handle.value }
     ensures there { IsSome out.new.value }
-    ensures goes { Steps handle.value out.new.value (λ v w. CallsOn call_told id (number result detail.new) v w (λ call. OpensRequestAt v.endpoint w.endpoint id call)) }
+    ensures goes { Steps handle.value out.new.value (Does (OpenRequestAt id (number result detail.new))) }
 {
     let mut connection = opened(alloc, handle);
     let told = connection.open_request_at(id);
@@ -81,7 +80,7 @@ pub extern "C" fn h3_raw_send_body(
 ) -> u32
     requires { IsSome handle.value }
     ensures there { IsSome out.new.value }
-    ensures goes { Steps handle.value out.new.value (λ v w. OnStream id (number result detail.new) v w (Calls body_told (number result detail.new) v w (λ call. SendsBody v.endpoint w.endpoint id bytes.now call))) }
+    ensures goes { Steps handle.value out.new.value (Does (SendBody id bytes.now (number result detail.new))) }
 {
     let mut connection = opened(alloc, handle);
     let told = connection.send_body(alloc, id, bytes);
@@ -102,7 +101,7 @@ pub extern "C" fn h3_raw_send_body_of(
 ) -> u32
     requires { IsSome handle.value }
     ensures there { IsSome out.new.value }
-    ensures goes { Steps handle.value out.new.value (λ v w. CallsOn call_told id (number result detail.new) v w (λ call. SendsBodyOf v.endpoint w.endpoint id len call)) }
+    ensures goes { Steps handle.value out.new.value (Does (SendBodyOf id len (number result detail.new))) }
 {
     let mut connection = opened(alloc, handle);
     let told = connection.send_body_of(id, len);
@@ -122,7 +121,7 @@ pub extern "C" fn h3_raw_finish(
 ) -> u32
     requires { IsSome handle.value }
     ensures there { IsSome out.new.value }
-    ensures goes { Steps handle.value out.new.value (λ v w. CallsOn call_told id (number result detail.new) v w (λ call. Finishes v.endpoint w.endpoint id call)) }
+    ensures goes { Steps handle.value out.new.value (Does (Finish id (number result detail.new))) }
 {
     let mut connection = opened(alloc, handle);
     let told = connection.finish(id);
@@ -142,7 +141,7 @@ pub extern "C" fn h3_raw_reset(
 ) -> u32
     requires { IsSome handle.value }
     ensures there { IsSome out.new.value }
-    ensures goes { Steps handle.value out.new.value (λ v w. CallsOn call_told id (number result detail.new) v w (λ call. Resets v.endpoint w.endpoint id call)) }
+    ensures goes { Steps handle.value out.new.value (Does (Reset id (number result detail.new))) }
 {
     let mut connection = opened(alloc, handle);
     let told = connection.reset(id);
@@ -162,7 +161,7 @@ pub extern "C" fn h3_raw_cancel(
 ) -> u32
     requires { IsSome handle.value }
     ensures there { IsSome out.new.value }
-    ensures goes { Steps handle.value out.new.value (λ v w. CallsOn call_told id (number result detail.new) v w (λ call. Cancels v.endpoint w.endpoint id call)) }
+    ensures goes { Steps handle.value out.new.value (Does (Cancel id (number result detail.new))) }
 {
     let mut connection = opened(alloc, handle);
     let told = connection.cancel(id);
@@ -182,7 +181,7 @@ pub extern "C" fn h3_raw_goaway(
 ) -> u32
     requires { IsSome handle.value }
     ensures there { IsSome out.new.value }
-    ensures goes { Steps handle.value out.new.value (λ v w. CallsOn call_told id (number result detail.new) v w (λ call. GoesAway v.endpoint w.endpoint id call)) }
+    ensures goes { Steps handle.value out.new.value (Does (Goaway id (number result detail.new))) }
 {
     let mut connection = opened(alloc, handle);
     let told = connection.goaway(id);

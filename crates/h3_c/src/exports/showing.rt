@@ -1,8 +1,9 @@
 //! What C calls: what can be read.
-ghost use Rattle.std.specs.Prelude.{◌≡◌, ◌≤◌, ◌^◌, IsSome};
-ghost use Rattle.h3_c.specs.Exported.{OnStream, Steps};
-ghost use Rattle.h3_c.specs.Numbers.{number, ok};
-ghost use Rattle.h3_c.specs.Showing.{ShowsStream, ShowsConnection, ShowsSetting};
+ghost use Rattle.std.specs.Prelude.{IsSome};
+ghost use Rattle.h3_c.specs.Does.{Does};
+ghost use Rattle.h3_c.specs.Does.CallOfC.{Connection, PeerSetting, Stream};
+ghost use Rattle.h3_c.specs.Exported.{Steps};
+ghost use Rattle.h3_c.specs.Numbers.{number};
 
 use crate::handle::{Handle, kept, opened};
 use crate::state::{ConnectionState, StreamState};
@@ -19,8 +20,7 @@ pub extern "C" fn h3_raw_stream(
 ) -> u32
     requires { IsSome handle.value }
     ensures there { IsSome out.new.value }
-    ensures goes { Steps handle.value out.new.value (λ v w. (w ≡ v) × OnStream id (number result 0) v w (((number result 0) ≡ ok) × ShowsStream v id state.new)) }
-    ensures unwritten { 2 ^ 62 ≤ id → state.new ≡ state.old }
+    ensures goes { Steps handle.value out.new.value (Does (Stream id state.old state.new (number result 0))) }
 {
     let connection = opened(alloc, handle);
     let told = connection.stream(id, state);
@@ -38,7 +38,7 @@ pub extern "C" fn h3_raw_connection(
 ) -> u32
     requires { IsSome handle.value }
     ensures there { IsSome out.new.value }
-    ensures goes { Steps handle.value out.new.value (λ v w. (w ≡ v) × ((number result 0) ≡ ok) × ShowsConnection v state.new) }
+    ensures goes { Steps handle.value out.new.value (Does (Connection state.new (number result 0))) }
 {
     let connection = opened(alloc, handle);
     let told = connection.connection(state);
@@ -57,7 +57,7 @@ pub extern "C" fn h3_raw_peer_setting(
 ) -> u32
     requires { IsSome handle.value }
     ensures there { IsSome out.new.value }
-    ensures goes { Steps handle.value out.new.value (λ v w. (w ≡ v) × ShowsSetting v setting (number result 0) value.old value.new) }
+    ensures goes { Steps handle.value out.new.value (Does (PeerSetting setting value.old value.new (number result 0))) }
 {
     let connection = opened(alloc, handle);
     let told = connection.peer_setting(setting, value);

@@ -1,9 +1,9 @@
 //! What C calls: shutting a connection down.
-ghost use Rattle.std.specs.Prelude.{◌≡◌, IsSome};
-ghost use Rattle.h3_connection.specs.Shutdown.{GivesNotice, ShutsDown};
-ghost use Rattle.h3_c.specs.Exported.{Calls, Steps};
-ghost use Rattle.h3_c.specs.Numbers.{number, call_told};
-ghost use Rattle.h3_c.specs.Shutdown.{ShowsIsDrained, ShowsUnseen};
+ghost use Rattle.std.specs.Prelude.{IsSome};
+ghost use Rattle.h3_c.specs.Does.{Does};
+ghost use Rattle.h3_c.specs.Does.CallOfC.{FirstUnseen, IsDrained, Shutdown, ShutdownNotice};
+ghost use Rattle.h3_c.specs.Exported.{Steps};
+ghost use Rattle.h3_c.specs.Numbers.{number};
 
 use crate::handle::{Handle, kept, opened};
 use std::alloc::Global;
@@ -18,7 +18,7 @@ pub extern "C" fn h3_raw_shutdown_notice(
 ) -> u32
     requires { IsSome handle.value }
     ensures there { IsSome out.new.value }
-    ensures goes { Steps handle.value out.new.value (λ v w. Calls call_told (number result detail.new) v w (λ call. GivesNotice v.endpoint w.endpoint call)) }
+    ensures goes { Steps handle.value out.new.value (Does (ShutdownNotice (number result detail.new))) }
 {
     let mut connection = opened(alloc, handle);
     let told = connection.shutdown_notice();
@@ -37,7 +37,7 @@ pub extern "C" fn h3_raw_shutdown(
 ) -> u32
     requires { IsSome handle.value }
     ensures there { IsSome out.new.value }
-    ensures goes { Steps handle.value out.new.value (λ v w. Calls call_told (number result detail.new) v w (λ call. ShutsDown v.endpoint w.endpoint call)) }
+    ensures goes { Steps handle.value out.new.value (Does (Shutdown (number result detail.new))) }
 {
     let mut connection = opened(alloc, handle);
     let told = connection.shutdown();
@@ -56,7 +56,7 @@ pub extern "C" fn h3_raw_first_unseen(
 ) -> u32
     requires { IsSome handle.value }
     ensures there { IsSome out.new.value }
-    ensures goes { Steps handle.value out.new.value (λ v w. (w ≡ v) × ShowsUnseen v (number result 0) id.new) }
+    ensures goes { Steps handle.value out.new.value (Does (FirstUnseen id.new (number result 0))) }
 {
     let connection = opened(alloc, handle);
     let told = connection.first_unseen(id);
@@ -74,7 +74,7 @@ pub extern "C" fn h3_raw_is_drained(
 ) -> u32
     requires { IsSome handle.value }
     ensures there { IsSome out.new.value }
-    ensures goes { Steps handle.value out.new.value (λ v w. (w ≡ v) × ShowsIsDrained v (number result 0) drained.new) }
+    ensures goes { Steps handle.value out.new.value (Does (IsDrained drained.new (number result 0))) }
 {
     let connection = opened(alloc, handle);
     let told = connection.is_drained(drained);

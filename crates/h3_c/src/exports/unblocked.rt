@@ -1,8 +1,9 @@
 //! What C calls: the next stream that waited for insertions, which came.
-ghost use Rattle.std.specs.Prelude.{◌≡◌, IsSome};
+ghost use Rattle.std.specs.Prelude.{IsSome};
+ghost use Rattle.h3_c.specs.Does.{Does};
+ghost use Rattle.h3_c.specs.Does.CallOfC.{NextUnblocked};
 ghost use Rattle.h3_c.specs.Exported.{Steps};
 ghost use Rattle.h3_c.specs.Numbers.{number};
-ghost use Rattle.h3_c.specs.Unblocked.{UnblocksNext};
 
 use crate::handle::{Handle, kept, opened};
 use std::alloc::Global;
@@ -18,7 +19,7 @@ pub extern "C" fn h3_raw_next_unblocked(
 ) -> u32
     requires { IsSome handle.value }
     ensures there { IsSome out.new.value }
-    ensures goes { Steps handle.value out.new.value (λ v w. (w ≡ v) × UnblocksNext v from (number result 0) id.old id.new) }
+    ensures goes { Steps handle.value out.new.value (Does (NextUnblocked from id.old id.new (number result 0))) }
 {
     let connection = opened(alloc, handle);
     let told = connection.next_unblocked(from, id);

@@ -155,6 +155,7 @@ impl LiteralWithNameRef {
         }
     }
 
+    // RFC 9204 4.5: field lines as bytes
     /// Takes the first part of the line from the front: the name that it refers to, and the bit N. The string of its value is left, for
     /// `FieldBlock::push_value_read`. A refused read takes nothing.
     pub fn decode_index(buf: &mut SliceCursor<'_>) -> Result<(NameRef, bool), ParseError>

@@ -35,6 +35,7 @@ impl Model for HeaderPrefix {
     ghost inverse = { λ p. record { count = p.encoded; below = p.is_negative; distance = p.delta } };
 }
 
+// RFC 9204 4.5.1.1: required insert count, encoded
 /// The number of that residue among those that a reader of so many insertions may meet, by the algorithm and in the words of
 /// RFC 9204, section 4.5.1.1.
 fn required_count(capacity: usize, inserted: usize, encoded: u64) -> Option<u64>
@@ -98,6 +99,7 @@ impl HeaderPrefix {
         }
     }
 
+    // RFC 9204 4.5.1.2: base of a section
     /// The required insert count and the base, at a reader of `total_inserted` insertions that announced the capacity
     /// `max_table_size`. With capacity 0 both are 0, whatever was read.
     pub fn get(

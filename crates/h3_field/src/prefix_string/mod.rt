@@ -1,5 +1,6 @@
 //! String literals (RFC 9204, section 4.1.2; RFC 7541, section 5.2): as they stand or Huffman coded, after their length.
 ghost use Rattle.std.specs.Prelude.{◌≡◌, ◌+◌, ◌*◌, ◌-◌, ◌^◌, ◌<◌, ◌≤◌, ◌++◌, OnOk, OnErr, IfSome, Result, length, take, Some};
+ghost use Rattle.h3_huffman.specs.Huffman.{huffman};
 ghost use Rattle.h3_field.specs.Ends.{IsEndOf};
 ghost use Rattle.h3_field.specs.ErrorTexts.{string_text};
 ghost use Rattle.std.specs.Result.{IsOkUnless};
@@ -128,14 +129,37 @@ const SHORT: usize = 63;
 /// The longest string that is encoded into an array of its own: its length most often takes one byte, whatever `size` is.
 const VERY_SHORT: usize = 8;
 
-/// Writes the Huffman encoding of a string to the front of `room`, and appends its length and what was written. A
-/// refusal may leave a part of them.
+/// Whether a string is written Huffman coded, of which the code has `len` bytes: if `shortest`, only if that is shorter; else always.
+#[inline(always)]
+fn is_coded(value: &[u8], shortest: bool, len: usize) -> bool
+    requires { len ≡ length (huffman value.now) }
+    ensures { result ≡ (coded shortest value.now).is_huffman }
+{
+    !shortest || len < value.len()
+}
+
+/// Appends the length of a string, and the string as it stands. A refusal may leave a part of them.
+fn put_plain(size: u8, flags: u8, value: &[u8], buf: &mut Vec<u8>) -> Result<(), AllocError>
+    requires least { 2 ≤ size }
+    requires most { size ≤ 8 }
+    requires flags { flags < 2 ^ (8 - size) }
+    requires value { length value.now < 2 ^ 62 }
+    ensures ok { OnOk result (buf.new.items ≡ buf.old.items ++ string_literal size flags (plain_text value.now)) }
+    ensures err { OnErr result (take (length buf.old.items) buf.new.items ≡ buf.old.items) }
+{
+    prefix_int::encode(size - 1, 2 * flags, value.len() as u64, buf)?;
+    buf.extend_from_slice(value)
+}
+
+/// Writes the Huffman encoding of a string to the front of `room`, and appends its length and what was written, or the string as it stands.
+/// A refusal may leave a part of them.
 #[inline(always)]
 fn put_by_way_of(
     room: &mut [u8],
     size: u8,
     flags: u8,
     value: &[u8],
+    shortest: bool,
     buf: &mut Vec<u8>,
 ) -> Result<(), AllocError>
     requires least { 2 ≤ size }
@@ -143,35 +167,66 @@ fn put_by_way_of(
     requires flags { flags < 2 ^ (8 - size) }
     requires short { length value.now ≤ 63 }
     requires room { 4 * length value.now + 4 ≤ length room.old }
-    ensures ok { OnOk result (buf.new.items ≡ buf.old.items ++ string_literal size flags (huffman_text value.now)) }
+    ensures ok { OnOk result (buf.new.items ≡ buf.old.items ++ string_literal size flags (coded shortest value.now)) }
     ensures err { OnErr result (take (length buf.old.items) buf.new.items ≡ buf.old.items) }
 {
     let len = h3_huffman::encode::encode_front(value, room);
+    if !is_coded(value, shortest, len) {
+        return put_plain(size, flags, value, buf);
+    }
     prefix_int::encode(size - 1, 2 * flags + 1, len as u64, buf)?;
     buf.extend_from_slice(&room[..len])
 }
 
-/// Appends the length of a string that is empty, and has an empty encoding.
-fn put_empty(size: u8, flags: u8, value: &[u8], buf: &mut Vec<u8>) -> Result<(), AllocError>
+/// Appends the length of a string that is empty, and has an empty encoding. It is not shorter, so if `shortest` the string is written as it
+/// stands.
+fn put_empty(
+    size: u8,
+    flags: u8,
+    value: &[u8],
+    shortest: bool,
+    buf: &mut Vec<u8>,
+) -> Result<(), AllocError>
     requires least { 2 ≤ size }
     requires most { size ≤ 8 }
     requires flags { flags < 2 ^ (8 - size) }
     requires empty { length value.now ≡ 0 }
-    ensures ok { OnOk result (buf.new.items ≡ buf.old.items ++ string_literal size flags (huffman_text value.now)) }
+    ensures ok { OnOk result (buf.new.items ≡ buf.old.items ++ string_literal size flags (coded shortest value.now)) }
     ensures err { OnErr result (take (length buf.old.items) buf.new.items ≡ buf.old.items) }
 {
+    if shortest {
+        return put_plain(size, flags, value, buf);
+    }
     prefix_int::encode(size - 1, 2 * flags + 1, value.len() as u64, buf)
 }
 
-/// Writes the length and the Huffman encoding of a short string to the front of `out`, and answers how many bytes they are. None: the
-/// length takes more than one byte.
+/// Writes the length of a short string, and the string as it stands, to the front of `out`, and returns how many bytes they are.
 #[inline(always)]
-fn write_value(value: &[u8], out: &mut [u8]) -> Option<usize>
+fn write_plain(value: &[u8], out: &mut [u8]) -> usize
+    requires short { length value.now ≤ 63 }
+    requires room { length value.now + 1 ≤ length out.old }
+    ensures within { result ≤ length out.new }
+    ensures literal { take result out.new ≡ string_literal 8 0 (plain_text value.now) }
+{
+    let len = value.len();
+    out[1..len + 1].copy_from_slice(value);
+    out[0] = len as u8;
+    len + 1
+}
+
+/// Writes the length and the Huffman encoding of a short string to the front of `out`, or the string as it stands, and returns how many
+/// bytes they are. None: the length takes more than one byte.
+#[inline(always)]
+fn write_value(value: &[u8], shortest: bool, out: &mut [u8]) -> Option<usize>
     requires short { length value.now ≤ 63 }
     requires room { 4 * length value.now + 5 ≤ length out.old }
-    ensures { IfSome result (λ count. (count ≤ length out.new) × (take count out.new ≡ string_literal 8 0 (huffman_text value.now))) }
+    ensures within { IfSome result (λ count. count ≤ length out.new) }
+    ensures literal { IfSome result (λ count. take count out.new ≡ string_literal 8 0 (coded shortest value.now)) }
 {
     let len = h3_huffman::encode::encode_front(value, &mut out[1..]);
+    if !is_coded(value, shortest, len) {
+        return Some(write_plain(value, out));
+    }
     if len >= 127 {
         return None;
     }
@@ -180,35 +235,38 @@ fn write_value(value: &[u8], out: &mut [u8]) -> Option<usize>
 }
 
 /// Appends a short string with no flags. It is encoded in its final place. A refusal may leave a part of it.
-fn put_value(value: &[u8], buf: &mut Vec<u8>) -> Result<(), AllocError>
+fn put_value(value: &[u8], shortest: bool, buf: &mut Vec<u8>) -> Result<(), AllocError>
     requires short { length value.now ≤ 63 }
-    ensures ok { OnOk result (buf.new.items ≡ buf.old.items ++ string_literal 8 0 (huffman_text value.now)) }
+    ensures ok { OnOk result (buf.new.items ≡ buf.old.items ++ string_literal 8 0 (coded shortest value.now)) }
     ensures err { OnErr result (take (length buf.old.items) buf.new.items ≡ buf.old.items) }
 {
     let start = buf.len();
     // the length, at most four bytes of code for each, and what the encoder writes after its last bits
     buf.resize(start.saturating_add(4 * value.len() + 5), 0)?;
-    let Some(count) = write_value(value, &mut buf[start..]) else {
+    let Some(count) = write_value(value, shortest, &mut buf[start..]) else {
         buf.truncate(start);
-        return put_long(8, 0, value, buf);
+        return put_long(8, 0, value, shortest, buf);
     };
     buf.truncate(start + count);
     Ok(())
 }
 
-/// Writes the length, which takes two bytes, and the Huffman encoding of a short string to the front of `out`, and answers how many bytes
-/// they are. None: the length takes one byte, or more than two.
+/// Writes the length, which takes two bytes, and the Huffman encoding of a short string to the front of `out`, and returns how many bytes
+/// they are. None: the length takes one byte, or more than two, or the string is to be written as it stands.
 #[inline(always)]
-fn write_name(size: u8, flags: u8, value: &[u8], out: &mut [u8]) -> Option<usize>
+fn write_name(size: u8, flags: u8, value: &[u8], shortest: bool, out: &mut [u8]) -> Option<usize>
     requires least { 2 ≤ size }
     requires most { size ≤ 8 }
     requires flags { flags < 2 ^ (8 - size) }
     requires short { length value.now ≤ 63 }
     requires room { 4 * length value.now + 6 ≤ length out.old }
     ensures within { IfSome result (λ count. count ≤ length out.new) }
-    ensures literal { IfSome result (λ count. take count out.new ≡ string_literal size flags (huffman_text value.now)) }
+    ensures literal { IfSome result (λ count. take count out.new ≡ string_literal size flags (coded shortest value.now)) }
 {
     let len = h3_huffman::encode::encode_front(value, &mut out[2..]);
+    if !is_coded(value, shortest, len) {
+        return None;
+    }
     let Some((first, second)) = prefix_int::two_bytes(size - 1, 2 * flags + 1, len as u64) else {
         return None;
     };
@@ -219,54 +277,76 @@ fn write_name(size: u8, flags: u8, value: &[u8], out: &mut [u8]) -> Option<usize
 
 /// Appends a short string, of which the length most often takes two bytes. It is encoded in its final place. A refusal may leave a part of
 /// it.
-fn put_name(size: u8, flags: u8, value: &[u8], buf: &mut Vec<u8>) -> Result<(), AllocError>
+fn put_name(
+    size: u8,
+    flags: u8,
+    value: &[u8],
+    shortest: bool,
+    buf: &mut Vec<u8>,
+) -> Result<(), AllocError>
     requires least { 2 ≤ size }
     requires most { size ≤ 8 }
     requires flags { flags < 2 ^ (8 - size) }
     requires short { length value.now ≤ 63 }
-    ensures ok { OnOk result (buf.new.items ≡ buf.old.items ++ string_literal size flags (huffman_text value.now)) }
+    ensures ok { OnOk result (buf.new.items ≡ buf.old.items ++ string_literal size flags (coded shortest value.now)) }
     ensures err { OnErr result (take (length buf.old.items) buf.new.items ≡ buf.old.items) }
 {
     let start = buf.len();
     // the length, at most four bytes of code for each, and what the encoder writes after its last bits
     buf.resize(start.saturating_add(4 * value.len() + 6), 0)?;
-    let Some(count) = write_name(size, flags, value, &mut buf[start..]) else {
+    let Some(count) = write_name(size, flags, value, shortest, &mut buf[start..]) else {
         buf.truncate(start);
-        return put_long(size, flags, value, buf);
+        return put_long(size, flags, value, shortest, buf);
     };
     buf.truncate(start + count);
     Ok(())
 }
 
-/// Appends the length and the Huffman encoding of a short string. A refusal may leave a part of them.
-fn put_short(size: u8, flags: u8, value: &[u8], buf: &mut Vec<u8>) -> Result<(), AllocError>
+/// Appends the length of a short string and its Huffman encoding, or the string as it stands. A refusal may leave a part of them.
+fn put_short(
+    size: u8,
+    flags: u8,
+    value: &[u8],
+    shortest: bool,
+    buf: &mut Vec<u8>,
+) -> Result<(), AllocError>
     requires least { 2 ≤ size }
     requires most { size ≤ 8 }
     requires flags { flags < 2 ^ (8 - size) }
     requires short { length value.now ≤ 63 }
-    ensures ok { OnOk result (buf.new.items ≡ buf.old.items ++ string_literal size flags (huffman_text value.now)) }
+    ensures ok { OnOk result (buf.new.items ≡ buf.old.items ++ string_literal size flags (coded shortest value.now)) }
     ensures err { OnErr result (take (length buf.old.items) buf.new.items ≡ buf.old.items) }
 {
     if size == 8 {
-        return put_value(value, buf);
+        return put_value(value, shortest, buf);
     }
     if value.len() <= VERY_SHORT {
         let mut room = [0u8; 4 * VERY_SHORT + 4];
-        return put_by_way_of(&mut room, size, flags, value, buf);
+        return put_by_way_of(&mut room, size, flags, value, shortest, buf);
     }
-    put_name(size, flags, value, buf)
+    put_name(size, flags, value, shortest, buf)
 }
 
-/// Appends the length and the Huffman encoding of a string. A refusal may leave a part of them.
-fn put_long(size: u8, flags: u8, value: &[u8], buf: &mut Vec<u8>) -> Result<(), AllocError>
+/// Appends the length of a string and its Huffman encoding, or the string as it stands. The encoding is counted first. A refusal may leave
+/// a part of them.
+fn put_long(
+    size: u8,
+    flags: u8,
+    value: &[u8],
+    shortest: bool,
+    buf: &mut Vec<u8>,
+) -> Result<(), AllocError>
     requires least { 2 ≤ size }
     requires most { size ≤ 8 }
     requires flags { flags < 2 ^ (8 - size) }
     requires value { length value.now < 2 ^ 62 }
-    ensures ok { OnOk result (buf.new.items ≡ buf.old.items ++ string_literal size flags (huffman_text value.now)) }
+    ensures ok { OnOk result (buf.new.items ≡ buf.old.items ++ string_literal size flags (coded shortest value.now)) }
     ensures err { OnErr result (take (length buf.old.items) buf.new.items ≡ buf.old.items) }
 {
     let len = h3_huffman::encode::payload_len(value);
+    if !is_coded(value, shortest, len) {
+        return put_plain(size, flags, value, buf);
+    }
     buf.reserve(len)?;
     prefix_int::encode(size - 1, 2 * flags + 1, len as u64, buf)?;
     let start = buf.len();
@@ -285,64 +365,12 @@ pub fn encode(size: u8, flags: u8, value: &[u8], buf: &mut Vec<u8>) -> Result<()
     ensures ok { OnOk result (buf.new.items ≡ buf.old.items ++ string_literal size flags (huffman_text value.now)) }
     ensures err { OnErr result (buf.new.items ≡ buf.old.items) }
 {
-    let start = buf.len();
-    let appended = if value.len() == 0 {
-        put_empty(size, flags, value, buf)
-    } else if value.len() <= SHORT {
-        put_short(size, flags, value, buf)
-    } else {
-        put_long(size, flags, value, buf)
-    };
-    if appended.is_err() {
-        buf.truncate(start);
-        return Err(Error::OutOfMemory);
-    }
-    Ok(())
+    write(size, flags, value, false, buf)
 }
 
-/// Whether a string is written Huffman coded: if `shortest`, only if its Huffman code is shorter; else always.
-#[inline(always)]
-fn is_coded(value: &[u8], shortest: bool) -> bool
-    requires { length value.now < 2 ^ 62 }
-    ensures { result ≡ (coded shortest value.now).is_huffman }
-{
-    !shortest || h3_huffman::encode::payload_len(value) < value.len()
-}
-
-/// Appends the length of a string, and the string as it stands. A refusal may leave a part of them.
-fn put_plain(size: u8, flags: u8, value: &[u8], buf: &mut Vec<u8>) -> Result<(), AllocError>
-    requires least { 2 ≤ size }
-    requires most { size ≤ 8 }
-    requires flags { flags < 2 ^ (8 - size) }
-    requires value { length value.now < 2 ^ 62 }
-    ensures ok { OnOk result (buf.new.items ≡ buf.old.items ++ string_literal size flags (plain_text value.now)) }
-    ensures err { OnErr result (take (length buf.old.items) buf.new.items ≡ buf.old.items) }
-{
-    prefix_int::encode(size - 1, 2 * flags, value.len() as u64, buf)?;
-    buf.extend_from_slice(value)
-}
-
-/// Appends a string as it stands, in the low `size` bits of a byte below `flags`. A refusal appends nothing.
-fn encode_plain(size: u8, flags: u8, value: &[u8], buf: &mut Vec<u8>) -> Result<(), Error>
-    requires least { 2 ≤ size }
-    requires most { size ≤ 8 }
-    requires flags { flags < 2 ^ (8 - size) }
-    requires value { length value.now < 2 ^ 62 }
-    ensures memory { IsOkUnless result error.OutOfMemory }
-    ensures ok { OnOk result (buf.new.items ≡ buf.old.items ++ string_literal size flags (plain_text value.now)) }
-    ensures err { OnErr result (buf.new.items ≡ buf.old.items) }
-{
-    let start = buf.len();
-    if put_plain(size, flags, value, buf).is_err() {
-        buf.truncate(start);
-        return Err(Error::OutOfMemory);
-    }
-    Ok(())
-}
-
+// RFC 9204 4.1.2: shortest strings
 /// Appends a string in the low `size` bits of a byte below `flags`: Huffman coded, or as it stands if `shortest` and its Huffman code is
 /// not shorter. A refusal appends nothing.
-#[inline(always)]
 pub fn write(
     size: u8,
     flags: u8,
@@ -358,8 +386,17 @@ pub fn write(
     ensures ok { OnOk result (buf.new.items ≡ buf.old.items ++ string_literal size flags (coded shortest value.now)) }
     ensures err { OnErr result (buf.new.items ≡ buf.old.items) }
 {
-    if is_coded(value, shortest) {
-        return encode(size, flags, value, buf);
+    let start = buf.len();
+    let appended = if value.len() == 0 {
+        put_empty(size, flags, value, shortest, buf)
+    } else if value.len() <= SHORT {
+        put_short(size, flags, value, shortest, buf)
+    } else {
+        put_long(size, flags, value, shortest, buf)
+    };
+    if appended.is_err() {
+        buf.truncate(start);
+        return Err(Error::OutOfMemory);
     }
-    encode_plain(size, flags, value, buf)
+    Ok(())
 }

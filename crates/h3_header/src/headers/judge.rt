@@ -70,6 +70,7 @@ pub fn field_kind(field: &FieldRef<'_>, any_protocol: bool) -> Result<FieldKind,
     Ok(kind)
 }
 
+// RFC 9114 4.2: malformed names of fields
 // Whether a name may stand there.
 fn is_name_at(kind: FieldKind, name: &[u8]) -> bool
     ensures { result ≡ is_name_at kind name.now }
@@ -80,6 +81,7 @@ fn is_name_at(kind: FieldKind, name: &[u8]) -> bool
     }
 }
 
+// RFC 9114 10.3: malformed values of fields
 // Whether a value may stand there.
 fn is_value_at(kind: FieldKind, value: &[u8], any_protocol: bool) -> bool
     ensures { result ≡ is_value_at any_protocol kind value.now }

@@ -1,6 +1,7 @@
 //! What a frame begins at its place in a message (RFC 9114, sections 4.1 and 7.2).
 ghost use Rattle.std.specs.Prelude.{◌≡◌, ℕ, ◌&&◌, false};
 ghost use Rattle.h3_qpack.specs.DecoderState.{DecoderState};
+ghost use Rattle.h3_wire.specs.MessageFrames.{as_frame};
 ghost use Rattle.h3_connection.specs.Incoming.{Incoming, is_body};
 ghost use Rattle.h3_connection.specs.Pulling.{at_frame};
 ghost use Rattle.h3_connection.specs.Skipping.{is_empty_data};
@@ -14,6 +15,7 @@ use h3_messages::Content;
 use h3_proto::error::Code;
 use h3_proto::stream::Side;
 use h3_proto::webtransport::SessionId;
+use h3_wire::frame::MessageFrame;
 use h3_wire::proto::frame::{Frame, PayloadLen};
 
 /// What a frame begins at its place.
@@ -27,6 +29,7 @@ pub(super) enum Begun {
     Fault(Code),
 }
 
+// RFC 9114 7.2: frames out of place on a request stream
 /// What a frame begins.
 #[inline(always)]
 #[tactic(auto, using(crate::proofs::FrontLaws::none_empty))]
@@ -55,6 +58,22 @@ pub(super) fn begun_by(
     }
 }
 
+/// What a frame of a message begins.
+#[inline(always)]
+#[tactic(auto, using(crate::proofs::FrontLaws::none_empty))]
+pub(super) fn begun_by_message(place: Place, content: Content, frame: MessageFrame) -> Begun
+    ensures is { (side : Side) (own : Announced) (id : ℕ) (r : DecoderState) (i : Incoming) → i.content ≡ content
+        → at_frame side own id r side i place (as_frame frame) ≡ begun_as side own id r i result }
+    ensures begins { IsBegunBy place content (as_frame frame) result }
+    ensures section { IsSectionOf (as_frame frame) result }
+    ensures empty { (is_body place && is_empty_data (as_frame frame)) ≡ is_empty result }
+{
+    match frame {
+        MessageFrame::Headers(section) => begun_by_section(place, content, section),
+        MessageFrame::Data(len) => begun_by_data(place, len.0),
+    }
+}
+
 // What a HEADERS frame begins.
 #[inline(always)]
 fn begun_by_section(place: Place, content: Content, section: Bytes) -> Begun
@@ -71,6 +90,7 @@ fn begun_by_section(place: Place, content: Content, section: Bytes) -> Begun
     }
 }
 
+// RFC 9114 4.1: DATA before the header section
 // What a DATA frame begins whose payload has so many bytes.
 #[inline(always)]
 fn begun_by_data(place: Place, len: usize) -> Begun
@@ -119,6 +139,7 @@ fn begun_by_session(side: Side, place: Place, session: SessionId) -> Begun
     Begun::Fault(Code::H3_FRAME_UNEXPECTED)
 }
 
+// RFC 9114 7.2: frames out of place on a request stream
 fn promise_code(side: Side) -> Code
     ensures { result ≡ promise_code side }
 {

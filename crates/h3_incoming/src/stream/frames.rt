@@ -7,9 +7,10 @@ ghost use Rattle.h3_qpack.specs.DecoderState.{DecoderState};
 ghost use Rattle.h3_connection.specs.Codes.{excessive_load, refusal_code};
 ghost use Rattle.h3_connection.specs.declared.event.Fault.TheVariants.{Connection};
 ghost use Rattle.h3_connection.specs.declared.event.Pull.TheVariants as pull;
-ghost use Rattle.h3_connection.specs.Pulling.{is_memory, next_frame, between_frames};
+ghost use Rattle.h3_connection.specs.Pulling.{at_session, is_memory, just, next_frame, between_frames};
 ghost use Rattle.h3_incoming.specs.Answering.{Lists};
-ghost use Rattle.h3_incoming.specs.Coming.{fields_next};
+ghost use Rattle.h3_connection.specs.Coming.{fields_next};
+ghost use Rattle.h3_connection.specs.Incoming.{Incoming};
 ghost use Rattle.h3_incoming.specs.Gives.{Gives};
 ghost use Rattle.h3_incoming.specs.Resuming.{Resumes};
 ghost use Rattle.h3_incoming.specs.Placing.{is_session};
@@ -24,9 +25,28 @@ use h3_connection::setup::Announced;
 use h3_proto::error::Code;
 use h3_proto::frame::SettingsError;
 use h3_proto::stream::{Side, StreamId};
+use h3_proto::webtransport::SessionId;
 use h3_qpack::Decoder;
 use h3_wire::frame::{FrameBuffer, FrameProtocolError};
 use std::alloc::Global;
+
+/// A session begins in this place, unless its id is that of no request stream and the endpoint asks for that.
+fn begin_session<O: Answer>(
+    place: &mut Place,
+    announced: &Announced,
+    session: SessionId,
+    out: &mut O,
+)
+    ensures is { (i : Incoming) → at_session announced.now (record i { place = place.old }) session ≡ just (O.told out.new) (record i { place = place.new }) }
+    ensures told { is_memory (O.told out.new) ≡ false }
+    ensures none { O.listed out.new ≡ None }
+{
+    if announced.is_no_session(session.into_inner()) {
+        return fail(out, Fault::Connection(Code::H3_ID_ERROR));
+    }
+    *place = Place::InSession;
+    out.give(Plain::Session(session))
+}
 
 impl IncomingStream {
     /// The next frame that gives something, at its place; or the end.
@@ -85,8 +105,7 @@ impl IncomingStream {
                     self.pull_payload(alloc, id, replies, out)
                 }
                 Begun::Session(session) => {
-                    self.place = Place::InSession;
-                    out.give(Plain::Session(session))
+                    begin_session(&mut self.place, announced, session, out)
                 }
                 Begun::Fault(code) => fail(out, Fault::Connection(code)),
             },

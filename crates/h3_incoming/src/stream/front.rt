@@ -1,12 +1,12 @@
 //! The next frame of a message that gives something.
-ghost use Rattle.std.specs.Prelude.{◌≡◌, ◌<◌, length, OnErr, IfOk, IfSome, IfNone};
+ghost use Rattle.std.specs.Prelude.{◌≡◌, ◌<◌, length, Ok, OnErr, IfOk, IfSome, IfNone, IsNone};
 ghost use Rattle.std.specs.List.{concat};
 ghost use Rattle.h3_wire.specs.Pieces.{IsRest, ending};
 ghost use Rattle.h3_wire.specs.UnreadFrames.{AreBetween};
 ghost use Rattle.h3_connection.specs.Incoming.{is_body};
 ghost use Rattle.h3_incoming.specs.Finding.{Finds, GivesBegun, IsWithin, LeavesBetween, PassesFrames};
 
-use super::begun::{Begun, begun_by, is_empty};
+use super::begun::{Begun, begun_by, begun_by_message, is_empty};
 use h3_connection::place::Place;
 use h3_messages::Content;
 use h3_proto::stream::Side;
@@ -54,6 +54,7 @@ pub(super) fn front(
     }
 }
 
+// RFC 9114 10.5: unfinished_limit of frames
 // Reads one frame. It returns `None` if the frame gives nothing.
 #[inline(always)]
 #[tactic(auto, using(crate::proofs::FrontLaws::finds_unfinished, crate::proofs::FrontLaws::finds_refused, crate::proofs::FrontLaws::finds_frame, crate::proofs::FrontLaws::within_unfinished, crate::proofs::FrontLaws::within_refused, crate::proofs::FrontLaws::within_frame, crate::proofs::FrontLaws::long_stays, crate::proofs::FrontLaws::section_stays, crate::proofs::FrontLaws::passes_empty, crate::proofs::FrontLaws::passes_known, h3_connection::specs::SkippingLaws::rest_shorter, h3_wire::specs::PieceLaws::ending_rest))]
@@ -95,6 +96,40 @@ fn front_one(
 // Takes the next frame, as `FrameBuffer::next_frame` does, and returns what it begins.
 #[inline(always)]
 fn next_begun(
+    unread: &mut FrameBuffer,
+    alloc: Global,
+    side: Side,
+    place: Place,
+    content: Content,
+) -> Result<Option<Begun>, FrameStreamError>
+    ensures gives { GivesBegun side place content result (concat unread.old.pieces) (concat unread.new.pieces) }
+    ensures between { IfOk result (λ o. IfSome o (λ b. AreBetween unread.new)) }
+    ensures pieces { unread.new.pieces ≡ ending (length (concat unread.new.pieces)) unread.old.pieces }
+{
+    match first_begun(unread, place, content) {
+        Some(begun) => Ok(begun),
+        None => begun_anywhere(unread, alloc, side, place, content),
+    }
+}
+
+// The same, if `FrameBuffer::next_first` reads it. `None` changes nothing.
+#[inline(always)]
+fn first_begun(unread: &mut FrameBuffer, place: Place, content: Content) -> Option<Option<Begun>>
+    ensures gives { (side : Side) → IfSome result (λ o. GivesBegun side place content (Ok o) (concat unread.old.pieces) (concat unread.new.pieces)) }
+    ensures between { IfSome result (λ o. IfSome o (λ b. AreBetween unread.new)) }
+    ensures same { IsNone result → unread.new ≡ unread.old }
+    ensures pieces { unread.new.pieces ≡ ending (length (concat unread.new.pieces)) unread.old.pieces }
+{
+    match unread.next_first() {
+        Some(Some(frame)) => Some(Some(begun_by_message(place, content, frame))),
+        Some(None) => Some(None),
+        None => None,
+    }
+}
+
+// The same wherever the frame lies. It stays apart, so that a frame in the first piece is read without making room for the largest.
+#[inline(never)]
+fn begun_anywhere(
     unread: &mut FrameBuffer,
     alloc: Global,
     side: Side,

@@ -2,7 +2,7 @@
 ghost use Rattle.std.specs.Prelude.{◌≡◌, true, false, nat_lt, is_some};
 ghost use Rattle.h3_connection.specs.Pulling.{is_memory, pull_stream};
 ghost use Rattle.h3_incoming.specs.Answering.{Lists};
-ghost use Rattle.h3_incoming.specs.Coming.{fields_next};
+ghost use Rattle.h3_connection.specs.Coming.{fields_next};
 ghost use Rattle.h3_incoming.specs.Gives.{Gives};
 ghost use Rattle.h3_incoming.specs.Placing.{is_session};
 ghost use Rattle.h3_incoming.specs.Resuming.{Resumes};

@@ -12,7 +12,7 @@ ghost use Rattle.h3_connection.specs.Incoming.{given_up};
 ghost use Rattle.h3_connection.specs.Pulling.{is_memory, malformed, at_section, decoded, read_section, past_section, acknowledgment, just};
 ghost use Rattle.h3_connection.specs.declared.event.Pull.TheVariants as pull;
 ghost use Rattle.h3_incoming.specs.Answering.{Lists};
-ghost use Rattle.h3_incoming.specs.Coming.{fields_in};
+ghost use Rattle.h3_connection.specs.Coming.{fields_in};
 ghost use Rattle.h3_incoming.specs.Judging.{HasItem, HasList, judged_as};
 ghost use Rattle.h3_incoming.specs.Gives.{Gives};
 
@@ -31,6 +31,7 @@ use h3_qpack::{BlockWithin, Decoder};
 use std::alloc::Global;
 
 impl IncomingStream {
+    // RFC 9204 2.2.1: missing insertions
     /// The field section that is next: it waits for entries that it is known to need, or is decoded and judged (RFC 9204, section
     /// 2.2.1).
     pub(super) fn pull_section<O: Answer>(
@@ -169,6 +170,7 @@ impl IncomingStream {
         self.fail_message(alloc, why, out)
     }
 
+    // RFC 9114 4.1.2: a malformed message ends its stream alone
     // The message is malformed: the stream gives no more (RFC 9114, section 4.1.2).
     fn fail_message<O: Answer>(&mut self, alloc: Global, why: Malformation, out: &mut O)
         ensures stream { self.new ≡ given_up self.old (Malformed why) }
@@ -195,6 +197,7 @@ impl IncomingStream {
         wait(out, count);
     }
 
+    // RFC 9204 2.2.3: a section that cannot be decoded
     // The section is bad (RFC 9204, section 2.2.3).
     fn fail_section<O: Answer>(&mut self, out: &mut O)
         ensures stream { self.new ≡ past_section self.old }

@@ -20,6 +20,7 @@ use h3_proto::stream::StreamId;
 use std::alloc::Global;
 
 impl RequestStreams {
+    // RFC 9114 4.1: a header section in its place, sent
     /// Room for the frame of a header section, and for the stream's end, so that neither needs memory. Refused are, in this order, a stream
     /// that is not there, one whose final header section or end was sent, what `later` refuses, and a failed allocation.
     pub fn reserve_head(
@@ -50,6 +51,7 @@ impl RequestStreams {
         Ok(SectionRoom::of(id, frame, &self.ready))
     }
 
+    // RFC 9114 4.1: a trailer section in its place, sent
     /// Room for the frame of a trailer section, so that sending it needs no memory. It refuses first a stream that is not there, then one
     /// whose final header section was not sent, or whose trailer section or end was. Next is what `later` refuses. Then comes a trailer
     /// section in front of which less content was sent than the header section said, or that would stand in a tunnel. The last is a failed
@@ -85,6 +87,7 @@ impl RequestStreams {
         Ok(SectionRoom::of(id, frame, &self.ready))
     }
 
+    // RFC 9114 4.1: a body in its place, sent
     /// A body goes out as the payload of a DATA frame; an empty one writes nothing. It refuses first a stream that is not there, then one
     /// whose final header section was not sent, or whose trailer section or end was. Next is more content than the header section said, and
     /// last a failed allocation. An `Err` changes nothing, and returns the body.
@@ -117,6 +120,7 @@ impl RequestStreams {
         Ok(())
     }
 
+    // RFC 9114 4.1: a body in its place, sent
     /// The same of a body of so many bytes, which the caller holds: its frame is announced, and none of its bytes is given.
     pub fn send_data_of(&mut self, id: StreamId, len: usize) -> Result<(), Refusal>
         ensures ok { OnOk result (IfSome (kept_at self.old id) (λ r. Sets self.old self.new id (record r { outgoing = has_body r.outgoing (held len) }))) }
@@ -147,6 +151,7 @@ impl RequestStreams {
         Ok(())
     }
 
+    // RFC 9114 4.1: the end in its place, sent
     /// The message is whole. It needs no memory. It refuses first a stream that is not there, then one whose final header section was not
     /// sent, or whose sending has ended. The last is one whose header section said more content than was sent. An `Err` changes nothing.
     pub fn finish_stream(&mut self, id: StreamId) -> Result<(), Refusal>

@@ -153,6 +153,7 @@ fn answer_over<O: Answer>(
     }
 }
 
+// RFC 9204 2.1.2: limit of blocked streams, at the decoder
 /// Answers for a stream that is over.
 fn answer_for<O: Answer>(stream: &RequestStream, are_too_many: bool, out: &mut O)
     requires { IsOver stream.now }
@@ -202,6 +203,7 @@ fn is_memory<O: Answer>(answer: &O) -> bool
     matches!(answer.fault(), Some(Fault::Memory))
 }
 
+// RFC 9204 2.1.2: limit of blocked streams, at the decoder
 /// The answer, unless more streams than this limit wait: then the connection has a fault, and the stream waits no more.
 fn within_limit<O: Answer>(
     stream: &mut IncomingStream,

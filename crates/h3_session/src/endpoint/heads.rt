@@ -15,8 +15,8 @@ ghost use Rattle.h3_connection.specs.SendingContracts.{SendsHead, SendsTrailer, 
 ghost use Rattle.h3_connection.specs.State.{StandsFor, kept_at};
 ghost use Rattle.h3_connection.specs.declared.event.Refusal.TheVariants.{OutOfMemory};
 ghost use Rattle.h3_connection.specs.declared.place.SendPlace.TheVariants.{TrailerSent};
-ghost use Rattle.h3_requests.specs.Refused.{head_refused_at, body_refused_at, early_trailer_at};
-ghost use Rattle.h3_session.specs.Refused.{broken_behind, own_head_refused, own_trailer_refused, protocol_refused, side_refused, pseudo_refused, size_refused, refused_behind};
+ghost use Rattle.h3_requests.specs.Refused.{body_refused_at, early_trailer_at};
+ghost use Rattle.h3_session.specs.Refused.{broken_behind, head_refused_in, own_head_refused, own_trailer_refused, protocol_refused, side_refused, pseudo_refused, size_refused, refused_behind};
 ghost use Rattle.h3_session.specs.SendingFields.{Encodes, StopsEncoding, Queues, Remembers, SendsFields, IsJudged, asking};
 ghost use Rattle.h3_session.specs.SentHeads.{IsReadOf, IsSaid};
 
@@ -47,14 +47,24 @@ const MANY_FIELDS: usize = 64;
 /// No section of so many bytes fits into memory.
 const SIZE_LIMIT: u64 = 1 << 62;
 
+/// The one that comes first.
+fn first_refusal(first: Option<Refusal>, later: Option<Refusal>) -> Option<Refusal>
+    ensures { result ≡ or_later first later }
+{
+    match first {
+        Some(refusal) => Some(refusal),
+        None => later,
+    }
+}
+
 impl Endpoint {
     /// Sends a header section on a stream: an encoded field section in a HEADERS frame (RFC 9114, section 4.3), and its insertions on the
     /// encoder stream. One with a status from 100 to 199 is not the last one. Refused are first every call after a connection fault, then a
-    /// stream that is not open, then one whose final header section or end was sent. Next is a header section with another protocol than the
-    /// two names of `Protocol`, unless the configuration takes any (`Config::with_any_protocol`), and then one of the other side's messages.
-    /// An endpoint that asks for strict messages then refuses one that a strict peer would call malformed. Last is one whose size is above
-    /// what the peer's settings allow. If an allocation fails the encoder stream may have gained whole instructions, and the stream is as
-    /// it was.
+    /// stream that is not open, then one whose final header section or end was sent. A client that asks for a strict connection then
+    /// refuses each, once the peer's GOAWAY came. Next is a header section with another protocol than the two names of `Protocol`, unless
+    /// the configuration takes any (`Config::with_any_protocol`), and then one of the other side's messages. An endpoint that asks for
+    /// strict messages then refuses one that a strict peer would call malformed. Last is one whose size is above what the peer's settings
+    /// allow. If an allocation fails the encoder stream may have gained whole instructions, and the stream is as it was.
     pub fn send_head(&mut self, id: StreamId, head: &Header) -> Result<(), Refusal>
         ensures { SendsHead self.old self.new id head.now result }
     {
@@ -72,7 +82,9 @@ impl Endpoint {
         self.send_head_section(room, fields.as_slice(), place_behind(head), None)
     }
 
-    // Room for the frame of a header section on a stream that takes one, unless `later` refuses it. The streams are found as they were.
+    // Room for the frame of a header section on a stream that takes one, unless the peer is going away or `later` refuses it. The streams are
+    // found as they were.
+    #[tactic(auto, using(crate::proofs::SendingRefusals::later_twice))]
     pub(super) fn reserve_head(
         &mut self,
         id: StreamId,
@@ -80,11 +92,12 @@ impl Endpoint {
     ) -> Result<SectionRoom, Refusal>
         ensures room { IfOk result (λ room. room ≡ id) }
         ensures rest { self.new ≡ record self.old { requests = self.new.requests } }
-        ensures taken { OnOk result (or_later (head_refused_at (kept_at self.old.requests id)) later ≡ None) }
-        ensures why { IfErr result (λ r. r ≡ unwrap_or (or_later (head_refused_at (kept_at self.old.requests id)) later) OutOfMemory) }
+        ensures taken { OnOk result (or_later (head_refused_in self.old id) later ≡ None) }
+        ensures why { IfErr result (λ r. r ≡ unwrap_or (or_later (head_refused_in self.old id) later) OutOfMemory) }
         ensures same { AllSame self.old.requests self.new.requests }
     {
-        self.requests.reserve_head(id, later)
+        let behind = first_refusal(self.going_refusal(), later);
+        self.requests.reserve_head(id, behind)
     }
 
     /// Sends a trailer on a stream, as `send_head` sends a header section, and ends the message's fields. Refused are first every call
@@ -136,9 +149,13 @@ impl Endpoint {
         requires { IfSome known (IsReadOf self.old.side self.old.peer.settings fields.now) }
         ensures { place ≢ TrailerSent → SendsFields (asking room fields.now) self.old self.new room fields.now place (call_refused result) }
     {
+        let said = match self.read_sent(fields, place, known) {
+            Ok(said) => said,
+            Err(why) => return Err(Refusal::Malformed(why)),
+        };
         let id = room.id();
-        match self.send_section(room, fields, place, known) {
-            Ok(said) => {
+        match self.send_section(room, fields, place) {
+            Ok(()) => {
                 self.await_response(id, said);
                 Ok(())
             }
@@ -166,63 +183,57 @@ impl Endpoint {
     ) -> Result<(), Refusal>
         ensures { SendsFields (λ e. e) self.old self.new room fields.now TrailerSent (call_refused result) }
     {
-        match self.send_section(room, fields, SendPlace::TrailerSent, None) {
-            Ok(_) => Ok(()),
-            Err(refusal) => Err(refusal),
+        match self.read_sent(fields, SendPlace::TrailerSent, None) {
+            Ok(_) => self.send_section(room, fields, SendPlace::TrailerSent),
+            Err(why) => Err(Refusal::Malformed(why)),
         }
     }
 
-    // Sends fields on a stream that takes them and has room for their frame, if their list is allowed. It answers what a header section
-    // says of content.
+    // Sends fields that break no rule on a stream that takes them and has room for their frame, if the peer allows their size.
     fn send_section(
         &mut self,
         room: SectionRoom,
         fields: &[HeaderField],
         place: SendPlace,
-        known: Option<SentRead>,
-    ) -> Result<Said, Refusal>
-        requires { IfSome known (IsReadOf self.old.side self.old.peer.settings fields.now) }
-        ensures sends { SendsFields (λ e. e) self.old self.new room fields.now place (call_refused result) }
-        ensures said { IfOk result (λ said. place ≢ TrailerSent → IsSaid self.old.side self.old.announced fields.now said) }
+    ) -> Result<(), Refusal>
+        requires { broken_behind place self.old fields.now ≡ None }
+        ensures { SendsFields (λ e. e) self.old self.new room fields.now place (call_refused result) }
     {
-        let (sum, said) = match self.judge_list(fields, place, known) {
-            Ok(judged) => judged,
+        let sum = match self.judge_size(fields) {
+            Ok(sum) => sum,
             Err(refusal) => return Err(refusal),
         };
         let Ok(()) = self.queue_section(room, fields, place) else {
             return Err(Refusal::OutOfMemory);
         };
         self.sent = sum;
-        Ok(said)
+        Ok(())
     }
 
-    // What was sent, with these fields, and what they say, if they break no rule that is asked and the peer allows their size.
+    // Why a list is refused for itself: it breaks a rule that is asked, or the peer does not allow its size.
     pub(super) fn judge_list(
         &self,
         fields: &[HeaderField],
         place: SendPlace,
         known: Option<SentRead>,
-    ) -> Result<(u64, Said), Refusal>
+    ) -> Result<(), Refusal>
         requires { IfSome known (IsReadOf self.now.side self.now.peer.settings fields.now) }
-        ensures ok { IfOk result (λ judged. IsJudged self.now fields.now judged.0) }
-        ensures said { IfOk result (λ judged. place ≢ TrailerSent → IsSaid self.now.side self.now.announced fields.now judged.1) }
         ensures fits { OnOk result (refused_behind self.now place fields.now ≡ None) }
         ensures kept { OnOk result (broken_behind place self.now fields.now ≡ None) }
         ensures unbroken { IfErr result (λ refusal. refusal ≡ Refusal.OutOfMemory → broken_behind place self.now fields.now ≡ None) }
         ensures err { IfErr result (λ refusal. refusal ≢ Refusal.OutOfMemory → refused_behind self.now place fields.now ≡ Some refusal) }
-        ensures memory { IfErr result (λ refusal. refusal ≡ Refusal.OutOfMemory → 2 ^ 56 ≤ self.now.sent + fields_cost fields.now + 64) }
     {
-        let said = match self.read_sent(fields, place, known) {
-            Ok(said) => said,
-            Err(why) => return Err(Refusal::Malformed(why)),
-        };
+        if let Err(why) = self.read_sent(fields, place, known) {
+            return Err(Refusal::Malformed(why));
+        }
         match self.judge_size(fields) {
-            Ok(sum) => Ok((sum, said)),
+            Ok(_) => Ok(()),
             Err(refusal) => Err(refusal),
         }
     }
 
-    // The same of fields that break none.
+    // What was sent, with these fields, if the peer allows their size.
+    #[inline(always)]
     #[tactic(auto, using(crate::proofs::Costs::cost_is, crate::proofs::Costs::many_fields))]
     fn judge_size(&self, fields: &[HeaderField]) -> Result<u64, Refusal>
         ensures ok { IfOk result (λ sum. IsJudged self.now fields.now sum) }
@@ -241,6 +252,7 @@ impl Endpoint {
         }
     }
 
+    // RFC 9114 4.2.2: size of a section, sent
     // Whether fields of this size are more than the peer's settings allow. Before these came every size is allowed.
     fn is_too_large(&self, size: u64) -> bool
         ensures { (fields : List Field) → size ≡ section_size fields → result ≡ is_too_large self.now.peer.settings fields }
@@ -425,6 +437,7 @@ fn place_behind(head: &Header) -> SendPlace
     place_of(head.status())
 }
 
+// RFC 9110 15.2: interim responses, as 103, sent
 /// The place of the message after one with this status: one from 100 to 199 (RFC 9110, section 15.2) is not that of the final header
 /// section.
 pub(super) fn place_of(status: Option<StatusCode>) -> SendPlace

@@ -2,12 +2,13 @@
 //! answers what the call itself would have: any other reason comes before out of memory. Nothing changes, and no memory is taken.
 ghost use Rattle.std.specs.Prelude.{◌≡◌};
 ghost use Rattle.h3_connection.specs.State.{kept_at};
-ghost use Rattle.h3_requests.specs.Refused.{body_refused_at, head_refused_at};
+ghost use Rattle.h3_requests.specs.Refused.{body_refused_at};
 ghost use Rattle.h3_session.specs.Lacking.{RefusesBodies, RefusesDeliveries, RefusesHeads, RefusesTrailers};
+ghost use Rattle.h3_session.specs.Refused.{going_refused, head_refused_in};
 
 use super::Endpoint;
 use h3_connection::event::Refusal;
-use h3_proto::stream::StreamId;
+use h3_proto::stream::{Side, StreamId};
 
 impl Endpoint {
     /// Why `send_body` refuses a body of so many bytes on a stream. `None`: it is taken, if there is memory.
@@ -36,7 +37,7 @@ impl Endpoint {
     }
 
     /// Why `send_fields` refuses each list on a stream. `None`: a list is judged by its fields.
-    #[tactic(auto, using(crate::proofs::Lacking::heads_closed, crate::proofs::Lacking::heads_refused))]
+    #[tactic(auto, using(crate::proofs::Lacking::heads_refused))]
     pub fn head_refusal(&self, id: StreamId) -> Option<Refusal>
         ensures { RefusesHeads self.now id result }
     {
@@ -47,7 +48,7 @@ impl Endpoint {
     }
 
     /// Why `send_trailer_fields` refuses each list on a stream. `None`: a list is judged by its fields.
-    #[tactic(auto, using(crate::proofs::Lacking::trailers_closed, crate::proofs::Lacking::trailers_refused))]
+    #[tactic(auto, using(crate::proofs::Lacking::trailers_refused))]
     pub fn trailer_refusal(&self, id: StreamId) -> Option<Refusal>
         ensures { RefusesTrailers self.now id result }
     {
@@ -59,7 +60,7 @@ impl Endpoint {
 
     // Why a stream takes no header section now, a fault of the connection aside.
     pub(super) fn head_order_refusal(&self, id: StreamId) -> Option<Refusal>
-        ensures { result ≡ head_refused_at (kept_at self.now.requests id) }
+        ensures { result ≡ head_refused_in self.now id }
     {
         let Some(stream) = self.requests.outgoing(id) else {
             return Some(Refusal::NotOpen);
@@ -67,7 +68,24 @@ impl Endpoint {
         if !stream.takes_head() {
             return Some(Refusal::OutOfOrder);
         }
-        None
+        self.going_refusal()
+    }
+
+    // Why no request begins: at a client that asks for a strict connection the peer's GOAWAY (RFC 9114, section 5.2), on a stream that was
+    // opened before it too.
+    pub(super) fn going_refusal(&self) -> Option<Refusal>
+        ensures { result ≡ going_refused self.now }
+    {
+        if !self.announced.choices.extensions.strict_connection {
+            return None;
+        }
+        if let Side::Server = self.side {
+            return None;
+        }
+        match self.streams.peer.last_goaway() {
+            Some(id) => Some(Refusal::GoingAway(StreamId::from(id))),
+            None => None,
+        }
     }
 
     // Why a stream takes no trailer now, a fault of the connection aside.

@@ -134,10 +134,9 @@ impl Endpoint {
         ensures reads { ReadsEach self.old (BytesCame id bytes) result self.new }
         ensures kept { self.new.kept ≡ self.old.kept }
     {
-        let choices = self.announced.choices;
         let left = match self
             .streams
-            .bytes(self.alloc, self.side, choices, id, bytes)
+            .bytes(self.alloc, self.side, &self.announced, id, bytes)
         {
             Ok(fault) => return Ok(fault),
             Err(left) => left,

@@ -62,6 +62,7 @@ impl Endpoint {
         }
     }
 
+    // RFC 9114 5.2: no request after GOAWAY
     pub(super) fn open_refusal(&self) -> Option<Refusal>
         ensures { result ≡ open_refused self.now }
     {
@@ -215,6 +216,7 @@ impl Endpoint {
         self.requests.reset_stream(id)
     }
 
+    // RFC 9114 6.2.1: a critical stream reset or canceled
     // Why a stream is neither reset nor given up, whatever is stored of it.
     pub(super) fn critical_refusal(&self, id: StreamId) -> Option<Refusal>
         ensures { result ≡ critical_refused self.now id }
@@ -243,6 +245,7 @@ impl Endpoint {
         Ok(())
     }
 
+    // RFC 9114 5.2: GOAWAY raised, sent
     fn goaway_refusal(&self, id: VarInt) -> Option<Refusal>
         ensures { result ≡ goaway_refused self.now id }
     {

@@ -38,6 +38,7 @@ pub(crate) struct SentRead {
 impl Endpoint {
     // What a list says, or the rule that it breaks, by the place of its message after it. An endpoint that asks for no strict messages
     // looks at no field. What a walk told of a header section is asked of no second one.
+    #[inline(always)]
     pub(super) fn read_sent(
         &self,
         fields: &[HeaderField],
@@ -60,6 +61,7 @@ impl Endpoint {
     }
 
     // The same if rules are asked: of a header section or of a trailer.
+    #[inline(always)]
     fn read_strictly(
         &self,
         fields: &[HeaderField],
@@ -83,6 +85,7 @@ impl Endpoint {
     }
 
     // That of a header section of the request that a client sends, or of the response that a server sends.
+    #[inline(never)]
     fn read_head(&self, fields: &Fields<'_>) -> SentRead
         ensures violation { result.violation ≡ violation_of_own_head self.now.side self.now.peer.settings fields.now }
         ensures said { IsSaidBy self.now.side fields.now result.said }

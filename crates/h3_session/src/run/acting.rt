@@ -6,6 +6,7 @@ ghost use Rattle.h3_session.specs.Acting.{Acts, ByOne, Tells};
 ghost use Rattle.h3_session.specs.Running.{Shown, opened_answer, done_answer, body_answer};
 
 use super::carrying::{carry_bytes, carry_end, carry_reset};
+use super::listing::listed;
 use crate::endpoint::Endpoint;
 use bytes::Bytes;
 use h3_coding::varint::VarInt;
@@ -13,6 +14,7 @@ use h3_connection::event::Refusal;
 use h3_header::Header;
 use h3_proto::stream::{Side, StreamId};
 use h3_world::event::{Answer, Event};
+use h3_world::lists::FieldLines;
 use std::alloc::Global;
 
 fn opened(tried: Result<StreamId, Refusal>) -> Answer
@@ -71,6 +73,22 @@ fn send_head(
     }
 }
 
+/// A side sends a header section as this list.
+fn send_fields(
+    client: &mut Endpoint,
+    server: &mut Endpoint,
+    side: Side,
+    id: StreamId,
+    list: &FieldLines,
+) -> Answer
+    ensures { Acts (does.Fields side id list.now) client.old server.old result client.new server.new }
+{
+    match side {
+        Side::Client => done(client.send_fields(id, list.fields())),
+        Side::Server => done(server.send_fields(id, list.fields())),
+    }
+}
+
 /// A side sends some bytes of the body.
 fn send_body(
     client: &mut Endpoint,
@@ -116,6 +134,22 @@ fn send_trailer(
     match side {
         Side::Client => done(client.send_trailer(id, trailer)),
         Side::Server => done(server.send_trailer(id, trailer)),
+    }
+}
+
+/// A side sends the trailer as this list.
+fn send_trailer_fields(
+    client: &mut Endpoint,
+    server: &mut Endpoint,
+    side: Side,
+    id: StreamId,
+    list: &FieldLines,
+) -> Answer
+    ensures { Acts (does.TrailerFields side id list.now) client.old server.old result client.new server.new }
+{
+    match side {
+        Side::Client => done(client.send_trailer_fields(id, list.fields())),
+        Side::Server => done(server.send_trailer_fields(id, list.fields())),
     }
 }
 
@@ -206,6 +240,16 @@ fn pull(client: &mut Endpoint, server: &mut Endpoint, side: Side, id: StreamId) 
     }
 }
 
+/// A side asks for the next item, with a list in the place of a header.
+fn pull_fields(client: &mut Endpoint, server: &mut Endpoint, side: Side, id: StreamId) -> Answer
+    ensures { Acts (does.PullFields side id) client.old server.old result client.new server.new }
+{
+    match side {
+        Side::Client => Answer::Listed(listed(client.pull_fields(id))),
+        Side::Server => Answer::Listed(listed(server.pull_fields(id))),
+    }
+}
+
 /// What an endpoint shows.
 fn shown(end: &Endpoint) -> Answer
     ensures { Shown end.now result }
@@ -235,8 +279,12 @@ pub(super) fn act(
     match event {
         Event::OpenRequest(side) => open_request(client, server, *side),
         Event::Head(side, id, head) => send_head(client, server, *side, *id, head),
+        Event::Fields(side, id, list) => send_fields(client, server, *side, *id, list),
         Event::Body(side, id, body) => share_body(client, server, *side, *id, body),
         Event::Trailer(side, id, trailer) => send_trailer(client, server, *side, *id, trailer),
+        Event::TrailerFields(side, id, list) => {
+            send_trailer_fields(client, server, *side, *id, list)
+        }
         Event::Finish(side, id) => finish(client, server, *side, *id),
         Event::Reset(side, id) => reset(client, server, *side, *id),
         Event::Cancel(side, id) => cancel(client, server, *side, *id),
@@ -245,6 +293,7 @@ pub(super) fn act(
         Event::DeliverEnd(side, id) => deliver_end(client, server, *side, *id),
         Event::DeliverReset(side, id) => deliver_reset(client, server, *side, *id),
         Event::Pull(side, id) => pull(client, server, *side, *id),
+        Event::PullFields(side, id) => pull_fields(client, server, *side, *id),
         Event::Show(side) => show(client, server, *side),
     }
 }

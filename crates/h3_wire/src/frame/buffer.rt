@@ -1,14 +1,16 @@
 //! The bytes of a stream of frames that came and were not read.
-ghost use Rattle.std.specs.Prelude.{◌≡◌, ◌+◌, ◌^◌, ◌<◌, ◌≤◌, ◌++◌, [], None, Ok, false, true, length, IfOk, IfErr, IfSome, IfNone, OnOk, OnErr};
+ghost use Rattle.std.specs.Prelude.{◌≡◌, ◌+◌, ◌^◌, ◌<◌, ◌≤◌, ◌++◌, [], None, Ok, false, true, length, IfOk, IfErr, IfSome, IfNone, IsNone, OnOk, OnErr};
 ghost use Rattle.std.specs.List.{concat};
 ghost use Rattle.h3_wire.specs.ExcessiveFrames.{begins_section, is_excessive};
+ghost use Rattle.h3_wire.specs.FirstFrames.{begins_other};
 ghost use Rattle.h3_wire.specs.Known.{Gives, known};
+ghost use Rattle.h3_wire.specs.MessageFrames.{any_frame};
 ghost use Rattle.h3_wire.specs.Pieces.{chunk_of, ending, first_of, with_piece};
 ghost use Rattle.h3_wire.specs.Tries.{Counts};
 ghost use Rattle.h3_wire.specs.UnknownSize.{held_length};
 ghost use Rattle.h3_wire.specs.UnreadFrames.{none_unread, AreBetween, AreSpared, IsStillUnderWay, IsPassed};
 
-use super::decoder::FrameDecoder;
+use super::decoder::{FrameDecoder, MessageFrame};
 use super::errors::FrameStreamError;
 use super::sparing::FrameBytes;
 use crate::proto::frame::{Frame, PayloadLen};
@@ -64,7 +66,6 @@ impl FrameBuffer {
     /// Takes the next known frame, of DATA its type and length alone, and the unknown ones before it. Without a whole frame, and at an
     /// error, only unknown frames are taken, and the bytes of an unknown one under way are freed. Fewer bytes than the frame at the front
     /// is known to need are not tried.
-    #[inline(always)]
     pub fn next_frame(
         &mut self,
         alloc: Global,
@@ -81,9 +82,23 @@ impl FrameBuffer {
         Ok(None)
     }
 
-    // Whether a frame begins at the front: none is under way there, or the unknown one that was is whole, and is passed. (A function of its
-    // own: the frame is read at one place, in which it is to lie.)
-    #[inline]
+    /// The same, if the first piece has a whole HEADERS frame or the type and length of a DATA frame at its front, or fewer bytes came than
+    /// the frame at the front is known to need. Otherwise `None`, which changes nothing.
+    #[inline(always)]
+    pub fn next_first(&mut self) -> Option<Option<MessageFrame>>
+        ensures gives { IfSome result (λ o. Gives (Ok (any_frame o)) (concat self.old.pieces) (concat self.new.pieces)) }
+        ensures between { IfSome result (λ o. IfSome o (λ f. AreBetween self.new)) }
+        ensures counts { IfSome result (λ o. Counts self.old.decoder (concat self.old.pieces) (Ok (any_frame o)) self.new.decoder) }
+        ensures same { IsNone result → self.new ≡ self.old }
+        ensures pieces { self.new.pieces ≡ ending (length (concat self.new.pieces)) self.old.pieces }
+    {
+        if self.unread.passing() > 0 {
+            return None;
+        }
+        self.unread.decode_first(&mut self.decoder)
+    }
+
+    // Whether a frame begins at the front: none is under way there, or the unknown one that was is whole, and is passed.
     fn is_at_frame(&mut self) -> bool
         ensures same { self.old.passing ≡ 0 → (result ≡ true) × (self.new ≡ self.old) }
         ensures waits { result ≡ false → IsStillUnderWay self.old self.new }
@@ -116,7 +131,6 @@ impl FrameBuffer {
     }
 
     // The same if none is under way.
-    #[inline(always)]
     fn decode(&mut self, alloc: Global) -> Result<Option<Frame<PayloadLen>>, FrameStreamError>
         requires none { self.old.passing ≡ 0 }
         ensures gives { Gives result (concat self.old.pieces) (concat self.new.pieces) }
@@ -157,6 +171,14 @@ impl FrameBuffer {
         ensures { result ≡ begins_section (known (concat self.now.pieces)) }
     {
         self.unread.begins_section()
+    }
+
+    /// Whether the bytes begin with the type and the length of a frame that is not SETTINGS (RFC 9114, section 7.2.4). Its payload need
+    /// not be there. Nothing is taken.
+    pub fn begins_other(&self) -> bool
+        ensures { result ≡ begins_other (concat self.now.pieces) }
+    {
+        self.unread.begins_other()
     }
 
     /// The first piece's first bytes, `max` or all of it, when no frame is under way at the front. Nothing is copied. An `Err` changes

@@ -4,6 +4,7 @@ ghost use Rattle.std.specs.List.{concat};
 ghost use Rattle.h3_wire.specs.declared.proto.frame.Frame.TheVariants as frame;
 ghost use Rattle.h3_wire.specs.Frames.{Whole, frame_at, has_head, IsHeadersFrame};
 ghost use Rattle.h3_wire.specs.Known.{Gives, Tries};
+ghost use Rattle.h3_wire.specs.MessageFrames.{any_frame, as_frame};
 ghost use Rattle.h3_wire.specs.Pieces.{IsRest, ending, first_size};
 ghost use Rattle.h3_wire.specs.Tries.{Counts, Expects, counted, needed, one_more};
 
@@ -43,6 +44,15 @@ impl Default for FrameDecoder {
             tries: 0,
         }
     }
+}
+
+/// A frame of which a message consists (RFC 9114, section 4.1), as it is read. It is small: `Frame` has room for settings.
+#[derive(Drop)]
+pub enum MessageFrame {
+    /// The type and length of a DATA frame: so many bytes of payload follow.
+    Data(PayloadLen),
+    /// An encoded field section.
+    Headers(Bytes),
 }
 
 // What a try of the front of a buffer gave.
@@ -85,12 +95,12 @@ impl FrameDecoder {
         self.expected = expected;
     }
 
+    // RFC 9114 9: unknown frames skipped
     /// Takes the next known frame, of DATA its type and length alone, and the unknown ones before
     /// it. Without a whole frame, and at an error, only unknown frames are taken. If a call
     /// answered no frame, the next one must find the bytes that it left, and may find more after
     /// them. After an allocation failed the call can be made again; a frame that was refused stays
-    /// at the front and is refused again. It stands in its caller, so that a frame in the first piece is not moved.
-    #[inline(always)]
+    /// at the front and is refused again.
     pub fn decode(
         &mut self,
         alloc: Global,
@@ -103,50 +113,10 @@ impl FrameDecoder {
         ensures counts { Counts self.old (concat src.old.pieces) result self.new }
         ensures pieces { src.new.pieces ≡ ending (length (concat src.new.pieces)) src.old.pieces }
     {
-        match self.decode_first(src) {
-            Some(answer) => Ok(answer),
-            None => self.decode_anywhere(alloc, src),
-        }
-    }
-
-    // The same, if it takes a frame from the first piece, or fewer bytes are there than the next try needs. Otherwise `None`, which changes
-    // nothing.
-    #[inline(always)]
-    fn decode_first(&mut self, src: &mut BufList<Bytes>) -> Option<Option<Frame<PayloadLen>>>
-        requires expects { Expects self.old (concat src.old.pieces) }
-        ensures gives { IfSome result (λ o. Gives (Ok o) (concat src.old.pieces) (concat src.new.pieces)) }
-        ensures expects { Expects self.new (concat src.new.pieces) }
-        ensures fresh { IfSome result (λ o. IfSome o (λ f. self.new.expected ≡ None)) }
-        ensures counts { IfSome result (λ o. Counts self.old (concat src.old.pieces) (Ok o) self.new) }
-        ensures none { IsNone result → (self.new ≡ self.old) × (src.new.pieces ≡ src.old.pieces) }
-        ensures enough { IsNone result → needed self.old ≤ length (concat src.old.pieces) }
-        ensures rest { IsRest src.old.pieces src.new.pieces }
-    {
-        if src.remaining() < self.needed() {
-            return Some(None);
-        }
-        let frame = take_first(src)?;
-        self.count(None);
-        Some(Some(frame))
-    }
-
-    // The same wherever the frame lies, and after unknown ones, if as many bytes are there as the next try needs. It stays apart, so that a
-    // frame in the first piece is read without making room for the largest.
-    #[inline(never)]
-    fn decode_anywhere(
-        &mut self,
-        alloc: Global,
-        src: &mut BufList<Bytes>,
-    ) -> Result<Option<Frame<PayloadLen>>, FrameStreamError>
-        requires expects { Expects self.old (concat src.old.pieces) }
-        requires enough { needed self.old ≤ length (concat src.old.pieces) }
-        ensures gives { Gives result (concat src.old.pieces) (concat src.new.pieces) }
-        ensures expects { Expects self.new (concat src.new.pieces) }
-        ensures fresh { IfOk result (λ o. IfSome o (λ f. self.new.expected ≡ None)) }
-        ensures counts { Counts self.old (concat src.old.pieces) result self.new }
-        ensures rest { IsRest src.old.pieces src.new.pieces }
-    {
         loop {
+            if let Some(answer) = self.decode_first(src) {
+                return Ok(any_frame(answer));
+            }
             match decode_frame(alloc, src) {
                 Tried::Frame(frame) => {
                     self.count(None);
@@ -160,18 +130,48 @@ impl FrameDecoder {
                 Tried::Refused(e) => return Err(FrameStreamError::Proto(e)),
                 Tried::OutOfMemory => return Err(FrameStreamError::OutOfMemory),
             }
-            if let Some(answer) = self.decode_first(src) {
-                return Ok(answer);
-            }
         }
+    }
+
+    /// The same, if the next frame is HEADERS and lies in the first piece, or DATA whose type and length do, or if fewer bytes are there
+    /// than the next try needs. Otherwise `None`, which changes nothing.
+    #[inline(always)]
+    pub(super) fn decode_first(&mut self, src: &mut BufList<Bytes>) -> Option<Option<MessageFrame>>
+        requires expects { Expects self.old (concat src.old.pieces) }
+        ensures gives { IfSome result (λ o. Gives (Ok (any_frame o)) (concat src.old.pieces) (concat src.new.pieces)) }
+        ensures expects { Expects self.new (concat src.new.pieces) }
+        ensures fresh { IfSome result (λ o. IfSome o (λ f. self.new.expected ≡ None)) }
+        ensures counts { IfSome result (λ o. Counts self.old (concat src.old.pieces) (Ok (any_frame o)) self.new) }
+        ensures none { IsNone result → (self.new ≡ self.old) × (src.new.pieces ≡ src.old.pieces) }
+        ensures enough { IsNone result → needed self.old ≤ length (concat src.old.pieces) }
+        ensures rest { IsRest src.old.pieces src.new.pieces }
+    {
+        if src.remaining() < self.needed() {
+            return Some(None);
+        }
+        let frame = take_first(src)?;
+        self.count(None);
+        Some(Some(frame))
+    }
+}
+
+// An answer of a message's frames as one of all frames.
+#[inline(always)]
+fn any_frame(answer: Option<MessageFrame>) -> Option<Frame<PayloadLen>>
+    ensures { result ≡ any_frame answer }
+{
+    match answer {
+        Some(MessageFrame::Data(len)) => Some(Frame::Data(len)),
+        Some(MessageFrame::Headers(section)) => Some(Frame::Headers(section)),
+        None => None,
     }
 }
 
 // Takes the type and length of a DATA frame, if they lie in the first piece, or a HEADERS frame that lies in it. The field section of that
 // one is cut from the piece. `None` takes nothing.
 #[inline(always)]
-fn take_first(src: &mut BufList<Bytes>) -> Option<Frame<PayloadLen>>
-    ensures some { IfSome result (λ f. frame_at (concat src.old.pieces) ≡ Whole f (concat src.new.pieces)) }
+fn take_first(src: &mut BufList<Bytes>) -> Option<MessageFrame>
+    ensures some { IfSome result (λ f. frame_at (concat src.old.pieces) ≡ Whole (as_frame f) (concat src.new.pieces)) }
     ensures whole { IfSome result (λ f. has_head (concat src.old.pieces) ≡ true) }
     ensures none { IsNone result → src.new.pieces ≡ src.old.pieces }
     ensures rest { IsRest src.old.pieces src.new.pieces }
@@ -182,13 +182,13 @@ fn take_first(src: &mut BufList<Bytes>) -> Option<Frame<PayloadLen>>
     // the type of DATA
     if head.kind == 0 {
         src.advance_first(head.size);
-        return Some(Frame::Data(PayloadLen(len)));
+        return Some(MessageFrame::Data(PayloadLen(len)));
     }
     let behind = bytes.len() - head.size;
     // the type of HEADERS
     if head.kind == 1 && len <= behind {
         let section = cut_section(src, head.size, len)?;
-        return Some(Frame::Headers(section));
+        return Some(MessageFrame::Headers(section));
     }
     None
 }

@@ -12,13 +12,18 @@ use crate::proto::frame::FrameHead;
 use bytes::{Buf, Bytes};
 use h3_coding::coding::BufExt;
 
+// RFC 9114 10.5: unfinished_limit of frames
 /// Whether the first frame that is no whole unknown one says a length above this limit, and is one whose payload is kept until it is whole.
 /// Nothing is taken. It stays apart, so that a reader without a limit is as short as it was.
+#[tactic(auto, using(crate::proofs::SparedExcess::nothing_is_long))]
 #[inline(never)]
 pub(super) fn is_excessive(src: &BufList<Bytes>, most: u64) -> bool
     requires { is_limit most ≡ true }
     ensures { result ≡ is_excessive most (known (concat src.now.pieces)) }
 {
+    if src.remaining() == 0 {
+        return false;
+    }
     if let Some(head) = FrameHead::at_front(src.first_bytes()) {
         if is_kept_whole(head.kind) {
             return head.number > most;

@@ -1,17 +1,19 @@
 //! The bytes of a stream of frames, of which those of an unknown frame that is under way are not kept.
-ghost use Rattle.std.specs.Prelude.{◌≡◌, ◌+◌, ◌^◌, ◌<◌, ◌≤◌, ◌++◌, [], None, Ok, true, length, drop, IfOk, IfErr, IfSome, OnOk, OnErr};
+ghost use Rattle.std.specs.Prelude.{◌≡◌, ◌+◌, ◌^◌, ◌<◌, ◌≤◌, ◌++◌, [], None, Ok, true, length, drop, IfOk, IfErr, IfSome, OnOk, OnErr, IsNone};
 ghost use Rattle.std.specs.List.{concat};
 ghost use Rattle.h3_proto.specs.Config.{is_limit};
 ghost use Rattle.h3_wire.specs.ExcessiveFrames.{begins_section, is_excessive};
+ghost use Rattle.h3_wire.specs.FirstFrames.{begins_other};
 ghost use Rattle.h3_wire.specs.Known.{Gives, known};
+ghost use Rattle.h3_wire.specs.MessageFrames.{any_frame};
 ghost use Rattle.h3_wire.specs.Pieces.{IsRest, chunk_of, ending, first_of, with_piece};
 ghost use Rattle.h3_wire.specs.Tries.{Counts, Expects};
 ghost use Rattle.h3_wire.specs.UnknownSize.{AreLetGo, IsSpared, is_known_type, is_longer, is_under_way, unknown_size};
 
-use super::decoder::FrameDecoder;
+use super::decoder::{FrameDecoder, MessageFrame};
 use super::errors::FrameStreamError;
-use super::excess;
 use super::let_go::LetGo;
+use super::{excess, first};
 use crate::buf::BufList;
 use crate::proto::frame::{Frame, FrameHead, PayloadLen};
 use bytes::{Buf, Bytes};
@@ -106,6 +108,7 @@ impl FrameBytes {
         self.passing
     }
 
+    // RFC 9114 9: unknown frames skipped
     /// The unknown frame under way is whole, and is passed.
     pub(super) fn pass(&mut self)
         requires under_way { 0 < self.old.passing }
@@ -121,7 +124,6 @@ impl FrameBytes {
     }
 
     /// `FrameDecoder::decode`, when no unknown frame is under way.
-    #[inline(always)]
     pub(super) fn decode(
         &mut self,
         alloc: Global,
@@ -137,6 +139,26 @@ impl FrameBytes {
         ensures none { self.new.passing ≡ 0 }
     {
         decoder.decode(alloc, &mut self.kept)
+    }
+
+    /// `FrameDecoder::decode_first`, when no unknown frame is under way.
+    #[inline(always)]
+    pub(super) fn decode_first(
+        &mut self,
+        decoder: &mut FrameDecoder,
+    ) -> Option<Option<MessageFrame>>
+        requires none { self.old.passing ≡ 0 }
+        requires expects { Expects decoder.old (concat self.old.pieces) }
+        ensures gives { IfSome result (λ o. Gives (Ok (any_frame o)) (concat self.old.pieces) (concat self.new.pieces)) }
+        ensures expects { Expects decoder.new (concat self.new.pieces) }
+        ensures fresh { IfSome result (λ o. IfSome o (λ f. decoder.new.expected ≡ None)) }
+        ensures counts { IfSome result (λ o. Counts decoder.old (concat self.old.pieces) (Ok (any_frame o)) decoder.new) }
+        ensures decoder { IsNone result → decoder.new ≡ decoder.old }
+        ensures same { IsNone result → self.new.pieces ≡ self.old.pieces }
+        ensures rest { IsRest self.old.pieces self.new.pieces }
+        ensures none { self.new.passing ≡ 0 }
+    {
+        decoder.decode_first(&mut self.kept)
     }
 
     /// `BufList::take_chunk`, when no unknown frame is under way.
@@ -195,6 +217,17 @@ impl FrameBytes {
             return false;
         }
         excess::begins_section(&self.kept, self.passing - self.gone)
+    }
+
+    /// Whether the bytes begin with the type and the length of a frame that is not SETTINGS: an unknown frame under way is one. Nothing
+    /// is taken.
+    pub(super) fn begins_other(&self) -> bool
+        ensures { result ≡ begins_other (concat self.now.pieces) }
+    {
+        if self.passing > 0 {
+            return true;
+        }
+        first::begins_other(&self.kept)
     }
 
     /// Whether an unknown frame is under way at the front. A frame has to begin there.

@@ -16,5 +16,6 @@ returns c = record {
     values = c.every_encoding_means_its_fields.ensures.value;
   };
   lists = c.lists_are_their_value.ensures.head;
+  reading = record { is_head = c.lists_are_their_value.ensures.is_head; named = c.lists_are_their_value.ensures.named };
   written = c.instructions_can_be_written.ensures;
 }

@@ -1,8 +1,9 @@
 use Rattle.h3_world.specs.Ends.{new_ends}
-use Rattle.h3_session.proofs.Headlines.{runs_in_keeping_world, runs_in_world, runs_until_memory}
-use Rattle.h3_session.proofs.Messages.{hands_out_always}
+use Rattle.h3_strict.specs.PlainEnds.{asks_strictly}
+use Rattle.h3_session.proofs.Headlines.{runs_in_keeping_world, runs_in_world}
+use Rattle.h3_session.proofs.Messages.{hands_out, hands_out_always}
 use Rattle.h3_session.proofs.Runs.{answers_each, ran, runs_to}
-use Rattle.h3_session.proofs.Strict.{KnownOf, front_finds_none, run_finds_none, runs_faultless, runs_until_fault}
+use Rattle.h3_session.proofs.Strict.{LawsOfEnds, runs_to_end, runs_until_memory}
 use Rattle.h3_session.proofs.run.run.Goals as goal
 
 pub returns-clause-calls : goal.returns-clause-calls
@@ -25,19 +26,9 @@ returns-clause-messages c = λ few plain.
     let kept = runs_in_keeping_world setup c.args.events.now answers _ _
     (λ ends sendable run. c.two_endpoints_run_with_memory.ensures setup c.args.events.now answers ends c.requires plain sendable run) c.events_are_typed.ensures calls few in
     hands_out_always setup c.args.events.now answers kept.runs.world
-    (λ front given mid sendable run. record {
-      no_connection_fault = c.what_is_pulled_with_memory_refused_is_what_was_sent.ensures.fault setup front given mid run;
-      begins = λ side id. c.what_is_pulled_with_memory_refused_is_what_was_sent.ensures.front setup front given mid side id sendable run;
-      ends = λ side id ended. c.what_is_pulled_with_memory_refused_is_what_was_sent.ensures.end setup front given mid side id sendable run ended;
-    }) c.events_are_typed.ensures few kept.runs.run
-
-pub returns-clause-front : goal.returns-clause-front
-returns-clause-front c = λ few plain.
-    let calls = ran (λ v. v.items) (new_ends c.args.setup) c.args.events.now c.announcing-client.result c.announcing-server.result c.run_between-answers.result _ _ _ _ _ c.in_ok-client-2.answers
-    c.announcing-client.ensures c.announcing-server.ensures c.in_ok-client.ensures.0 c.in_ok-client.ensures.1 c.run_between-answers.ensures c.in_ok-client-2.ensures.0 c.in_ok-client-2.ensures.1 in
-    runs_until_memory c.args.setup c.args.events.now c.in_ok-client-2.answers.items
-    (λ front. c.two_endpoints_run_in_a_world.ensures c.args.setup front c.requires plain) c.events_are_typed.ensures
-    (answers_each (new_ends c.args.setup) c.args.events.now c.in_ok-client-2.answers.items _ _ calls) few
+    (λ front given mid sendable run. hands_out setup front _ sendable (c.what_is_pulled_with_memory_refused_is_what_was_sent.ensures.fault setup front given mid run)
+    (λ side id. c.what_is_pulled_with_memory_refused_is_what_was_sent.ensures.front setup front given mid side id sendable run)
+    (λ side id ended. c.what_is_pulled_with_memory_refused_is_what_was_sent.ensures.end setup front given mid side id sendable run ended)) c.events_are_typed.ensures few kept.runs.run
 
 pub returns-clause-runs : goal.returns-clause-runs
 returns-clause-runs c =
@@ -62,66 +53,44 @@ returns-clause-memory c = λ few plain.
     runs_in_keeping_world setup c.args.events.now answers _ _
     (λ ends sendable run. c.two_endpoints_run_with_memory.ensures setup c.args.events.now answers ends c.requires plain sendable run) c.events_are_typed.ensures calls few
 
-pub returns-clause-faultless_front : goal.returns-clause-faultless_front
-returns-clause-faultless_front c = λ few.
+pub returns-clause-front : goal.returns-clause-front
+returns-clause-front c = λ few.
     let calls = ran (λ v. v.items) (new_ends c.args.setup) c.args.events.now c.announcing-client.result c.announcing-server.result c.run_between-answers.result _ _ _ _ _ c.in_ok-client-2.answers
     c.announcing-client.ensures c.announcing-server.ensures c.in_ok-client.ensures.0 c.in_ok-client.ensures.1 c.run_between-answers.ensures c.in_ok-client-2.ensures.0 c.in_ok-client-2.ensures.1 in
     let setup = c.args.setup in
     let answers = c.in_ok-client-2.answers.items in
-    runs_until_fault setup (λ front sendable plainly. c.strict_endpoints_run_in_a_world.ensures setup front c.requires sendable plainly)
-    (λ front sendable plainly. record {
-      no_connection_fault = c.strict_endpoints_hand_out_what_was_sent.ensures.fault setup front c.requires sendable plainly;
-      begins = λ side id. c.strict_endpoints_hand_out_what_was_sent.ensures.front setup front side id c.requires sendable plainly;
-      ends = λ side id ended. c.strict_endpoints_hand_out_what_was_sent.ensures.end setup front side id c.requires sendable plainly ended;
-    }) c.args.events.now answers (λ front. c.whole_runs_are_plain.ensures.faultless (new_ends setup) front (c.ends_stay_bounded.ensures.made setup)) c.events_are_typed.ensures
-    (answers_each (new_ends setup) c.args.events.now answers _ _ calls) few
+    let laws : LawsOfEnds setup = record {
+      plain_world = λ front plain sendable. c.two_endpoints_run_in_a_world.ensures setup front c.requires plain sendable;
+      plain_messages = λ front plain sendable. hands_out setup front _ sendable (c.endpoints_hand_out_what_was_sent.ensures.fault setup front c.requires plain sendable)
+          (λ side id. c.endpoints_hand_out_what_was_sent.ensures.front setup front side id c.requires plain sendable)
+          (λ side id ended. c.endpoints_hand_out_what_was_sent.ensures.end setup front side id c.requires plain sendable ended);
+      plainly = λ front. c.whole_runs_are_plain.ensures.faultless (new_ends setup) front (c.ends_stay_bounded.ensures.made setup);
+      world = λ front sendable plainly. c.strict_endpoints_run_in_a_world.ensures setup front c.requires sendable plainly;
+      messages = λ front sendable plainly. hands_out setup front _ sendable (c.strict_endpoints_hand_out_what_was_sent.ensures.fault setup front c.requires sendable plainly)
+          (λ side id. c.strict_endpoints_hand_out_what_was_sent.ensures.front setup front side id c.requires sendable plainly)
+          (λ side id ended. c.strict_endpoints_hand_out_what_was_sent.ensures.end setup front side id c.requires sendable plainly ended);
+      strict = λ front sendable strict knows early.
+          c.schedules_that_judge_nothing_find_no_fault.ensures setup front (asks_strictly (new_ends setup)) c.requires sendable (c.two_strict_limited_endpoints_run_in_a_world.ensures.none setup front c.requires strict sendable knows early);
+    } in
+    runs_until_memory setup laws c.args.events.now answers c.events_are_typed.ensures (answers_each (new_ends setup) c.args.events.now answers _ _ calls) few
 
-pub returns-clause-faultless : goal.returns-clause-faultless
-returns-clause-faultless c = λ whole none few.
+pub returns-clause-judged : goal.returns-clause-judged
+returns-clause-judged c = λ whole few more takes.
     let calls = ran (λ v. v.items) (new_ends c.args.setup) c.args.events.now c.announcing-client.result c.announcing-server.result c.run_between-answers.result _ _ _ _ _ c.in_ok-client-2.answers
     c.announcing-client.ensures c.announcing-server.ensures c.in_ok-client.ensures.0 c.in_ok-client.ensures.1 c.run_between-answers.ensures c.in_ok-client-2.ensures.0 c.in_ok-client-2.ensures.1 in
     let setup = c.args.setup in
     let answers = c.in_ok-client-2.answers.items in
-    runs_faultless setup (λ front sendable plainly. c.strict_endpoints_run_in_a_world.ensures setup front c.requires sendable plainly)
-    (λ front sendable plainly. record {
-      no_connection_fault = c.strict_endpoints_hand_out_what_was_sent.ensures.fault setup front c.requires sendable plainly;
-      begins = λ side id. c.strict_endpoints_hand_out_what_was_sent.ensures.front setup front side id c.requires sendable plainly;
-      ends = λ side id ended. c.strict_endpoints_hand_out_what_was_sent.ensures.end setup front side id c.requires sendable plainly ended;
-    }) c.args.events.now answers _ _ (λ front. c.whole_runs_are_plain.ensures.faultless (new_ends setup) front (c.ends_stay_bounded.ensures.made setup)) c.events_are_typed.ensures
-    (runs_to (new_ends setup) c.args.events.now answers _ _ calls whole) none few
-
-pub returns-clause-strict_front : goal.returns-clause-strict_front
-returns-clause-strict_front c = λ few strict.
-    let calls = ran (λ v. v.items) (new_ends c.args.setup) c.args.events.now c.announcing-client.result c.announcing-server.result c.run_between-answers.result _ _ _ _ _ c.in_ok-client-2.answers
-    c.announcing-client.ensures c.announcing-server.ensures c.in_ok-client.ensures.0 c.in_ok-client.ensures.1 c.run_between-answers.ensures c.in_ok-client-2.ensures.0 c.in_ok-client-2.ensures.1 in
-    let setup = c.args.setup in
-    let answers = c.in_ok-client-2.answers.items in
-    let each = answers_each (new_ends setup) c.args.events.now answers _ _ calls in
-    let none = front_finds_none setup (KnownOf setup) (λ events sendable known. c.schedules_that_judge_nothing_find_no_fault.ensures setup events c.requires sendable (c.two_strict_limited_endpoints_run_in_a_world.ensures.none setup events c.requires strict sendable known.0 known.1)) c.args.events.now answers c.events_are_typed.ensures
-    each few in
-    let runs = runs_until_fault setup (λ front sendable plainly. c.strict_endpoints_run_in_a_world.ensures setup front c.requires sendable plainly)
-    (λ front sendable plainly. record {
-      no_connection_fault = c.strict_endpoints_hand_out_what_was_sent.ensures.fault setup front c.requires sendable plainly;
-      begins = λ side id. c.strict_endpoints_hand_out_what_was_sent.ensures.front setup front side id c.requires sendable plainly;
-      ends = λ side id ended. c.strict_endpoints_hand_out_what_was_sent.ensures.end setup front side id c.requires sendable plainly ended;
-    }) c.args.events.now answers (λ front. c.whole_runs_are_plain.ensures.faultless (new_ends setup) front (c.ends_stay_bounded.ensures.made setup)) c.events_are_typed.ensures
-    each few in
-    λ n not_memory known taken. (none n not_memory (known, taken), runs n not_memory (none n not_memory (known, taken)))
-
-pub returns-clause-strict : goal.returns-clause-strict
-returns-clause-strict c = λ whole few strict known taken.
-    let calls = ran (λ v. v.items) (new_ends c.args.setup) c.args.events.now c.announcing-client.result c.announcing-server.result c.run_between-answers.result _ _ _ _ _ c.in_ok-client-2.answers
-    c.announcing-client.ensures c.announcing-server.ensures c.in_ok-client.ensures.0 c.in_ok-client.ensures.1 c.run_between-answers.ensures c.in_ok-client-2.ensures.0 c.in_ok-client-2.ensures.1 in
-    let setup = c.args.setup in
-    let answers = c.in_ok-client-2.answers.items in
-    let to = runs_to (new_ends setup) c.args.events.now answers _ _ calls whole in
-    let none = run_finds_none setup (KnownOf setup) (λ events sendable known. c.schedules_that_judge_nothing_find_no_fault.ensures setup events c.requires sendable (c.two_strict_limited_endpoints_run_in_a_world.ensures.none setup events c.requires strict sendable known.0 known.1)) c.args.events.now answers _ _ c.events_are_typed.ensures to few (known, taken) in (
-      none,
-      runs_faultless setup (λ front sendable plainly. c.strict_endpoints_run_in_a_world.ensures setup front c.requires sendable plainly)
-          (λ front sendable plainly. record {
-            no_connection_fault = c.strict_endpoints_hand_out_what_was_sent.ensures.fault setup front c.requires sendable plainly;
-            begins = λ side id. c.strict_endpoints_hand_out_what_was_sent.ensures.front setup front side id c.requires sendable plainly;
-            ends = λ side id ended. c.strict_endpoints_hand_out_what_was_sent.ensures.end setup front side id c.requires sendable plainly ended;
-          }) c.args.events.now answers _ _ (λ front. c.whole_runs_are_plain.ensures.faultless (new_ends setup) front (c.ends_stay_bounded.ensures.made setup)) c.events_are_typed.ensures
-          (runs_to (new_ends setup) c.args.events.now answers _ _ calls whole) none few,
-    )
+    let laws : LawsOfEnds setup = record {
+      plain_world = λ front plain sendable. c.two_endpoints_run_in_a_world.ensures setup front c.requires plain sendable;
+      plain_messages = λ front plain sendable. hands_out setup front _ sendable (c.endpoints_hand_out_what_was_sent.ensures.fault setup front c.requires plain sendable)
+          (λ side id. c.endpoints_hand_out_what_was_sent.ensures.front setup front side id c.requires plain sendable)
+          (λ side id ended. c.endpoints_hand_out_what_was_sent.ensures.end setup front side id c.requires plain sendable ended);
+      plainly = λ front. c.whole_runs_are_plain.ensures.faultless (new_ends setup) front (c.ends_stay_bounded.ensures.made setup);
+      world = λ front sendable plainly. c.strict_endpoints_run_in_a_world.ensures setup front c.requires sendable plainly;
+      messages = λ front sendable plainly. hands_out setup front _ sendable (c.strict_endpoints_hand_out_what_was_sent.ensures.fault setup front c.requires sendable plainly)
+          (λ side id. c.strict_endpoints_hand_out_what_was_sent.ensures.front setup front side id c.requires sendable plainly)
+          (λ side id ended. c.strict_endpoints_hand_out_what_was_sent.ensures.end setup front side id c.requires sendable plainly ended);
+      strict = λ front sendable strict knows early.
+          c.schedules_that_judge_nothing_find_no_fault.ensures setup front (asks_strictly (new_ends setup)) c.requires sendable (c.two_strict_limited_endpoints_run_in_a_world.ensures.none setup front c.requires strict sendable knows early);
+    } in
+    runs_to_end setup laws c.args.events.now answers _ _ c.events_are_typed.ensures (runs_to (new_ends setup) c.args.events.now answers _ _ calls whole) few more takes

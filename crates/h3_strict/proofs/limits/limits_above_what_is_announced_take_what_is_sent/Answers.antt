@@ -11,4 +11,4 @@ returns-clause-plain c = λ setup events made none sendable early.
 
 pub returns-clause-strict : goal.returns-clause-strict
 returns-clause-strict c = λ setup events made strict sendable knows early.
-    strict_taken c.encoded_sections_are_short.ensures.short c.what_is_cited_holds.ensures.streams setup events made sendable early c.two_strict_endpoints_run_in_a_world.ensures.world strict knows
+    strict_taken c.encoded_sections_are_short.ensures.short c.what_is_cited_holds.ensures.streams setup events made sendable early c.two_strict_endpoints_run_in_a_world.ensures.world c.two_strict_endpoints_run_in_a_world.ensures.fault strict knows

@@ -52,6 +52,7 @@ impl Frame<PayloadLen> {
     }
 }
 
+// RFC 9114 7.1: a payload that is one number
 // Takes a payload that is one number.
 #[tactic(auto, using(crate::proofs::Fronts::front_within))]
 fn read_number<B: Buf>(buf: &mut B, len: usize) -> Result<VarInt, FrameError>
@@ -70,6 +71,7 @@ fn read_number<B: Buf>(buf: &mut B, len: usize) -> Result<VarInt, FrameError>
     Ok(VarInt::from_u64_unchecked(number))
 }
 
+// RFC 9114 7.2.8: frame types of HTTP/2
 // Takes the payload of a frame of this type.
 #[tactic(auto, unfolding(crate::specs::Frames::frame_of))]
 fn read_payload<B: Buf>(

@@ -114,3 +114,15 @@ returns-clause-released c = refl
 pub returns-clause-canceled : goal.returns-clause-canceled
 unfolding encoding static_field static_name chars encode varint_at split_of bits code_word octets huffman static_table frame_at frame_of known is_token_byte is_utf8 kind_of head_of unhuffman hear_up_to listen_up_to fields_in decode_section skipped read_peer pull_stream
 returns-clause-canceled c = refl
+
+pub returns-clause-listed : goal.returns-clause-listed
+unfolding encoding static_field static_name chars encode varint_at split_of bits code_word octets huffman static_table frame_at frame_of known is_token_byte is_utf8 kind_of head_of unhuffman hear_up_to listen_up_to fields_in decode_section skipped read_peer pull_stream
+returns-clause-listed c = refl
+
+pub returns-clause-mixed : goal.returns-clause-mixed
+unfolding encoding static_field static_name chars encode varint_at split_of bits code_word octets huffman static_table frame_at frame_of known is_token_byte is_utf8 kind_of head_of unhuffman hear_up_to listen_up_to fields_in decode_section skipped read_peer pull_stream
+returns-clause-mixed c = refl
+
+pub returns-clause-unlisted : goal.returns-clause-unlisted
+unfolding encoding static_field static_name chars encode varint_at split_of bits code_word octets huffman static_table frame_at frame_of known is_token_byte is_utf8 kind_of head_of unhuffman hear_up_to listen_up_to fields_in decode_section skipped read_peer pull_stream
+returns-clause-unlisted c = refl

@@ -1,11 +1,11 @@
-use Rattle.std.proofs.Common.{ap, refl, sym, subst}
+use Rattle.std.proofs.Common.{ap, refl, sym, subst, ◌∙◌}
 use Rattle.h3_connection.specs.Incoming.{Incoming, is_body}
 use Rattle.h3_incoming.specs.Beginning.{IsBegun}
 use Rattle.h3_incoming.specs.Resuming.{Resumes}
 use Rattle.h3_incoming.proofs.FrontLaws.{Reads}
 use Rattle.h3_incoming.proofs.ListLaws.{lists_framed}
 use Rattle.h3_incoming.proofs.PullLaws.{gives_as, gives_just}
-use Rattle.h3_incoming.proofs.PulledFrame.{pulled_excess, pulled_section, pulled_unfinished, pulled_refused, pulled_frame, gives_payload, resumes_before, resumes_behind, resumes_payload}
+use Rattle.h3_incoming.proofs.PulledFrame.{pulled_excess, pulled_section, pulled_unfinished, pulled_refused, pulled_frame, session_told, gives_payload, resumes_before, resumes_behind, resumes_payload}
 use Rattle.h3_incoming.proofs.ResumeLaws.{IsBetween}
 use Rattle.h3_incoming.proofs.stream.IncomingStream.pull_frame.Goals as goal
 
@@ -82,7 +82,8 @@ returns-in-Session-clause-answer g c = λ h.
     let found = rw c.in-Ok-Begun.field-0-is at c.in-Ok-Begun.ensures.finds in
     let begins = subst (λ b. IsBegun c.args.side c.self.inside.place c.self.inside.content found.0 b) c.in-Session.is found.1 in
     let small = rw c.in-Ok-Begun.field-0-is at c.in-Ok-Begun.ensures.within in
-    rw c.give.ensures.is (gives_just _ _ _ _ _ (pulled_frame c.args.side c.args.announced.now c.args.id c.args.decoder.now _ _ _ _ found.0 _ reads found.2 small (begins.is c.args.announced.now c.args.id c.args.decoder.now _ refl)) refl)
+    gives_just _ _ _ _ _
+    (pulled_frame c.args.side c.args.announced.now c.args.id c.args.decoder.now _ _ _ _ found.0 _ reads found.2 small (begins.is c.args.announced.now c.args.id c.args.decoder.now _ refl) ∙ session_told _ _ _ _ _ _ c.begin_session.ensures.is refl) refl
 
 pub returns-in-Fault-clause-answer : goal.returns-in-Fault-clause-answer
 returns-in-Fault-clause-answer g c = λ h.

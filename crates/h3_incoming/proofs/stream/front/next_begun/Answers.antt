@@ -1,6 +1,4 @@
 use Rattle.h3_incoming.proofs.stream.front.next_begun.Goals as goal
 
-pub returns-in-Ok-Some-clause-gives : goal.returns-in-Ok-Some-clause-gives
-returns-in-Ok-Some-clause-gives c =
-    let b = c.begun_by.ensures in
-    (c.in-Ok-Some.frame, record { is = b.is; begins = b.begins; section = b.section; empty = b.empty }, rw c.in-Ok-Some.field-0-is at c.in-Ok-Some.ensures.gives)
+pub returns-in-Some-clause-gives : goal.returns-in-Some-clause-gives
+returns-in-Some-clause-gives c = c.in-Some.ensures.gives c.args.side

@@ -7,7 +7,7 @@ use Rattle.h3_connection.specs.Incoming.{Incoming}
 use Rattle.h3_connection.specs.Pulling.{pull_stream}
 use Rattle.h3_connection.specs.StreamSets.{Streams}
 use Rattle.h3_incoming.specs.Answering.{Lists}
-use Rattle.h3_incoming.specs.Coming.{fields_next}
+use Rattle.h3_connection.specs.Coming.{fields_next}
 use Rattle.h3_incoming.specs.Gives.{Gives}
 use Rattle.h3_requests.specs.Coming.{fields_at}
 use Rattle.h3_requests.specs.Limited.{AnswersOver, AreReceivers, limited}

@@ -1,9 +1,13 @@
 -- A section is sent.
-use Rattle.h3_session.proofs.SectionsSent.{section_refused, section_sent}
+use Rattle.std.proofs.Common.{None, Some}
+use Rattle.h3_session.proofs.SectionsSent.{of_size, section_refused, section_sent}
 use Rattle.h3_session.proofs.endpoint.Endpoint.send_section.Goals as goal
 
-pub returns-in-Err-clause-sends : goal.returns-in-Err-clause-sends
-returns-in-Err-clause-sends c = section_refused c.args.self.now c.args.room c.args.fields.now c.args.place c.in-Err.refusal c.in-Err.ensures.unbroken c.in-Err.ensures.err
+pub returns-in-Err : goal.returns-in-Err
+returns-in-Err c =
+    section_refused c.args.self.now c.args.room c.args.fields.now c.args.place c.in-Err.refusal (λ _. c.requires)
+    (λ differs. of_size c.args.self.now c.args.place c.args.fields.now (Some c.in-Err.refusal) c.requires (c.in-Err.ensures.err differs))
 
-pub returns-clause-sends : goal.returns-clause-sends
-returns-clause-sends c = section_sent c.args.self.now _ _ _ _ _ c.in-Ok.judged.0 c.self.view_is c.in-Ok.ensures.ok c.in-Ok.ensures.fits c.in-Ok-queue_section.ensures.ok
+pub returns : goal.returns
+returns c =
+    section_sent c.args.self.now _ _ _ _ _ c.in-Ok.sum c.self.view_is c.in-Ok.ensures.ok (of_size c.args.self.now c.args.place c.args.fields.now None c.requires c.in-Ok.ensures.ok.size) c.in-Ok-queue_section.ensures.ok

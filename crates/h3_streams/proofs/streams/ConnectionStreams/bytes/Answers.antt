@@ -2,11 +2,11 @@ use Rattle.std.proofs.Common.{sym, refl}
 use Rattle.std.proofs.lemmas.Result.{IfOk-weaker, IfErr-weaker}
 use Rattle.h3_connection.specs.Unidirectional.Role.{Control, Encoder, Decoder}
 use Rattle.h3_streams.specs.ReadingOn.{left_arrivals}
-use Rattle.h3_streams.proofs.ArrivedBytes.{untaken, nothing_read, push_read, role_read, role_stopped}
+use Rattle.h3_streams.proofs.ArrivedBytes.{untaken, nothing_read, push_read, session_read, role_read, role_stopped}
 use Rattle.h3_streams.proofs.streams.ConnectionStreams.bytes.Goals as goal
 
 pub returns-then-not-has_room-clause-err : goal.returns-then-not-has_room-clause-err
-returns-then-not-has_room-clause-err c = untaken c.args.self.now c.args.self.now.unidirectional c.args.side c.args.choices c.args.id c.args.bytes _ _ (record { each = λ q. refl }) refl c.of.ensures
+returns-then-not-has_room-clause-err c = untaken c.args.self.now c.args.self.now.unidirectional c.args.side c.args.own.now c.args.id c.args.bytes _ _ (record { each = λ q. refl }) refl c.of.ensures
 
 pub returns-in-Ok-Nothing-clause-ok : goal.returns-in-Ok-Nothing-clause-ok
 returns-in-Ok-Nothing-clause-ok c =
@@ -17,6 +17,11 @@ pub returns-in-Ok-Push-clause-ok : goal.returns-in-Ok-Push-clause-ok
 returns-in-Ok-Push-clause-ok c =
     let receives = rw c.in-Ok-Push.field-0-is at c.in-Ok-Push.ensures.ok in
     rw (sym c.self.view_is) (push_read _ _ _ _ _ _ _ c.push_fault.ensures receives)
+
+pub returns-in-Ok-Session-clause-ok : goal.returns-in-Ok-Session-clause-ok
+returns-in-Ok-Session-clause-ok c =
+    let receives = rw c.in-Ok-Session.field-0-is at c.in-Ok-Session.ensures.ok in
+    rw (sym c.self.view_is) (session_read _ _ _ _ _ _ _ _ c.session_fault.ensures receives)
 
 pub returns-in-Ok-Control-clause-ok : goal.returns-in-Ok-Control-clause-ok
 returns-in-Ok-Control-clause-ok c =
