@@ -82,8 +82,8 @@ received_alike a b unread section body_left waits_for same =
 
 sent_alike : (a b : OutgoingState) → a.pieces ≡ [] → b.pieces ≡ [] → SendsAlike a b → a ≡ b
 sent_alike a b an bn same =
-    let left : a ≡ record { pieces = []; place = b.place; content = b.content; is_finished = b.is_finished; is_reset = b.is_reset; end_taken = b.end_taken } = rw (sym an, sym same.place, sym same.content, sym same.is_finished, sym same.is_reset, sym same.end_taken) refl in
-    let right : record { pieces = []; place = b.place; content = b.content; is_finished = b.is_finished; is_reset = b.is_reset; end_taken = b.end_taken } ≡ b = rw (sym bn) refl in
+    let left : a ≡ record { pieces = []; place = b.place; content = b.content; is_finished = b.is_finished; is_reset = b.is_reset; end_taken = b.end_taken; precedence = b.precedence } = rw (sym an, sym same.place, sym same.content, sym same.is_finished, sym same.is_reset, sym same.end_taken, sym same.precedence) refl in
+    let right : record { pieces = []; place = b.place; content = b.content; is_finished = b.is_finished; is_reset = b.is_reset; end_taken = b.end_taken; precedence = b.precedence } ≡ b = rw (sym bn) refl in
     left ∙ right
 
 -- Streams that are over alike are the same.

@@ -264,10 +264,13 @@ impl Endpoint {
         None
     }
 
-    /// Takes the first bytes that wait on a stream, at most all. It takes no memory.
+    /// Takes the first bytes that wait on a stream, at most all. Its turn is over then (`next_by_priority`). It takes no memory.
     pub fn advance(&mut self, id: StreamId, count: usize)
         ensures { Advances self.old self.new id count }
     {
+        if self.order.rounds.is_some() {
+            self.end_turn(id, count);
+        }
         if self.advance_request(id, count) {
             return;
         }
@@ -276,7 +279,7 @@ impl Endpoint {
 
     // Takes the first bytes that wait on a request stream, and answers whether that is there, with one look-up.
     fn advance_request(&mut self, id: StreamId, count: usize) -> bool
-        ensures there { result ≡ true → Advances self.old self.new id count }
+        ensures there { result ≡ true → TakesBytes self.old self.new id count }
         ensures absent { result ≡ false → sender_in self.old id ≡ None }
         ensures none { result ≡ false → self.new ≡ self.old }
     {
